@@ -1,0 +1,1 @@
+// Little-endian numbers in byte slices, the wrapping product, and 32-bit FNV-1a.
