@@ -2,12 +2,13 @@
 use Prim.Native.Nat.{ℕ, zero, suc, _+_, _*_, _/_, _%_, _^_, _≤_, _<_}
 use mathlib.Core.Path.{_≡_, refl, sym, _∙_, ap}
 use mathlib.Core.List.{List, [], _∷_, _++_, append-assoc}
-use native.Mathlib.Nat.{add-zero, add-assoc, lt-of-lt-of-le, pow-succ', pow-le-pow-right, mod-lt, div-div-eq-div-mul}
+use native.Mathlib.Nat.{add-zero, add-assoc, lt-of-lt-of-le, pow-succ', pow-le-pow-right, mod-lt, mul-le-mul, div-div-eq-div-mul}
+use native.Mathlib.Numerals.{add-one, add-two, add-three}
 use native.Mathlib.Omega.{arith}
 use lib.Dec.{lit<}
 use lib.Bits.{bitXor}
-use lib.ListN.{length, getD, take, drop, set, length-take, length-drop}
-use lib.Seq.{sets, sets-eq, getD-drop, take-nil, drop-nil, drop-drop, take-add, take-at, drop-at, length-take-le}
+use lib.ListN.{length, getD, take, drop, set, length-take, length-drop, drop-of-length-le}
+use lib.Seq.{sets, sets-eq, getD-drop, take-nil, drop-nil, drop-cons, drop-drop, take-add, take-at, drop-at, length-take-le}
 use Rattle.word.specs.Number.{Bytes, numberOf, bytesOf}
 use Rattle.word.specs.Fnv.{wrapped, fnvStep, fnvFrom, fnv1a, keyHash}
 
@@ -152,12 +153,25 @@ pub number-written : (w at x : ℕ) (s : List ℕ) → at + w ≤ length s → x
 number-written w at x s fits h =
     ap numberOf (taken-sets s at (bytesOf w x) w (length-bytesOf w x) fits) ∙ number-bytes w x h
 
+-- what the stores of the code leave
+pub sets-two : (s : List ℕ) (at x : ℕ) → set (set s at (x % 256)) (at + 1) (x / 256 % 256) ≡ sets s at (bytesOf 2 x)
+sets-two s at x = rw (bytesOf-two, add-one)
+
+pub sets-four : (s : List ℕ) (at x : ℕ)
+    → set (set (set (set s at (x % 256)) (at + 1) (x / 256 % 256)) (at + 2) (x / 65536 % 256)) (at + 3) (x / 16777216 % 256)
+    ≡ sets s at (bytesOf 4 x)
+sets-four s at x = rw (bytesOf-four, add-one, add-two, add-three)
+
 -- ---- FNV-1a
 
 pub fnvFrom-append : (h : ℕ) (a b : List ℕ) → fnvFrom h (a ++ b) ≡ fnvFrom (fnvFrom h a) b
 unfolding fnvFrom
 fnvFrom-append h [] b = refl
 fnvFrom-append h (x ∷ a) b = fnvFrom-append (fnvStep h x) a b
+
+-- the product of two 32-bit numbers fits 64 bits
+pub product-lt : {x y : ℕ} → x < 4294967296 → y < 4294967296 → x * y < 18446744073709551616
+product-lt {x} {y} hx hy = omega (arith, mul-le-mul {n₁ = x} {m₁ = y} {n₂ = 4294967295} {m₂ = 4294967295} (omega arith) (omega arith))
 
 pub wrapped-lt : (x y : ℕ) → wrapped x y < 4294967296
 wrapped-lt x y = mod-lt (x * y) (lit< tt)
@@ -179,3 +193,20 @@ pub keyHash-at : (at : ℕ) (s : List ℕ) → Bytes s → at + 6 ≤ length s
     → fnv1a (take 6 (drop at s)) ≡ keyHash (numberOf (take 2 (drop at s))) (numberOf (take 4 (drop (at + 2) s)))
 keyHash-at at s h fits =
     rw (bytes-at 2 at s h (omega arith), bytes-at 4 (at + 2) s h (omega arith), take-add 2 4 (drop at s), drop-drop 2 at s)
+
+-- the same by the six bytes, for code that makes them one by one
+pub keyHash-steps : (table key : ℕ)
+    → keyHash table key
+    ≡ fnvStep (fnvStep (fnvStep (fnvStep (fnvStep (fnvStep 2166136261 (table % 256)) (table / 256 % 256)) (key % 256)) (key / 256 % 256))
+        (key / 65536 % 256)) (key / 16777216 % 256)
+unfolding fnvFrom
+keyHash-steps table key = rw (bytesOf-two table, bytesOf-four key)
+
+-- a turn of a loop over a slice, and its end
+pub fnvFrom-turn : (h i : ℕ) (s : List ℕ) → i < length s → fnvFrom h (drop i s) ≡ fnvFrom (fnvStep h (getD s i 0)) (drop (i + 1) s)
+unfolding fnvFrom
+fnvFrom-turn h i s k = rw (add-one, drop-cons s i 0 k)
+
+pub fnvFrom-end : (h i : ℕ) (s : List ℕ) → length s ≤ i → fnvFrom h (drop i s) ≡ h
+unfolding fnvFrom
+fnvFrom-end h i s k = rw (drop-of-length-le s k)
