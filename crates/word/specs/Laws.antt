@@ -1,12 +1,13 @@
 -- Laws of numbers as bytes and of FNV-1a.
 use Prim.Native.Nat.{ℕ, zero, suc, _+_, _*_, _/_, _%_, _^_, _≤_, _<_}
-use mathlib.Core.Path.{_≡_, refl, sym, _∙_, ap}
+use mathlib.Core.Path.{_≡_, refl, _∙_, ap}
 use mathlib.Core.List.{List, [], _∷_, _++_, append-assoc}
-use native.Mathlib.Nat.{add-zero, add-assoc, lt-of-lt-of-le, pow-succ', pow-le-pow-right, mod-lt, mul-le-mul, div-div-eq-div-mul}
-use native.Mathlib.Numerals.{add-one, add-two, add-three}
+use native.Mathlib.Nat.{add-zero, zero-add, add-suc, suc-add, add-assoc, lt-of-lt-of-le, pow-succ', pow-le-pow-right, mod-lt, mod-mod, mul-le-mul, div-one, div-div-eq-div-mul}
+use native.Mathlib.Numerals.{add-one}
 use native.Mathlib.Omega.{arith}
 use lib.Dec.{lit<}
 use lib.Bits.{bitXor}
+use lib.Pow.{field}
 use lib.ListN.{length, getD, take, drop, set, length-take, length-drop, drop-of-length-le}
 use lib.Seq.{sets, sets-eq, getD-drop, take-nil, drop-nil, drop-cons, drop-drop, take-add, take-at, drop-at, length-take-le}
 use Rattle.word.specs.Number.{Bytes, numberOf, bytesOf}
@@ -73,6 +74,18 @@ pub bytesOf-four : (x : ℕ) → bytesOf 4 x ≡ x % 256 ∷ x / 256 % 256 ∷ x
 unfolding bytesOf
 bytesOf-four x = rw (div-div-eq-div-mul x 256 256, div-div-eq-div-mul x 65536 256)
 
+pub bytesOf-append : (v w x : ℕ) → bytesOf (v + w) x ≡ bytesOf v x ++ bytesOf w (x / 256 ^ v)
+unfolding bytesOf
+bytesOf-append zero w x = rw (zero-add w, div-one x)
+bytesOf-append (suc v) w x =
+    rw (suc-add v w, bytesOf-append v w (x / 256), div-div-eq-div-mul x 256 (256 ^ v), ← (pow-succ' 256 v))
+
+pub bytesOf-halves : (x : ℕ) → bytesOf 4 x ≡ bytesOf 2 (x % 65536) ++ bytesOf 2 (x / 65536)
+bytesOf-halves x =
+    let low : x % 65536 % 256 ≡ x % 256 = omega arith in
+    let high : x % 65536 / 256 % 256 ≡ x / 256 % 256 = ap (λ (y : ℕ). y % 256) (field x 8 8) ∙ mod-mod (x / 256) 256 in
+    bytesOf-append 2 2 x ∙ rw (bytesOf-two x, bytesOf-two (x % 65536), low, high)
+
 -- ---- lists of bytes
 
 pub bytes-append : (a b : List ℕ) → Bytes a → Bytes b → Bytes (a ++ b)
@@ -125,6 +138,9 @@ number-four at s =
     ∙ rw (number-at 2 (at + 1) s, number-at 1 (at + 1 + 1) s, number-at 0 (at + 1 + 1 + 1) s, number-none (drop (at + 1 + 1 + 1 + 1) s))
     (rw (add-assoc at 1 1, add-assoc at 2 1) (omega arith))
 
+pub number-halves : (at : ℕ) (s : List ℕ) → numberOf (take 4 (drop at s)) ≡ numberOf (take 2 (drop at s)) + 65536 * numberOf (take 2 (drop (at + 2) s))
+number-halves at s = rw (number-four at s, number-two at s, number-two (at + 2) s) (rw (add-assoc at 2 1) (omega arith))
+
 pub number-at-lt : (w at : ℕ) (s : List ℕ) → Bytes s → numberOf (take w (drop at s)) < 256 ^ w
 number-at-lt w at s h =
     lt-of-lt-of-le (number-lt (take w (drop at s)) (bytes-take w (drop at s) (bytes-drop at s h)))
@@ -157,10 +173,13 @@ number-written w at x s fits h =
 pub sets-two : (s : List ℕ) (at x : ℕ) → set (set s at (x % 256)) (at + 1) (x / 256 % 256) ≡ sets s at (bytesOf 2 x)
 sets-two s at x = rw (bytesOf-two, add-one)
 
-pub sets-four : (s : List ℕ) (at x : ℕ)
-    → set (set (set (set s at (x % 256)) (at + 1) (x / 256 % 256)) (at + 2) (x / 65536 % 256)) (at + 3) (x / 16777216 % 256)
-    ≡ sets s at (bytesOf 4 x)
-sets-four s at x = rw (bytesOf-four, add-one, add-two, add-three)
+pub sets-append : (s : List ℕ) (at : ℕ) (a b : List ℕ) → sets s at (a ++ b) ≡ sets (sets s at a) (at + length a) b
+sets-append s at [] b = rw (add-zero at)
+sets-append s at (x ∷ a) b = sets-append (set s at x) (suc at) a b ∙ rw (suc-add, add-suc)
+
+pub sets-halves : (s : List ℕ) (at x : ℕ) → sets (sets s at (bytesOf 2 (x % 65536))) (at + 2) (bytesOf 2 (x / 65536)) ≡ sets s at (bytesOf 4 x)
+sets-halves s at x =
+    rw (bytesOf-halves x, sets-append s at (bytesOf 2 (x % 65536)) (bytesOf 2 (x / 65536)), length-bytesOf 2 (x % 65536))
 
 -- ---- FNV-1a
 
@@ -194,13 +213,14 @@ pub keyHash-at : (at : ℕ) (s : List ℕ) → Bytes s → at + 6 ≤ length s
 keyHash-at at s h fits =
     rw (bytes-at 2 at s h (omega arith), bytes-at 4 (at + 2) s h (omega arith), take-add 2 4 (drop at s), drop-drop 2 at s)
 
--- the same by the six bytes, for code that makes them one by one
-pub keyHash-steps : (table key : ℕ)
-    → keyHash table key
-    ≡ fnvStep (fnvStep (fnvStep (fnvStep (fnvStep (fnvStep 2166136261 (table % 256)) (table / 256 % 256)) (key % 256)) (key / 256 % 256))
-        (key / 65536 % 256)) (key / 16777216 % 256)
+-- the same by two bytes at a time, for code that makes them one by one
+pub fnvFrom-two : (h x : ℕ) → fnvFrom h (bytesOf 2 x) ≡ fnvStep (fnvStep h (x % 256)) (x / 256 % 256)
 unfolding fnvFrom
-keyHash-steps table key = rw (bytesOf-two table, bytesOf-four key)
+fnvFrom-two h x = rw (bytesOf-two x)
+
+pub keyHash-halves : (table key : ℕ)
+    → keyHash table key ≡ fnvFrom (fnvFrom (fnvFrom 2166136261 (bytesOf 2 table)) (bytesOf 2 (key % 65536))) (bytesOf 2 (key / 65536))
+keyHash-halves table key = simp (bytesOf-halves key, fnvFrom-append)
 
 -- a turn of a loop over a slice, and its end
 pub fnvFrom-turn : (h i : ℕ) (s : List ℕ) → i < length s → fnvFrom h (drop i s) ≡ fnvFrom (fnvStep h (getD s i 0)) (drop (i + 1) s)

@@ -1,5 +1,6 @@
+-- `word::fnv::fnv1a` meets its contract. The invariant: hashing what is left, from the hash so far, gives the whole hash.
 use Prim.Native.Nat.{_≤_, _-_}
-use mathlib.Core.Path.{_≡_, refl, sym, _∙_, ap}
+use mathlib.Core.Path.{_≡_, refl, sym, _∙_}
 use native.Mathlib.Omega.{arith}
 use lib.ListN.{length, drop}
 use borrow.Author.Needs.{needs}
@@ -7,9 +8,6 @@ use Rattle.word.specs.Fnv.{fnvFrom, fnv1a}
 use Rattle.word.specs.Laws.{fnvFrom-turn, fnvFrom-end}
 use Rattle.word.proofs.fnv.fnv1a.Statement.{statement}
 use Rattle.word.proofs.fnv.fnv1a.Tie as tie
-use Rattle.word.proofs.fnv.fnv1a.Reads as reads
-use Rattle.word.proofs.fnv.fnv1a.Lts as lts
-use Rattle.word.proofs.fnv.step.Reads as step-reads
 
 abbrev Inv-loop : tie.InvT-loop
 Inv-loop s h₀ i₀ h i = (i ≤ length s) × (fnvFrom h (drop i s) ≡ fnv1a s)
@@ -34,8 +32,9 @@ loop-less c = omega arith
 
 loop-again : tie.Need-loop-again Inv-loop μ-loop
 loop-again c = (
-    omega arith,
-    rw (c .step .ensures) (sym (fnvFrom-turn _ _ _ (c .before .before .loop-test .taken)) ∙ c .before .before .before .loop .inv .1))
+  omega arith,
+  rw (c .step .ensures) (sym (fnvFrom-turn _ _ _ (c .before .before .loop-test .taken)) ∙ c .before .before .before .loop .inv .1),
+)
 
 returns : tie.Need-returns Inv-loop μ-loop
 returns c = sym (fnvFrom-end _ _ _ (c .loop-test .left)) ∙ c .before .loop .inv .1

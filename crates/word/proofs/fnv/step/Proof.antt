@@ -1,10 +1,8 @@
-use Rattle.word.specs.Fnv.{fnvStep}
+-- `word::fnv::step` meets its contract.
 use borrow.Author.Needs.{needs}
+use Rattle.word.specs.Fnv.{fnvStep}
 use Rattle.word.proofs.fnv.step.Statement.{statement}
 use Rattle.word.proofs.fnv.step.Tie as tie
-use Rattle.word.proofs.fnv.step.Reads as reads
-use Rattle.word.proofs.fnv.step.Lts as lts
-use Rattle.word.proofs.fnv.wrapping_mul.Reads as wrapping-mul-reads
 
 wrapping-mul-requires : tie.Need-wrapping-mul-requires
 wrapping-mul-requires c κs = search needs

@@ -1,9 +1,8 @@
-use Rattle.word.specs.Laws.{product-lt}
+-- `word::fnv::wrapping_mul` meets its contract.
 use borrow.Author.Needs.{needs}
+use Rattle.word.specs.Laws.{product-lt}
 use Rattle.word.proofs.fnv.wrapping_mul.Statement.{statement}
 use Rattle.word.proofs.fnv.wrapping_mul.Tie as tie
-use Rattle.word.proofs.fnv.wrapping_mul.Reads as reads
-use Rattle.word.proofs.fnv.wrapping_mul.Lts as lts
 
 mul-result : tie.Need-mul-result
 mul-result c = record { fits = product-lt (search needs) (search needs) }

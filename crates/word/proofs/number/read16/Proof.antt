@@ -1,26 +1,24 @@
+-- `word::number::read16` meets its contract.
 use native.Mathlib.Omega.{arith}
-use Rattle.word.specs.Laws.{number-two}
 use borrow.Author.Needs.{needs}
+use Rattle.word.specs.Laws.{number-two}
 use Rattle.word.proofs.number.read16.Statement.{statement}
 use Rattle.word.proofs.number.read16.Tie as tie
-use Rattle.word.proofs.number.read16.Reads as reads
-use Rattle.word.proofs.number.read16.Lts as lts
-use Rattle.word.proofs.number.wide16.Reads as wide16-reads
 
-shared-slice-read-wide16 : tie.Need-shared-slice-read-wide16
-shared-slice-read-wide16 c = search needs
+shared-slice-read-wide : tie.Need-shared-slice-read-wide
+shared-slice-read-wide c = search needs
 
-wide16-requires : tie.Need-wide16-requires
-wide16-requires c κs = search needs
+wide-requires : tie.Need-wide-requires
+wide-requires c κs = search needs
 
-add-wide16 : tie.Need-add-wide16
-add-wide16 c = search needs
+add-wide : tie.Need-add-wide
+add-wide c = search needs
 
-shared-slice-read-wide16-2 : tie.Need-shared-slice-read-wide16-2
-shared-slice-read-wide16-2 c = search needs
+shared-slice-read-wide-2 : tie.Need-shared-slice-read-wide-2
+shared-slice-read-wide-2 c = search needs
 
-wide16-requires-2 : tie.Need-wide16-requires-2
-wide16-requires-2 c κs = search needs
+wide-requires-2 : tie.Need-wide-requires-2
+wide-requires-2 c κs = search needs
 
 mul-result : tie.Need-mul-result
 mul-result c = search needs
@@ -35,11 +33,11 @@ pub read16-spec : {M : Type 1} → statement M
 read16-spec =
     tie.close
     (tie.spec
-    shared-slice-read-wide16
-    wide16-requires
-    add-wide16
-    shared-slice-read-wide16-2
-    wide16-requires-2
+    shared-slice-read-wide
+    wide-requires
+    add-wide
+    shared-slice-read-wide-2
+    wide-requires-2
     mul-result
     add-result
     returns)

@@ -1,26 +1,24 @@
+-- `word::number::read32` meets its contract.
 use native.Mathlib.Omega.{arith}
-use Rattle.word.specs.Laws.{number-four}
 use borrow.Author.Needs.{needs}
+use Rattle.word.specs.Laws.{number-halves}
 use Rattle.word.proofs.number.read32.Statement.{statement}
 use Rattle.word.proofs.number.read32.Tie as tie
-use Rattle.word.proofs.number.read32.Reads as reads
-use Rattle.word.proofs.number.read32.Lts as lts
-use Rattle.word.proofs.number.wide32.Reads as wide32-reads
 
-shared-slice-read-wide32 : tie.Need-shared-slice-read-wide32
-shared-slice-read-wide32 c = search needs
+read16-requires : tie.Need-read16-requires
+read16-requires c κs = search needs
 
-wide32-requires : tie.Need-wide32-requires
-wide32-requires c κs = search needs
+cast-result : tie.Need-cast-result
+cast-result c = search needs
 
-add-wide32 : tie.Need-add-wide32
-add-wide32 c = search needs
+add-read16 : tie.Need-add-read16
+add-read16 c = search needs
 
-shared-slice-read-wide32-2 : tie.Need-shared-slice-read-wide32-2
-shared-slice-read-wide32-2 c = search needs
+read16-requires-2 : tie.Need-read16-requires-2
+read16-requires-2 c κs = search needs
 
-wide32-requires-2 : tie.Need-wide32-requires-2
-wide32-requires-2 c κs = search needs
+cast-result-2 : tie.Need-cast-result-2
+cast-result-2 c = search needs
 
 mul-result : tie.Need-mul-result
 mul-result c = search needs
@@ -28,58 +26,18 @@ mul-result c = search needs
 add-result : tie.Need-add-result
 add-result c = search needs
 
-add-wide32-2 : tie.Need-add-wide32-2
-add-wide32-2 c = search needs
-
-shared-slice-read-wide32-3 : tie.Need-shared-slice-read-wide32-3
-shared-slice-read-wide32-3 c = search needs
-
-wide32-requires-3 : tie.Need-wide32-requires-3
-wide32-requires-3 c κs = search needs
-
-mul-result-2 : tie.Need-mul-result-2
-mul-result-2 c = search needs
-
-add-result-2 : tie.Need-add-result-2
-add-result-2 c = search needs
-
-add-wide32-3 : tie.Need-add-wide32-3
-add-wide32-3 c = search needs
-
-shared-slice-read-wide32-4 : tie.Need-shared-slice-read-wide32-4
-shared-slice-read-wide32-4 c = search needs
-
-wide32-requires-4 : tie.Need-wide32-requires-4
-wide32-requires-4 c κs = search needs
-
-mul-result-3 : tie.Need-mul-result-3
-mul-result-3 c = search needs
-
-add-result-3 : tie.Need-add-result-3
-add-result-3 c = search needs
-
 returns : tie.Need-returns
-returns c = rw number-four (omega arith)
+returns c = rw number-halves (omega arith)
 
 pub read32-spec : {M : Type 1} → statement M
 read32-spec =
     tie.close
     (tie.spec
-    shared-slice-read-wide32
-    wide32-requires
-    add-wide32
-    shared-slice-read-wide32-2
-    wide32-requires-2
+    read16-requires
+    cast-result
+    add-read16
+    read16-requires-2
+    cast-result-2
     mul-result
     add-result
-    add-wide32-2
-    shared-slice-read-wide32-3
-    wide32-requires-3
-    mul-result-2
-    add-result-2
-    add-wide32-3
-    shared-slice-read-wide32-4
-    wide32-requires-4
-    mul-result-3
-    add-result-3
     returns)

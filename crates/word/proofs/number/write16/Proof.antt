@@ -1,11 +1,10 @@
+-- `word::number::write16` meets its contract.
 use native.Mathlib.Omega.{arith}
 use lib.ListN.{length-set}
-use Rattle.word.specs.Laws.{sets-two}
 use borrow.Author.Needs.{needs}
+use Rattle.word.specs.Laws.{sets-two}
 use Rattle.word.proofs.number.write16.Statement.{statement}
 use Rattle.word.proofs.number.write16.Tie as tie
-use Rattle.word.proofs.number.write16.Reads as reads
-use Rattle.word.proofs.number.write16.Lts as lts
 
 cast-s : tie.Need-cast-s
 cast-s c = search needs

@@ -1,65 +1,38 @@
-use native.Mathlib.Omega.{arith}
-use lib.ListN.{length-set}
-use Rattle.word.specs.Laws.{sets-four}
+-- `word::number::write32` meets its contract.
 use borrow.Author.Needs.{needs}
+use Rattle.word.specs.Laws.{sets-halves}
 use Rattle.word.proofs.number.write32.Statement.{statement}
 use Rattle.word.proofs.number.write32.Tie as tie
-use Rattle.word.proofs.number.write32.Reads as reads
-use Rattle.word.proofs.number.write32.Lts as lts
 
-cast-s : tie.Need-cast-s
-cast-s c = search needs
+cast-write16 : tie.Need-cast-write16
+cast-write16 c = search needs
 
-slice-write-s : tie.Need-slice-write-s
-slice-write-s c = search needs
+write16-requires : tie.Need-write16-requires
+write16-requires c κs = search needs
 
-cast-s-2 : tie.Need-cast-s-2
-cast-s-2 c = search needs
+add-write16 : tie.Need-add-write16
+add-write16 c = search needs
 
-add-s : tie.Need-add-s
-add-s c = search needs
+cast-write16-2 : tie.Need-cast-write16-2
+cast-write16-2 c = search needs
 
-slice-write-s-2 : tie.Need-slice-write-s-2
-slice-write-s-2 c = simp length-set (omega arith)
-
-cast-s-3 : tie.Need-cast-s-3
-cast-s-3 c = search needs
-
-add-s-2 : tie.Need-add-s-2
-add-s-2 c = search needs
-
-slice-write-s-3 : tie.Need-slice-write-s-3
-slice-write-s-3 c = simp length-set (omega arith)
-
-cast-s-4 : tie.Need-cast-s-4
-cast-s-4 c = search needs
-
-add-s-3 : tie.Need-add-s-3
-add-s-3 c = search needs
-
-slice-write-s-4 : tie.Need-slice-write-s-4
-slice-write-s-4 c = simp length-set (omega arith)
+write16-requires-2 : tie.Need-write16-requires-2
+write16-requires-2 c κs = search needs
 
 same-length : tie.Need-same-length
 same-length c = search needs
 
 returns : tie.Need-returns
-returns c = sets-four (c .args .s .now) (c .args .at) (c .args .x)
+returns c = let a = c .before .before .before .before .before .before .before .before .before .args in cc (sets-halves (a .s .now) (a .at) (a .x))
 
 pub write32-spec : {M : Type 1} → statement M
 write32-spec =
     tie.close
     (tie.spec
-    cast-s
-    slice-write-s
-    cast-s-2
-    add-s
-    slice-write-s-2
-    cast-s-3
-    add-s-2
-    slice-write-s-3
-    cast-s-4
-    add-s-3
-    slice-write-s-4
+    cast-write16
+    write16-requires
+    add-write16
+    cast-write16-2
+    write16-requires-2
     same-length
     returns)
