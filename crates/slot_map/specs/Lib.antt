@@ -5,3 +5,6 @@ pub mod Count
 pub mod CountLaws
 pub mod Next
 pub mod NextLaws
+pub mod Vacant
+pub mod Words
+pub mod Zeros
