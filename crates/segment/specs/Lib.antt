@@ -1,0 +1,5 @@
+-- The bytes of one segment, as 01 lays them down.
+pub mod Choice
+pub mod Layout
+pub mod Entry
+pub mod Digest
