@@ -47,15 +47,15 @@ pub record Layout : Type 0 where
 unfoldable pub edition1 : Layout
 unfolding both lookup soundObjects isSome pick
 edition1 =
-    record
-      { width = 4
-      ; digestKind = 5
-      ; tombstoneKind = 4
-      ; objects = (1, 8) ∷ (2, 24) ∷ (3, 56) ∷ []
-      ; sound-digest = refl
-      ; sound-tombstone = refl
-      ; sound-objects = refl
-      }
+    record {
+      width = 4;
+      digestKind = 5;
+      tombstoneKind = 4;
+      objects = (1, 8) ∷ (2, 24) ∷ (3, 56) ∷ [];
+      sound-digest = refl;
+      sound-tombstone = refl;
+      sound-objects = refl;
+    }
 
 -- the length of the value of an entry of kind k, and none where no entry has that kind
 unfoldable pub valueLength : Layout → ℕ → Option ℕ

@@ -1,0 +1,4 @@
+-- The store record, the refusals and the answers of the seven calls.
+pub mod Refusals
+pub mod Answers
+pub mod Range

@@ -1,0 +1,12 @@
+-- How many slots a map names. 01, "The store": free slots are N less the ones in the slot map.
+use Prim.Native.Nat.{ℕ, zero, suc, _+_, _-_}
+use Rattle.slot_map.specs.Bit.{bit}
+
+-- how many of the slots below n the map m names
+unfoldable pub used : ℕ → ℕ → ℕ
+used zero m = 0
+used (suc n) m = used n m + bit m n
+
+-- how many of the slots below n it leaves free
+abbrev pub free : ℕ → ℕ → ℕ
+free n m = n - used n m
