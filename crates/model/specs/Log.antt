@@ -37,11 +37,11 @@ itemFirst i (scanned is e) = scanned (i ∷ is) e
 unfoldable pub scanFrom : Layout → List ℕ → ℕ → ℕ → Scan
 scanFrom L s zero at = damaged
 scanFrom L s (suc f) at =
-    elim (entryAt L s at)
-      [ entry e ↦ itemFirst (record { offset = at; entry = e }) (scanFrom L s f (at + sizeOf L e))
+    elim (entryAt L s at) [
+      | entry e ↦ itemFirst (record { offset = at; entry = e }) (scanFrom L s f (at + sizeOf L e))
       | end ↦ scanned [] at
       | damage ↦ damaged
-      ]
+    ]
 
 -- Entries start behind the digest.
 abbrev pub scan : Layout → List ℕ → Scan

@@ -1,10 +1,11 @@
 -- 01, "Operations, store by store": what a start lays out, what each step stores, and the record after the last one.
-use Prim.Native.Nat.{ℕ, zero, suc, _+_, _*_, _-_, _^_}
+use Prim.Native.Nat.{ℕ, zero, suc, _+_, _*_, _-_, _^_, _<_}
 use mathlib.Core.Bool.{Bool, true, false, not}
 use mathlib.Core.List.{List, [], _∷_, _++_}
 use mathlib.Core.Option.{Option, none, some}
 use lib.Dec.{eqb, ltb, leb}
 use lib.ListN.{length, getD, take, drop, set}
+use Rattle.word.specs.Number.{Bytes}
 use Rattle.segment.specs.Choice.{pick, both, either}
 use Rattle.segment.specs.Layout.{Layout, objectKind, isTombstone, digestSize}
 use Rattle.segment.specs.Entry.{Entry, encoded, decoded, sizeOf, keyOf}
@@ -24,6 +25,15 @@ pub data Operation : Type 0 where
   write : Key → List ℕ → Operation
   delete : Key → Operation
   clean : ℕ → Operation
+
+-- A call's arguments are of their types: a table is 16 bits wide, a key 32, and a value is bytes.
+abbrev pub TypedKey : Key → Type 0
+TypedKey k = (k .table < 256 ^ 2) × (k .key < 256 ^ 4)
+
+abbrev pub Typed : Operation → Type 0
+Typed (write k value) = TypedKey k × Bytes value
+Typed (delete k) = TypedKey k
+Typed (clean victims) = victims < 256 ^ 4
 
 -- the log of the area under a record's map
 abbrev pub logNow : Layout → List ℕ → Store → List Placed
@@ -100,17 +110,17 @@ pub record Laid : Type 0 where
 abbrev pub laidEntry : Layout → Store → Entry → Laid
 laidEntry L r e =
     pick (fitsHead L r e) (record { pending = λ k. Append (sizeOf L e) k; bytes = encoded L e })
-    (record
-      { pending = λ k. NewHead (newSlot r) (digestSize L + sizeOf L e) k
-      ; bytes = encodedDigest L (newDigest r 0) ++ encoded L e
-      })
+    (record {
+      pending = λ k. NewHead (newSlot r) (digestSize L + sizeOf L e) k;
+      bytes = encodedDigest L (newDigest r 0) ++ encoded L e;
+    })
 
 abbrev pub laidClean : Layout → Store → List Placed → ℕ → Laid
 laidClean L r log victims =
-    record
-      { pending = λ k. Clean (newSlot r) victims (digestSize L + length (allEncoded L (kept L victims log))) k
-      ; bytes = encodedDigest L (newDigest r victims) ++ allEncoded L (kept L victims log)
-      }
+    record {
+      pending = λ k. Clean (newSlot r) victims (digestSize L + length (allEncoded L (kept L victims log))) k;
+      bytes = encodedDigest L (newDigest r victims) ++ allEncoded L (kept L victims log);
+    }
 
 unfoldable pub laid : Layout → Store → List Placed → Operation → Laid
 laid L r log (write k value) = laidEntry L r (writtenEntry L r k value)
@@ -177,33 +187,33 @@ placedFrom L i at (e ∷ es) = record { slot = i; offset = at; entry = e } ∷ p
 -- the record once an entry of key k is in the head's end, or in a new head
 abbrev pub appendedStore : Layout → Store → List Placed → Entry → Store
 appendedStore L r log e =
-    record
-      { slots = r .slots
-      ; size = r .size
-      ; cells = r .cells
-      ; head = r .head
-      ; end = r .end + sizeOf L e
-      ; number = r .number
-      ; map = r .map
-      ; next = record { 0 = r .next .0 + 1 }
-      ; keys = r .keys + countNew log (keyOf e)
-      ; pending = Idle
-      }
+    record {
+      slots = r .slots;
+      size = r .size;
+      cells = r .cells;
+      head = r .head;
+      end = r .end + sizeOf L e;
+      number = r .number;
+      map = r .map;
+      next = record { 0 = r .next .0 + 1 };
+      keys = r .keys + countNew log (keyOf e);
+      pending = Idle;
+    }
 
 abbrev pub headedStore : Layout → Store → List Placed → Entry → Store
 headedStore L r log e =
-    record
-      { slots = r .slots
-      ; size = r .size
-      ; cells = r .cells
-      ; head = newSlot r
-      ; end = digestSize L + sizeOf L e
-      ; number = newDigest r 0 .number
-      ; map = newDigest r 0 .map
-      ; next = record { 0 = r .next .0 + 1 }
-      ; keys = r .keys + countNew log (keyOf e)
-      ; pending = Idle
-      }
+    record {
+      slots = r .slots;
+      size = r .size;
+      cells = r .cells;
+      head = newSlot r;
+      end = digestSize L + sizeOf L e;
+      number = newDigest r 0 .number;
+      map = newDigest r 0 .map;
+      next = record { 0 = r .next .0 + 1 };
+      keys = r .keys + countNew log (keyOf e);
+      pending = Idle;
+    }
 
 abbrev pub entryStore : Layout → Store → List Placed → Entry → Store
 entryStore L r log e = pick (fitsHead L r e) (appendedStore L r log e) (headedStore L r log e)
@@ -216,18 +226,18 @@ cleanedLog L area r victims =
 
 abbrev pub cleanedStore : Layout → List ℕ → Store → ℕ → Store
 cleanedStore L area r victims =
-    record
-      { slots = r .slots
-      ; size = r .size
-      ; cells = r .cells
-      ; head = newSlot r
-      ; end = digestSize L + length (allEncoded L (kept L victims (logNow L area r)))
-      ; number = newDigest r victims .number
-      ; map = newDigest r victims .map
-      ; next = r .next
-      ; keys = length (keysOf (cleanedLog L area r victims))
-      ; pending = Idle
-      }
+    record {
+      slots = r .slots;
+      size = r .size;
+      cells = r .cells;
+      head = newSlot r;
+      end = digestSize L + length (allEncoded L (kept L victims (logNow L area r)));
+      number = newDigest r victims .number;
+      map = newDigest r victims .map;
+      next = r .next;
+      keys = length (keysOf (cleanedLog L area r victims));
+      pending = Idle;
+    }
 
 -- The record after the last step of an operation that was started on this area and record.
 unfoldable pub finishedStore : Layout → List ℕ → Store → Operation → Store

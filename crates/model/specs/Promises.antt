@@ -8,6 +8,7 @@ use mathlib.Core.Option.{Option, none, some}
 use lib.Dec.{eqb}
 use lib.ListN.{length, getD, take, drop, set, replicate}
 use lib.Seq.{sets}
+use Rattle.word.specs.Number.{Bytes}
 use Rattle.segment.specs.Choice.{pick}
 use Rattle.segment.specs.Layout.{Layout, entrySize}
 use Rattle.segment.specs.Entry.{Entry}
@@ -31,7 +32,7 @@ use Rattle.model.specs.Log.{Placed, placeOf, present}
 use Rattle.model.specs.Causes.{Cause, firstCause}
 use Rattle.model.specs.Recovery.{recovered, recovery}
 use Rattle.model.specs.Index.{IndexRule}
-use Rattle.model.specs.Operations.{Operation, logNow, laid, planFor, storesFor, startedStore, stored, toldVersion, finishedStore, formatted}
+use Rattle.model.specs.Operations.{Operation, Typed, logNow, laid, planFor, storesFor, startedStore, stored, toldVersion, finishedStore, formatted}
 use Rattle.model.specs.Refused.{Lengths, recordBad, formatCauses, readCauses, startCauses, stepCauses}
 
 -- ---- the stores on which a call promises its whole answer
@@ -49,11 +50,13 @@ pub record Started (L : Layout) (area : List ℕ) (r : Store) (work : List ℕ) 
   pub idle : Store
   pub since : ℕ
   pub lengths : Lengths
+  pub typed : Typed operation
+  pub area-bytes : Bytes before
   pub recovers : recovered L (idle .slots) (idle .size) (idle .cells) before ≡ some idle
   pub accepted : firstCause (startCauses L idle (logNow L before idle) lengths operation) ≡ none
   pub some-left : since < storesFor L idle (logNow L before idle) operation
   pub record-now :
-    r ≡ withPending idle (laid L idle (logNow L before idle) operation .pending (storesFor L idle (logNow L before idle) operation - since))
+      r ≡ withPending idle (laid L idle (logNow L before idle) operation .pending (storesFor L idle (logNow L before idle) operation - since))
   pub area-now : area ≡ stored before (take since (planFor L idle (logNow L before idle) operation))
   pub work-now : take (length (laid L idle (logNow L before idle) operation .bytes)) work ≡ laid L idle (logNow L before idle) operation .bytes
 
@@ -104,8 +107,8 @@ pub record ReadPromise (L : Layout) (r : Store) (area cells : List ℕ) (k : Key
   pub hands-back : a .store ≡ r
   pub unfit : recordBad L r (readLengths area cells) ≡ true → a .answer ≡ ReadAnswer.Refused Refusal.BadRecord
   pub exact :
-    Genuine L area r cells → a .answer ≡
-    readAnswer (firstCause (readCauses L r (logNow L area r) (readLengths area cells) k)) (present L (logNow L area r) k)
+      Genuine L area r cells → a .answer ≡
+      readAnswer (firstCause (readCauses L r (logNow L area r) (readLengths area cells) k)) (present L (logNow L area r) k)
 
 -- the value of an object is a part of the area; where read refuses it is the empty part at the area's start
 unfoldable pub valuePart : Layout → ℕ → List ℕ → Option Placed → List ℕ
@@ -119,8 +122,8 @@ valueAnswer L S area (some c) x = []
 pub record ValuePromise (L : Layout) (r : Store) (area cells : List ℕ) (k : Key) (value : List ℕ) : Type 0 where
   pub unfit : recordBad L r (readLengths area cells) ≡ true → value ≡ []
   pub exact :
-    Genuine L area r cells → value ≡
-    valueAnswer L (r .size) area (firstCause (readCauses L r (logNow L area r) (readLengths area cells) k)) (present L (logNow L area r) k)
+      Genuine L area r cells → value ≡
+      valueAnswer L (r .size) area (firstCause (readCauses L r (logNow L area r) (readLengths area cells) k)) (present L (logNow L area r) k)
 
 -- ---- write, delete and clean
 
@@ -133,10 +136,10 @@ pub record Begun : Type 0 where
 -- buffer is filled from its first byte.
 unfoldable pub begun : Layout → Store → List Placed → Operation → List ℕ → Option Refusal → Begun
 begun L r log o work none =
-    record
-      { start = record { answer = StartAnswer.Started (storesFor L r log o); store = startedStore L r log o }
-      ; work = sets work 0 (laid L r log o .bytes)
-      }
+    record {
+      start = record { answer = StartAnswer.Started (storesFor L r log o); store = startedStore L r log o };
+      work = sets work 0 (laid L r log o .bytes);
+    }
 begun L r log o work (some c) = record { start = record { answer = StartAnswer.Refused c; store = r }; work = work }
 
 abbrev pub lentLengths : List ℕ → List ℕ → List ℕ → Lengths
@@ -146,11 +149,11 @@ lentLengths area cells work = record { area = length area; index = length cells;
 pub record StartPromise (L : Layout) (o : Operation) (r : Store) (area cells work work′ : List ℕ) (a : Start) : Type 0 where
   pub same-length : length work′ ≡ length work
   pub unfit :
-    recordBad L r (lentLengths area cells work) ≡ true →
-    record { start = a; work = work′ } ≡ begun L r [] o work (some Refusal.BadRecord)
+      recordBad L r (lentLengths area cells work) ≡ true →
+      record { start = a; work = work′ } ≡ begun L r [] o work (some Refusal.BadRecord)
   pub exact :
-    Genuine L area r cells → record { start = a; work = work′ } ≡
-    begun L r (logNow L area r) o work (firstCause (startCauses L r (logNow L area r) (lentLengths area cells work) o))
+      Genuine L area r cells → record { start = a; work = work′ } ≡
+      begun L r (logNow L area r) o work (firstCause (startCauses L r (logNow L area r) (lentLengths area cells work) o))
 
 -- ---- step
 
@@ -169,10 +172,10 @@ unfoldable pub stepped : Layout → List ℕ → Store → Operation → ℕ →
 stepped L before idle o zero =
     record { answer = StepAnswer.Done (record { 0 = toldVersion idle o }); store = finishedStore L before idle o }
 stepped L before idle o (suc k) =
-    record
-      { answer = StepAnswer.Left (suc k)
-      ; store = withPending idle (laid L idle (logNow L before idle) o .pending (suc k))
-      }
+    record {
+      answer = StepAnswer.Left (suc k);
+      store = withPending idle (laid L idle (logNow L before idle) o .pending (suc k));
+    }
 
 -- The index stays until the last step, and then keeps the rule for the new log.
 unfoldable pub IndexStepped : Layout → List ℕ → List ℕ → List ℕ → Store → ℕ → Type 0
@@ -185,7 +188,7 @@ leftAfter L area r work s = storesFor L (s .idle) (logNow L (s .before) (s .idle
 -- A step of a started operation does the one store that comes next in the plan.
 pub record StepExact (L : Layout) (r : Store) (area area′ cells cells′ work : List ℕ) (a : Stepped) (s : Started L area r work) : Type 0 where
   pub stores :
-    area′ ≡ stored (s .before) (take (suc (s .since)) (planFor L (s .idle) (logNow L (s .before) (s .idle)) (s .operation)))
+      area′ ≡ stored (s .before) (take (suc (s .since)) (planFor L (s .idle) (logNow L (s .before) (s .idle)) (s .operation)))
   pub answers : a ≡ stepped L (s .before) (s .idle) (s .operation) (leftAfter L area r work s)
   pub index : IndexStepped L area′ cells cells′ (a .store) (leftAfter L area r work s)
 
@@ -194,5 +197,5 @@ pub record StepPromise (L : Layout) (r : Store) (area area′ cells cells′ wor
   pub same-length : length cells′ ≡ length cells
   pub refused : (c : Refusal) → firstCause (stepCauses L r (lentLengths area cells work)) ≡ some c → StepRefused r area area′ cells cells′ a c
   pub exact :
-    firstCause (stepCauses L r (lentLengths area cells work)) ≡ none → Genuine L area r cells → (s : Started L area r work) →
-    StepExact L r area area′ cells cells′ work a s
+      firstCause (stepCauses L r (lentLengths area cells work)) ≡ none → Genuine L area r cells → (s : Started L area r work) →
+      StepExact L r area area′ cells cells′ work a s

@@ -100,18 +100,18 @@ keysBad m log = ltb (m - 1) (length (keysOf log))
 -- The record that recovery gives for slots with these views under this head.
 abbrev pub storeUnder : (ℕ → View) → ℕ → ℕ → ℕ → Head → Store
 storeUnder v n s m h =
-    record
-      { slots = n
-      ; size = s
-      ; cells = m
-      ; head = h .slot
-      ; end = endOf (v (h .slot) .scan)
-      ; number = h .digest .number
-      ; map = h .digest .map
-      ; next = record { 0 = nextVersion (h .digest) (logUnder v n h) }
-      ; keys = length (keysOf (logUnder v n h))
-      ; pending = Idle
-      }
+    record {
+      slots = n;
+      size = s;
+      cells = m;
+      head = h .slot;
+      end = endOf (v (h .slot) .scan);
+      number = h .digest .number;
+      map = h .digest .map;
+      next = record { 0 = nextVersion (h .digest) (logUnder v n h) };
+      keys = length (keysOf (logUnder v n h));
+      pending = Idle;
+    }
 
 -- 16 to 19, which look at the image alone
 abbrev pub imageCauses : (ℕ → View) → ℕ → Option Head → List Cause

@@ -1,0 +1,1 @@
+-- Theorems about the definitions of the crate model; no code is in sight here.
