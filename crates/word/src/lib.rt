@@ -1,1 +1,1 @@
-// temporary
+// Little-endian numbers in byte slices, the wrapping product, and 32-bit FNV-1a.
