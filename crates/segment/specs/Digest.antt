@@ -1,5 +1,5 @@
 -- 01, "Bytes of a segment": the digest, at offset 0 alone.
-use Prim.Native.Nat.{ℕ, _+_}
+use Prim.Native.Nat.{ℕ}
 use mathlib.Core.List.{List, _∷_, _++_}
 use lib.ListN.{take, drop}
 use Rattle.word.specs.Number.{numberOf, bytesOf}
@@ -9,11 +9,11 @@ use Rattle.segment.specs.declared.Digest.{Digest}
 -- the fields of the digest with which a segment begins
 abbrev pub digestOf : Layout → List ℕ → Digest
 digestOf L s =
-    record
-      { number = record { 0 = numberOf (take 4 (drop 1 s)) }
-      ; map = numberOf (take 4 (drop 5 s))
-      ; next = record { 0 = numberOf (take (L .width) (drop 9 s)) }
-      }
+    record {
+      number = record { 0 = numberOf (take 4 (drop 1 s)) };
+      map = numberOf (take 4 (drop 5 s));
+      next = record { 0 = numberOf (take (L .width) (drop 9 s)) };
+    }
 
 -- the bytes of a digest: kind, digest number, slot map, next version
 abbrev pub encodedDigest : Layout → Digest → List ℕ

@@ -1,8 +1,8 @@
 -- 01, "Bytes of a segment": an entry, its bytes, and what stands at an offset of a segment.
 use Prim.Native.Nat.{ℕ, _+_, _≤_, _<_, _^_}
 use mathlib.Core.Path.{_≡_}
-use mathlib.Core.Bool.{Bool, true, false}
-use mathlib.Core.List.{List, [], _∷_, _++_}
+use mathlib.Core.Bool.{true}
+use mathlib.Core.List.{List, _∷_, _++_}
 use mathlib.Core.Option.{Option, none, some}
 use lib.Dec.{eqb, ltb, leb}
 use lib.ListN.{length, getD, take, drop}
@@ -31,13 +31,13 @@ sizeOf L e = entrySize L (length (e .value))
 -- the entry that an entry's own bytes say
 abbrev pub decoded : Layout → List ℕ → Entry
 decoded L b =
-    record
-      { kind = getD b 0 0
-      ; table = numberOf (take 2 (drop 1 b))
-      ; key = numberOf (take 4 (drop 3 b))
-      ; version = numberOf (take (L .width) (drop 7 b))
-      ; value = drop (7 + L .width) b
-      }
+    record {
+      kind = getD b 0 0;
+      table = numberOf (take 2 (drop 1 b));
+      key = numberOf (take 4 (drop 3 b));
+      version = numberOf (take (L .width) (drop 7 b));
+      value = drop (7 + L .width) b;
+    }
 
 -- What the reader of an entry gives: an entry, the end, or damage.
 pub data Found : Type 0 where
