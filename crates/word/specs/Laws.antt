@@ -1,13 +1,15 @@
 -- Laws of numbers as bytes and of FNV-1a.
 use Prim.Native.Nat.{ℕ, zero, suc, _+_, _*_, _/_, _%_, _^_, _≤_, _<_}
-use mathlib.Core.Path.{_≡_, refl, sym, _∙_, ap}
+use mathlib.Core.Path.{_≡_, refl, _∙_, ap}
 use mathlib.Core.List.{List, [], _∷_, _++_, append-assoc}
-use native.Mathlib.Nat.{add-zero, add-assoc, lt-of-lt-of-le, pow-succ', pow-le-pow-right, mod-lt, div-div-eq-div-mul}
+use native.Mathlib.Nat.{add-zero, zero-add, add-suc, suc-add, add-assoc, lt-of-lt-of-le, pow-succ', pow-le-pow-right, mod-lt, mod-mod, mul-le-mul, div-one, div-div-eq-div-mul}
+use native.Mathlib.Numerals.{add-one}
 use native.Mathlib.Omega.{arith}
 use lib.Dec.{lit<}
 use lib.Bits.{bitXor}
-use lib.ListN.{length, getD, take, drop, set, length-take, length-drop}
-use lib.Seq.{sets, sets-eq, getD-drop, take-nil, drop-nil, drop-drop, take-add, take-at, drop-at, length-take-le}
+use lib.Pow.{field}
+use lib.ListN.{length, getD, take, drop, set, length-take, length-drop, drop-of-length-le}
+use lib.Seq.{sets, sets-eq, getD-drop, take-nil, drop-nil, drop-cons, drop-drop, take-add, take-at, drop-at, length-take-le}
 use Rattle.word.specs.Number.{Bytes, numberOf, bytesOf}
 use Rattle.word.specs.Fnv.{wrapped, fnvStep, fnvFrom, fnv1a, keyHash}
 
@@ -72,6 +74,18 @@ pub bytesOf-four : (x : ℕ) → bytesOf 4 x ≡ x % 256 ∷ x / 256 % 256 ∷ x
 unfolding bytesOf
 bytesOf-four x = rw (div-div-eq-div-mul x 256 256, div-div-eq-div-mul x 65536 256)
 
+pub bytesOf-append : (v w x : ℕ) → bytesOf (v + w) x ≡ bytesOf v x ++ bytesOf w (x / 256 ^ v)
+unfolding bytesOf
+bytesOf-append zero w x = rw (zero-add w, div-one x)
+bytesOf-append (suc v) w x =
+    rw (suc-add v w, bytesOf-append v w (x / 256), div-div-eq-div-mul x 256 (256 ^ v), ← (pow-succ' 256 v))
+
+pub bytesOf-halves : (x : ℕ) → bytesOf 4 x ≡ bytesOf 2 (x % 65536) ++ bytesOf 2 (x / 65536)
+bytesOf-halves x =
+    let low : x % 65536 % 256 ≡ x % 256 = omega arith in
+    let high : x % 65536 / 256 % 256 ≡ x / 256 % 256 = ap (λ (y : ℕ). y % 256) (field x 8 8) ∙ mod-mod (x / 256) 256 in
+    bytesOf-append 2 2 x ∙ rw (bytesOf-two x, bytesOf-two (x % 65536), low, high)
+
 -- ---- lists of bytes
 
 pub bytes-append : (a b : List ℕ) → Bytes a → Bytes b → Bytes (a ++ b)
@@ -124,6 +138,9 @@ number-four at s =
     ∙ rw (number-at 2 (at + 1) s, number-at 1 (at + 1 + 1) s, number-at 0 (at + 1 + 1 + 1) s, number-none (drop (at + 1 + 1 + 1 + 1) s))
     (rw (add-assoc at 1 1, add-assoc at 2 1) (omega arith))
 
+pub number-halves : (at : ℕ) (s : List ℕ) → numberOf (take 4 (drop at s)) ≡ numberOf (take 2 (drop at s)) + 65536 * numberOf (take 2 (drop (at + 2) s))
+number-halves at s = rw (number-four at s, number-two at s, number-two (at + 2) s) (rw (add-assoc at 2 1) (omega arith))
+
 pub number-at-lt : (w at : ℕ) (s : List ℕ) → Bytes s → numberOf (take w (drop at s)) < 256 ^ w
 number-at-lt w at s h =
     lt-of-lt-of-le (number-lt (take w (drop at s)) (bytes-take w (drop at s) (bytes-drop at s h)))
@@ -152,12 +169,28 @@ pub number-written : (w at x : ℕ) (s : List ℕ) → at + w ≤ length s → x
 number-written w at x s fits h =
     ap numberOf (taken-sets s at (bytesOf w x) w (length-bytesOf w x) fits) ∙ number-bytes w x h
 
+-- what the stores of the code leave
+pub sets-two : (s : List ℕ) (at x : ℕ) → set (set s at (x % 256)) (at + 1) (x / 256 % 256) ≡ sets s at (bytesOf 2 x)
+sets-two s at x = rw (bytesOf-two, add-one)
+
+pub sets-append : (s : List ℕ) (at : ℕ) (a b : List ℕ) → sets s at (a ++ b) ≡ sets (sets s at a) (at + length a) b
+sets-append s at [] b = rw (add-zero at)
+sets-append s at (x ∷ a) b = sets-append (set s at x) (suc at) a b ∙ rw (suc-add, add-suc)
+
+pub sets-halves : (s : List ℕ) (at x : ℕ) → sets (sets s at (bytesOf 2 (x % 65536))) (at + 2) (bytesOf 2 (x / 65536)) ≡ sets s at (bytesOf 4 x)
+sets-halves s at x =
+    rw (bytesOf-halves x, sets-append s at (bytesOf 2 (x % 65536)) (bytesOf 2 (x / 65536)), length-bytesOf 2 (x % 65536))
+
 -- ---- FNV-1a
 
 pub fnvFrom-append : (h : ℕ) (a b : List ℕ) → fnvFrom h (a ++ b) ≡ fnvFrom (fnvFrom h a) b
 unfolding fnvFrom
 fnvFrom-append h [] b = refl
 fnvFrom-append h (x ∷ a) b = fnvFrom-append (fnvStep h x) a b
+
+-- the product of two 32-bit numbers fits 64 bits
+pub product-lt : {x y : ℕ} → x < 4294967296 → y < 4294967296 → x * y < 18446744073709551616
+product-lt {x} {y} hx hy = omega (arith, mul-le-mul {n₁ = x} {m₁ = y} {n₂ = 4294967295} {m₂ = 4294967295} (omega arith) (omega arith))
 
 pub wrapped-lt : (x y : ℕ) → wrapped x y < 4294967296
 wrapped-lt x y = mod-lt (x * y) (lit< tt)
@@ -179,3 +212,21 @@ pub keyHash-at : (at : ℕ) (s : List ℕ) → Bytes s → at + 6 ≤ length s
     → fnv1a (take 6 (drop at s)) ≡ keyHash (numberOf (take 2 (drop at s))) (numberOf (take 4 (drop (at + 2) s)))
 keyHash-at at s h fits =
     rw (bytes-at 2 at s h (omega arith), bytes-at 4 (at + 2) s h (omega arith), take-add 2 4 (drop at s), drop-drop 2 at s)
+
+-- the same by two bytes at a time, for code that makes them one by one
+pub fnvFrom-two : (h x : ℕ) → fnvFrom h (bytesOf 2 x) ≡ fnvStep (fnvStep h (x % 256)) (x / 256 % 256)
+unfolding fnvFrom
+fnvFrom-two h x = rw (bytesOf-two x)
+
+pub keyHash-halves : (table key : ℕ)
+    → keyHash table key ≡ fnvFrom (fnvFrom (fnvFrom 2166136261 (bytesOf 2 table)) (bytesOf 2 (key % 65536))) (bytesOf 2 (key / 65536))
+keyHash-halves table key = simp (bytesOf-halves key, fnvFrom-append)
+
+-- a turn of a loop over a slice, and its end
+pub fnvFrom-turn : (h i : ℕ) (s : List ℕ) → i < length s → fnvFrom h (drop i s) ≡ fnvFrom (fnvStep h (getD s i 0)) (drop (i + 1) s)
+unfolding fnvFrom
+fnvFrom-turn h i s k = rw (add-one, drop-cons s i 0 k)
+
+pub fnvFrom-end : (h i : ℕ) (s : List ℕ) → length s ≤ i → fnvFrom h (drop i s) ≡ h
+unfolding fnvFrom
+fnvFrom-end h i s k = rw (drop-of-length-le s k)

@@ -1,4 +1,4 @@
--- Unsigned numbers as bytes, the lowest byte first (01, "Bytes").
+-- Unsigned numbers as bytes, the lowest byte first (01, "Bytes of a segment").
 use Prim.Native.Nat.{ℕ, zero, suc, _+_, _*_, _/_, _%_, _<_}
 use mathlib.Core.List.{List, [], _∷_}
 use lib.ListN.{getD}
