@@ -52,7 +52,7 @@ sameKeys a b = both (eqb (a .table) (b .table)) (eqb (a .key) (b .key))
 
 -- the keys with one of them set or dropped
 abbrev pub withKey : (Key → Option Kept) → Key → Option Kept → (Key → Option Kept)
-withKey keys k x j = pick (sameKeys k j) x (keys j)
+withKey keys k x j = pick (sameKeys j k) x (keys j)
 
 abbrev pub withoutPending : Book → Book
 withoutPending b = record { keys = b .keys; next = b .next; pending = none }

@@ -11,7 +11,7 @@ use Rattle.segment.specs.Choice.{pick}
 use Rattle.segment.specs.Layout.{Layout}
 use Rattle.segment.specs.Entry.{Entry}
 use Rattle.segment.specs.declared.Key.{Key}
-use Rattle.record.specs.Range.{cellsGood}
+use Rattle.record.specs.Range.{cellsGood, fitsLent}
 use Rattle.record.specs.declared.Store.{Store}
 use Rattle.model.specs.Log.{Placed, present, sameKey}
 use Rattle.model.specs.Causes.{firstCause}
@@ -73,6 +73,9 @@ pub record StoreLaws (L : Layout) : Type 0 where
   pub bytes-fit :
       (before : List ℕ) (idle : Store) (o : Operation) → Accepted L before idle o →
       length (laid L idle (logNow L before idle) o .bytes) ≤ idle .size
+  -- A recovered record passes the tests of range and length with the area and the cells that it was recovered from.
+  pub own-lengths :
+      (n s m : ℕ) (area : List ℕ) (r : Store) → Bytes area → recovered L n s m area ≡ some r → fitsLent L r (length area) m ≡ true
   -- More cells change nothing but the number of cells.
   pub more-cells :
       (n s m k : ℕ) (area : List ℕ) → recovered L n s m area ≡ some (storeOf L n s m area) → cellsGood k ≡ true → m ≤ k →
