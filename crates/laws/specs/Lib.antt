@@ -2,3 +2,4 @@
 pub mod Members
 pub mod Latest
 pub mod Versions
+pub mod Keys
