@@ -3,3 +3,4 @@ pub mod Members
 pub mod Latest
 pub mod Versions
 pub mod Keys
+pub mod MapLaws
