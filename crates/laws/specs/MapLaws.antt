@@ -19,7 +19,7 @@ use Rattle.model.specs.Operations.{isVersion, isHighest, objectOutside, isKept,
 use Rattle.laws.specs.Members.{clash, In, Same, Added, entriesOf, entry-in, entry-of, those, in-those, those-in}
 use Rattle.laws.specs.Members.{total, total-those, total-split}
 use Rattle.laws.specs.Latest.{same-key, Newest, Keyless, LatestIs, absent, found, latest-is, Apart, apart-same}
-use Rattle.laws.specs.Latest.{newest-one, latest-unique, has-key, key-had}
+use Rattle.laws.specs.Latest.{newest-one, latest-unique, present-same, has-key, key-had}
 use Rattle.laws.specs.Versions.{counted, count, count-append, shared-fewer, shared-apart, highest-above, highest-least}
 use Rattle.laws.specs.Keys.{KeysWithin, keys-within}
 
@@ -48,6 +48,9 @@ value-some L log k x e = rw e (go (isTombstone L (x .entry .kind)))
 pub value-none : (L : Layout) (log : List Placed) (k : Key) → latest log k ≡ none → valueAt L log k ≡ none
 unfolding present objectOnly entryOf
 value-none L log k e = rw e
+
+pub value-same : (L : Layout) (a b : List Placed) (k : Key) → Same a b → Apart a → valueAt L a k ≡ valueAt L b k
+value-same L a b k s d = ap entryOf (present-same L a b k s d)
 
 -- ---- one entry more, with a version above all others
 
@@ -251,7 +254,7 @@ module _ (L : Layout) (victims : ℕ) (log moved after : List Placed) (c : Clean
       go (stood i e) = (y, i, refl)
       go (copied x i e t) = (x, i, e)
 
-  -- an object of the key that is left stands outside the victims, unless it is the copy of the key's latest entry
+  -- what is left of the key is a tombstone: an object outside the victims would have been seen, and a copy is the latest entry's
   left-over : Apart log → (k : Key) (x : Placed) → Newest log k x → isTombstone L (x .entry .kind) ≡ true → objectOutside L victims log k ≡ false →
       (y : Placed) → In y after → sameKey k (y .entry) ≡ true → isTombstone L (y .entry .kind) ≡ true
   left-over d k x n t o y m p = go (origin y m)
