@@ -183,10 +183,11 @@ highest-newest log x d m e = go (latest log (keyOf (x .entry))) (latest-is log (
         let same : z ≡ x = d z x (n .member) m (eqb-true (z .entry .version) (x .entry .version) h) in
         rw same at n
 
--- the three parts of the test whether a member is kept
+-- the test on what a highest version is: an object, or a tombstone whose key has an object outside the victims
 abbrev worth : Layout → ℕ → List Placed → Placed → Bool
 worth L victims log x = either (not (isTombstone L (x .entry .kind))) (objectOutside L victims log (keyOf (x .entry)))
 
+-- the test whether a member is kept, by its three parts
 module _ (L : Layout) (victims : ℕ) (log : List Placed) (x : Placed) where
   kept-when : named victims (x .slot) ≡ true → isHighest log (x .entry) ≡ true → worth L victims log x ≡ true → isKept L victims log x ≡ true
   kept-when p q r =
