@@ -19,7 +19,7 @@ use Rattle.model.specs.Causes.{firstCause}
 use Rattle.model.specs.Recovery.{recovered, storeOf, ifNone, areaCauses}
 use Rattle.model.specs.Operations.{logNow, kindElse, storesFor}
 use Rattle.model.specs.Promises.{Genuine, Started}
-use Rattle.laws.specs.Operated.{valueAt}
+use Rattle.laws.specs.MapLaws.{valueAt}
 use Rattle.history.specs.Book.{Kept, Awaited, Book}
 use Rattle.history.specs.Runs.{Held, World}
 

@@ -30,7 +30,8 @@ use Rattle.model.specs.Operations.{Operation, logNow, laid, planFor, storesFor,
 use Rattle.model.specs.Refused.{Lengths, isPending, stepCauses}
 use Rattle.model.specs.Promises.{Genuine, Started, StepPromise, StepRefused, StepExact, stepped, IndexStepped, leftAfter, lentLengths}
 use Rattle.laws.specs.CauseLaws.{cause-false, cause-rest, refusal-number}
-use Rattle.laws.specs.Operated.{Accepted, StoreLaws, planAt, valueAt}
+use Rattle.laws.specs.MapLaws.{valueAt}
+use Rattle.laws.specs.Operated.{Accepted, StoreLaws, planAt}
 use Rattle.history.specs.Book.{steps, Event, called, Awaited, Book, feed, feedCall, takeOne, oneOff, finish, versionFor, toldBy}
 use Rattle.history.specs.Runs.{Held, World}
 use Rattle.history.specs.Demand3.{EventAgrees, StepAgrees}

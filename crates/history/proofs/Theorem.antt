@@ -30,7 +30,8 @@ use Rattle.model.specs.Operations.{logNow, TypedKey, kindElse, formatted}
 use Rattle.model.specs.Refused.{recordBad, keyAbsent, isAbsent, readCauses, formatCauses}
 use Rattle.model.specs.Promises.{Genuine, FormatPromise, RecoverPromise, ReadPromise, ValuePromise, IndexAfter, formatAnswer, areaUnless, readAnswer, presentAnswer, readLengths, valueAnswer, valuePart}
 use Rattle.laws.specs.CauseLaws.{cause-skip, cause-first, cause-none, cause-false}
-use Rattle.laws.specs.Operated.{StoreLaws, valueAt, entryOf}
+use Rattle.laws.specs.MapLaws.{valueAt, entryOf}
+use Rattle.laws.specs.Operated.{StoreLaws}
 use Rattle.history.specs.Book.{Event, called, cut, Kept, Book, freshBook, feed, bookAfter, bookOf, toldBy, highestTold}
 use Rattle.history.specs.Runs.{Held, World, freshWorld, Moves, start, step, read, readValue, recover, cuts, Run, stop, go}
 use Rattle.history.specs.Demand3.{LargeEnough, bookAnswer, bookValue, GivesBook, EventAgrees, StepsAgree, Holds, Demand3For}
@@ -63,3 +64,61 @@ module _ (L : Layout) (laws : StoreLaws L) (n s : ℕ) where
       let one = move-keeps b t m inv in
       let rest = run-keeps (feed b e) (max t (toldBy e)) r (one .0) in
       (subst (λ (k : ℕ). Inv L n s y (bookAfter (feed b e) es) k) (omega arith) (rest .0), (one .1, rest .1))
+
+  -- ---- what recovery then gives
+
+  -- an index that is large enough suffices
+  enough :
+    (w : World) (b : Book) (t m : ℕ) → Inv L n s w b t → LargeEnough (w .cells) m →
+    recovered L n s m (w .area) ≡ some (storeOf L n s m (w .area))
+  enough w b t m inv large = go′ (w .cells) (inv .base) large
+    where
+      go′ :
+        (c : Option ℕ) → recovered L n s (baseCells c) (w .area) ≡ some (storeOf L n s (baseCells c) (w .area)) → LargeEnough c m →
+        recovered L n s m (w .area) ≡ some (storeOf L n s m (w .area))
+      go′ c e h = ?
+
+  -- what the log holds of a key, by the book
+  holds-none : (log : List Placed) (k : Key) → valueAt L log k ≡ none → present L log k ≡ none
+  holds-none log k e = ?
+
+  module _ (area cells′ : List ℕ) (b : Book) (m : ℕ) (r : Store) (ab : Bytes area) (e : recovered L n s m area ≡ some r)
+    (long : length cells′ ≡ m) (genuine : Genuine L area r cells′) (k : Key) (x : Option Kept)
+    (same : valueAt L (logNow L area r) k ≡ bookEntry L k x)
+    where
+    fits : recordBad L r (readLengths area cells′) ≡ false
+    fits = ?
+
+    read-answer :
+      readAnswer (firstCause (readCauses L r (logNow L area r) (readLengths area cells′) k)) (present L (logNow L area r) k) ≡ bookAnswer L x
+    read-answer = ?
+
+    value-answer :
+      valueAnswer L (r .size) area (firstCause (readCauses L r (logNow L area r) (readLengths area cells′) k)) (present L (logNow L area r) k) ≡
+      bookValue x
+    value-answer = ?
+
+  gives-book :
+    (w : World) (b : Book) (t : ℕ) → Inv L n s w b t → (order cells cells′ : List ℕ) (r : Recovery) → orderBad n order ≡ false →
+    LargeEnough (w .cells) (length cells) → RecoverPromise L n s order (w .area) cells cells′ r → GivesBook L (w .area) cells′ r b
+  gives-book w b t inv order cells cells′ r good large p = ?
+
+  -- ---- the fresh store
+
+  fresh : (area₀ area : List ℕ) → Bytes area₀ → FormatPromise L n s area₀ area FormatAnswer.Formatted → Inv L n s (freshWorld area) freshBook 0
+  fresh area₀ area ab p = ?
+
+  pub holds :
+    (area₀ area : List ℕ) → Bytes area₀ → FormatPromise L n s area₀ area FormatAnswer.Formatted → (es : List Event) (w : World) →
+    Run L n s (freshWorld area) es w → Holds L n s w es
+  holds area₀ area ab p es w r =
+      let kept = run-keeps freshBook 0 r (fresh area₀ area ab p) in
+      record
+        { recovery = gives-book w (bookOf es) (max 0 (highestTold es)) (kept .0)
+        ; above-told = omega (arith, kept .0 .below)
+        ; steps-agree = kept .1
+        }
+
+-- Demand 3 for every layout whose store keeps the laws.
+pub demand-3-for : (L : Layout) → StoreLaws L → Demand3For L
+demand-3-for L laws n s area₀ area ab p es w r = holds L laws n s area₀ area ab p es w r

@@ -1,3 +1,8 @@
 -- Theorems about the definitions of the crate model; no code is in sight here.
 pub mod CauseLaws
+pub mod Members
+pub mod Latest
+pub mod Versions
+pub mod Keys
+pub mod MapLaws
 pub mod Operated

@@ -13,21 +13,13 @@ use Rattle.segment.specs.Entry.{Entry}
 use Rattle.segment.specs.declared.Key.{Key}
 use Rattle.record.specs.Range.{cellsGood, fitsLent}
 use Rattle.record.specs.declared.Store.{Store}
+use Rattle.laws.specs.MapLaws.{valueAt}
 use Rattle.model.specs.Log.{Placed, present, sameKey}
 use Rattle.model.specs.Causes.{firstCause}
 use Rattle.model.specs.Recovery.{recovered, storeOf, geometryBad}
 use Rattle.model.specs.Operations.{Operation, write, delete, clean, Typed, logNow, writtenEntry, tombstoneEntry, laid, planFor, storesFor, stored, finishedStore, formatted}
 use Rattle.model.specs.Promises.{valuePart}
 use Rattle.model.specs.Refused.{Lengths, startCauses}
-
--- the entry that gives a key its value
-unfoldable pub entryOf : Option Placed → Option Entry
-entryOf none = none
-entryOf (some x) = some (x .entry)
-
--- What reading by the rule of versions gives of a key.
-abbrev pub valueAt : Layout → List Placed → Key → Option Entry
-valueAt L log k = entryOf (present L log k)
 
 -- An operation that a start accepts on the record which recovery of an area of bytes gives.
 pub record Accepted (L : Layout) (before : List ℕ) (idle : Store) (o : Operation) : Type 0 where
