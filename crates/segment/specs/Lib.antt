@@ -7,3 +7,6 @@ pub mod LayoutLaws
 pub mod Packed
 pub mod DigestLaws
 pub mod EntryLaws
+pub mod Kinds
+pub mod ReaderLaws
+pub mod Written
