@@ -2,17 +2,23 @@
 use Prim.Native.Nat.{ℕ, zero, suc, _+_, _≤_, _<_}
 use mathlib.Core.Path.{_≡_, refl, sym, _∙_, ap, subst}
 use mathlib.Core.List.{List, [], _∷_, _++_, append-nil, map, List·Memᴰ, List·Memᴰ·head, List·Memᴰ·tail}
+use mathlib.Core.Option.{none, some}
 use native.Mathlib.Nat.{add-zero}
 use native.Mathlib.Omega.{arith}
+use lib.Dec.{eqb}
 use lib.ListN.{length, getD, take, drop, length-append}
 use lib.Seq.{getD-take, take-take, take-add, take-length, take-append-seam, drop-append-seam, drop-drop}
 use Rattle.word.specs.Number.{Bytes}
 use Rattle.word.specs.Laws.{bytes-append}
+use Rattle.segment.specs.Choice.{pick}
 use Rattle.segment.specs.Layout.{Layout, digestSize}
 use Rattle.segment.specs.Packed.{take-drop-take}
 use Rattle.segment.specs.Entry.{Entry, Found, entry, end, damage, entryAt, encoded, sizeOf, WellFormed, Stands}
 use Rattle.segment.specs.EntryLaws.{length-encoded, bytes-encoded, found-fits, found-end, found-stands, stands-found, zero-end, own-bytes, own-end}
-use Rattle.model.specs.Log.{Item, Scan, damaged, scanned, itemFirst, scanFrom, scan, placedIn}
+use Rattle.segment.specs.Digest.{digestOf}
+use Rattle.segment.specs.DigestLaws.{digest-own-bytes}
+use Rattle.segment.specs.declared.Digest.{Digest}
+use Rattle.model.specs.Log.{Item, Scan, damaged, scanned, itemFirst, scanFrom, scan, placedIn, digestIn, viewOf}
 use Rattle.model.specs.Operations.{allEncoded, placedFrom}
 
 abbrev pub itemAt : ℕ → Entry → Item
@@ -103,10 +109,10 @@ getD-member (x ∷ l) (suc k) z h = List·Memᴰ·tail (getD-member l k z (omega
 
 -- lists with one front have its bytes and its parts
 module _ (m : ℕ) (s t : List ℕ) (same : take m t ≡ take m s) where
-  byte-alike : (k : ℕ) → k < m → getD t k 0 ≡ getD s k 0
+  pub byte-alike : (k : ℕ) → k < m → getD t k 0 ≡ getD s k 0
   byte-alike k h = sym (getD-take m t k 0 h) ∙ ap (λ (l : List ℕ). getD l k 0) same ∙ getD-take m s k 0 h
 
-  part-alike : (k w : ℕ) → k + w ≤ m → take w (drop k t) ≡ take w (drop k s)
+  pub part-alike : (k w : ℕ) → k + w ≤ m → take w (drop k t) ≡ take w (drop k s)
   part-alike k w h = sym (take-drop-take w k m t h) ∙ ap (λ (l : List ℕ). take w (drop k l)) same ∙ take-drop-take w k m s h
 
 -- ---- what is known of the items
@@ -253,3 +259,22 @@ pub scans-items : {L : Layout} {s : List ℕ} {at e : ℕ} {is : List Item} → 
 unfolding itemsFrom
 scans-items (done p) = refl
 scans-items (more {at} x p r) = ap (λ (js : List Item). itemAt at x ∷ js) (scans-items r)
+
+-- ---- the view of a segment
+
+-- the digest depends on its own bytes
+pub digest-alike : (L : Layout) (m : ℕ) (s t : List ℕ) → digestSize L ≤ m → take m t ≡ take m s → digestIn L t ≡ digestIn L s
+unfolding digestIn
+digest-alike L m s t h same =
+    ap (λ (b : ℕ). pick (eqb b (L .digestKind)) (some (digestOf L t)) none) (byte-alike m s t same 0 (omega arith))
+    ∙ ap (λ (d : Digest). pick (eqb (getD s 0 0) (L .digestKind)) (some d) none)
+    (digest-own-bytes L t s (part-alike m s t same 0 (digestSize L) (omega arith)))
+
+-- segments that have the same bytes up to and with the kind byte at the end are viewed alike
+pub view-agree : (L : Layout) (s t : List ℕ) {is : List Item} {e : ℕ} → length t ≡ length s → scan L s ≡ scanned is e
+    → take (e + 1) t ≡ take (e + 1) s → viewOf L t ≡ viewOf L s
+view-agree L s t {is} {e} size p same =
+    let r : Scans L s (digestSize L) is e = scan-scans L s p in
+    let d : digestIn L t ≡ digestIn L s = digest-alike L (e + 1) s t (omega (arith, scans-low r)) same in
+    let c : scan L t ≡ scan L s = scans-scan L t (scans-agree t size r same) ∙ sym p in
+    λ i. record { digest = d i; scan = c i }
