@@ -2,3 +2,5 @@
 pub mod Stores
 pub mod Scans
 pub mod AppendBytes
+pub mod NewHeadBytes
+pub mod FormatBytes
