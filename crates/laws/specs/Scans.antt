@@ -25,8 +25,8 @@ use Rattle.model.specs.Operations.{allEncoded, placedFrom}
 abbrev pub itemAt : ℕ → Entry → Item
 itemAt at x = record { offset = at; entry = x }
 
-abbrev pub entriesOf : List Item → List Entry
-entriesOf is = map (λ (x : Item). x .entry) is
+abbrev pub itemEntries : List Item → List Entry
+itemEntries is = map (λ (x : Item). x .entry) is
 
 -- ---- the relation, and that it is the scan
 
@@ -163,20 +163,20 @@ module _ {L : Layout} {s : List ℕ} where
   scans-stands {i = i} h r m = found-stands L s (i .offset) (i .entry) (scans-found r m) h
 
   -- from the offset on the items fill the segment up to their end
-  pub scans-total : {at e : ℕ} {is : List Item} → Scans L s at is e → at + length (allEncoded L (entriesOf is)) ≡ e
+  pub scans-total : {at e : ℕ} {is : List Item} → Scans L s at is e → at + length (allEncoded L (itemEntries is)) ≡ e
   unfolding allEncoded
   scans-total (done p) = add-zero _
   scans-total (more {is = is} x p r) =
-      omega (arith, scans-total r, length-append (encoded L x) (allEncoded L (entriesOf is)), length-encoded L x)
+      omega (arith, scans-total r, length-append (encoded L x) (allEncoded L (itemEntries is)), length-encoded L x)
 
   pub scans-bytes : {at e : ℕ} {is : List Item} → Bytes s → Scans L s at is e
-      → take (length (allEncoded L (entriesOf is))) (drop at s) ≡ allEncoded L (entriesOf is)
+      → take (length (allEncoded L (itemEntries is))) (drop at s) ≡ allEncoded L (itemEntries is)
   unfolding allEncoded
   scans-bytes h (done p) = refl
   scans-bytes h (more {at} {is = is} x p r) =
-      parts-whole (encoded L x) (allEncoded L (entriesOf is)) (drop at s)
+      parts-whole (encoded L x) (allEncoded L (itemEntries is)) (drop at s)
       (ap (λ (n : ℕ). take n (drop at s)) (length-encoded L x) ∙ found-stands L s at x p h .same)
-      (ap (λ (l : List ℕ). take (length (allEncoded L (entriesOf is))) l)
+      (ap (λ (l : List ℕ). take (length (allEncoded L (itemEntries is))) l)
       (drop-drop (length (encoded L x)) at s ∙ ap (λ (n : ℕ). drop (at + n) s) (length-encoded L x))
       ∙ scans-bytes h r)
 
@@ -214,7 +214,7 @@ module _ (L : Layout) where
   placed-items i at [] = refl
   placed-items i at (x ∷ xs) = rw (placed-items i (at + sizeOf L x) xs)
 
-  pub entries-items : (at : ℕ) (xs : List Entry) → entriesOf (itemsFrom L at xs) ≡ xs
+  pub entries-items : (at : ℕ) (xs : List Entry) → itemEntries (itemsFrom L at xs) ≡ xs
   unfolding itemsFrom
   entries-items at [] = refl
   entries-items at (x ∷ xs) = ap (λ (ys : List Entry). x ∷ ys) (entries-items (at + sizeOf L x) xs)
@@ -256,7 +256,7 @@ module _ (L : Layout) where
       ∙ part-second (encoded L x) (allEncoded L xs) (drop at t) own) z)
 
 -- a scan's items are its entries, one behind the other
-pub scans-items : {L : Layout} {s : List ℕ} {at e : ℕ} {is : List Item} → Scans L s at is e → is ≡ itemsFrom L at (entriesOf is)
+pub scans-items : {L : Layout} {s : List ℕ} {at e : ℕ} {is : List Item} → Scans L s at is e → is ≡ itemsFrom L at (itemEntries is)
 unfolding itemsFrom
 scans-items (done p) = refl
 scans-items (more {at} x p r) = ap (λ (js : List Item). itemAt at x ∷ js) (scans-items r)
