@@ -5,4 +5,9 @@ pub mod Latest
 pub mod Versions
 pub mod Keys
 pub mod MapLaws
+pub mod Stores
+pub mod Scans
+pub mod AppendBytes
+pub mod NewHeadBytes
+pub mod FormatBytes
 pub mod Operated
