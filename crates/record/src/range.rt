@@ -1,0 +1,1 @@
+// The range-and-length test.
