@@ -2,14 +2,12 @@
 // without a look at the log.
 use crate::Pending;
 use crate::Store;
-ghost use Prim.Native.Nat.{_*_, _-_, _≤_};
+use segment::layout::DIGEST_SIZE;
+ghost use Prim.Native.Nat.{_≤_};
 ghost use mathlib.Core.Path.{_≡_};
-ghost use mathlib.Core.Bool.{Bool};
 ghost use Rattle.record.specs.Range.{between, slotsGood, sizeGood, cellsGood, mapGood, leftGood, inRange, fitsLent, lengthsOwn};
 ghost use Rattle.record.specs.RangeLaws.{limitsGood, countersGood};
 ghost use Rattle.segment.specs.Layout.{edition1};
-
-const DIGEST: usize = 13;
 
 // Whether x is from low to high.
 fn between(low: usize, high: usize, x: usize) -> bool
@@ -81,7 +79,7 @@ fn counters_good(store: Store) -> bool
 {
     let number = store.number;
     let next = store.next;
-    if !between(DIGEST, store.size as usize, store.end as usize) {
+    if !between(DIGEST_SIZE, store.size as usize, store.end as usize) {
         return false;
     }
     if number.0 == 0 {
