@@ -1,0 +1,85 @@
+-- What each answer says in 01's terms: the refusal's number, or the values that the call gives. 0 is no refusal's number.
+use Prim.Native.Nat.{ℕ}
+use Rattle.record.specs.Refusals.{numberOfRefusal}
+use Rattle.record.specs.declared.Pending.{Pending}
+use Rattle.record.specs.declared.Pending.the-variants.{Idle, Append, NewHead, Clean}
+use Rattle.record.specs.declared.FormatAnswer.{FormatAnswer}
+use Rattle.record.specs.declared.RecoverAnswer.{RecoverAnswer}
+use Rattle.record.specs.declared.ReadAnswer.{ReadAnswer}
+use Rattle.record.specs.declared.StartAnswer.{StartAnswer}
+use Rattle.record.specs.declared.StepAnswer.{StepAnswer}
+use Rattle.record.specs.declared.Store.{Store}
+
+-- What an answer says: the number of the refusal, or 0 with the call's values.
+pub record Said : Type 0 where
+  pub refused : ℕ
+  pub stores : ℕ
+  pub version : ℕ
+  pub kind : ℕ
+
+abbrev pub refusal : ℕ → Said
+refusal n = record { refused = n; stores = 0; version = 0; kind = 0 }
+
+-- accepted or its number
+abbrev pub formatSaid : FormatAnswer → Said
+formatSaid FormatAnswer.Formatted = refusal 0
+formatSaid (FormatAnswer.Refused r) = refusal (numberOfRefusal r)
+
+abbrev pub recoverSaid : RecoverAnswer → Said
+recoverSaid RecoverAnswer.Recovered = refusal 0
+recoverSaid (RecoverAnswer.Refused r) = refusal (numberOfRefusal r)
+
+-- version and kind of the object
+abbrev pub readSaid : ReadAnswer → Said
+readSaid (ReadAnswer.Present v k) = record { refused = 0; stores = 0; version = v .0; kind = k }
+readSaid (ReadAnswer.Refused r) = refusal (numberOfRefusal r)
+
+-- the number of stores to come
+abbrev pub startSaid : StartAnswer → Said
+startSaid (StartAnswer.Started k) = record { refused = 0; stores = k; version = 0; kind = 0 }
+startSaid (StartAnswer.Refused r) = refusal (numberOfRefusal r)
+
+-- the number of stores left; at the last step 0, and the version
+abbrev pub stepSaid : StepAnswer → Said
+stepSaid (StepAnswer.Left k) = record { refused = 0; stores = k; version = 0; kind = 0 }
+stepSaid (StepAnswer.Done v) = record { refused = 0; stores = 0; version = v .0; kind = 0 }
+stepSaid (StepAnswer.Refused r) = refusal (numberOfRefusal r)
+
+-- how many stores a pending operation has left; 0 where none is pending
+abbrev pub storesLeft : Pending → ℕ
+storesLeft Idle = 0
+storesLeft (Append n k) = k
+storesLeft (NewHead s n k) = k
+storesLeft (Clean s v n k) = k
+
+-- the record with another pending operation
+abbrev pub withPending : Store → Pending → Store
+withPending r p =
+    record {
+      slots = r .slots;
+      size = r .size;
+      cells = r .cells;
+      head = r .head;
+      end = r .end;
+      number = r .number;
+      map = r .map;
+      next = r .next;
+      keys = r .keys;
+      pending = p;
+    }
+
+-- The record that stands beside a refusal of recovery: N is 0, so every call refuses it with 4.
+abbrev pub blank : Store
+blank =
+    record {
+      slots = 0;
+      size = 0;
+      cells = 0;
+      head = 0;
+      end = 0;
+      number = record { 0 = 0 };
+      map = 0;
+      next = record { 0 = 0 };
+      keys = 0;
+      pending = Idle;
+    }

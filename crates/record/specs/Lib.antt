@@ -1,0 +1,5 @@
+-- The store record, the refusals and the answers of the seven calls.
+pub mod Refusals
+pub mod Answers
+pub mod Range
+pub mod RangeLaws

@@ -1,0 +1,207 @@
+// The store record, the pending operation, the refusals and the answers of the seven calls.
+use segment::DigestNumber;
+use segment::Version;
+ghost use mathlib.Core.Path.{_≡_};
+ghost use Rattle.record.specs.Answers.{blank, storesLeft, withPending};
+ghost use Rattle.record.specs.Refusals.{numberOfRefusal};
+
+pub mod range;
+
+// What an operation still has to do. The bytes themselves stand in the work buffer; `length` is how many of them are the
+// operation's, and `left` how many stores are left.
+pub enum Pending {
+    Idle,
+    // A write or delete whose entry goes to the end of the head.
+    Append {
+        length: u32,
+        left: u32,
+    },
+    // A write or delete whose entry goes to a new head in `slot`, behind its digest.
+    NewHead {
+        slot: u32,
+        length: u32,
+        left: u32,
+    },
+    // A cleaning: the new head in `slot` takes over what the victims' slots held.
+    Clean {
+        slot: u32,
+        victims: u32,
+        length: u32,
+        left: u32,
+    },
+}
+
+// The store record of 01, "Memory the caller lends": N, S, M, head slot, end of the head's entries, digest number, slot
+// map, next version, number of keys with any entry in the log, and the pending operation.
+pub struct Store {
+    pub slots: u32,
+    pub size: u32,
+    pub cells: u32,
+    pub head: u32,
+    pub end: u32,
+    pub number: DigestNumber,
+    pub map: u32,
+    pub next: Version,
+    pub keys: u32,
+    pub pending: Pending,
+}
+
+// The causes of 01's table "Refused calls", in the order of their numbers.
+pub enum Refusal {
+    Geometry,
+    Cells,
+    WorkShort,
+    BadRecord,
+    Busy,
+    NonePending,
+    ValueLength,
+    Absent,
+    VersionsSpent,
+    NumbersSpent,
+    KeysFull,
+    NoRoom,
+    BadVictims,
+    KeptTooLong,
+    BadOrder,
+    NoDigest,
+    BadDigest,
+    DamagedLog,
+    SharedVersion,
+    TooManyKeys,
+}
+
+pub enum FormatAnswer {
+    Formatted,
+    Refused(Refusal),
+}
+
+pub enum RecoverAnswer {
+    Recovered,
+    Refused(Refusal),
+}
+
+// Where recovery is refused, `store` is the blank record.
+pub struct Recovery {
+    pub answer: RecoverAnswer,
+    pub store: Store,
+}
+
+pub enum ReadAnswer {
+    Present { version: Version, kind: u8 },
+    Refused(Refusal),
+}
+
+pub struct Reading {
+    pub answer: ReadAnswer,
+    pub store: Store,
+}
+
+// A start answers the number of stores to come.
+pub enum StartAnswer {
+    Started(u32),
+    Refused(Refusal),
+}
+
+pub struct Start {
+    pub answer: StartAnswer,
+    pub store: Store,
+}
+
+// A step answers the number of stores left; the last one the version, 0 for a cleaning.
+pub enum StepAnswer {
+    Left(u32),
+    Done(Version),
+    Refused(Refusal),
+}
+
+pub struct Stepped {
+    pub answer: StepAnswer,
+    pub store: Store,
+}
+
+// 01's number for a cause.
+pub fn number(r: Refusal) -> u32
+    ensures { λ n. ⌜ n ≡ numberOfRefusal r ⌝ }
+{
+    match r {
+        Refusal::Geometry => 1,
+        Refusal::Cells => 2,
+        Refusal::WorkShort => 3,
+        Refusal::BadRecord => 4,
+        Refusal::Busy => 5,
+        Refusal::NonePending => 6,
+        Refusal::ValueLength => 7,
+        Refusal::Absent => 8,
+        Refusal::VersionsSpent => 9,
+        Refusal::NumbersSpent => 10,
+        Refusal::KeysFull => 11,
+        Refusal::NoRoom => 12,
+        Refusal::BadVictims => 13,
+        Refusal::KeptTooLong => 14,
+        Refusal::BadOrder => 15,
+        Refusal::NoDigest => 16,
+        Refusal::BadDigest => 17,
+        Refusal::DamagedLog => 18,
+        Refusal::SharedVersion => 19,
+        Refusal::TooManyKeys => 20,
+    }
+}
+
+// How many stores an operation has left; 0 where none is pending.
+pub fn stores_left(p: Pending) -> u32
+    ensures { λ r. ⌜ r ≡ storesLeft p ⌝ }
+{
+    match p {
+        Pending::Idle => 0,
+        Pending::Append { length: _, left } => left,
+        Pending::NewHead {
+            slot: _,
+            length: _,
+            left,
+        } => left,
+        Pending::Clean {
+            slot: _,
+            victims: _,
+            length: _,
+            left,
+        } => left,
+    }
+}
+
+// The record with another pending operation.
+pub fn with_pending(store: Store, p: Pending) -> Store
+    ensures { λ r. ⌜ r ≡ withPending store p ⌝ }
+{
+    let number = store.number;
+    let next = store.next;
+    Store {
+        slots: store.slots,
+        size: store.size,
+        cells: store.cells,
+        head: store.head,
+        end: store.end,
+        number: number,
+        map: store.map,
+        next: next,
+        keys: store.keys,
+        pending: p,
+    }
+}
+
+// The record that stands beside a refusal of recovery.
+pub fn blank() -> Store
+    ensures { λ r. ⌜ r ≡ blank ⌝ }
+{
+    Store {
+        slots: 0,
+        size: 0,
+        cells: 0,
+        head: 0,
+        end: 0,
+        number: DigestNumber(0),
+        map: 0,
+        next: Version(0),
+        keys: 0,
+        pending: Pending::Idle,
+    }
+}

@@ -1,0 +1,105 @@
+-- 01, "Bytes of a segment": kinds, lengths and limits, as data. Every number of the format stands in this file. All other
+-- definitions and laws take a layout as a parameter and know it by the laws below alone.
+use Prim.Native.Nat.{ℕ, _+_, _-_, _^_, _<_}
+use mathlib.Core.Path.{_≡_, refl}
+use mathlib.Core.Bool.{Bool, true, false, not}
+use mathlib.Core.List.{List, [], _∷_}
+use mathlib.Core.Option.{Option, none, some}
+use lib.Dec.{eqb, ltb}
+use borrow.Author.Tests.{eqb-false, ltb-true, not-true}
+use Rattle.segment.specs.Choice.{pick, both, both-left, both-right}
+
+-- the second number of the first pair that begins with k
+unfoldable pub lookup : ℕ → List (ℕ × ℕ) → Option ℕ
+lookup k [] = none
+lookup k (p ∷ ps) = pick (eqb k (p .0)) (some (p .1)) (lookup k ps)
+
+-- the first number of the first pair that ends with n
+unfoldable pub lookBack : ℕ → List (ℕ × ℕ) → Option ℕ
+lookBack n [] = none
+lookBack n (p ∷ ps) = pick (eqb n (p .1)) (some (p .0)) (lookBack n ps)
+
+-- an answer that is n
+unfoldable pub isSome : ℕ → Option ℕ → Bool
+isSome n none = false
+isSome n (some m) = eqb m n
+
+-- the kinds of objects among pairs of kind and length: none is 0 or the tombstone's, each fits a byte and stands once
+unfoldable pub soundObjects : ℕ → List (ℕ × ℕ) → List (ℕ × ℕ) → Bool
+soundObjects t all [] = true
+soundObjects t all (p ∷ ps) =
+    both (both (both (not (eqb (p .0) 0)) (not (eqb (p .0) t))) (both (ltb (p .0) 256) (isSome (p .1) (lookup (p .0) all))))
+    (soundObjects t all ps)
+
+-- What an edition of the format fixes: how many bytes a version takes, the kinds of digest and tombstone, and for each
+-- kind of object the length of its value. Kind 0, the end, is none of these, and every kind is a byte.
+pub record Layout : Type 0 where
+  pub width : ℕ
+  pub digestKind : ℕ
+  pub tombstoneKind : ℕ
+  pub objects : List (ℕ × ℕ)
+  pub sound-digest : both (not (eqb digestKind 0)) (ltb digestKind 256) ≡ true
+  pub sound-tombstone : both (not (eqb tombstoneKind 0)) (ltb tombstoneKind 256) ≡ true
+  pub sound-objects : soundObjects tombstoneKind objects objects ≡ true
+
+-- 01's table of kinds: versions of 4 bytes; objects of 8, 24 and 56 bytes are kinds 1, 2 and 3; a tombstone is 4, a digest 5
+unfoldable pub edition1 : Layout
+unfolding both lookup soundObjects isSome pick
+edition1 =
+    record {
+      width = 4;
+      digestKind = 5;
+      tombstoneKind = 4;
+      objects = (1, 8) ∷ (2, 24) ∷ (3, 56) ∷ [];
+      sound-digest = refl;
+      sound-tombstone = refl;
+      sound-objects = refl;
+    }
+
+-- the length of the value of an entry of kind k, and none where no entry has that kind
+unfoldable pub valueLength : Layout → ℕ → Option ℕ
+valueLength L k = pick (eqb k (L .tombstoneKind)) (some 0) (lookup k (L .objects))
+
+-- the kind of an object whose value is n bytes long, and none where no object's is
+abbrev pub objectKind : Layout → ℕ → Option ℕ
+objectKind L n = lookBack n (L .objects)
+
+-- whether an entry's kind is the tombstone's
+abbrev pub isTombstone : Layout → ℕ → Bool
+isTombstone L k = eqb k (L .tombstoneKind)
+
+-- the length of an entry whose value is n bytes long: kind 1, table 2, key 4, version, value
+abbrev pub entrySize : Layout → ℕ → ℕ
+entrySize L n = 7 + L .width + n
+
+-- the length of a digest, where a segment's entries start: kind 1, digest number 4, slot map 4, next version
+abbrev pub digestSize : Layout → ℕ
+digestSize L = 9 + L .width
+
+-- the highest next version; a version is above 0 and below it
+abbrev pub versionLimit : Layout → ℕ
+versionLimit L = 256 ^ L .width - 1
+
+unfoldable pub goodVersion : Layout → ℕ → Bool
+goodVersion L v = both (ltb 0 v) (ltb v (versionLimit L))
+
+-- the highest digest number, 4,294,967,295
+abbrev pub numberLimit : ℕ
+numberLimit = 4294967295
+
+-- What the tests of a layout say.
+module _ (L : Layout) where
+  pub digest-not-end : L .digestKind ≡ 0 → ⊥
+  digest-not-end =
+      eqb-false (L .digestKind) 0 (not-true (eqb (L .digestKind) 0) (both-left (not (eqb (L .digestKind) 0)) (ltb (L .digestKind) 256) (L .sound-digest)))
+
+  pub digest-byte : L .digestKind < 256
+  digest-byte = ltb-true (L .digestKind) 256 (both-right (not (eqb (L .digestKind) 0)) (ltb (L .digestKind) 256) (L .sound-digest))
+
+  pub tombstone-not-end : L .tombstoneKind ≡ 0 → ⊥
+  tombstone-not-end =
+      eqb-false (L .tombstoneKind) 0
+      (not-true (eqb (L .tombstoneKind) 0) (both-left (not (eqb (L .tombstoneKind) 0)) (ltb (L .tombstoneKind) 256) (L .sound-tombstone)))
+
+  pub tombstone-byte : L .tombstoneKind < 256
+  tombstone-byte = ltb-true (L .tombstoneKind) 256 (both-right (not (eqb (L .tombstoneKind) 0)) (ltb (L .tombstoneKind) 256) (L .sound-tombstone))
