@@ -4,3 +4,10 @@ pub mod Scans
 pub mod AppendBytes
 pub mod NewHeadBytes
 pub mod FormatBytes
+pub mod CauseLaws
+pub mod Members
+pub mod Latest
+pub mod Versions
+pub mod Keys
+pub mod MapLaws
+pub mod Operated
