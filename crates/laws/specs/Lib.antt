@@ -1,1 +1,2 @@
 -- Theorems about the definitions of the crate model; no code is in sight here.
+pub mod HeadLaws
