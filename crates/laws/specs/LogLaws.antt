@@ -1,5 +1,5 @@
 -- The log of slots by their views: it is put together slot by slot, so a change of one slot changes one part of it.
-use Prim.Native.Nat.{ℕ, zero, suc, _+_, _≤_, _<_}
+use Prim.Native.Nat.{ℕ, zero, suc, _<_}
 use mathlib.Core.Path.{_≡_, refl, sym, ap, subst, _∙_}
 use mathlib.Core.Bool.{Bool, true, false}
 use mathlib.Core.Logic.{_⊎_, inl, inr}
@@ -8,7 +8,7 @@ use mathlib.Core.List.{List·Memᴰ·append-cases, List·Memᴰ·not-nil, Memᴰ
 use mathlib.Core.Option.{Option, none, some}
 use native.Mathlib.Decide.{ℕ-discrete}
 use native.Mathlib.Omega.{arith}
-use Rattle.segment.specs.Choice.{pick, pick-true, pick-false, both, both-true, both-false-left, both-false-right, either, either-false, either-false-left, either-false-right}
+use Rattle.segment.specs.Choice.{pick, pick-true, pick-false, both, either, either-false, either-false-left, either-false-right}
 use Rattle.segment.specs.declared.Digest.{Digest}
 use Rattle.model.specs.Log.{View, Item, Placed, Scan, itemsOf, isDamaged, placedIn, logOf}
 use Rattle.model.specs.Recovery.{noDigest, namesNoDigest, logDamaged}
