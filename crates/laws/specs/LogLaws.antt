@@ -3,7 +3,7 @@ use Prim.Native.Nat.{ℕ, zero, suc, _<_}
 use mathlib.Core.Path.{_≡_, refl, sym, ap, subst, _∙_}
 use mathlib.Core.Bool.{Bool, true, false}
 use mathlib.Core.Logic.{_⊎_, inl, inr}
-use mathlib.Core.List.{List, [], _∷_, _++_, append-assoc, append-nil, List·Memᴰ, List·Memᴰ·head, List·Memᴰ·tail}
+use mathlib.Core.List.{List, [], _∷_, _++_, append-assoc, append-nil, List·Memᴰ·head, List·Memᴰ·tail}
 use mathlib.Core.List.{List·Memᴰ·append-cases, List·Memᴰ·not-nil, Memᴰ·append-left, Memᴰ·append-right}
 use mathlib.Core.Option.{Option, none, some}
 use native.Mathlib.Decide.{ℕ-discrete}
@@ -12,6 +12,7 @@ use Rattle.segment.specs.Choice.{pick, pick-true, pick-false, both, either, eit
 use Rattle.segment.specs.declared.Digest.{Digest}
 use Rattle.model.specs.Log.{View, Item, Placed, Scan, itemsOf, isDamaged, placedIn, logOf}
 use Rattle.model.specs.Recovery.{noDigest, namesNoDigest, logDamaged}
+use Rattle.laws.specs.Members.{In}
 
 -- ---- tests of every slot
 
@@ -156,25 +157,25 @@ module _ (v v′ : ℕ → View) (p p′ : ℕ → Bool) where
 -- ---- members
 
 -- an entry with its slot left out, and put back
-abbrev pub itemAt : Placed → Item
-itemAt x = record { offset = x .offset; entry = x .entry }
+abbrev pub itemOf : Placed → Item
+itemOf x = record { offset = x .offset; entry = x .entry }
 
 abbrev pub placedAt : ℕ → Item → Placed
 placedAt i y = record { slot = i; offset = y .offset; entry = y .entry }
 
-pub placed-mem : (i : ℕ) {y : Item} {ys : List Item} → List·Memᴰ y ys → List·Memᴰ (placedAt i y) (placedIn i ys)
+pub placed-mem : (i : ℕ) {y : Item} {ys : List Item} → In y ys → In (placedAt i y) (placedIn i ys)
 unfolding placedIn
 placed-mem i (List·Memᴰ·head e) = List·Memᴰ·head (ap (placedAt i) e)
 placed-mem i (List·Memᴰ·tail m) = List·Memᴰ·tail (placed-mem i m)
 
-pub mem-placed : (i : ℕ) (x : Placed) (ys : List Item) → List·Memᴰ x (placedIn i ys) → (x .slot ≡ i) × List·Memᴰ (itemAt x) ys
+pub mem-placed : (i : ℕ) (x : Placed) (ys : List Item) → In x (placedIn i ys) → (x .slot ≡ i) × In (itemOf x) ys
 unfolding placedIn
 mem-placed i x [] m = absurd (List·Memᴰ·not-nil m)
 mem-placed i x (y ∷ ys) m = go m (λ r. mem-placed i x ys r)
   where
-    go : List·Memᴰ x (placedAt i y ∷ placedIn i ys) → (List·Memᴰ x (placedIn i ys) → (x .slot ≡ i) × List·Memᴰ (itemAt x) ys)
-        → (x .slot ≡ i) × List·Memᴰ (itemAt x) (y ∷ ys)
-    go (List·Memᴰ·head e) r = (ap (λ (z : Placed). z .slot) e, List·Memᴰ·head (ap itemAt e))
+    go : In x (placedAt i y ∷ placedIn i ys) → (In x (placedIn i ys) → (x .slot ≡ i) × In (itemOf x) ys)
+        → (x .slot ≡ i) × In (itemOf x) (y ∷ ys)
+    go (List·Memᴰ·head e) r = (ap (λ (z : Placed). z .slot) e, List·Memᴰ·head (ap itemOf e))
     go (List·Memᴰ·tail k) r = (r k .0, List·Memᴰ·tail (r k .1))
 
 pub placed-append : (i : ℕ) (xs ys : List Item) → placedIn i (xs ++ ys) ≡ placedIn i xs ++ placedIn i ys
@@ -186,44 +187,44 @@ placed-append i (x ∷ xs) ys = ap (λ (r : List Placed). placedAt i x ∷ r) (p
 pub record InLog (v : ℕ → View) (p : ℕ → Bool) (n : ℕ) (x : Placed) : Type 0 where
   pub below : x .slot < n
   pub picked : p (x .slot) ≡ true
-  pub item : List·Memᴰ (itemAt x) (itemsOf (v (x .slot) .scan))
+  pub item : In (itemOf x) (itemsOf (v (x .slot) .scan))
 
 module _ (v : ℕ → View) (p : ℕ → Bool) where
-  part-mem : (n i : ℕ) (x : Placed) → i < n → List·Memᴰ x (partOf v p i) → List·Memᴰ x (logOf v p n)
+  part-mem : (n i : ℕ) (x : Placed) → i < n → In x (partOf v p i) → In x (logOf v p n)
   unfolding logOf
   part-mem zero i x l m = absurd (omega arith)
   part-mem (suc n) i x l m = go (ℕ-discrete i n) (λ k. part-mem n i x k m)
     where
-      go : Dec (i ≡ n) → (i < n → List·Memᴰ x (logOf v p n)) → List·Memᴰ x (logOf v p n ++ partOf v p n)
-      go (yes e) r = Memᴰ·append-right (logOf v p n) (subst (λ (k : ℕ). List·Memᴰ x (partOf v p k)) e m)
+      go : Dec (i ≡ n) → (i < n → In x (logOf v p n)) → In x (logOf v p n ++ partOf v p n)
+      go (yes e) r = Memᴰ·append-right (logOf v p n) (subst (λ (k : ℕ). In x (partOf v p k)) e m)
       go (no e) r = Memᴰ·append-left (partOf v p n) (r (omega arith))
 
-  mem-part : (n : ℕ) (x : Placed) → List·Memᴰ x (logOf v p n) → (i : ℕ) × (i < n) × List·Memᴰ x (partOf v p i)
+  mem-part : (n : ℕ) (x : Placed) → In x (logOf v p n) → (i : ℕ) × (i < n) × In x (partOf v p i)
   unfolding logOf
   mem-part zero x m = absurd (List·Memᴰ·not-nil m)
   mem-part (suc n) x m = go (List·Memᴰ·append-cases (logOf v p n) m) (λ k. mem-part n x k)
     where
-      go : List·Memᴰ x (logOf v p n) ⊎ List·Memᴰ x (partOf v p n) → (List·Memᴰ x (logOf v p n) → (i : ℕ) × (i < n) × List·Memᴰ x (partOf v p i))
-          → (i : ℕ) × (i < suc n) × List·Memᴰ x (partOf v p i)
+      go : In x (logOf v p n) ⊎ In x (partOf v p n) → (In x (logOf v p n) → (i : ℕ) × (i < n) × In x (partOf v p i))
+          → (i : ℕ) × (i < suc n) × In x (partOf v p i)
       go (inl k) r = let t = r k in (t .0, omega (arith, t .1), t .2)
       go (inr k) r = (n, omega arith, k)
 
-  pub in-log : (n : ℕ) (x : Placed) → InLog v p n x → List·Memᴰ x (logOf v p n)
+  pub in-log : (n : ℕ) (x : Placed) → InLog v p n x → In x (logOf v p n)
   in-log n x h =
       part-mem n (x .slot) x (h .below) (rw (part-picked v p (x .slot) (h .picked)) (placed-mem (x .slot) (h .item)))
 
-  pub log-in : (n : ℕ) (x : Placed) → List·Memᴰ x (logOf v p n) → InLog v p n x
+  pub log-in : (n : ℕ) (x : Placed) → In x (logOf v p n) → InLog v p n x
   log-in n x m = let t = mem-part n x m in go (t .0) (t .1) (t .2) (p (t .0)) refl
     where
-      at : (i : ℕ) → i < n → p i ≡ true → (x .slot ≡ i) × List·Memᴰ (itemAt x) (itemsOf (v i .scan)) → InLog v p n x
+      at : (i : ℕ) → i < n → p i ≡ true → (x .slot ≡ i) × In (itemOf x) (itemsOf (v i .scan)) → InLog v p n x
       at i l q h =
           record {
             below = omega (arith, h .0);
             picked = ap p (h .0) ∙ q;
-            item = subst (λ (k : ℕ). List·Memᴰ (itemAt x) (itemsOf (v k .scan))) (sym (h .0)) (h .1);
+            item = subst (λ (k : ℕ). In (itemOf x) (itemsOf (v k .scan))) (sym (h .0)) (h .1);
           }
 
-      go : (i : ℕ) → i < n → List·Memᴰ x (partOf v p i) → (t : Bool) → p i ≡ t → InLog v p n x
+      go : (i : ℕ) → i < n → In x (partOf v p i) → (t : Bool) → p i ≡ t → InLog v p n x
       go i l k true q = at i l q (mem-placed i x (itemsOf (v i .scan)) (rw (part-picked v p i q) at k))
       go i l k false q = absurd (List·Memᴰ·not-nil (rw (part-passed v p i q) at k))
 

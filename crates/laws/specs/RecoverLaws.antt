@@ -1,15 +1,17 @@
 -- What an accepted recovery tells of an area, as one record of facts, and that these facts are all that it asks.
-use Prim.Native.Nat.{ℕ, zero, suc, _+_, _*_, _-_, _^_, _≤_, _<_}
+use Prim.Native.Nat.{ℕ, _*_, _-_, _^_, _≤_, _<_}
 use mathlib.Core.Path.{_≡_, refl, sym, ap, subst, _∙_}
 use mathlib.Core.Bool.{Bool, true, false, not}
 use mathlib.Core.List.{List, [], _∷_, _++_}
 use mathlib.Core.Option.{Option, none, some}
+use native.Mathlib.Decide.{ℕ-discrete}
 use native.Mathlib.Omega.{arith}
-use lib.Dec.{eqb, ltb, leb}
+use lib.Dec.{ltb}
 use lib.ListN.{length}
-use borrow.Author.Tests.{ltb-true, ltb-false, eqb-true, eqb-false, not-true, not-false, lt-ltb, le-ltb, le-leb, eq-eqb, ne-eqb}
+use borrow.Author.Tests.{ltb-true, ltb-false, eqb-true, eqb-false, not-false, lt-ltb, le-ltb, le-leb, eq-eqb, ne-eqb}
 use Rattle.segment.specs.Choice.{pick, pick-true, pick-false, both, both-left, both-right, both-true, either, either-false, either-false-left, either-false-right}
 use Rattle.segment.specs.Layout.{Layout, digestSize}
+use Rattle.segment.specs.declared.Digest.{Digest}
 use Rattle.slot_map.specs.Bit.{named}
 use Rattle.slot_map.specs.Count.{used}
 use Rattle.record.specs.Range.{between, slotsGood, sizeGood, cellsGood, mapGood, leftGood, inRange, lengthsOwn, fitsLent}
@@ -18,11 +20,12 @@ use Rattle.record.specs.declared.Refusal.the-variants.{BadOrder}
 use Rattle.record.specs.declared.Store.{Store}
 use Rattle.record.specs.declared.Recovery.{Recovery}
 use Rattle.record.specs.declared.RecoverAnswer.{RecoverAnswer}
-use Rattle.model.specs.Log.{View, Head, Placed, viewsOf, headOf, endOf, keysOf, versionShared, nextVersion}
+use Rattle.model.specs.Log.{View, Head, viewsOf, headOf, logOf, endOf, isDamaged, keysOf, versionShared, nextVersion}
 use Rattle.model.specs.Causes.{Cause, when, firstCause}
-use Rattle.model.specs.Recovery.{geometryBad, noHead, headElse, sharing, mapBad, namesNoDigest, logDamaged, logSlots, logUnder, storeUnder, imageCauses, keyCauses, lentCauses, areaCauses, ifNone, storeOf, recovered, orderBad, recoveryFor, recovery, recoverCauses}
-use Rattle.laws.specs.HeadLaws.{TopHead, head-is, is-top, top-head, top-alone}
-use Rattle.laws.specs.LogLaws.{AllDigests, AllScanned, names-digests, digests-named, undamaged-scans, scans-undamaged}
+use Rattle.model.specs.Recovery.{noHead, headElse, sharing, mapBad, logSlots, logUnder, storeUnder, imageCauses, keyCauses, lentCauses, areaCauses, ifNone, storeOf, recovered, orderBad, recoveryFor, recovery, recoverCauses}
+use Rattle.laws.specs.Members.{clash}
+use Rattle.laws.specs.HeadLaws.{SameViews, digests-same, TopHead, head-is, is-top, top-head, top-alone, top-stays}
+use Rattle.laws.specs.LogLaws.{AllDigests, AllScanned, names-digests, digests-named, undamaged-scans, scans-undamaged, log-same}
 
 -- ---- no cause holds
 
@@ -288,3 +291,93 @@ module _ (L : Layout) (v : ℕ → View) (n s m : ℕ) (h : Head) where
   unfolding fitsLent lengthsOwn
   under-fits areaLength l f e =
       both-true _ _ (under-in-range areaLength l f e) (both-true _ _ (eq-eqb areaLength (n * s) (l .long)) (eq-eqb m m refl))
+
+-- ---- what leaves the store as it was
+
+-- The views of the log's slots stay, and no digest comes: slots outside the log may change otherwise.
+pub record Untouched (v v′ : ℕ → View) (n : ℕ) (h : Head) : Type 0 where
+  pub kept : (i : ℕ) → i < n → logSlots h i ≡ true → v′ i ≡ v i
+  pub no-digest-more : (i : ℕ) → i < n → (d : Digest) → v′ i .digest ≡ some d → v i .digest ≡ some d
+
+pub same-untouched : (v v′ : ℕ → View) (n : ℕ) (h : Head) → SameViews n v v′ → Untouched v v′ n h
+same-untouched v v′ n h s =
+    record { kept = λ i l e. s i l; no-digest-more = λ i l d e. sym (digests-same s i l) ∙ e }
+
+-- a cut in the middle of a new head: one slot outside the log has lost its digest
+pub cut-untouched : (v v′ : ℕ → View) (n j : ℕ) (h : Head) → logSlots h j ≡ false → ((i : ℕ) → i < n → (i ≡ j → ⊥) → v′ i ≡ v i)
+    → v′ j .digest ≡ none → Untouched v v′ n h
+cut-untouched v v′ n j h free s e =
+    record {
+      kept = λ i l q. s i l (λ f. clash (logSlots h i) q (ap (logSlots h) f ∙ free));
+      no-digest-more = λ i l d f. go i l d f (ℕ-discrete i j);
+    }
+  where
+    go : (i : ℕ) → i < n → (d : Digest) → v′ i .digest ≡ some d → Dec (i ≡ j) → v i .digest ≡ some d
+    go i l d f (yes q) = let z : v′ i .digest ≡ none = ap (λ (k : ℕ). v′ k .digest) q ∙ e in cc
+    go i l d f (no q) = sym (ap (λ (x : View). x .digest) (s i l q)) ∙ f
+
+module _ (v v′ : ℕ → View) (n m : ℕ) (h : Head) (f : Sound v n m h) (u : Untouched v v′ n h) where
+  pub untouched-log : logUnder v′ n h ≡ logUnder v n h
+  untouched-log =
+      log-same v v′ (logSlots h) (logSlots h) n (λ i l. refl) (λ i l e. ap (λ (x : View). x .scan) (u .kept i l e))
+
+  head-kept : v′ (h .slot) ≡ v (h .slot)
+  head-kept = u .kept (h .slot) (f .top .below) (good-names n (h .slot) (h .digest .map) (f .map-good))
+
+  pub untouched-sound : Sound v′ n m h
+  untouched-sound =
+      record {
+        top =
+            top-stays v n h v′ (λ i l o d e. u .no-digest-more i l d e) (ap (λ (x : View). x .digest) head-kept) (f .top);
+        numbered = f .numbered;
+        map-good = f .map-good;
+        digests = λ i l e. let d = f .digests i l e in (d .0, ap (λ (x : View). x .digest) (u .kept i l e) ∙ d .1);
+        next-set = f .next-set;
+        scans = λ i l e. ap (λ (x : View). isDamaged (x .scan)) (u .kept i l e) ∙ f .scans i l e;
+        versions = ap versionShared untouched-log ∙ f .versions;
+        keys = rw untouched-log (f .keys);
+      }
+
+  pub untouched-store : (s : ℕ) → storeUnder v′ n s m h ≡ storeUnder v n s m h
+  untouched-store s = rw (untouched-log, head-kept)
+
+both-ways : (a b : Option Store) → ((r : Store) → a ≡ some r → b ≡ some r) → ((r : Store) → b ≡ some r → a ≡ some r) → b ≡ a
+both-ways none none to from = refl
+both-ways none (some r) to from = sym (from r refl)
+both-ways (some r) b to from = to r refl
+
+module _ (L : Layout) (n s m : ℕ) (area area′ : List ℕ) (same-length : length area′ ≡ length area) where
+  pub untouched-recovered : (r : Store) (f : Recovers L n s m area r) → Untouched (viewsOf L area s) (viewsOf L area′ s) n (f .head)
+      → recovered L n s m area′ ≡ some r
+  untouched-recovered r f u =
+      sound-recovered L n s m area′ (f .head) (subst (Lent n s m) (sym same-length) (f .lent))
+      (untouched-sound (viewsOf L area s) (viewsOf L area′ s) n m (f .head) (f .sound) u) ∙
+      ap some (untouched-store (viewsOf L area s) (viewsOf L area′ s) n m (f .head) (f .sound) u s ∙ sym (f .same))
+
+  views-kept : SameViews n (viewsOf L area s) (viewsOf L area′ s) → (r : Store) → recovered L n s m area ≡ some r
+      → recovered L n s m area′ ≡ some r
+  views-kept same r e =
+      let f = recovered-facts L n s m area r e in
+      untouched-recovered r f (same-untouched (viewsOf L area s) (viewsOf L area′ s) n (f .head) same)
+
+module _ (L : Layout) (n s m : ℕ) (area area′ : List ℕ) (same-length : length area′ ≡ length area) where
+  -- Where no view changes recovery gives what it gave, a refusal too.
+  pub views-recovered : SameViews n (viewsOf L area s) (viewsOf L area′ s) → recovered L n s m area′ ≡ recovered L n s m area
+  views-recovered same =
+      both-ways (recovered L n s m area) (recovered L n s m area′) (views-kept L n s m area area′ same-length same)
+      (views-kept L n s m area′ area (sym same-length) (λ i l. sym (same i l)))
+
+  -- A slot that the map does not name may change, as long as it has no digest then.
+  module _ (r : Store) (j : ℕ) (free : named (r .map) j ≡ false)
+      (others : (i : ℕ) → i < n → (i ≡ j → ⊥) → viewsOf L area′ s i ≡ viewsOf L area s i) where
+    pub cut-recovered : recovered L n s m area ≡ some r → viewsOf L area′ s j .digest ≡ none → recovered L n s m area′ ≡ some r
+    cut-recovered e d =
+        let f = recovered-facts L n s m area r e in
+        untouched-recovered L n s m area area′ same-length r f
+        (cut-untouched (viewsOf L area s) (viewsOf L area′ s) n j (f .head)
+        (ap (λ (x : Store). named (x .map) j) (sym (f .same)) ∙ free) others d)
+
+    pub cut-log : logOf (viewsOf L area′ s) (named (r .map)) n ≡ logOf (viewsOf L area s) (named (r .map)) n
+    cut-log =
+        log-same (viewsOf L area s) (viewsOf L area′ s) (named (r .map)) (named (r .map)) n (λ i l. refl)
+        (λ i l e. ap (λ (x : View). x .scan) (others i l (λ q. clash (named (r .map) i) e (ap (named (r .map)) q ∙ free))))
