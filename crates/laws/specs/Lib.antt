@@ -6,3 +6,6 @@ pub mod Keys
 pub mod HeadLaws
 pub mod LogLaws
 pub mod RecoverLaws
+pub mod Stores
+pub mod Scans
+pub mod AppendBytes

@@ -1,5 +1,5 @@
 -- 01, "Bytes of a segment": the digest, at offset 0 alone.
-use Prim.Native.Nat.{ℕ, _+_}
+use Prim.Native.Nat.{ℕ}
 use mathlib.Core.List.{List, _∷_, _++_}
 use lib.ListN.{take, drop}
 use Rattle.word.specs.Number.{numberOf, bytesOf}

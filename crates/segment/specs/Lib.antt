@@ -3,3 +3,7 @@ pub mod Choice
 pub mod Layout
 pub mod Entry
 pub mod Digest
+pub mod LayoutLaws
+pub mod Packed
+pub mod DigestLaws
+pub mod EntryLaws
