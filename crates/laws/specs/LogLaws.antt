@@ -1,18 +1,23 @@
 -- The log of slots by their views: it is put together slot by slot, so a change of one slot changes one part of it.
-use Prim.Native.Nat.{ℕ, zero, suc, _<_}
+use Prim.Native.Nat.{ℕ, zero, suc, _+_, _<_}
 use mathlib.Core.Path.{_≡_, refl, sym, ap, subst, _∙_}
 use mathlib.Core.Bool.{Bool, true, false}
 use mathlib.Core.Logic.{_⊎_, inl, inr}
 use mathlib.Core.List.{List, [], _∷_, _++_, append-assoc, append-nil, List·Memᴰ·head, List·Memᴰ·tail}
-use mathlib.Core.List.{List·Memᴰ·append-cases, List·Memᴰ·not-nil, Memᴰ·append-left, Memᴰ·append-right}
+use mathlib.Core.List.{List·Memᴰ·append-cases, List·Memᴰ·not-nil, List·Memᴰ·eq-of-singleton, Memᴰ·append-left, Memᴰ·append-right}
 use mathlib.Core.Option.{Option, none, some}
 use native.Mathlib.Decide.{ℕ-discrete}
 use native.Mathlib.Omega.{arith}
+use lib.ListN.{length}
 use Rattle.segment.specs.Choice.{pick, pick-true, pick-false, both, either, either-false, either-false-left, either-false-right}
+use Rattle.segment.specs.Entry.{keyOf}
 use Rattle.segment.specs.declared.Digest.{Digest}
-use Rattle.model.specs.Log.{View, Item, Placed, Scan, itemsOf, isDamaged, placedIn, logOf}
+use Rattle.model.specs.Log.{View, Item, Placed, Scan, itemsOf, isDamaged, placedIn, logOf, keysOf, hasVersion, versionShared, highest}
+use Rattle.model.specs.Operations.{countNew}
 use Rattle.model.specs.Recovery.{noDigest, namesNoDigest, logDamaged}
-use Rattle.laws.specs.Members.{In}
+use Rattle.laws.specs.Members.{In, Added, added-between}
+use Rattle.laws.specs.Versions.{count, count-append, shared-fewer, shared-append, below-highest, highest-added}
+use Rattle.laws.specs.Keys.{keys-added}
 
 -- ---- tests of every slot
 
@@ -264,3 +269,51 @@ module _ (v v′ : ℕ → View) (p p′ : ℕ → Bool) (j : ℕ) where
             new =
                 rw (h .new, f n (omega arith) (λ q. e (sym q)), append-assoc (h .before) (partOf v′ p′ j ++ h .after) (partOf v p n), append-assoc (partOf v′ p′ j) (h .after) (partOf v p n));
           }
+
+-- One entry has come in.
+pub record Entered (log : List Placed) (x : Placed) (after : List Placed) : Type 0 where
+  pub before : List Placed
+  pub behind : List Placed
+  pub old : log ≡ before ++ behind
+  pub new : after ≡ before ++ x ∷ behind
+
+pub part-entered : (part : List Placed) (x : Placed) (log after : List Placed) → OnePart part (part ++ x ∷ []) log after → Entered log x after
+part-entered part x log after c =
+    record {
+      before = c .before ++ part;
+      behind = c .after;
+      old = c .old ∙ sym (append-assoc (c .before) part (c .after));
+      new =
+          c .new
+          ∙ rw (append-assoc part (x ∷ []) (c .after), append-assoc (c .before) part (x ∷ c .after));
+    }
+
+module _ (log : List Placed) (x : Placed) (after : List Placed) (w : Entered log x after) where
+  pub entered-added : Added log x after
+  entered-added = rw (w .old, w .new) (added-between (w .before) x (w .behind))
+
+  pub entered-count : (k : ℕ) → count k after ≡ count k log + count k (x ∷ [])
+  entered-count k =
+      omega (
+        arith,
+        ap (count k) (w .old),
+        ap (count k) (w .new),
+        count-append k (w .before) (w .behind),
+        count-append k (w .before) (x ∷ w .behind),
+        count-append k (x ∷ []) (w .behind)
+      )
+
+  -- Where its version is above all others, no version is shared, and its version is the highest.
+  pub entered-versions : highest log < x .entry .version → versionShared log ≡ false → versionShared after ≡ false
+  unfolding versionShared hasVersion either
+  entered-versions top e =
+      shared-fewer after (x ∷ [] ++ log) (λ k. omega (arith, entered-count k, count-append k (x ∷ []) log))
+      (shared-append (x ∷ []) log refl e
+      (λ y z m o q.
+      omega (arith, below-highest log (x .entry .version) top z o, ap (λ (u : Placed). u .entry .version) (List·Memᴰ·eq-of-singleton m))))
+
+  pub entered-highest : highest log < x .entry .version → highest after ≡ x .entry .version
+  entered-highest top = omega (arith, highest-added log x after entered-added)
+
+  pub entered-keys : length (keysOf after) ≡ length (keysOf log) + countNew log (keyOf (x .entry))
+  entered-keys = keys-added log x after entered-added
