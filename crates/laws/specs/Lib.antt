@@ -6,6 +6,7 @@ pub mod Keys
 pub mod HeadLaws
 pub mod LogLaws
 pub mod RecoverLaws
+pub mod Appended
 pub mod Stores
 pub mod Scans
 pub mod AppendBytes

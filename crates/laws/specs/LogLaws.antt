@@ -12,7 +12,7 @@ use lib.ListN.{length}
 use Rattle.segment.specs.Choice.{pick, pick-true, pick-false, both, either, either-false, either-false-left, either-false-right}
 use Rattle.segment.specs.Entry.{keyOf}
 use Rattle.segment.specs.declared.Digest.{Digest}
-use Rattle.model.specs.Log.{View, Item, Placed, Scan, itemsOf, isDamaged, placedIn, logOf, keysOf, hasVersion, versionShared, highest}
+use Rattle.model.specs.Log.{View, Item, Placed, Scan, damaged, scanned, itemsOf, endOf, isDamaged, placedIn, logOf, keysOf, hasVersion, versionShared, highest}
 use Rattle.model.specs.Operations.{countNew}
 use Rattle.model.specs.Recovery.{noDigest, namesNoDigest, logDamaged}
 use Rattle.laws.specs.Members.{In, Added, added-between}
@@ -300,7 +300,7 @@ module _ (log : List Placed) (x : Placed) (after : List Placed) (w : Entered log
         ap (count k) (w .new),
         count-append k (w .before) (w .behind),
         count-append k (w .before) (x ∷ w .behind),
-        count-append k (x ∷ []) (w .behind)
+        count-append k (x ∷ []) (w .behind),
       )
 
   -- Where its version is above all others, no version is shared, and its version is the highest.
@@ -317,3 +317,21 @@ module _ (log : List Placed) (x : Placed) (after : List Placed) (w : Entered log
 
   pub entered-keys : length (keysOf after) ≡ length (keysOf log) + countNew log (keyOf (x .entry))
   entered-keys = keys-added log x after entered-added
+
+-- a scan without damage is its items and its end
+pub scan-whole : (s : Scan) → isDamaged s ≡ false → s ≡ scanned (itemsOf s) (endOf s)
+unfolding isDamaged itemsOf endOf
+scan-whole damaged e = let z : _≡_ {A = ℕ} 0 1 = cc in absurd (omega arith)
+scan-whole (scanned is k) e = refl
+
+pub scanned-undamaged : {is : List Item} {k : ℕ} (s : Scan) → s ≡ scanned is k → isDamaged s ≡ false
+unfolding isDamaged
+scanned-undamaged s e = rw e
+
+pub items-scanned : {is : List Item} {k : ℕ} (s : Scan) → s ≡ scanned is k → itemsOf s ≡ is
+unfolding itemsOf
+items-scanned s e = rw e
+
+pub end-scanned : {is : List Item} {k : ℕ} (s : Scan) → s ≡ scanned is k → endOf s ≡ k
+unfolding endOf
+end-scanned s e = rw e

@@ -208,6 +208,13 @@ module _ (L : Layout) (n s m : ℕ) (area : List ℕ) where
       facts-recovered (storeUnder v n s m h)
       (record { lent = l; head = h; head-is = sound-head v n m h f; sound = f; same = refl })
 
+  -- What is shown of every record under a sound head holds of a recovered one.
+  pub recovered-case : (P : Store → Type 0) → ((h : Head) → Lent n s m (length area) → Sound v n m h → P (storeUnder v n s m h))
+      → (r : Store) → recovered L n s m area ≡ some r → P r
+  recovered-case P t r e =
+      let f = recovered-facts r e in
+      subst P (sym (f .same)) (t (f .head) (f .lent) (f .sound))
+
   -- ---- with an order of slots
 
   -- An order that is none of cause 15's changes nothing.
