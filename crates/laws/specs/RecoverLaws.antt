@@ -1,16 +1,22 @@
 -- What an accepted recovery tells of an area, as one record of facts, and that these facts are all that it asks.
-use Prim.Native.Nat.{ℕ, _*_, _-_, _^_, _≤_, _<_}
+use Prim.Native.Nat.{ℕ, _+_, _*_, _-_, _^_, _≤_, _<_}
 use mathlib.Core.Path.{_≡_, refl, sym, ap, subst, _∙_}
 use mathlib.Core.Bool.{Bool, true, false, not}
 use mathlib.Core.List.{List, [], _∷_, _++_}
 use mathlib.Core.Option.{Option, none, some}
 use native.Mathlib.Decide.{ℕ-discrete}
 use native.Mathlib.Omega.{arith}
-use lib.Dec.{ltb}
-use lib.ListN.{length}
+use lib.Dec.{eqb, ltb}
+use lib.ListN.{length, getD, drop}
 use borrow.Author.Tests.{ltb-true, ltb-false, eqb-true, eqb-false, not-false, lt-ltb, le-ltb, le-leb, eq-eqb, ne-eqb}
 use Rattle.segment.specs.Choice.{pick, pick-true, pick-false, both, both-left, both-right, both-true, either, either-false, either-false-left, either-false-right}
-use Rattle.segment.specs.Layout.{Layout, digestSize}
+use Rattle.word.specs.Number.{Bytes}
+use Rattle.word.specs.Laws.{bytes-take, bytes-drop}
+use Rattle.segment.specs.Layout.{Layout, digestSize, versionLimit, numberLimit, goodVersion}
+use Rattle.segment.specs.Entry.{Entry, entry, entryAt}
+use Rattle.segment.specs.EntryLaws.{found-accepted}
+use Rattle.segment.specs.DigestLaws.{digest-number-fits, digest-map-fits, digest-next-fits}
+use Rattle.segment.specs.Digest.{digestOf}
 use Rattle.segment.specs.declared.Digest.{Digest}
 use Rattle.slot_map.specs.Bit.{named}
 use Rattle.slot_map.specs.Count.{used}
@@ -20,12 +26,15 @@ use Rattle.record.specs.declared.Refusal.the-variants.{BadOrder}
 use Rattle.record.specs.declared.Store.{Store}
 use Rattle.record.specs.declared.Recovery.{Recovery}
 use Rattle.record.specs.declared.RecoverAnswer.{RecoverAnswer}
-use Rattle.model.specs.Log.{View, Head, viewsOf, headOf, logOf, endOf, isDamaged, keysOf, versionShared, nextVersion}
+use Rattle.model.specs.Log.{View, Head, Placed, scanned, itemsOf, scan, digestIn, segmentOf, viewsOf, headOf, logOf, endOf, isDamaged, keysOf, versionShared, nextVersion}
 use Rattle.model.specs.Causes.{Cause, when, firstCause}
 use Rattle.model.specs.Recovery.{noHead, headElse, sharing, mapBad, logSlots, logUnder, storeUnder, imageCauses, keyCauses, lentCauses, areaCauses, ifNone, storeOf, recovered, orderBad, recoveryFor, recovery, recoverCauses}
-use Rattle.laws.specs.Members.{clash}
+use Rattle.laws.specs.Members.{clash, In}
+use Rattle.laws.specs.Versions.{highest-below}
+use Rattle.laws.specs.Stores.{slot-inside, length-segment}
+use Rattle.laws.specs.Scans.{scan-scans, scans-low, scans-high, scans-found}
 use Rattle.laws.specs.HeadLaws.{SameViews, digests-same, TopHead, head-is, is-top, top-head, top-alone, top-stays}
-use Rattle.laws.specs.LogLaws.{AllDigests, AllScanned, names-digests, digests-named, undamaged-scans, scans-undamaged, log-same}
+use Rattle.laws.specs.LogLaws.{AllDigests, AllScanned, names-digests, digests-named, undamaged-scans, scans-undamaged, log-same, log-in, scan-whole}
 
 -- ---- no cause holds
 
@@ -388,3 +397,94 @@ module _ (L : Layout) (n s m : ℕ) (area area′ : List ℕ) (same-length : len
     cut-log =
         log-same (viewsOf L area s) (viewsOf L area′ s) (named (r .map)) (named (r .map)) n (λ i l. refl)
         (λ i l e. ap (λ (x : View). x .scan) (others i l (λ q. clash (named (r .map) i) e (ap (named (r .map)) q ∙ free))))
+
+-- ---- what the bytes of the area add
+
+-- a digest that is found is the one that the segment's first bytes say
+digest-in : (L : Layout) (b : List ℕ) (d : Digest) → digestIn L b ≡ some d → d ≡ digestOf L b
+unfolding digestIn pick
+digest-in L b d e = go (eqb (getD b 0 0) (L .digestKind)) e
+  where
+    go : (t : Bool) → pick t (some (digestOf L b)) none ≡ some d → d ≡ digestOf L b
+    go true q = cc
+    go false q = let z : _≡_ {A = ℕ} 0 1 = cc in absurd (omega arith)
+
+segment-bytes : (area : List ℕ) (s i : ℕ) → Bytes area → Bytes (segmentOf area s i)
+segment-bytes area s i h = bytes-take s (drop (i * s) area) (bytes-drop (i * s) area h)
+
+-- an entry that is found has a version below the limit
+found-version : (L : Layout) (b : List ℕ) (at : ℕ) (x : Entry) → entryAt L b at ≡ entry x → x .version < versionLimit L
+unfolding goodVersion
+found-version L b at x e = ltb-true (x .version) (versionLimit L) (both-right _ _ (found-accepted L b at x e .good))
+
+module _ (L : Layout) (n s m : ℕ) (area : List ℕ) (r : Store) (e : recovered L n s m area ≡ some r) where
+  pub recovered-lent : Lent n s m (length area)
+  recovered-lent = recovered-facts L n s m area r e .lent
+
+  pub recovered-below : r .head < n
+  recovered-below = recovered-case L n s m area (λ (k : Store). k .head < n) (λ h l f. f .top .below) r e
+
+  pub recovered-map : mapGood n (r .head) (r .map) ≡ true
+  recovered-map = recovered-case L n s m area (λ (k : Store). mapGood n (k .head) (k .map) ≡ true) (λ h l f. f .map-good) r e
+
+  -- the head's entries end where the record says, behind the digest and in the segment
+  pub recovered-scan : scan L (segmentOf area s (r .head)) ≡ scanned (itemsOf (scan L (segmentOf area s (r .head)))) (r .end)
+  recovered-scan =
+      recovered-case L n s m area
+      (λ (k : Store). scan L (segmentOf area s (k .head)) ≡ scanned (itemsOf (scan L (segmentOf area s (k .head)))) (k .end))
+      (λ h l f.
+      scan-whole (scan L (segmentOf area s (h .slot)))
+      (f .scans (h .slot) (f .top .below) (good-names n (h .slot) (h .digest .map) (f .map-good)))) r e
+
+  pub recovered-ends : (digestSize L ≤ r .end) × (r .end ≤ s)
+  recovered-ends =
+      let scans = scan-scans L (segmentOf area s (r .head)) recovered-scan in
+      let long = length-segment area s (r .head) (slot-inside area n s (r .head) (recovered-lent .long) recovered-below) in
+      (scans-low scans, omega (arith, scans-high scans))
+
+  pub recovered-in-range : inRange L r ≡ true
+  recovered-in-range =
+      recovered-case L n s m area (λ (k : Store). (digestSize L ≤ k .end) × (k .end ≤ s) → inRange L k ≡ true)
+      (λ h l f. under-in-range L (viewsOf L area s) n s m h (length area) l f) r e recovered-ends
+
+  pub recovered-fits : fitsLent L r (length area) m ≡ true
+  recovered-fits =
+      recovered-case L n s m area (λ (k : Store). (digestSize L ≤ k .end) × (k .end ≤ s) → fitsLent L k (length area) m ≡ true)
+      (λ h l f. under-fits L (viewsOf L area s) n s m h (length area) l f) r e recovered-ends
+
+  -- in an area of bytes the record's numbers fit theirs
+  module _ (bytes : Bytes area) where
+    own-digest : (h : Head) → Sound (viewsOf L area s) n m h → h .digest ≡ digestOf L (segmentOf area s (h .slot))
+    own-digest h f = digest-in L (segmentOf area s (h .slot)) (h .digest) (f .top .own)
+
+    pub recovered-number : r .number .0 ≤ numberLimit
+    recovered-number =
+        recovered-case L n s m area (λ (k : Store). k .number .0 ≤ numberLimit)
+        (λ h l f.
+        omega (
+          arith,
+          digest-number-fits L (segmentOf area s (h .slot)) (segment-bytes area s (h .slot) bytes),
+          ap (λ (d : Digest). d .number .0) (own-digest h f),
+        )) r e
+
+    pub recovered-map-fits : r .map < 256 ^ 4
+    recovered-map-fits =
+        recovered-case L n s m area (λ (k : Store). k .map < 256 ^ 4)
+        (λ h l f. rw (own-digest h f) (digest-map-fits L (segmentOf area s (h .slot)) (segment-bytes area s (h .slot) bytes))) r e
+
+    log-version : (h : Head) → Sound (viewsOf L area s) n m h → (x : Placed) → In x (logUnder (viewsOf L area s) n h)
+        → x .entry .version < versionLimit L
+    log-version h f x i =
+        let at = log-in (viewsOf L area s) (logSlots h) n x i in
+        let whole = scan-whole (scan L (segmentOf area s (x .slot))) (f .scans (x .slot) (at .below) (at .picked)) in
+        found-version L (segmentOf area s (x .slot)) (x .offset) (x .entry)
+        (scans-found (scan-scans L (segmentOf area s (x .slot)) whole) (at .item))
+
+    pub recovered-next : r .next .0 ≤ versionLimit L
+    recovered-next =
+        recovered-case L n s m area (λ (k : Store). k .next .0 ≤ versionLimit L)
+        (λ h l f.
+        let fits : h .digest .next .0 < 256 ^ L .width =
+        rw (own-digest h f) (digest-next-fits L (segmentOf area s (h .slot)) (segment-bytes area s (h .slot) bytes)) in
+        let set : 0 < h .digest .next .0 = omega (arith, f .next-set) in
+        omega (arith, highest-below (logUnder (viewsOf L area s) n h) (versionLimit L) (omega arith) (log-version h f))) r e
