@@ -7,3 +7,7 @@ pub mod LayoutLaws
 pub mod Packed
 pub mod DigestLaws
 pub mod EntryLaws
+pub mod Kinds
+pub mod AnswerLaws
+pub mod ReaderLaws
+pub mod Written
