@@ -10,4 +10,8 @@ pub mod Scans
 pub mod AppendBytes
 pub mod NewHeadBytes
 pub mod FormatBytes
+pub mod HeadLaws
+pub mod LogLaws
+pub mod RecoverLaws
+pub mod Appended
 pub mod Operated
