@@ -15,3 +15,5 @@ pub mod LogLaws
 pub mod RecoverLaws
 pub mod Appended
 pub mod Operated
+pub mod Entering
+pub mod Planned
