@@ -12,13 +12,14 @@ use Rattle.segment.specs.Layout.{Layout}
 use Rattle.segment.specs.Entry.{Entry, keyOf, sizeOf}
 use Rattle.segment.specs.declared.Digest.{Digest}
 use Rattle.slot_map.specs.Bit.{named}
+use Rattle.record.specs.RangeLaws.{map-in}
 use Rattle.record.specs.declared.Store.{Store}
 use Rattle.model.specs.Log.{View, Head, Item, Placed, scanned, itemsOf, endOf, isDamaged, placedIn, viewsOf, logOf, keysOf, highest, nextVersion}
 use Rattle.model.specs.Recovery.{logSlots, logUnder, storeUnder, recovered}
 use Rattle.model.specs.Operations.{countNew, appendedStore}
 use Rattle.laws.specs.HeadLaws.{top-stays}
 use Rattle.laws.specs.LogLaws.{partOf, part-picked, part-same, one-slot, OnePart, part-entered, Entered, placedAt, placed-append, entered-versions, entered-highest, entered-keys, scanned-undamaged, items-scanned, end-scanned}
-use Rattle.laws.specs.RecoverLaws.{Sound, Lent, good-names, sound-recovered, recovered-case}
+use Rattle.laws.specs.RecoverLaws.{Sound, Allowed, sound-recovered, recovered-case}
 
 -- Slot j has the item x more, and its entries now end at e; nothing else has changed.
 pub record Appends (v v′ : ℕ → View) (n j : ℕ) (x : Item) (e : ℕ) : Type 0 where
@@ -45,7 +46,7 @@ module _ (v v′ : ℕ → View) (n m : ℕ) (h : Head) (x : Item) (e : ℕ) (f 
   placed = placedAt (h .slot) x
 
   head-named : logSlots h (h .slot) ≡ true
-  head-named = good-names n (h .slot) (h .digest .map) (f .map-good)
+  head-named = map-in n (h .slot) (h .digest .map) (f .map-good) .head-named
 
   new-part : partOf v′ (logSlots h) (h .slot) ≡ partOf v (logSlots h) (h .slot) ++ placed ∷ []
   unfolding placedIn
@@ -120,7 +121,7 @@ module _ (L : Layout) (n s m : ℕ) (area area′ : List ℕ) (r : Store) (x : I
       → recovered L n s m area′ ≡ some (appendedStore L k (logOf (viewsOf L area s) (named (k .map)) n) (x .entry)))
       (λ h l f b t.
       let end = endOf (viewsOf L area s (h .slot) .scan) + sizeOf L (x .entry) in
-      sound-recovered L n s m area′ h (subst (Lent n s m) (sym same-length) l)
+      sound-recovered L n s m area′ h (subst (Allowed n s m) (sym same-length) l)
       (appended-sound (viewsOf L area s) (viewsOf L area′ s) n m h x end f b t) ∙
       ap some (appended-store (viewsOf L area s) (viewsOf L area′ s) n m h x end f b t L s refl))
       r e a
