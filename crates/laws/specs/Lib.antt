@@ -14,4 +14,5 @@ pub mod HeadLaws
 pub mod LogLaws
 pub mod RecoverLaws
 pub mod Appended
+pub mod Headed
 pub mod Operated
