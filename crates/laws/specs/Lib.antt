@@ -14,6 +14,7 @@ pub mod HeadLaws
 pub mod LogLaws
 pub mod RecoverLaws
 pub mod Appended
+pub mod Headed
 pub mod Operated
 pub mod Entering
 pub mod Planned
