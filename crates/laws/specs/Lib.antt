@@ -18,3 +18,4 @@ pub mod Headed
 pub mod Operated
 pub mod Entering
 pub mod Planned
+pub mod EntryDone

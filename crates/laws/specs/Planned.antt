@@ -10,6 +10,7 @@ use mathlib.Core.List.{List, [], _∷_, _++_, List·Memᴰ}
 use mathlib.Core.Option.{Option, none, some}
 use lib.Dec.{ltb, leb}
 use lib.ListN.{length, take}
+use lib.Pow.{pow-mono}
 use borrow.Author.Tests.{leb-true, ltb-false}
 use Rattle.word.specs.Number.{Bytes}
 use Rattle.word.specs.Laws.{bytes-take, bytes-drop}
@@ -19,8 +20,9 @@ use Rattle.segment.specs.Entry.{Entry, WellFormed, encoded, sizeOf}
 use Rattle.segment.specs.EntryLaws.{length-encoded}
 use Rattle.segment.specs.Digest.{encodedDigest}
 use Rattle.segment.specs.declared.Digest.{Digest}
-use Rattle.slot_map.specs.Bit.{named}
-use Rattle.slot_map.specs.BitLaws.{clear-named}
+use Rattle.slot_map.specs.Bit.{named, within}
+use Rattle.slot_map.specs.BitLaws.{clear-named, add-below}
+use Rattle.slot_map.specs.CountLaws.{clear-sub}
 use Rattle.slot_map.specs.NextLaws.{next-below, next-clear}
 use Rattle.record.specs.RangeLaws.{Lent, lent}
 use Rattle.record.specs.declared.Store.{Store}
@@ -35,7 +37,7 @@ use Rattle.laws.specs.Scans.{encoded-one, scan-scans, scans-stands}
 use Rattle.laws.specs.AppendBytes.{append-prefix, append-prefix-bytes}
 use Rattle.laws.specs.NewHeadBytes.{headBytes, headPlan, length-headBytes, formed-one, new-head-prefix, new-head-other-prefix, new-head-prefix-bytes}
 use Rattle.laws.specs.LogLaws.{log-same, log-in, scan-whole}
-use Rattle.laws.specs.RecoverLaws.{NoCause, no-cause, recovered-case, recovered-facts, recovered-lent, recovered-fits, recovered-scan, views-recovered, cut-recovered, cut-log}
+use Rattle.laws.specs.RecoverLaws.{NoCause, no-cause, recovered-case, recovered-facts, recovered-lent, recovered-fits, recovered-next, recovered-scan, views-recovered, cut-recovered, cut-log}
 use Rattle.laws.specs.Operated.{Accepted, planAt}
 use Rattle.laws.specs.Entering.{Roomy, Entering, idle-lent, write-enters, delete-enters}
 
@@ -120,6 +122,19 @@ module _ (L : Layout) (area : List ℕ) (r : Store) (e : recovered L (r .slots) 
 
   pub new-free : named (r .map) (newSlot r) ≡ false
   new-free = clear-named (r .map) (newSlot r) (next-clear (r .slots) (r .map) (r .head) (facts .head-below) (facts .some-free))
+
+  -- the digest of a new head fits its bytes
+  pub new-map-fits : (victims : ℕ) → within victims (r .map) ≡ true → newDigest r victims .map < 256 ^ 4
+  new-map-fits victims sub =
+      omega
+      ( arith
+      , add-below (r .slots) (r .map - victims) (newSlot r) (omega (arith, facts .map-below)) new-below
+        (clear-sub (r .map) victims (newSlot r) sub (next-clear (r .slots) (r .map) (r .head) (facts .head-below) (facts .some-free)))
+      , pow-mono (facts .slots-high)
+      )
+
+  pub new-next-fits : Bytes area → r .next .0 < 256 ^ L .width
+  new-next-fits bytes = omega (arith, facts .next-some, recovered-next L (r .slots) (r .size) (r .cells) area r e bytes)
 
   -- what is to be shown of an area that a prefix leaves
   abbrev Stays : List ℕ → Type 0
