@@ -15,4 +15,5 @@ pub mod LogLaws
 pub mod RecoverLaws
 pub mod Appended
 pub mod Headed
+pub mod Cleaned
 pub mod Operated
