@@ -17,7 +17,7 @@ use Rattle.segment.specs.EntryLaws.{length-encoded}
 use Rattle.segment.specs.declared.Digest.{Digest}
 use Rattle.slot_map.specs.Bit.{bit, named, within}
 use Rattle.slot_map.specs.BitLaws.{bit-cases, bit-of-zero, bit-add-same, bit-add-other, bit-sub, within-of-le, set-named, clear-named, add-below}
-use Rattle.slot_map.specs.Count.{used, free}
+use Rattle.slot_map.specs.Count.{used}
 use Rattle.slot_map.specs.CountLaws.{clear-sub, used-renewed}
 use Rattle.slot_map.specs.NextLaws.{next-below, next-clear}
 use Rattle.record.specs.RangeLaws.{map-in}
@@ -87,10 +87,10 @@ module _ (L : Layout) (v v′ : ℕ → View) (n s m : ℕ) (h : Head) (victims 
   abbrev g : Head
   g = record { slot = newSlot (storeUnder v n s m h); digest = newDigest (storeUnder v n s m h) victims }
 
-  slot-below : j < n
+  pub slot-below : j < n
   slot-below = next-below n (h .digest .map) (h .slot) (f .top .below) (map-in n (h .slot) (h .digest .map) (f .map-good) .some-free)
 
-  slot-clear : bit (h .digest .map) j ≡ 0
+  pub slot-clear : bit (h .digest .map) j ≡ 0
   slot-clear = next-clear n (h .digest .map) (h .slot) (f .top .below) (map-in n (h .slot) (h .digest .map) (f .map-good) .some-free)
 
   own-digest : v′ j .digest ≡ some (newDigest r victims)
@@ -189,7 +189,7 @@ module _ (L : Layout) (v v′ : ℕ → View) (n s m : ℕ) (h : Head) (x : Entr
     above : highest old < x .version
     above = omega (arith, t .version)
 
-    pub headed-sound : 2 ≤ free n (h .digest .map) → Sound v′ n m headed
+    pub headed-sound : used n (h .digest .map) + 2 ≤ n → Sound v′ n m headed
     headed-sound room =
         new-sound L v v′ n s m h 0 (x ∷ []) f (none-within (h .digest .map)) c
         (omega (
@@ -229,13 +229,13 @@ module _ (L : Layout) (n s m : ℕ) (area area′ : List ℕ) (r : Store) (x : E
       (logNow L area′ (headedStore L k (logNow L area k) x)))
       (λ h l f. headed-log L (viewsOf L area s) (viewsOf L area′ s) n s m h x f) r e c
 
-  pub headed-recovered : length area′ ≡ length area → 2 ≤ free n (r .map)
+  pub headed-recovered : length area′ ≡ length area → used n (r .map) + 2 ≤ n
       → Takes (r .next .0) (r .keys) m (logNow L area r) x
       → recovered L n s m area′ ≡ some (headedStore L r (logNow L area r) x)
   headed-recovered same-length =
       recovered-case L n s m area
       (λ (k : Store).
-      Heads L (viewsOf L area s) (viewsOf L area′ s) n (newSlot k) (newDigest k 0) (x ∷ []) → 2 ≤ free n (k .map)
+      Heads L (viewsOf L area s) (viewsOf L area′ s) n (newSlot k) (newDigest k 0) (x ∷ []) → used n (k .map) + 2 ≤ n
       → Takes (k .next .0) (k .keys) m (logNow L area k) x
       → recovered L n s m area′ ≡ some (headedStore L k (logNow L area k) x))
       (λ h l f d room t.

@@ -15,6 +15,7 @@ pub mod LogLaws
 pub mod RecoverLaws
 pub mod Appended
 pub mod Headed
+pub mod Cleaned
 pub mod Operated
 pub mod Entering
 pub mod Planned

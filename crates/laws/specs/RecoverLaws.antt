@@ -8,11 +8,12 @@ use native.Mathlib.Decide.{ℕ-discrete}
 use native.Mathlib.Omega.{arith}
 use lib.Dec.{eqb, ltb}
 use lib.ListN.{length, getD, drop}
-use borrow.Author.Tests.{ltb-true, ltb-false, eqb-true, eqb-false, not-false, lt-ltb, le-ltb, le-leb, eq-eqb, ne-eqb}
+use borrow.Author.Tests.{ltb-false, eqb-true, eqb-false, not-false, lt-ltb, le-ltb, le-leb, eq-eqb, ne-eqb}
 use Rattle.segment.specs.Choice.{pick, both, both-left, both-right, both-true, either, either-false, either-false-left, either-false-right}
 use Rattle.word.specs.Number.{Bytes}
 use Rattle.word.specs.Laws.{bytes-take, bytes-drop}
-use Rattle.segment.specs.Layout.{Layout, digestSize, versionLimit, numberLimit, goodVersion}
+use Rattle.segment.specs.Layout.{Layout, digestSize, versionLimit, numberLimit}
+use Rattle.segment.specs.LayoutLaws.{version-below}
 use Rattle.segment.specs.Entry.{Entry, entry, entryAt}
 use Rattle.segment.specs.EntryLaws.{found-accepted}
 use Rattle.segment.specs.DigestLaws.{digest-number-fits, digest-map-fits, digest-next-fits}
@@ -27,12 +28,14 @@ use Rattle.record.specs.declared.Refusal.the-variants.{BadOrder}
 use Rattle.record.specs.declared.Store.{Store}
 use Rattle.record.specs.declared.Recovery.{Recovery}
 use Rattle.record.specs.declared.RecoverAnswer.{RecoverAnswer}
-use Rattle.model.specs.Log.{View, Head, Placed, scanned, itemsOf, scan, digestIn, segmentOf, viewsOf, headOf, logOf, endOf, isDamaged, keysOf, versionShared, nextVersion}
+use Rattle.model.specs.Log.{View, Head, Placed, scanned, itemsOf, scan, digestIn, segmentOf, viewsOf, headOf, logOf, endOf, isDamaged, keysOf, versionShared, highest, nextVersion}
 use Rattle.model.specs.Causes.{Cause, when, firstCause}
 use Rattle.model.specs.Recovery.{noHead, headElse, sharing, mapBad, logSlots, logUnder, storeUnder, imageCauses, keyCauses, lentCauses, areaCauses, ifNone, storeOf, recovered, orderBad, recoveryFor, recovery, recoverCauses}
+use Rattle.model.specs.Operations.{logNow}
 use Rattle.laws.specs.CauseLaws.{cause-false, cause-rest, cause-none, cause-skip}
 use Rattle.laws.specs.Members.{clash, In}
-use Rattle.laws.specs.Versions.{highest-below}
+use Rattle.laws.specs.Latest.{Apart}
+use Rattle.laws.specs.Versions.{shared-apart, highest-below, below-highest}
 use Rattle.laws.specs.Stores.{slot-inside, length-segment}
 use Rattle.laws.specs.Scans.{scan-scans, scans-low, scans-high, scans-found}
 use Rattle.laws.specs.HeadLaws.{SameViews, digests-same, TopHead, head-is, is-top, top-head, top-alone, top-stays}
@@ -289,6 +292,49 @@ module _ (L : Layout) (v : ℕ → View) (n s m : ℕ) (h : Head) where
   under-fits areaLength l f e =
       both-true _ _ (under-in-range areaLength l f e) (both-true _ _ (eq-eqb areaLength (n * s) (l .long)) (eq-eqb m m refl))
 
+-- ---- the log of a recovered record
+
+module _ (L : Layout) (n s m : ℕ) (area : List ℕ) (r : Store) (e : recovered L n s m area ≡ some r) where
+  pub recovered-versions : versionShared (logNow L area r) ≡ false
+  recovered-versions = recovered-case L n s m area (λ (k : Store). versionShared (logNow L area k) ≡ false) (λ h l f. f .versions) r e
+
+  pub recovered-apart : Apart (logNow L area r)
+  recovered-apart = shared-apart (logNow L area r) recovered-versions
+
+  pub recovered-keys : r .keys ≡ length (keysOf (logNow L area r))
+  recovered-keys = recovered-case L n s m area (λ (k : Store). k .keys ≡ length (keysOf (logNow L area k))) (λ h l f. refl) r e
+
+  -- the next version is above every version in the log
+  pub recovered-highest : highest (logNow L area r) < r .next .0
+  recovered-highest = recovered-case L n s m area (λ (k : Store). highest (logNow L area k) < k .next .0) (λ h l f. omega arith) r e
+
+  pub recovered-above : (x : Placed) → In x (logNow L area r) → x .entry .version < r .next .0
+  recovered-above = below-highest (logNow L area r) (r .next .0) recovered-highest
+
+-- A larger index changes nothing but the number of its cells.
+pub more-sound : (v : ℕ → View) (n m k : ℕ) (h : Head) → m ≤ k → Sound v n m h → Sound v n k h
+more-sound v n m k h l f =
+    record {
+      top = f .top;
+      numbered = f .numbered;
+      map-good = f .map-good;
+      digests = f .digests;
+      next-set = f .next-set;
+      scans = f .scans;
+      versions = f .versions;
+      keys = omega (arith, f .keys);
+    }
+
+pub recovered-more : (L : Layout) (n s m k : ℕ) (area : List ℕ) (r : Store) → recovered L n s m area ≡ some r → cellsGood k ≡ true → m ≤ k
+    → recovered L n s k area ≡ some (storeOf L n s k area)
+unfolding headElse
+recovered-more L n s m k area r e good l =
+    let f = recovered-facts L n s m area r e in
+    sound-recovered L n s k area (f .head)
+    (record { slots-good = f .lent .slots-good; size-good = f .lent .size-good; long = f .lent .long; cells-good = good })
+    (more-sound (viewsOf L area s) n m k (f .head) l (f .sound)) ∙
+    ap (λ (o : Option Head). some (storeUnder (viewsOf L area s) n s k (headElse o))) (sym (f .head-is))
+
 -- ---- what leaves the store as it was
 
 -- The views of the log's slots stay, and no digest comes: slots outside the log may change otherwise.
@@ -395,8 +441,7 @@ segment-bytes area s i h = bytes-take s (drop (i * s) area) (bytes-drop (i * s) 
 
 -- an entry that is found has a version below the limit
 found-version : (L : Layout) (b : List ℕ) (at : ℕ) (x : Entry) → entryAt L b at ≡ entry x → x .version < versionLimit L
-unfolding goodVersion
-found-version L b at x e = ltb-true (x .version) (versionLimit L) (both-right _ _ (found-accepted L b at x e .good))
+found-version L b at x e = version-below L (x .version) (found-accepted L b at x e .good)
 
 module _ (L : Layout) (n s m : ℕ) (area : List ℕ) (r : Store) (e : recovered L n s m area ≡ some r) where
   pub recovered-lent : Allowed n s m (length area)
