@@ -20,3 +20,5 @@ pub mod Operated
 pub mod Entering
 pub mod Planned
 pub mod EntryDone
+pub mod Fresh
+pub mod StoreKept
