@@ -26,15 +26,9 @@ use Rattle.model.specs.Operations.{logNow, firstDigest, formatted}
 use Rattle.laws.specs.Members.{clash}
 use Rattle.laws.specs.FormatBytes.{length-formatted, formatted-other, formatted-head}
 use Rattle.laws.specs.HeadLaws.{TopHead}
-use Rattle.laws.specs.LogLaws.{partOf, part-picked, part-passed, items-scanned, scanned-undamaged}
+use Rattle.laws.specs.LogLaws.{no-parts, partOf, part-picked, part-passed, items-scanned, scanned-undamaged}
 use Rattle.laws.specs.RecoverLaws.{Sound, Allowed, in-map, sound-head, sound-recovered}
 use Rattle.laws.specs.Entering.{Roomy}
-
--- a log whose every slot adds nothing
-no-parts : (v : ℕ → View) (p : ℕ → Bool) (n : ℕ) → ((i : ℕ) → i < n → partOf v p i ≡ []) → logOf v p n ≡ []
-unfolding logOf
-no-parts v p zero h = refl
-no-parts v p (suc n) h = rw (no-parts v p n (λ i l. h i (omega arith)), h n (omega arith))
 
 -- map 1 names slot 0 alone
 others-unnamed : (i : ℕ) → (i ≡ 0 → ⊥) → named 1 i ≡ false

@@ -22,3 +22,5 @@ pub mod Planned
 pub mod EntryDone
 pub mod Fresh
 pub mod StoreKept
+pub mod Demand2
+pub mod Room
