@@ -14,7 +14,7 @@ use Rattle.slot_map.specs.BitLaws.{bit-above, named-true, clear-named}
 use Rattle.slot_map.specs.Count.{used}
 use Rattle.slot_map.specs.CountLaws.{used-wide}
 use Rattle.slot_map.specs.Words.{slot-mask}
-use Rattle.record.specs.Answers.{storesLeft, blank}
+use Rattle.record.specs.Answers.{storesLeft, withPending, blank}
 use Rattle.record.specs.Range.{between, slotsGood, sizeGood, cellsGood, mapGood, leftGood, inRange, lengthsOwn, fitsLent}
 use Rattle.record.specs.declared.Pending.{Pending}
 use Rattle.record.specs.declared.Pending.the-variants.{Idle, Append, NewHead, Clean}
@@ -268,6 +268,32 @@ fits-lent L r a i h =
       eq-eqb a (r .slots * r .size) (h .area-own),
       eq-eqb i (r .cells) (h .index-own),
     )
+
+-- another pending operation with a right number of stores left keeps all that
+pub lent-pending : {L : Layout} {r : Store} {a i : ℕ} (p : Pending) → Lent L r a i → ((p ≡ Idle → ⊥) → 0 < storesLeft p)
+    → storesLeft p ≤ r .size + 1 → Lent L (withPending r p) a i
+lent-pending p h some most =
+    record {
+      slots-low = h .slots-low;
+      slots-high = h .slots-high;
+      size-low = h .size-low;
+      size-high = h .size-high;
+      cells-low = h .cells-low;
+      cells-high = h .cells-high;
+      map-below = h .map-below;
+      head-below = h .head-below;
+      head-named = h .head-named;
+      some-free = h .some-free;
+      end-low = h .end-low;
+      end-high = h .end-high;
+      number-some = h .number-some;
+      next-some = h .next-some;
+      keys-high = h .keys-high;
+      left-some = some;
+      left-high = most;
+      area-own = h .area-own;
+      index-own = h .index-own;
+    }
 
 -- ---- the blank record is out of range, whatever is lent
 
