@@ -7,11 +7,11 @@ use native.Mathlib.Numerals.{one-add}
 use native.Mathlib.Omega.{arith}
 use native.Mathlib.Decide.{decLt, ℕ-discrete}
 use mathlib.Core.Bool.{true, false}
-use borrow.Author.Tests.{eqb-true, eqb-false, eq-eqb, ne-eqb}
+use borrow.Author.Tests.{ltb-true, ltb-false, eqb-true, eqb-false, eq-eqb, ne-eqb}
 use lib.Arith.{bin-ind}
 use lib.Bits.{bitAnd, bitOr, and-step, or-step, and-le-l, and-le-r, and-comm}
-use lib.Pow.{pow-pos, pow-mono, pow-lt, shr-shr}
-use Rattle.slot_map.specs.Bit.{bit, named, withBit, withoutBit, less, within}
+use lib.Pow.{pow-pos, pow-mono, shr-shr}
+use Rattle.slot_map.specs.Bit.{bit, named, withBit, withoutBit, less, namesBelow, within}
 
 -- ---- one bit
 
@@ -228,6 +228,12 @@ below-of-bits m zero h = let e : m ≡ 0 = no-bits m (λ i. h i (omega arith)) i
 below-of-bits m (suc n) h =
     below-of-half m n (below-of-bits (m / 2) n (λ i l. sym (bit-suc m i) ∙ h (suc i) (omega arith)))
 
+pub below-true : (n m : ℕ) → namesBelow n m ≡ true → m < 2 ^ n
+below-true n m h = ltb-true m (2 ^ n) h
+
+pub below-false : (n m : ℕ) → namesBelow n m ≡ false → 2 ^ n ≤ m
+below-false n m h = ltb-false m (2 ^ n) h
+
 -- maps below 2 ^ n that name the same slots below n are equal
 pub same-bits : (n a b : ℕ) → a < 2 ^ n → b < 2 ^ n → ((i : ℕ) → i < n → bit a i ≡ bit b i) → a ≡ b
 same-bits zero a b ha hb h = omega arith
@@ -300,9 +306,17 @@ clear-named m i h = ne-eqb (bit m i) 1 (λ e. omega arith)
 pub with-below : (n m i : ℕ) → m < 2 ^ n → i < n → withBit m i < 2 ^ n
 with-below n m i h l = below-of-bits (withBit m i) n (λ j g. bit-with-other m i j (λ e. omega arith) ∙ bit-above m n j h g)
 
+pub add-below : (n m i : ℕ) → m < 2 ^ n → i < n → bit m i ≡ 0 → m + 2 ^ i < 2 ^ n
+add-below n m i h l z = omega (arith, with-below n m i h l, with-clear m i z)
+
+-- a map below 2 ^ n names only slots below n
+pub set-below : (n m i : ℕ) → m < 2 ^ n → bit m i ≡ 1 → i < n
+set-below n m i h s = go (decLt i n)
+  where
+    go : Dec (i < n) → i < n
+    go (yes l) = l
+    go (no g) = absurd (omega (arith, bit-above m n i h (omega arith)))
+
 pub without-le : (m i : ℕ) → withoutBit m i ≤ m
 unfolding withoutBit
 without-le m i = omega arith
-
-pub pow-below : (n i : ℕ) → i < n → 2 ^ i < 2 ^ n
-pow-below n i l = pow-lt l

@@ -1,15 +1,15 @@
 -- Laws of the number of slots that a map names.
-use mathlib.Core.Path.{_≡_, refl, sym, ap, ap₂, _∙_}
+use mathlib.Core.Path.{_≡_, refl, sym, ap, _∙_}
 use mathlib.Core.Logic.{_≢_, _⊎_, inl, inr}
-use mathlib.Core.Bool.{true, false}
-use Prim.Native.Nat.{ℕ, zero, suc, _+_, _-_, _*_, _/_, _%_, _^_, _≤_, _<_}
+use mathlib.Core.Bool.{true}
+use Prim.Native.Nat.{ℕ, zero, suc, _+_, _-_, _/_, _%_, _^_, _≤_, _<_}
 use native.Mathlib.Nat.{eq-or-lt-of-le, pow-suc, add-zero, add-suc}
 use native.Mathlib.Decide.{ℕ-discrete}
 use native.Mathlib.Omega.{arith}
 use lib.Count.{ones, onesIn, ones-step}
 use Rattle.slot_map.specs.Bit.{bit, withBit, withoutBit, less, within}
-use Rattle.slot_map.specs.BitLaws.{bit-zero, bit-suc, bit-le, bit-cases, bit-with-same, bit-with-other, bit-without-same, bit-without-other, bit-less, bit-of-zero, bit-above, with-clear, less-within, within-le}
-use Rattle.slot_map.specs.Count.{used, free}
+use Rattle.slot_map.specs.BitLaws.{bit-zero, bit-suc, bit-le, bit-cases, bit-with-same, bit-with-other, bit-without-same, bit-without-other, bit-less, bit-of-zero, bit-above, with-clear, bit-sub, less-within, within-le, within-sub-le}
+use Rattle.slot_map.specs.Count.{used}
 
 pub used-none : (m : ℕ) → used 0 m ≡ 0
 unfolding used
@@ -147,3 +147,19 @@ unfolding ones onesIn
 used-ones zero m h = let e : m ≡ 0 = omega arith in used-none m ∙ ap ones (sym e)
 used-ones (suc n) m h =
     omega (arith, used-step n m, ones-step m, used-ones n (m / 2) (omega (arith, pow-suc 2 n)))
+
+-- ---- the map of a new head: the victims v go and the slot i, which was free, comes
+
+pub clear-sub : (m v i : ℕ) → within v m ≡ true → bit m i ≡ 0 → bit (m - v) i ≡ 0
+clear-sub m v i h z = omega (arith, bit-sub m v i h)
+
+pub with-less : (m v i : ℕ) → within v m ≡ true → bit m i ≡ 0 → withBit (less m v) i ≡ m - v + 2 ^ i
+with-less m v i h z = ap (λ (x : ℕ). withBit x i) (less-within m v h) ∙ with-clear (m - v) i (clear-sub m v i h z)
+
+pub used-renewed : (n m v i : ℕ) → within v m ≡ true → i < n → bit m i ≡ 0 → used n (m - v + 2 ^ i) ≡ used n m - used n v + 1
+used-renewed n m v i h l z = omega (arith, used-add n (m - v) i l (clear-sub m v i h z), used-sub n m v h)
+
+-- with at least one victim no more slots are used than before
+pub renewed-le : (n m v i : ℕ) → within v m ≡ true → m < 2 ^ n → 0 < v → i < n → bit m i ≡ 0 → used n (m - v + 2 ^ i) ≤ used n m
+renewed-le n m v i h b p l z =
+    omega (arith, used-renewed n m v i h l z, used-within n m v h, used-pos n v (omega (arith, within-sub-le v m h)) p)

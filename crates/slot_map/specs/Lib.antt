@@ -3,6 +3,7 @@ pub mod Bit
 pub mod BitLaws
 pub mod Count
 pub mod CountLaws
+pub mod Examples
 pub mod Next
 pub mod NextLaws
 pub mod Vacant

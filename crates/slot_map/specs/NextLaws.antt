@@ -1,16 +1,15 @@
 -- Laws of the next free slot.
 use mathlib.Core.Path.{_≡_, refl, sym, ap, _∙_}
 use mathlib.Core.Logic.{_≢_, _⊎_, inl, inr}
-use mathlib.Core.Bool.{Bool, true, false}
 use Prim.Native.Nat.{ℕ, zero, suc, _+_, _-_, _≤_, _<_}
 use native.Mathlib.Nat.{add-zero, zero-add, suc-add, eq-or-lt-of-le}
 use native.Mathlib.Decide.{decLe, decLt}
 use native.Mathlib.Omega.{arith}
 use borrow.Author.Tests.{lt-ltb, le-ltb}
-use Rattle.slot_map.specs.Bit.{bit, named}
+use Rattle.slot_map.specs.Bit.{bit}
 use Rattle.slot_map.specs.BitLaws.{bit-cases, set-named, clear-named}
 use Rattle.slot_map.specs.Count.{used}
-use Rattle.slot_map.specs.CountLaws.{used-le, used-all, all-used, some-free}
+use Rattle.slot_map.specs.CountLaws.{used-le, used-all, all-used}
 use Rattle.slot_map.specs.Next.{slotAfter, freeFrom, nextFree}
 
 -- ---- the equations of the definitions

@@ -1,8 +1,7 @@
 -- The first free slot after the head, by trailing zeros of the map of free slots.
-use mathlib.Core.Path.{_≡_, refl, sym, ap, _∙_}
-use mathlib.Core.Logic.{_⊎_, inl, inr}
-use Prim.Native.Nat.{ℕ, zero, suc, _+_, _-_, _/_, _^_, _≤_, _<_}
-use native.Mathlib.Nat.{lt-of-lt-of-le, lt-of-le-of-lt, le-trans, eq-zero-or-pos}
+use mathlib.Core.Path.{_≡_, sym, ap, _∙_}
+use Prim.Native.Nat.{ℕ, _+_, _-_, _/_, _^_, _≤_, _<_}
+use native.Mathlib.Nat.{lt-of-lt-of-le, lt-of-le-of-lt, le-trans}
 use native.Mathlib.Decide.{decLt}
 use native.Mathlib.Omega.{arith}
 use lib.Count.{trailingZeros}
@@ -41,10 +40,10 @@ module _ (n m f head : ℕ) (p : FreeMap n m f) where
         below = s .0;
         clear = s .1;
         ahead =
-          λ i a b.
-          clear-named i (omega (arith, s .0)) (sym (bit-over i a) ∙ low .least (i - (head + 1)) (omega arith));
+            λ i a b.
+            clear-named i (omega (arith, s .0)) (sym (bit-over i a) ∙ low .least (i - (head + 1)) (omega arith));
         to-last = λ h. absurd (omega arith);
-        from-zero = λ h. absurd (omega arith)
+        from-zero = λ h. absurd (omega arith);
       }
     where
       s : (head + 1 + t < n) × (bit m (head + 1 + t) ≡ 0)
@@ -60,10 +59,10 @@ module _ (n m f head : ℕ) (p : FreeMap n m f) where
         clear = s .1;
         ahead = λ i a b. clear-named i (omega (arith, s .0)) (low .least i b);
         to-last =
-          λ h i a b.
-          clear-named i b
-          (sym (bit-over i a) ∙ ap (λ (x : ℕ). bit x (i - (head + 1))) z ∙ bit-of-zero (i - (head + 1)));
-        from-zero = λ h i b. clear-named i (omega (arith, s .0)) (low .least i b)
+            λ h i a b.
+            clear-named i b
+            (sym (bit-over i a) ∙ ap (λ (x : ℕ). bit x (i - (head + 1))) z ∙ bit-of-zero (i - (head + 1)));
+        from-zero = λ h i b. clear-named i (omega (arith, s .0)) (low .least i b);
       }
     where
       s : (t < n) × (bit m t ≡ 0)
@@ -83,9 +82,6 @@ module _ (n m f head : ℕ) (p : FreeMap n m f) where
     -- one law for each way that the code returns
     pub next-above : (above f head ≡ 0 → ⊥) → head + 1 + trailingZeros k (above f head) ≡ nextFree n m head
     next-above q = sym (next-is n m head (head + 1 + trailingZeros k (above f head)) at (free-above (omega (arith, q))))
-
-    pub next-above-below : (above f head ≡ 0 → ⊥) → head + 1 + trailingZeros k (above f head) < n
-    next-above-below q = free-above (omega (arith, q)) .below
 
     pub next-round : above f head ≡ 0 → (f ≡ 0 → ⊥) → trailingZeros k f ≡ nextFree n m head
     next-round z q =

@@ -1,18 +1,16 @@
 -- What shifts and masks on words of k bits give, in the terms of a slot's bit.
-use mathlib.Core.Path.{_≡_, refl, sym, ap, ap₂, _∙_}
-use mathlib.Core.Logic.{_≢_, _⊎_, inl, inr}
-use mathlib.Core.Bool.{true, false}
-use Prim.Native.Nat.{ℕ, zero, suc, _+_, _-_, _*_, _/_, _%_, _^_, _≤_, _<_, min, max}
-use native.Mathlib.Nat.{pow-suc, one-mul, mod-eq-of-lt, mod-lt, sub-add-cancel, add-sub-of-le}
+use mathlib.Core.Path.{_≡_, sym, ap, _∙_}
+use Prim.Native.Nat.{ℕ, zero, suc, _+_, _-_, _*_, _/_, _%_, _^_, _≤_, _<_}
+use native.Mathlib.Nat.{pow-suc, one-mul, mod-eq-of-lt, mod-lt, add-sub-of-le}
 use native.Mathlib.Decide.{decLt, ℕ-discrete}
 use native.Mathlib.Omega.{arith}
 use lib.Arith.{mod-mul}
-use lib.Dec.{lit<}
+use lib.Dec.{leb, ltb, lit<}
+use borrow.Author.Tests.{le-leb, lt-leb, lt-ltb, le-ltb}
 use lib.Bits.{bitAnd, bitOr, and-mask, and-le-l}
-use lib.Count.{trailingZeros}
-use lib.Pow.{pow-pos, pow-lt, pow-mono, shr-lt, ones-split, ones-lt, high}
-use Rattle.slot_map.specs.Bit.{bit, named, withBit, withoutBit, less}
-use Rattle.slot_map.specs.BitLaws.{bit-zero, bit-suc, bit-le, bit-shr, bit-and, bit-or, bit-less, bit-cons-zero, bit-cons-suc, bit-with-same, bit-with-other, bit-without-same, bit-without-other, bit-pow-same, bit-pow-other, bit-above, same-bits, all-bits, less-le}
+use lib.Pow.{pow-pos, pow-lt, ones-split, ones-lt, high}
+use Rattle.slot_map.specs.Bit.{bit, withBit, withoutBit, less, namesBelow}
+use Rattle.slot_map.specs.BitLaws.{bit-zero, bit-suc, bit-le, bit-and, bit-or, bit-less, bit-cons-zero, bit-cons-suc, bit-with-same, bit-with-other, bit-without-same, bit-without-other, bit-pow-same, bit-pow-other, same-bits, all-bits, less-le}
 
 -- `(m >> i) & 1`
 pub tested : (m i : ℕ) → bitAnd (m / 2 ^ i) 1 ≡ bit m i
@@ -68,6 +66,14 @@ slot-mask k n l =
     ap (λ (x : ℕ). (2 ^ x - 1) / 2 ^ (k - n)) (sym (add-sub-of-le l))
     ∙ ap (λ (x : ℕ). x / 2 ^ (k - n)) (ones-split n (k - n)) ∙ high (2 ^ n - 1) (k - n) (ones-lt (k - n))
 
+-- `m <= 0xffff_ffff >> (k - n)`
+pub names-below : (k n m : ℕ) → n ≤ k → leb m ((2 ^ k - 1) / 2 ^ (k - n)) ≡ namesBelow n m
+names-below k n m l = ap (leb m) (slot-mask k n l) ∙ go (decLt m (2 ^ n))
+  where
+    go : Dec (m < 2 ^ n) → leb m (2 ^ n - 1) ≡ ltb m (2 ^ n)
+    go (yes h) = le-leb m (2 ^ n - 1) (omega arith) ∙ sym (lt-ltb m (2 ^ n) h)
+    go (no h) = lt-leb m (2 ^ n - 1) (omega (arith, pow-pos n)) ∙ sym (le-ltb m (2 ^ n) (omega arith))
+
 low-digits : (m n : ℕ) → m % 2 ^ suc n ≡ m / 2 % 2 ^ n * 2 + m % 2
 low-digits m n = ap (λ (x : ℕ). m % x) (pow-suc 2 n) ∙ mod-mul m (pow-pos n) (lit< tt)
 
@@ -90,5 +96,6 @@ free-map k n m l h = rw e (record { below = mod-lt (2 ^ k - 1 - m) (pow-pos n); 
   where
     e : bitAnd (2 ^ k - 1 - m) ((2 ^ k - 1) / 2 ^ (k - n)) ≡ (2 ^ k - 1 - m) % 2 ^ n
     e = ap (bitAnd (2 ^ k - 1 - m)) (slot-mask k n l) ∙ and-mask (2 ^ k - 1 - m) n
+
     other : (i : ℕ) → i < n → bit ((2 ^ k - 1 - m) % 2 ^ n) i ≡ 1 - bit m i
     other i g = bit-low (2 ^ k - 1 - m) n i g ∙ bit-not k m i h (omega arith)

@@ -2,7 +2,7 @@
 // division and remainder, and the code goes by shifts and masks.
 ghost use mathlib.Core.Path.{_≡_};
 ghost use Prim.Native.Nat.{_^_, _≤_, _<_};
-ghost use Rattle.slot_map.specs.Bit.{named, withBit, withoutBit, less, within};
+ghost use Rattle.slot_map.specs.Bit.{named, withBit, withoutBit, less, namesBelow, within};
 ghost use Rattle.slot_map.specs.Count.{used, free};
 ghost use Rattle.slot_map.specs.Next.{nextFree};
 
@@ -42,6 +42,14 @@ pub fn is_within(victims: u32, map: u32) -> bool
     ensures { λ r. ⌜ r ≡ within victims map ⌝ }
 {
     victims & map == victims
+}
+
+// Whether every slot that the map names is below n.
+pub fn names_below(n: u32, map: u32) -> bool
+    requires { ⌜ (1 ≤ n) × (n ≤ 32) ⌝ }
+    ensures { λ r. ⌜ r ≡ namesBelow n map ⌝ }
+{
+    map <= 0xffff_ffff >> (32 - n)
 }
 
 // How many slots the map names.

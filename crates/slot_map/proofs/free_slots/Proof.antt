@@ -1,5 +1,5 @@
 -- `slot_map::free_slots` meets its contract: the ones of a map below 2 ^ n are the slots below n that it names.
-use mathlib.Core.Path.{_≡_, sym, ap}
+use mathlib.Core.Path.{sym, ap}
 use Prim.Native.Nat.{ℕ, _-_}
 use native.Mathlib.Nat.{le-trans, le-of-eq}
 use Rattle.slot_map.specs.CountLaws.{used-le, used-ones}

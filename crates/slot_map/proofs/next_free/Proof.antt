@@ -1,19 +1,34 @@
 -- `slot_map::next_free` meets its contract: the code's map of free slots is one (`free-map`), and there is a law for each return.
 use mathlib.Core.Path.{_≡_}
-use Prim.Native.Nat.{ℕ, _-_, _/_, _^_, _≤_, _<_}
+use Prim.Native.Nat.{ℕ, _+_, _-_, _/_, _^_, _≤_, _<_}
 use native.Mathlib.Omega.{arith}
 use borrow.Author.Needs.{needs}
 use lib.Bits.{bitAnd}
-use Rattle.slot_map.specs.Vacant.{next-above, next-above-below, next-round, next-nothing}
-use Rattle.slot_map.specs.Words.{FreeMap, free-map}
+use lib.Count.{trailingZeros, trailing-le}
+use mir.Syntax.{w32}
+use mir.Val.{Fits}
+use Rattle.slot_map.specs.Next.{nextFree}
+use Rattle.slot_map.specs.Vacant.{above, next-above, next-round, next-nothing}
+use Rattle.slot_map.specs.Words.{free-map}
 use Rattle.slot_map.proofs.next_free.Statement.{statement}
 use Rattle.slot_map.proofs.next_free.Tie as tie
 
 abbrev vacant : ℕ → ℕ → ℕ
 vacant n m = bitAnd (0xffff_ffff - m) (0xffff_ffff / 2 ^ (32 - n))
 
-are-free : (n m : ℕ) → n ≤ 32 → m < 2 ^ 32 → FreeMap n m (vacant n m)
-are-free n m l h = free-map 32 n m l h
+-- a word has at most 32 trailing zeros
+sum-fits : (a x : ℕ) → a ≤ 32 → Fits w32 (a + trailingZeros 32 x)
+sum-fits a x h = omega (arith, trailing-le 32 x)
+
+module _ {n m head : ℕ} (pre : (1 ≤ n) × (n ≤ 32) × (head < n)) (fits : m < 2 ^ 32) where
+  over : (above (vacant n m) head ≡ 0 → ⊥) → head + 1 + trailingZeros 32 (above (vacant n m) head) ≡ nextFree n m head
+  over = next-above n m (vacant n m) head (free-map 32 n m (pre .1) fits) 32 (pre .1) (pre .2)
+
+  nothing : vacant n m ≡ 0 → n ≡ nextFree n m head
+  nothing = next-nothing n m (vacant n m) head (free-map 32 n m (pre .1) fits) 32 (pre .1) (pre .2)
+
+  round : above (vacant n m) head ≡ 0 → (vacant n m ≡ 0 → ⊥) → trailingZeros 32 (vacant n m) ≡ nextFree n m head
+  round = next-round n m (vacant n m) head (free-map 32 n m (pre .1) fits) 32 (pre .1) (pre .2)
 
 sub-vacant : tie.Need-sub-vacant
 sub-vacant c = search needs
@@ -28,35 +43,16 @@ add-result : tie.Need-add-result
 add-result c = search needs
 
 add-result-2 : tie.Need-add-result-2
-add-result-2 c =
-    let s = c .before in
-    let n = s .args .n in
-    let m = s .args .map in
-    omega (
-      arith,
-      next-above-below n m (vacant n m) (s .args .head) (are-free n m (s .pre .1) (s .fits .map .fits)) 32 (s .pre .1) (s .pre .2) (c .if1 .taken)
-    )
+add-result-2 c = sum-fits _ _ (omega arith)
 
 returns : tie.Need-returns
-returns c =
-    let s = c .before in
-    let n = s .args .n in
-    let m = s .args .map in
-    next-above n m (vacant n m) (s .args .head) (are-free n m (s .pre .1) (s .fits .map .fits)) 32 (s .pre .1) (s .pre .2) (c .if1 .taken)
+returns c = over (c .before .pre) (c .before .fits .map .fits) (c .if1 .taken)
 
 returns-2 : tie.Need-returns-2
-returns-2 c =
-    let s = c .before .before in
-    let n = s .args .n in
-    let m = s .args .map in
-    next-nothing n m (vacant n m) (s .args .head) (are-free n m (s .pre .1) (s .fits .map .fits)) 32 (s .pre .1) (s .pre .2) (c .if2 .taken)
+returns-2 c = nothing (c .before .before .pre) (c .before .before .fits .map .fits) (c .if2 .taken)
 
 returns-3 : tie.Need-returns-3
-returns-3 c =
-    let s = c .before .before in
-    let n = s .args .n in
-    let m = s .args .map in
-    next-round n m (vacant n m) (s .args .head) (are-free n m (s .pre .1) (s .fits .map .fits)) 32 (s .pre .1) (s .pre .2) (c .before .if1 .left) (c .if2 .left)
+returns-3 c = round (c .before .before .pre) (c .before .before .fits .map .fits) (c .before .if1 .left) (c .if2 .left)
 
 pub next-free-spec : {M : Type 1} → statement M
 next-free-spec =
