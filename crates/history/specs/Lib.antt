@@ -1,0 +1,4 @@
+-- The promise about cuts: the book of a list of calls and cuts, the runs by the rules of use, and demand 3.
+pub mod Book
+pub mod Runs
+pub mod Demand3

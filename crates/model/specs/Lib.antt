@@ -1,0 +1,9 @@
+-- 01 as definitions, in 01's order: the log and its map, recovery, the index, operations store by store, refusals, and what
+-- each call promises.
+pub mod Log
+pub mod Causes
+pub mod Recovery
+pub mod Index
+pub mod Operations
+pub mod Refused
+pub mod Promises

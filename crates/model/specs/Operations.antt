@@ -1,0 +1,260 @@
+-- 01, "Operations, store by store": what a start lays out, what each step stores, and the record after the last one.
+use Prim.Native.Nat.{ℕ, zero, suc, _+_, _*_, _-_, _^_, _<_}
+use mathlib.Core.Bool.{Bool, true, false, not}
+use mathlib.Core.List.{List, [], _∷_, _++_}
+use mathlib.Core.Option.{Option, none, some}
+use lib.Dec.{eqb, ltb, leb}
+use lib.ListN.{length, getD, take, drop, set}
+use Rattle.word.specs.Number.{Bytes}
+use Rattle.segment.specs.Choice.{pick, both, either}
+use Rattle.segment.specs.Layout.{Layout, objectKind, isTombstone, digestSize}
+use Rattle.segment.specs.Entry.{Entry, encoded, decoded, sizeOf, keyOf}
+use Rattle.segment.specs.Digest.{encodedDigest}
+use Rattle.segment.specs.declared.Digest.{Digest}
+use Rattle.segment.specs.declared.Key.{Key}
+use Rattle.slot_map.specs.Bit.{named}
+use Rattle.slot_map.specs.Next.{nextFree}
+use Rattle.record.specs.Answers.{withPending}
+use Rattle.record.specs.declared.Pending.{Pending}
+use Rattle.record.specs.declared.Pending.the-variants.{Idle, Append, NewHead, Clean}
+use Rattle.record.specs.declared.Store.{Store}
+use Rattle.model.specs.Log.{View, Placed, viewsOf, logOf, latest, hasKey, keysOf, sameKey}
+
+-- The three operations: write a value under a key, delete a key, clean a slot map of victims.
+pub data Operation : Type 0 where
+  write : Key → List ℕ → Operation
+  delete : Key → Operation
+  clean : ℕ → Operation
+
+-- A call's arguments are of their types: a table is 16 bits wide, a key 32, and a value is bytes.
+abbrev pub TypedKey : Key → Type 0
+TypedKey k = (k .table < 256 ^ 2) × (k .key < 256 ^ 4)
+
+abbrev pub Typed : Operation → Type 0
+Typed (write k value) = TypedKey k × Bytes value
+Typed (delete k) = TypedKey k
+Typed (clean victims) = victims < 256 ^ 4
+
+-- the log of the area under a record's map
+abbrev pub logNow : Layout → List ℕ → Store → List Placed
+logNow L area r = logOf (viewsOf L area (r .size)) (named (r .map)) (r .slots)
+
+-- ---- what a start lays out
+
+unfoldable pub kindElse : Option ℕ → ℕ
+kindElse none = 0
+kindElse (some k) = k
+
+-- The entry of a write takes the next version, and so does the tombstone of a delete.
+abbrev pub writtenEntry : Layout → Store → Key → List ℕ → Entry
+writtenEntry L r k value =
+    record { kind = kindElse (objectKind L (length value)); table = k .table; key = k .key; version = r .next .0; value = value }
+
+abbrev pub tombstoneEntry : Layout → Store → Key → Entry
+tombstoneEntry L r k = record { kind = L .tombstoneKind; table = k .table; key = k .key; version = r .next .0; value = [] }
+
+-- The entry fits the head: it may end exactly at S.
+abbrev pub fitsHead : Layout → Store → Entry → Bool
+fitsHead L r e = leb (r .end + sizeOf L e) (r .size)
+
+-- A new head takes the first free slot after the old head, going round.
+abbrev pub newSlot : Store → ℕ
+newSlot r = nextFree (r .slots) (r .map) (r .head)
+
+-- Its digest: the number plus 1, the old map less the victims plus its own bit, and the next version as it stood.
+abbrev pub newDigest : Store → ℕ → Digest
+newDigest r victims =
+    record { number = record { 0 = r .number .0 + 1 }; map = r .map - victims + 2 ^ newSlot r; next = r .next }
+
+-- An entry of the log is its key's highest version there.
+unfoldable pub isVersion : Option Placed → ℕ → Bool
+isVersion none v = false
+isVersion (some x) v = eqb (x .entry .version) v
+
+abbrev pub isHighest : List Placed → Entry → Bool
+isHighest log e = isVersion (latest log (keyOf e)) (e .version)
+
+-- A log slot outside the victims holds an object of that key.
+unfoldable pub objectOutside : Layout → ℕ → List Placed → Key → Bool
+objectOutside L victims [] k = false
+objectOutside L victims (x ∷ xs) k =
+    either (both (both (not (named victims (x .slot))) (sameKey k (x .entry))) (not (isTombstone L (x .entry .kind))))
+    (objectOutside L victims xs k)
+
+-- A victim's object is kept if it is its key's highest version, and a tombstone if besides an object of the key stands
+-- outside the victims.
+abbrev pub isKept : Layout → ℕ → List Placed → Placed → Bool
+isKept L victims log x =
+    both (named victims (x .slot))
+    (both (isHighest log (x .entry)) (either (not (isTombstone L (x .entry .kind))) (objectOutside L victims log (keyOf (x .entry)))))
+
+-- those of xs that are kept in a cleaning of the log, in their order
+unfoldable pub keptOf : Layout → ℕ → List Placed → List Placed → List Entry
+keptOf L victims log [] = []
+keptOf L victims log (x ∷ xs) = pick (isKept L victims log x) (x .entry ∷ keptOf L victims log xs) (keptOf L victims log xs)
+
+-- The entries kept of the log, by ascending slot and then offset.
+abbrev pub kept : Layout → ℕ → List Placed → List Entry
+kept L victims log = keptOf L victims log log
+
+unfoldable pub allEncoded : Layout → List Entry → List ℕ
+allEncoded L [] = []
+allEncoded L (e ∷ es) = encoded L e ++ allEncoded L es
+
+-- What a start lays down: the pending operation, but for its stores left, and the bytes for the work buffer.
+pub record Laid : Type 0 where
+  pub pending : ℕ → Pending
+  pub bytes : List ℕ
+
+-- an entry, appended to the head if it fits, else in a new head behind its digest
+abbrev pub laidEntry : Layout → Store → Entry → Laid
+laidEntry L r e =
+    pick (fitsHead L r e) (record { pending = λ k. Append (sizeOf L e) k; bytes = encoded L e })
+    (record {
+      pending = λ k. NewHead (newSlot r) (digestSize L + sizeOf L e) k;
+      bytes = encodedDigest L (newDigest r 0) ++ encoded L e;
+    })
+
+abbrev pub laidClean : Layout → Store → List Placed → ℕ → Laid
+laidClean L r log victims =
+    record {
+      pending = λ k. Clean (newSlot r) victims (digestSize L + length (allEncoded L (kept L victims log))) k;
+      bytes = encodedDigest L (newDigest r victims) ++ allEncoded L (kept L victims log);
+    }
+
+unfoldable pub laid : Layout → Store → List Placed → Operation → Laid
+laid L r log (write k value) = laidEntry L r (writtenEntry L r k value)
+laid L r log (delete k) = laidEntry L r (tombstoneEntry L r k)
+laid L r log (clean victims) = laidClean L r log victims
+
+-- ---- the stores, in order: each is a place in the area and a byte
+
+unfoldable pub storesFrom : ℕ → List ℕ → List (ℕ × ℕ)
+storesFrom p [] = []
+storesFrom p (b ∷ bs) = (p, b) ∷ storesFrom (p + 1) bs
+
+-- Bytes that come to stand at an offset of a slot: from the second on, ascending; 0 after the last if it ends before S;
+-- the first, the kind byte, which makes them count.
+abbrev pub commit : ℕ → ℕ → ℕ → List ℕ → List (ℕ × ℕ)
+commit S slot offset bytes =
+    storesFrom (slot * S + offset + 1) (drop 1 bytes) ++
+    pick (ltb (offset + length bytes) S) ((slot * S + offset + length bytes, 0) ∷ []) [] ++
+    (slot * S + offset, getD bytes 0 0) ∷ []
+
+-- An append commits at the head's end. A new head first loses its byte 0, and commits at its start.
+unfoldable pub planOf : Store → Pending → List ℕ → List (ℕ × ℕ)
+planOf r Idle bytes = []
+planOf r (Append n k) bytes = commit (r .size) (r .head) (r .end) bytes
+planOf r (NewHead i n k) bytes = (i * r .size, 0) ∷ commit (r .size) i 0 bytes
+planOf r (Clean i v n k) bytes = (i * r .size, 0) ∷ commit (r .size) i 0 bytes
+
+-- The stores of an operation that is started on this record and log, and how many they are.
+abbrev pub planFor : Layout → Store → List Placed → Operation → List (ℕ × ℕ)
+planFor L r log o = planOf r (laid L r log o .pending 0) (laid L r log o .bytes)
+
+abbrev pub storesFor : Layout → Store → List Placed → Operation → ℕ
+storesFor L r log o = length (planFor L r log o)
+
+-- The record once the operation is started.
+abbrev pub startedStore : Layout → Store → List Placed → Operation → Store
+startedStore L r log o = withPending r (laid L r log o .pending (storesFor L r log o))
+
+-- the area after stores
+unfoldable pub stored : List ℕ → List (ℕ × ℕ) → List ℕ
+stored area [] = area
+stored area (x ∷ xs) = stored (set area (x .0) (x .1)) xs
+
+-- ---- the last step
+
+-- The version that the last step tells: the operation's own, 0 for a cleaning.
+unfoldable pub toldVersion : Store → Operation → ℕ
+toldVersion r (write k value) = r .next .0
+toldVersion r (delete k) = r .next .0
+toldVersion r (clean victims) = 0
+
+-- the log outside the victims, and the keys that a cleaning leaves: those outside and those kept
+abbrev pub outsideSlots : ℕ → ℕ → ℕ → Bool
+outsideSlots map victims i = both (named map i) (not (named victims i))
+
+unfoldable pub countNew : List Placed → Key → ℕ
+countNew log k = pick (hasKey log k) 0 1
+
+-- entries of a new head, where they come to stand behind its digest
+unfoldable pub placedFrom : Layout → ℕ → ℕ → List Entry → List Placed
+placedFrom L i at [] = []
+placedFrom L i at (e ∷ es) = record { slot = i; offset = at; entry = e } ∷ placedFrom L i (at + sizeOf L e) es
+
+-- the record once an entry of key k is in the head's end, or in a new head
+abbrev pub appendedStore : Layout → Store → List Placed → Entry → Store
+appendedStore L r log e =
+    record {
+      slots = r .slots;
+      size = r .size;
+      cells = r .cells;
+      head = r .head;
+      end = r .end + sizeOf L e;
+      number = r .number;
+      map = r .map;
+      next = record { 0 = r .next .0 + 1 };
+      keys = r .keys + countNew log (keyOf e);
+      pending = Idle;
+    }
+
+abbrev pub headedStore : Layout → Store → List Placed → Entry → Store
+headedStore L r log e =
+    record {
+      slots = r .slots;
+      size = r .size;
+      cells = r .cells;
+      head = newSlot r;
+      end = digestSize L + sizeOf L e;
+      number = newDigest r 0 .number;
+      map = newDigest r 0 .map;
+      next = record { 0 = r .next .0 + 1 };
+      keys = r .keys + countNew log (keyOf e);
+      pending = Idle;
+    }
+
+abbrev pub entryStore : Layout → Store → List Placed → Entry → Store
+entryStore L r log e = pick (fitsHead L r e) (appendedStore L r log e) (headedStore L r log e)
+
+-- The log that a cleaning leaves, but for the order of its slots: what stands outside the victims, and what is kept.
+abbrev pub cleanedLog : Layout → List ℕ → Store → ℕ → List Placed
+cleanedLog L area r victims =
+    logOf (viewsOf L area (r .size)) (outsideSlots (r .map) victims) (r .slots) ++
+    placedFrom L (newSlot r) (digestSize L) (kept L victims (logNow L area r))
+
+abbrev pub cleanedStore : Layout → List ℕ → Store → ℕ → Store
+cleanedStore L area r victims =
+    record {
+      slots = r .slots;
+      size = r .size;
+      cells = r .cells;
+      head = newSlot r;
+      end = digestSize L + length (allEncoded L (kept L victims (logNow L area r)));
+      number = newDigest r victims .number;
+      map = newDigest r victims .map;
+      next = r .next;
+      keys = length (keysOf (cleanedLog L area r victims));
+      pending = Idle;
+    }
+
+-- The record after the last step of an operation that was started on this area and record.
+unfoldable pub finishedStore : Layout → List ℕ → Store → Operation → Store
+finishedStore L area r (write k value) = entryStore L r (logNow L area r) (writtenEntry L r k value)
+finishedStore L area r (delete k) = entryStore L r (logNow L area r) (tombstoneEntry L r k)
+finishedStore L area r (clean victims) = cleanedStore L area r victims
+
+-- ---- format
+
+-- Byte 0 of every slot below n becomes 0.
+unfoldable pub cleared : ℕ → ℕ → List ℕ → List ℕ
+cleared S zero area = area
+cleared S (suc n) area = set (cleared S n area) (n * S) 0
+
+-- Slot 0 then gets number 1, map 1, next version 1, and a kind 0 behind its digest; every other byte stays.
+abbrev pub firstDigest : Digest
+firstDigest = record { number = record { 0 = 1 }; map = 1; next = record { 0 = 1 } }
+
+abbrev pub formatted : Layout → ℕ → ℕ → List ℕ → List ℕ
+formatted L n S area = stored (cleared S n area) (storesFrom 0 (encodedDigest L firstDigest ++ 0 ∷ []))

@@ -1,0 +1,161 @@
+-- 01, "The log and its map" and "Refused calls": what recovery gives for an image, and the causes 1, 2 and 15 to 20.
+use Prim.Native.Nat.{ℕ, zero, suc, _+_, _*_, _-_, _^_}
+use mathlib.Core.Bool.{Bool, true, false, not}
+use mathlib.Core.List.{List, [], _∷_, _++_}
+use mathlib.Core.Option.{Option, none, some}
+use lib.Dec.{eqb, ltb}
+use lib.ListN.{length}
+use Rattle.segment.specs.Choice.{pick, both, either}
+use Rattle.segment.specs.Layout.{Layout}
+use Rattle.segment.specs.declared.Digest.{Digest}
+use Rattle.slot_map.specs.Bit.{named}
+use Rattle.slot_map.specs.Count.{used}
+use Rattle.record.specs.Answers.{blank}
+use Rattle.record.specs.Range.{slotsGood, sizeGood, cellsGood}
+use Rattle.record.specs.declared.Refusal.{Refusal}
+use Rattle.record.specs.declared.Refusal.the-variants.{Geometry, Cells, BadOrder, NoDigest, BadDigest, DamagedLog, SharedVersion, TooManyKeys}
+use Rattle.record.specs.declared.Pending.the-variants.{Idle}
+use Rattle.record.specs.declared.Store.{Store}
+use Rattle.record.specs.declared.Recovery.{Recovery}
+use Rattle.record.specs.declared.RecoverAnswer.{RecoverAnswer}
+use Rattle.model.specs.Log.{View, Head, Placed, viewsOf, headOf, logOf, endOf, isDamaged, keysOf, versionShared, nextVersion}
+use Rattle.model.specs.Causes.{Cause, when, firstCause}
+
+-- 1: N, S or the area's length wrong
+abbrev pub geometryBad : ℕ → ℕ → ℕ → Bool
+geometryBad n s areaLength = not (both (both (slotsGood n) (sizeGood s)) (eqb areaLength (n * s)))
+
+-- 15: the order list is not N bytes that name each of 0 to N - 1 once
+unfoldable pub lists : List ℕ → ℕ → Bool
+lists [] i = false
+lists (x ∷ xs) i = either (eqb x i) (lists xs i)
+
+unfoldable pub listsBelow : List ℕ → ℕ → Bool
+listsBelow xs zero = true
+listsBelow xs (suc n) = both (listsBelow xs n) (lists xs n)
+
+abbrev pub orderBad : ℕ → List ℕ → Bool
+orderBad n order = not (both (eqb (length order) n) (listsBelow order n))
+
+-- 16: no byte 0 is the digest's kind
+unfoldable pub noHead : Option Head → Bool
+noHead none = true
+noHead (some h) = false
+
+-- the head, or a slot of zeros where there is none, which 16 has refused
+unfoldable pub headElse : Option Head → Head
+headElse none = record { slot = 0; digest = record { number = record { 0 = 0 }; map = 0; next = record { 0 = 0 } } }
+headElse (some h) = h
+
+-- 17: how many of the slots below n have a digest of that number
+unfoldable pub hasNumber : Option Digest → ℕ → ℕ
+hasNumber none k = 0
+hasNumber (some d) k = pick (eqb (d .number .0) k) 1 0
+
+unfoldable pub sharing : (ℕ → View) → ℕ → ℕ → ℕ
+sharing v k zero = 0
+sharing v k (suc n) = sharing v k n + hasNumber (v n .digest) k
+
+-- the highest number is 0, or more than one slot has it
+abbrev pub numberBad : (ℕ → View) → ℕ → Head → Bool
+numberBad v n h = either (eqb (h .digest .number .0) 0) (ltb 1 (sharing v (h .digest .number .0) n))
+
+-- the map names a slot not below N, lacks the head, or leaves none free
+abbrev pub mapBad : ℕ → Head → Bool
+mapBad n h =
+    either (not (ltb (h .digest .map) (2 ^ n))) (either (not (named (h .digest .map) (h .slot))) (not (ltb (used n (h .digest .map)) n)))
+
+-- the map names a slot whose byte 0 is not the digest's kind
+unfoldable pub noDigest : Option Digest → Bool
+noDigest none = true
+noDigest (some d) = false
+
+unfoldable pub namesNoDigest : (ℕ → View) → (ℕ → Bool) → ℕ → Bool
+namesNoDigest v p zero = false
+namesNoDigest v p (suc n) = either (namesNoDigest v p n) (both (p n) (noDigest (v n .digest)))
+
+-- next version 0
+abbrev pub nextBad : Head → Bool
+nextBad h = eqb (h .digest .next .0) 0
+
+abbrev pub digestBad : (ℕ → View) → ℕ → Head → Bool
+digestBad v n h = either (numberBad v n h) (either (mapBad n h) (either (namesNoDigest v (named (h .digest .map)) n) (nextBad h)))
+
+-- 18: damage in a slot of the log
+unfoldable pub logDamaged : (ℕ → View) → (ℕ → Bool) → ℕ → Bool
+logDamaged v p zero = false
+logDamaged v p (suc n) = either (logDamaged v p n) (both (p n) (isDamaged (v n .scan)))
+
+-- the slots that a head's map names, and the log of the head
+abbrev pub logSlots : Head → ℕ → Bool
+logSlots h i = named (h .digest .map) i
+
+abbrev pub logUnder : (ℕ → View) → ℕ → Head → List Placed
+logUnder v n h = logOf v (logSlots h) n
+
+-- 20: over M - 1 keys
+abbrev pub keysBad : ℕ → List Placed → Bool
+keysBad m log = ltb (m - 1) (length (keysOf log))
+
+-- The record that recovery gives for slots with these views under this head.
+abbrev pub storeUnder : (ℕ → View) → ℕ → ℕ → ℕ → Head → Store
+storeUnder v n s m h =
+    record {
+      slots = n;
+      size = s;
+      cells = m;
+      head = h .slot;
+      end = endOf (v (h .slot) .scan);
+      number = h .digest .number;
+      map = h .digest .map;
+      next = record { 0 = nextVersion (h .digest) (logUnder v n h) };
+      keys = length (keysOf (logUnder v n h));
+      pending = Idle;
+    }
+
+-- 16 to 19, which look at the image alone
+abbrev pub imageCauses : (ℕ → View) → ℕ → Option Head → List Cause
+imageCauses v n h =
+    when (noHead h) NoDigest
+    ∷ when (digestBad v n (headElse h)) BadDigest
+    ∷ when (logDamaged v (logSlots (headElse h)) n) DamagedLog
+    ∷ when (versionShared (logUnder v n (headElse h))) SharedVersion
+    ∷ []
+
+abbrev pub keyCauses : (ℕ → View) → ℕ → ℕ → Option Head → List Cause
+keyCauses v n m h = when (keysBad m (logUnder v n (headElse h))) TooManyKeys ∷ []
+
+-- 1 and 2: geometry and index
+abbrev pub lentCauses : ℕ → ℕ → ℕ → ℕ → List Cause
+lentCauses n s m areaLength = when (geometryBad n s areaLength) Geometry ∷ when (not (cellsGood m)) Cells ∷ []
+
+-- Recovery: 1, 2, 15 to 20.
+abbrev pub recoverCauses : Layout → ℕ → ℕ → ℕ → List ℕ → List ℕ → List Cause
+recoverCauses L n s m order area =
+    lentCauses n s m (length area) ++ (when (orderBad n order) BadOrder ∷ []) ++
+    imageCauses (viewsOf L area s) n (headOf (viewsOf L area s) n) ++ keyCauses (viewsOf L area s) n m (headOf (viewsOf L area s) n)
+
+-- The same without an order list.
+abbrev pub areaCauses : Layout → ℕ → ℕ → ℕ → List ℕ → List Cause
+areaCauses L n s m area =
+    lentCauses n s m (length area) ++ imageCauses (viewsOf L area s) n (headOf (viewsOf L area s) n) ++
+    keyCauses (viewsOf L area s) n m (headOf (viewsOf L area s) n)
+
+-- The record that recovery of an area gives, where it is accepted; the order of the slots is no part of it.
+unfoldable pub ifNone : Option Refusal → Store → Option Store
+ifNone none r = some r
+ifNone (some c) r = none
+
+abbrev pub storeOf : Layout → ℕ → ℕ → ℕ → List ℕ → Store
+storeOf L n s m area = storeUnder (viewsOf L area s) n s m (headElse (headOf (viewsOf L area s) n))
+
+unfoldable pub recovered : Layout → ℕ → ℕ → ℕ → List ℕ → Option Store
+recovered L n s m area = ifNone (firstCause (areaCauses L n s m area)) (storeOf L n s m area)
+
+-- What the call answers: the record, or the first cause beside the blank record.
+unfoldable pub recoveryFor : Option Refusal → Store → Recovery
+recoveryFor none r = record { answer = RecoverAnswer.Recovered; store = r }
+recoveryFor (some c) r = record { answer = RecoverAnswer.Refused c; store = blank }
+
+unfoldable pub recovery : Layout → ℕ → ℕ → ℕ → List ℕ → List ℕ → Recovery
+recovery L n s m order area = recoveryFor (firstCause (recoverCauses L n s m order area)) (storeOf L n s m area)
