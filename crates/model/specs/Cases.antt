@@ -2,13 +2,12 @@
 use Prim.Native.Nat.{ℕ}
 use mathlib.Core.Path.{_≡_, refl}
 use mathlib.Core.List.{List, [], _∷_, _++_}
-use lib.ListN.{length, take, drop, replicate}
-use Rattle.segment.specs.Layout.{edition1}
+use lib.ListN.{take, drop, replicate}
 use Rattle.segment.specs.declared.Key.{Key}
-use Rattle.model.specs.Operations.{Operation, write, delete, clean, formatted}
+use Rattle.model.specs.Operations.{Operation, write, delete, clean}
 use Rattle.model.specs.Refused.{formatCauses}
-use Rattle.model.specs.Play.{opened, freshOver, keyed, object, tombstone, slotWith, segmentWith, first, said, recovers, starts, begins, ends, stores, cutAfter, played, playedAll, reads, keeps}
-use Rattle.model.specs.Table.{Row, row, failing, Hold, rows-hold}
+use Rattle.model.specs.Play.{opened, freshOver, keyed, object, tombstone, slotWith, segmentWith, first, recovers, starts, begins, stepsTo, ends, stores, cutAfter, played, playedAll, reads, keeps}
+use Rattle.model.specs.Table.{Row, row, failing, Hold, joined, rows-hold}
 
 -- The bytes that stood in the area before the format are 255, which is no kind.
 abbrev fresh : List ℕ
@@ -42,26 +41,43 @@ deleted = played written (delete nine)
 abbrev cleaned : List ℕ
 cleaned = played deleted (clean 1)
 
--- A record: N, S, M, head, end, digest number, map, next version, keys, stores left. Before it stands a recovery's number, or what a
--- call says: refusal, stores, version, kind.
-abbrev cases1to5 : List Row
-cases1to5 =
+-- A record in a row: N, S, M, head, end, digest number, map, next version, keys, stores left. Before it stands a recovery's number,
+-- or what a call says: refusal, stores, version, kind.
+abbrev case1 : List Row
+case1 =
     row 1 (first (formatCauses 4 256 1024) ∷ take 14 fresh) (0 ∷ freshDigest ++ 0x00 ∷ [])
     ∷ row 1 (drop 14 fresh) (replicate 242 255 ++ 0 ∷ replicate 255 255 ++ 0 ∷ replicate 255 255 ++ 0 ∷ replicate 255 255)
     ∷ row 1 (recovers fresh) (0 ∷ 4 ∷ 256 ∷ 16 ∷ 0 ∷ 13 ∷ 1 ∷ 1 ∷ 1 ∷ 0 ∷ 0 ∷ [])
-    ∷ row 2 (starts fresh writing) (0 ∷ 20 ∷ 0 ∷ 0 ∷ 4 ∷ 256 ∷ 16 ∷ 0 ∷ 13 ∷ 1 ∷ 1 ∷ 1 ∷ 0 ∷ 20 ∷ [])
+    ∷ []
+
+abbrev case2 : List Row
+case2 =
+    row 2 (starts fresh writing) (0 ∷ 20 ∷ 0 ∷ 0 ∷ 4 ∷ 256 ∷ 16 ∷ 0 ∷ 13 ∷ 1 ∷ 1 ∷ 1 ∷ 0 ∷ 20 ∷ [])
     ∷ row 2 (begins fresh writing .work) (writtenBytes ++ replicate 237 170)
     ∷ row 2 written (freshDigest ++ writtenBytes ++ 0 ∷ drop 33 fresh)
+    ∷ row 2 (stepsTo 19 fresh writing) (0 ∷ 19 ∷ 0 ∷ 0 ∷ 4 ∷ 256 ∷ 16 ∷ 0 ∷ 13 ∷ 1 ∷ 1 ∷ 1 ∷ 0 ∷ 19 ∷ [])
     ∷ row 2 (ends fresh writing) (0 ∷ 0 ∷ 1 ∷ 0 ∷ 4 ∷ 256 ∷ 16 ∷ 0 ∷ 32 ∷ 1 ∷ 1 ∷ 2 ∷ 1 ∷ 0 ∷ [])
-    ∷ row 3 (recovers (cutAfter 19 fresh writing)) (0 ∷ 4 ∷ 256 ∷ 16 ∷ 0 ∷ 13 ∷ 1 ∷ 1 ∷ 1 ∷ 0 ∷ 0 ∷ [])
+    ∷ []
+
+abbrev case3 : List Row
+case3 =
+    row 3 (recovers (cutAfter 19 fresh writing)) (0 ∷ 4 ∷ 256 ∷ 16 ∷ 0 ∷ 13 ∷ 1 ∷ 1 ∷ 1 ∷ 0 ∷ 0 ∷ [])
     ∷ row 3 (reads (cutAfter 19 fresh writing) nine) (8 ∷ 0 ∷ 0 ∷ 0 ∷ [])
     ∷ row 3 (recovers (cutAfter 20 fresh writing)) (0 ∷ 4 ∷ 256 ∷ 16 ∷ 0 ∷ 32 ∷ 1 ∷ 1 ∷ 2 ∷ 1 ∷ 0 ∷ [])
     ∷ row 3 (reads (cutAfter 20 fresh writing) nine) (0 ∷ 0 ∷ 1 ∷ 1 ∷ replicate 8 11)
-    ∷ row 4 (starts written (delete nine)) (0 ∷ 12 ∷ 0 ∷ 0 ∷ 4 ∷ 256 ∷ 16 ∷ 0 ∷ 32 ∷ 1 ∷ 1 ∷ 2 ∷ 1 ∷ 12 ∷ [])
+    ∷ []
+
+abbrev case4 : List Row
+case4 =
+    row 4 (starts written (delete nine)) (0 ∷ 12 ∷ 0 ∷ 0 ∷ 4 ∷ 256 ∷ 16 ∷ 0 ∷ 32 ∷ 1 ∷ 1 ∷ 2 ∷ 1 ∷ 12 ∷ [])
     ∷ row 4 deleted (freshDigest ++ writtenBytes ++ tombstoneBytes ++ 0 ∷ drop 44 fresh)
     ∷ row 4 (ends written (delete nine)) (0 ∷ 0 ∷ 2 ∷ 0 ∷ 4 ∷ 256 ∷ 16 ∷ 0 ∷ 43 ∷ 1 ∷ 1 ∷ 3 ∷ 1 ∷ 0 ∷ [])
     ∷ row 4 (reads deleted nine) (8 ∷ 0 ∷ 0 ∷ 0 ∷ [])
-    ∷ row 5 (starts deleted (clean 1)) (0 ∷ 15 ∷ 0 ∷ 0 ∷ 4 ∷ 256 ∷ 16 ∷ 0 ∷ 43 ∷ 1 ∷ 1 ∷ 3 ∷ 1 ∷ 15 ∷ [])
+    ∷ []
+
+abbrev case5 : List Row
+case5 =
+    row 5 (starts deleted (clean 1)) (0 ∷ 15 ∷ 0 ∷ 0 ∷ 4 ∷ 256 ∷ 16 ∷ 0 ∷ 43 ∷ 1 ∷ 1 ∷ 3 ∷ 1 ∷ 15 ∷ [])
     ∷ row 5 (keeps deleted 1) []
     ∷ row 5 cleaned (take 256 deleted ++ cleanedDigest ++ 0 ∷ drop 270 fresh)
     ∷ row 5 (ends deleted (clean 1)) (0 ∷ 0 ∷ 0 ∷ 0 ∷ 4 ∷ 256 ∷ 16 ∷ 1 ∷ 13 ∷ 2 ∷ 2 ∷ 3 ∷ 0 ∷ 0 ∷ [])
@@ -69,8 +85,7 @@ cases1to5 =
     ∷ row 5 (reads cleaned nine) (8 ∷ 0 ∷ 0 ∷ 0 ∷ [])
     ∷ []
 
--- Case 6: two objects of 67, four of 19, and tombstones of three of their keys. After each, the record's end is 13 more than what
--- stands before it; the last tombstone ends at S, so no kind 0 follows it.
+-- Case 6: two objects of 67, four of 19 and two tombstones; a third tombstone then ends at S, and no kind 0 follows it.
 abbrev filling : List Operation
 filling =
     write (keyed 1 1) (replicate 56 1)
@@ -103,18 +118,22 @@ case6 =
     ∷ row 6 (recovers (played nearlyFull lastOne)) (0 ∷ 4 ∷ 256 ∷ 16 ∷ 0 ∷ 256 ∷ 1 ∷ 1 ∷ 10 ∷ 6 ∷ 0 ∷ [])
     ∷ []
 
+abbrev case7 : List Row
+case7 =
+    row 7 (starts fresh (write nine (replicate 7 11))) (7 ∷ 0 ∷ 0 ∷ 0 ∷ 4 ∷ 256 ∷ 16 ∷ 0 ∷ 13 ∷ 1 ∷ 1 ∷ 1 ∷ 0 ∷ 0 ∷ [])
+    ∷ row 7 (begins fresh (write nine (replicate 7 11)) .work) (replicate 256 170)
+    ∷ row 7 (starts fresh (write nine (replicate 8 11))) (0 ∷ 20 ∷ 0 ∷ 0 ∷ 4 ∷ 256 ∷ 16 ∷ 0 ∷ 13 ∷ 1 ∷ 1 ∷ 1 ∷ 0 ∷ 20 ∷ [])
+    ∷ []
+
 -- Case 8: version 1 of a key in slot 0, version 2 and tombstone 3 in slot 1, which is the head.
 abbrev spread : List ℕ
 spread =
     slotWith 255 (segmentWith 1 1 1 (object nine 1 (replicate 8 11) ∷ [])) ++
     slotWith 255 (segmentWith 2 3 2 (object nine 2 (replicate 8 12) ∷ tombstone nine 3 ∷ [])) ++ replicate 512 255
 
-abbrev cases7to8 : List Row
-cases7to8 =
-    row 7 (starts fresh (write nine (replicate 7 11))) (7 ∷ 0 ∷ 0 ∷ 0 ∷ 4 ∷ 256 ∷ 16 ∷ 0 ∷ 13 ∷ 1 ∷ 1 ∷ 1 ∷ 0 ∷ 0 ∷ [])
-    ∷ row 7 (begins fresh (write nine (replicate 7 11)) .work) (replicate 256 170)
-    ∷ row 7 (starts fresh (write nine (replicate 8 11))) (0 ∷ 20 ∷ 0 ∷ 0 ∷ 4 ∷ 256 ∷ 16 ∷ 0 ∷ 13 ∷ 1 ∷ 1 ∷ 1 ∷ 0 ∷ 20 ∷ [])
-    ∷ row 8 (recovers spread) (0 ∷ 4 ∷ 256 ∷ 16 ∷ 1 ∷ 43 ∷ 2 ∷ 3 ∷ 4 ∷ 1 ∷ 0 ∷ [])
+abbrev case8 : List Row
+case8 =
+    row 8 (recovers spread) (0 ∷ 4 ∷ 256 ∷ 16 ∷ 1 ∷ 43 ∷ 2 ∷ 3 ∷ 4 ∷ 1 ∷ 0 ∷ [])
     ∷ row 8 (reads spread nine) (8 ∷ 0 ∷ 0 ∷ 0 ∷ [])
     ∷ row 8 (keeps spread 2) (4 ∷ 7 ∷ 0 ∷ 9 ∷ 0 ∷ 0 ∷ 0 ∷ 3 ∷ 0 ∷ 0 ∷ 0 ∷ [])
     ∷ row 8 (ends spread (clean 2)) (0 ∷ 0 ∷ 0 ∷ 0 ∷ 4 ∷ 256 ∷ 16 ∷ 2 ∷ 24 ∷ 3 ∷ 5 ∷ 4 ∷ 1 ∷ 0 ∷ [])
@@ -126,12 +145,47 @@ cases7to8 =
     ∷ row 8 (reads (played spread (clean 3)) nine) (8 ∷ 0 ∷ 0 ∷ 0 ∷ [])
     ∷ []
 
+-- ---- each case computed, and the table
+
+computed1 : failing case1 ≡ []
+unfolding opened
+computed1 = refl
+
+computed2 : failing case2 ≡ []
+unfolding opened
+computed2 = refl
+
+computed3 : failing case3 ≡ []
+unfolding opened
+computed3 = refl
+
+computed4 : failing case4 ≡ []
+unfolding opened
+computed4 = refl
+
+computed5 : failing case5 ≡ []
+unfolding opened
+computed5 = refl
+
+computed6 : failing case6 ≡ []
+unfolding opened
+computed6 = refl
+
+computed7 : failing case7 ≡ []
+unfolding opened
+computed7 = refl
+
+computed8 : failing case8 ≡ []
+unfolding opened
+computed8 = refl
+
 abbrev pub cases : List Row
-cases = cases1to5 ++ case6 ++ cases7to8
+cases = case1 ++ (case2 ++ (case3 ++ (case4 ++ (case5 ++ (case6 ++ (case7 ++ case8))))))
 
 computed : failing cases ≡ []
-unfolding opened
-computed = refl
+computed =
+    joined case1 _ computed1 (joined case2 _ computed2 (joined case3 _ computed3 (joined case4 _ computed4 (joined case5 _ computed5
+    (joined case6 _ computed6 (joined case7 case8 computed7 computed8))))))
 
 pub cases-hold : Hold cases
 cases-hold = rows-hold cases computed

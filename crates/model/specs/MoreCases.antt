@@ -1,5 +1,5 @@
 -- Cases beyond 01's: every refusal, picked as the first of several causes that hold, and the corners of the log.
-use Prim.Native.Nat.{ℕ, zero, suc, _+_, _*_}
+use Prim.Native.Nat.{ℕ, zero, suc, _*_}
 use mathlib.Core.Path.{_≡_, refl}
 use mathlib.Core.List.{List, [], _∷_, _++_, map}
 use lib.ListN.{length, take, drop, replicate}
@@ -11,9 +11,9 @@ use Rattle.record.specs.declared.Pending.the-variants.{Idle, Append, NewHead, C
 use Rattle.record.specs.declared.Store.{Store}
 use Rattle.model.specs.Recovery.{recoverCauses, recovery}
 use Rattle.model.specs.Operations.{Operation, write, delete, clean, formatted, allEncoded}
-use Rattle.model.specs.Refused.{Lengths, formatCauses, readCauses, startCauses, stepCauses}
+use Rattle.model.specs.Refused.{formatCauses, readCauses, startCauses, stepCauses}
 use Rattle.model.specs.Play.{opened, freshOver, keyed, object, tombstone, slotWith, segmentWith, first, recoveryNumbers, recovers, lentWith, startNumber, starts, begins, ends, stores, cutAfter, played, playedAll, reads, keeps}
-use Rattle.model.specs.Table.{Row, row, failing, Hold, rows-hold}
+use Rattle.model.specs.Table.{Row, row, failing, Hold, joined, rows-hold}
 
 -- an object of 8 bytes, and one of 56
 abbrev small : Key → ℕ → Entry
@@ -294,8 +294,8 @@ headAlone next es = seg 1 1 next es ++ vacant ++ vacant ++ vacant
 abbrev cutThenWritten : List ℕ
 cutThenWritten = played (cutAfter 60 (freshOver 0) (write a (replicate 56 1))) (write b (replicate 8 2))
 
-abbrev corners : List Row
-corners =
+abbrev cutRows : List Row
+cutRows =
     -- an append, cut after each of its stores but the last, over bytes that are kinds
     row 21 (cutsBelow 20 (freshOver 4) (write a (replicate 8 1))) (times 20 (0 ∷ 4 ∷ 256 ∷ 16 ∷ 0 ∷ 13 ∷ 1 ∷ 1 ∷ 1 ∷ 0 ∷ 0 ∷ []))
     ∷ row 22 (map (λ s. stores (freshOver s) (write a (replicate 8 1))) (0 ∷ 1 ∷ 4 ∷ 5 ∷ [])) (20 ∷ 20 ∷ 20 ∷ 20 ∷ [])
@@ -308,8 +308,12 @@ corners =
     ∷ row 23 (recovers (played (crowded 3 3 1) (oldKey 8))) (0 ∷ 4 ∷ 256 ∷ 16 ∷ 2 ∷ 32 ∷ 4 ∷ 7 ∷ 18 ∷ 15 ∷ 0 ∷ [])
     -- its digest has the next version before the operation, which is the entry's own
     ∷ row 24 (take 33 (drop 512 (played (crowded 3 3 1) (oldKey 8)))) (segmentWith 4 7 17 (object b 17 (replicate 8 1) ∷ []) ++ 0 ∷ [])
+    ∷ []
+
+abbrev cleaningRows : List Row
+cleaningRows =
     -- the new head goes round to a slot below the old head, never to a victim's; the slot left behind keeps its lower digest
-    ∷ row 25 (ends high (clean 8)) (0 ∷ 0 ∷ 0 ∷ 0 ∷ 4 ∷ 256 ∷ 16 ∷ 0 ∷ 32 ∷ 10 ∷ 3 ∷ 6 ∷ 2 ∷ 0 ∷ [])
+    row 25 (ends high (clean 8)) (0 ∷ 0 ∷ 0 ∷ 0 ∷ 4 ∷ 256 ∷ 16 ∷ 0 ∷ 32 ∷ 10 ∷ 3 ∷ 6 ∷ 2 ∷ 0 ∷ [])
     ∷ row 25 (recovers (played high (clean 8))) (0 ∷ 4 ∷ 256 ∷ 16 ∷ 0 ∷ 32 ∷ 10 ∷ 3 ∷ 6 ∷ 2 ∷ 0 ∷ [])
     ∷ row 25 (reads (played high (clean 8)) a) (0 ∷ 0 ∷ 5 ∷ 1 ∷ replicate 8 5)
     ∷ row 25 (take 256 (played high (clean 10))) (slotWith 255 (segmentWith 10 1 6 (small b 3 ∷ small a 5 ∷ [])))
@@ -324,8 +328,12 @@ corners =
     ∷ row 27 (recovers (played buried (clean 2))) (0 ∷ 4 ∷ 256 ∷ 16 ∷ 2 ∷ 13 ∷ 3 ∷ 5 ∷ 5 ∷ 1 ∷ 0 ∷ [])
     ∷ row 27 (reads (played buried (clean 2)) a) (8 ∷ 0 ∷ 0 ∷ 0 ∷ [])
     ∷ row 27 (recovers (played buried (clean 3))) (0 ∷ 4 ∷ 256 ∷ 16 ∷ 2 ∷ 13 ∷ 3 ∷ 4 ∷ 5 ∷ 0 ∷ 0 ∷ [])
+    ∷ []
+
+abbrev limitRows : List Row
+limitRows =
     -- the next version: the head digest's, or one more than the log's highest
-    ∷ row 28 (recovers (headAlone 7 (small a 3 ∷ []))) (0 ∷ 4 ∷ 256 ∷ 16 ∷ 0 ∷ 32 ∷ 1 ∷ 1 ∷ 7 ∷ 1 ∷ 0 ∷ [])
+    row 28 (recovers (headAlone 7 (small a 3 ∷ []))) (0 ∷ 4 ∷ 256 ∷ 16 ∷ 0 ∷ 32 ∷ 1 ∷ 1 ∷ 7 ∷ 1 ∷ 0 ∷ [])
     ∷ row 28 (recovers (headAlone 2 (small a 9 ∷ tombstone a 4 ∷ []))) (0 ∷ 4 ∷ 256 ∷ 16 ∷ 0 ∷ 43 ∷ 1 ∷ 1 ∷ 10 ∷ 1 ∷ 0 ∷ [])
     ∷ row 28 (recovers (headAlone 1 (tombstone a 4294967294 ∷ []))) (0 ∷ 4 ∷ 256 ∷ 16 ∷ 0 ∷ 24 ∷ 1 ∷ 1 ∷ limit ∷ 1 ∷ 0 ∷ [])
     -- the last version there is, and none after it
@@ -353,12 +361,35 @@ corners =
     ∷ row 34 (recoveryNumbers (recovery edition1 5 300 20 (4 ∷ 3 ∷ 2 ∷ 1 ∷ 0 ∷ []) (formatted edition1 5 300 (replicate 1500 9)))) (0 ∷ 5 ∷ 300 ∷ 20 ∷ 0 ∷ 13 ∷ 1 ∷ 1 ∷ 1 ∷ 0 ∷ 0 ∷ [])
     ∷ []
 
+-- ---- each part computed, and the table
+
+computed-recovery : failing recoveryRefusals ≡ []
+unfolding opened
+computed-recovery = refl
+
+computed-calls : failing callRefusals ≡ []
+unfolding opened
+computed-calls = refl
+
+computed-cuts : failing cutRows ≡ []
+unfolding opened
+computed-cuts = refl
+
+computed-cleaning : failing cleaningRows ≡ []
+unfolding opened
+computed-cleaning = refl
+
+computed-limits : failing limitRows ≡ []
+unfolding opened
+computed-limits = refl
+
 abbrev pub moreCases : List Row
-moreCases = recoveryRefusals ++ callRefusals ++ corners
+moreCases = recoveryRefusals ++ (callRefusals ++ (cutRows ++ (cleaningRows ++ limitRows)))
 
 computed : failing moreCases ≡ []
-unfolding opened
-computed = refl
+computed =
+    joined recoveryRefusals _ computed-recovery (joined callRefusals _ computed-calls
+    (joined cutRows _ computed-cuts (joined cleaningRows limitRows computed-cleaning computed-limits)))
 
 pub more-cases-hold : Hold moreCases
 more-cases-hold = rows-hold moreCases computed

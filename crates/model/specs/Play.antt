@@ -5,10 +5,9 @@ use mathlib.Core.Option.{Option, none, some}
 use lib.ListN.{length, take, replicate}
 use Rattle.word.specs.Number.{numberOf, bytesOf}
 use Rattle.segment.specs.Choice.{pick, both, either}
-use Rattle.segment.specs.Layout.{Layout, edition1, objectKind, lookup, lookBack, isSome, valueLength, goodVersion}
+use Rattle.segment.specs.Layout.{edition1, objectKind, lookup, lookBack, isSome, valueLength, goodVersion}
 use Rattle.segment.specs.Entry.{Entry, ofVersion, ofLength, entryAt}
 use Rattle.segment.specs.Digest.{encodedDigest}
-use Rattle.segment.specs.declared.Digest.{Digest}
 use Rattle.segment.specs.declared.Key.{Key}
 use Rattle.slot_map.specs.Bit.{bit}
 use Rattle.slot_map.specs.Count.{used}
@@ -18,15 +17,13 @@ use Rattle.record.specs.Range.{between, mapGood, leftGood, inRange, lengthsOwn,
 use Rattle.record.specs.Refusals.{numberOfRefusal}
 use Rattle.record.specs.declared.Recovery.{Recovery}
 use Rattle.record.specs.declared.Refusal.{Refusal}
-use Rattle.record.specs.declared.Pending.{Pending}
-use Rattle.record.specs.declared.Pending.the-variants.{Idle}
 use Rattle.record.specs.declared.Store.{Store}
 use Rattle.model.specs.Log.{Placed, itemFirst, scanFrom, itemsOf, endOf, isDamaged, digestIn, newer, headOf, placedIn, logOf, sameKey, laterOf, latest, objectOnly, present, hasKey, keysOf, hasVersion, versionShared, highest}
 use Rattle.model.specs.Causes.{Cause, firstCause}
 use Rattle.model.specs.Recovery.{lists, listsBelow, noHead, headElse, hasNumber, sharing, noDigest, namesNoDigest, logDamaged, recoveryFor, recovery, storeOf}
 use Rattle.model.specs.Operations.{Operation, logNow, kindElse, isVersion, objectOutside, keptOf, kept, allEncoded, laid, storesFrom, planOf, planFor, storesFor, stored, toldVersion, countNew, placedFrom, finishedStore, cleared, formatted}
-use Rattle.model.specs.Refused.{Lengths, isPending, isNone, isAbsent, readCauses, startCauses, stepCauses}
-use Rattle.model.specs.Promises.{presentAnswer, readAnswer, readLengths, valuePart, valueAnswer, Begun, begun, stepped}
+use Rattle.model.specs.Refused.{Lengths, isPending, isNone, isAbsent, readCauses, startCauses}
+use Rattle.model.specs.Promises.{presentAnswer, readAnswer, valuePart, valueAnswer, Begun, begun, stepped}
 use Rattle.model.specs.Table.{same, failing}
 
 -- What a computed row looks through: a proof that opens this opens them all.
@@ -116,10 +113,13 @@ begins area o = begun edition1 (storeNow area) (log area) o (replicate 256 170) 
 abbrev pub starts : List ℕ → Operation → List ℕ
 starts area o = said (startSaid (begins area o .start .answer)) ++ numbers (begins area o .start .store)
 
--- what its last step answers, and its record
+-- what the step answers after which k stores are left, and its record; and what the last one does
+abbrev pub stepsTo : ℕ → List ℕ → Operation → List ℕ
+stepsTo k area o =
+    said (stepSaid (stepped edition1 area (storeNow area) o k .answer)) ++ numbers (stepped edition1 area (storeNow area) o k .store)
+
 abbrev pub ends : List ℕ → Operation → List ℕ
-ends area o =
-    said (stepSaid (stepped edition1 area (storeNow area) o 0 .answer)) ++ numbers (stepped edition1 area (storeNow area) o 0 .store)
+ends area o = stepsTo 0 area o
 
 abbrev pub plan : List ℕ → Operation → List (ℕ × ℕ)
 plan area o = planFor edition1 (storeNow area) (log area) o

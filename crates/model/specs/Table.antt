@@ -1,9 +1,9 @@
 -- Tables of worked cases. A row holds what the definitions compute and what is expected, both as numbers. One test is computed over
--- a whole table, the rows that fail, and a law turns it into the equation of every row.
+-- the rows, which of them fail, and a law turns it into the equation of every row.
 use Prim.Native.Nat.{ℕ}
-use mathlib.Core.Path.{_≡_, refl, ap₂}
+use mathlib.Core.Path.{_≡_, refl, ap, ap₂, _∙_}
 use mathlib.Core.Bool.{Bool, true, false}
-use mathlib.Core.List.{List, [], _∷_}
+use mathlib.Core.List.{List, [], _∷_, _++_}
 use native.Mathlib.Omega.{arith}
 use lib.Dec.{eqb}
 use borrow.Author.Tests.{eqb-true}
@@ -51,3 +51,17 @@ rows-hold (r ∷ rs) e = go (same (r .computed) (r .expected)) refl (rows-hold r
         pick t (failing rs) (r .number ∷ failing rs) ≡ [] → Hold (r ∷ rs)
     go true s rest e = (same-equal (r .computed) (r .expected) s, rest e)
     go false s rest e = let z : _≡_ {A = ℕ} 0 1 = cc in absurd (omega arith)
+
+-- a table made of two
+failing-append : (rs ss : List Row) → failing (rs ++ ss) ≡ failing rs ++ failing ss
+unfolding failing pick
+failing-append [] ss = refl
+failing-append (r ∷ rs) ss = go (same (r .computed) (r .expected)) (failing-append rs ss)
+  where
+    go : (t : Bool) → failing (rs ++ ss) ≡ failing rs ++ failing ss →
+        pick t (failing (rs ++ ss)) (r .number ∷ failing (rs ++ ss)) ≡ pick t (failing rs) (r .number ∷ failing rs) ++ failing ss
+    go true e = e
+    go false e = ap (λ (ns : List ℕ). r .number ∷ ns) e
+
+pub joined : (rs ss : List Row) → failing rs ≡ [] → failing ss ≡ [] → failing (rs ++ ss) ≡ []
+joined rs ss p q = failing-append rs ss ∙ ap₂ _++_ p q
