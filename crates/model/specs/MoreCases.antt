@@ -151,6 +151,11 @@ badOnes = write (keyed 7 9) (replicate 7 1) ∷ delete (keyed 7 9) ∷ clean 0 �
 abbrev crowded : (number map next : ℕ) → List ℕ
 crowded number map next = seg number map next (tombstones 15 ++ large (keyed 1 1) 16 ∷ []) ++ bare 1 ++ bare 2 ++ vacant
 
+-- the same with one more tombstone, so that nothing fits
+abbrev filled : (number map next : ℕ) → List ℕ
+filled number map next =
+    seg number map next (tombstones 15 ++ large (keyed 1 1) 16 ∷ tombstone (keyed 1 2) 17 ∷ []) ++ bare 1 ++ bare 2 ++ vacant
+
 -- live objects of 201 bytes in slot 0 and as many in slot 1, the head
 abbrev wide : ℕ → List ℕ
 wide number =
@@ -217,16 +222,20 @@ callRefusals =
     ∷ row 7 (map (λ n. startNumber (crowded limit 7 limit) (newKey n)) (0 ∷ 7 ∷ 9 ∷ 23 ∷ 25 ∷ 55 ∷ 57 ∷ [])) (replicate 7 7)
     ∷ row 8 (map (startNumber (crowded limit 7 limit)) (delete (keyed 1 2) ∷ delete (keyed 2 1) ∷ [])) (8 ∷ 8 ∷ [])
     ∷ row 9 (map (startNumber (crowded limit 7 limit)) (newKey 8 ∷ oldKey 8 ∷ delete (keyed 1 1) ∷ [])) (9 ∷ 9 ∷ 9 ∷ [])
+    ∷ row 9 (map (startNumber (filled limit 7 limit)) (delete (keyed 1 1) ∷ delete (keyed 1 2) ∷ [])) (9 ∷ 8 ∷ [])
     -- with the next version at its limit cleaning works
     ∷ row 9 (startNumber (crowded 3 7 limit) (clean 1) ∷ []) (0 ∷ [])
     ∷ row 10 (map (startNumber (crowded limit 3 1)) (oldKey 8 ∷ oldKey 24 ∷ oldKey 56 ∷ clean 1 ∷ [])) (10 ∷ 10 ∷ 10 ∷ 10 ∷ [])
     -- with the digest number at its limit an entry that fits is taken; one below the limit a new head is
     ∷ row 10 (startNumber (crowded limit 3 1) (delete (keyed 1 1)) ∷ startNumber (crowded 4294967294 3 1) (oldKey 8) ∷ []) (0 ∷ 0 ∷ [])
+    ∷ row 10 (startNumber (filled limit 3 1) (delete (keyed 1 1)) ∷ startNumber (filled 4294967294 3 1) (delete (keyed 1 1)) ∷ []) (10 ∷ 0 ∷ [])
     ∷ row 11 (map (startNumber (crowded limit 7 1)) (newKey 8 ∷ newKey 56 ∷ [])) (11 ∷ 11 ∷ [])
     ∷ row 12 (map (startNumber (crowded limit 7 1)) (oldKey 8 ∷ oldKey 56 ∷ [])) (12 ∷ 12 ∷ [])
+    ∷ row 12 (startNumber (filled limit 7 1) (delete (keyed 1 1)) ∷ []) (12 ∷ [])
     -- two free slots are enough, and an entry that fits needs none
     ∷ row 12 (startNumber (crowded 3 3 1) (oldKey 8) ∷ startNumber (crowded 3 7 1) (delete (keyed 1 1)) ∷ []) (0 ∷ 0 ∷ [])
     ∷ row 13 (map (λ v. startNumber (crowded limit 7 1) (clean v)) (0 ∷ 8 ∷ 9 ∷ 16 ∷ [])) (13 ∷ 13 ∷ 13 ∷ 13 ∷ [])
+    ∷ row 13 (startNumber (wide limit) (clean 7) ∷ []) (13 ∷ [])
     ∷ row 14 (map (λ v. startNumber (wide limit) (clean v)) (3 ∷ 1 ∷ 2 ∷ [])) (14 ∷ 10 ∷ 10 ∷ [])
     -- a refused start leaves record and work buffer
     ∷ row 14 (starts (wide 2) (clean 3)) (14 ∷ 0 ∷ 0 ∷ 0 ∷ 4 ∷ 256 ∷ 16 ∷ 1 ∷ 214 ∷ 2 ∷ 3 ∷ 7 ∷ 6 ∷ 0 ∷ [])
