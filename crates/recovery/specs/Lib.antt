@@ -1,0 +1,3 @@
+-- What the calls of this crate compute, and the laws that take it to their promises.
+pub mod FormatLaws
+pub mod Order
