@@ -10,4 +10,13 @@ pub mod Scans
 pub mod AppendBytes
 pub mod NewHeadBytes
 pub mod FormatBytes
+pub mod HeadLaws
+pub mod LogLaws
+pub mod RecoverLaws
+pub mod Appended
+pub mod Headed
+pub mod Cleaned
 pub mod Operated
+pub mod Entering
+pub mod Planned
+pub mod EntryDone
