@@ -1,0 +1,97 @@
+-- What a search over any cells says, by its answer.
+use Prim.Native.Nat.{ℕ, zero, suc, _+_, _<_}
+use mathlib.Core.Path.{_≡_, refl, sym, _∙_, ap, subst}
+use mathlib.Core.Logic.{⊎-elim}
+use mathlib.Core.Bool.{Bool, true, false}
+use mathlib.Core.List.{List}
+use native.Mathlib.Nat.{add-zero, zero-add, eq-or-lt-of-le, le-of-suc-le-suc}
+use native.Mathlib.Omega.{arith}
+use lib.Dec.{eqb}
+use lib.ListN.{length, getD}
+use borrow.Author.Count.{below-more}
+use borrow.Author.Tests.{eq-eqb, ne-eqb, eqb-true, eqb-false}
+use Rattle.segment.specs.Choice.{pick-true, pick-false}
+use Rattle.model.specs.Index.{around, Met}
+use Rattle.index.specs.Search.{probe}
+use Rattle.index.specs.Around.{around-below, around-lt, around-next}
+use Rattle.index.specs.declared.Found.{Found}
+use Rattle.index.specs.declared.Found.the-variants.{At, Free, Full}
+
+module _ (t : ℕ → Bool) (cells : List ℕ) where
+  -- ---- the search at each of its tests
+
+  pub probe-none : (at : ℕ) → probe t cells 0 at ≡ Full
+  unfolding probe
+  probe-none at = refl
+
+  module _ (f at : ℕ) where
+    pub probe-free : getD cells at 0 ≡ 0 → probe t cells (suc f) at ≡ Free at
+    unfolding probe
+    probe-free e = pick-true (eqb (getD cells at 0) 0) (Free at) _ (eq-eqb (getD cells at 0) 0 e)
+
+    pub probe-at : (getD cells at 0 ≡ 0 → ⊥) → t (getD cells at 0) ≡ true → probe t cells (suc f) at ≡ At at
+    unfolding probe
+    probe-at n e =
+        pick-false (eqb (getD cells at 0) 0) (Free at) _ (ne-eqb (getD cells at 0) 0 n) ∙ pick-true (t (getD cells at 0)) (At at) _ e
+
+    pub probe-next :
+        (getD cells at 0 ≡ 0 → ⊥) → t (getD cells at 0) ≡ false →
+        probe t cells (suc f) at ≡ probe t cells f (around (length cells) (at + 1))
+    unfolding probe
+    probe-next n e =
+        pick-false (eqb (getD cells at 0) 0) (Free at) _ (ne-eqb (getD cells at 0) 0 n) ∙ pick-false (t (getD cells at 0)) (At at) _ e
+
+  -- ---- what was passed, and where the search stopped
+
+  -- the cell at a distance is neither free nor picked
+  pub record Pass (start d : ℕ) : Type 0 where
+    pub held : getD cells (around (length cells) (start + d)) 0 ≡ 0 → ⊥
+    pub other : t (getD cells (around (length cells) (start + d)) 0) ≡ false
+
+  abbrev pub Passed : ℕ → ℕ → Type 0
+  Passed start n = (d : ℕ) → d < n → Pass start d
+
+  pub record Reached (start i : ℕ) : Type 0 where
+    pub distance : ℕ
+    pub short : distance < length cells
+    pub arrives : around (length cells) (start + distance) ≡ i
+    pub passed : Passed start distance
+
+  pub reached-met : (start i : ℕ) → Reached start i → Met cells start i
+  reached-met start i r =
+      record { distance = r .distance; short = r .short; arrives = r .arrives; full = λ d h. r .passed d h .held }
+
+  pub reached-below : (start i : ℕ) → start < length cells → Reached start i → i < length cells
+  reached-below start i h r =
+      subst (λ (j : ℕ). j < length cells) (r .arrives) (around-lt (length cells) (start + r .distance) (omega (arith, r .short)))
+
+  unfoldable pub Probed : ℕ → Found → Type 0
+  Probed start (At i) = Reached start i × (getD cells i 0 ≡ 0 → ⊥) × (t (getD cells i 0) ≡ true)
+  Probed start (Free i) = Reached start i × (getD cells i 0 ≡ 0)
+  Probed start Full = Passed start (length cells)
+
+  from : (f d start : ℕ) → start < length cells → d + f ≡ length cells → Passed start d → Probed start (probe t cells f (around (length cells) (start + d)))
+  unfolding Probed
+  from zero d start h e p = rw (probe-none (around (length cells) (start + d))) (λ k l. p k (omega arith))
+  from (suc f) d start h e p = go (eqb (getD cells at 0) 0) refl (t (getD cells at 0)) refl (λ q. from f (d + 1) start h (omega arith) q)
+    where
+      at : ℕ
+      at = around (length cells) (start + d)
+
+      reached : Reached start at
+      reached = record { distance = d; short = omega arith; arrives = refl; passed = p }
+
+      go : (z : Bool) → eqb (getD cells at 0) 0 ≡ z → (s : Bool) → t (getD cells at 0) ≡ s
+          → (Passed start (d + 1) → Probed start (probe t cells f (around (length cells) (start + (d + 1)))))
+          → Probed start (probe t cells (suc f) at)
+      go true ez s es ih = rw (probe-free f at (eqb-true (getD cells at 0) 0 ez)) (reached, eqb-true (getD cells at 0) 0 ez)
+      go false ez true es ih =
+          rw (probe-at f at (eqb-false (getD cells at 0) 0 ez) es) (reached, eqb-false (getD cells at 0) 0 ez, es)
+      go false ez false es ih =
+          rw (probe-next f at (eqb-false (getD cells at 0) 0 ez) es, around-next (length cells) start d h (omega arith))
+          (ih (below-more (Pass start) d p (record { held = eqb-false (getD cells at 0) 0 ez; other = es })))
+
+  pub probed : (start : ℕ) → start < length cells → Probed start (probe t cells (length cells) start)
+  probed start h =
+      subst (λ (a : ℕ). Probed start (probe t cells (length cells) a)) (ap (around (length cells)) (add-zero start) ∙ around-below (length cells) start h)
+      (from (length cells) 0 start h (zero-add (length cells)) (λ d l. absurd (omega arith)))
