@@ -1,12 +1,15 @@
 -- Membership in a list, and what is said of lists by their members alone.
-use Prim.Native.Nat.{ℕ, suc, _≤_}
-use mathlib.Core.Path.{_≡_, refl, sym, _∙_}
-use mathlib.Core.Bool.{Bool, true, false}
+use Prim.Native.Nat.{ℕ, suc, _+_, _≤_}
+use mathlib.Core.Path.{_≡_, refl, sym, _∙_, ap}
+use mathlib.Core.Bool.{Bool, true, false, not}
 use mathlib.Core.Logic.{_⊎_, inl, inr}
-use mathlib.Core.List.{List, [], _∷_, _++_, List·Memᴰ, List·Memᴰ·head, List·Memᴰ·tail}
+use mathlib.Core.List.{List, [], _∷_, _++_, List·Memᴰ, List·Memᴰ·head, List·Memᴰ·tail, List·Memᴰ·not-nil}
 use mathlib.Core.List.{List·Memᴰ·append-cases, Memᴰ·cast, Memᴰ·append-left, Memᴰ·append-right}
 use native.Mathlib.Omega.{arith}
 use lib.ListN.{length}
+use Rattle.segment.specs.Choice.{pick, pick-true}
+use Rattle.segment.specs.Entry.{Entry}
+use Rattle.model.specs.Log.{Placed}
 
 -- ---- a test is one of the two
 
@@ -124,3 +127,93 @@ once-length {A} (x ∷ a) b (more n o) w =
     go : (l : List A) (y : A) → In y a → (y ≡ x) ⊎ In y l → In y l
     go l y i (inl e) = absurd (n (Memᴰ·cast (sym e) i))
     go l y i (inr j) = j
+
+-- ---- parts of a log, and sums over its entries
+
+abbrev pub entriesOf : List Placed → List Entry
+entriesOf [] = []
+entriesOf (x ∷ xs) = x .entry ∷ entriesOf xs
+
+pub entries-append : (a b : List Placed) → entriesOf (a ++ b) ≡ entriesOf a ++ entriesOf b
+entries-append [] b = refl
+entries-append (x ∷ a) b = rw (entries-append a b)
+
+-- each entry is that of a member, and each member's is one
+pub entry-in : {log : List Placed} {x : Placed} → In x log → In (x .entry) (entriesOf log)
+entry-in (List·Memᴰ·head e) = List·Memᴰ·head (ap (λ (y : Placed). y .entry) e)
+entry-in (List·Memᴰ·tail m) = List·Memᴰ·tail (entry-in m)
+
+pub entry-of : (log : List Placed) (e : Entry) → In e (entriesOf log) → (x : Placed) × In x log × x .entry ≡ e
+entry-of (x ∷ xs) e (List·Memᴰ·head d) = (x, first, sym d)
+entry-of (x ∷ xs) e (List·Memᴰ·tail m) = let h = entry-of xs e m in (h .0, List·Memᴰ·tail (h .1), h .2)
+
+-- the members that a test picks, in their order
+unfoldable pub those : (Placed → Bool) → List Placed → List Placed
+those p [] = []
+those p (x ∷ xs) = pick (p x) (x ∷ those p xs) (those p xs)
+
+pub in-those : (p : Placed → Bool) {log : List Placed} {x : Placed} → In x log → p x ≡ true → In x (those p log)
+unfolding those pick
+in-those p (List·Memᴰ·head {x = y} {xs = ys} e) t =
+    rw (pick-true (p y) (y ∷ those p ys) (those p ys) (ap p (sym e) ∙ t)) (List·Memᴰ·head e)
+in-those p {x = x} (List·Memᴰ·tail {x = y} {xs = ys} m) t = go (p y) (in-those p m t)
+  where
+    go : (b : Bool) → In x (those p ys) → In x (pick b (y ∷ those p ys) (those p ys))
+    go true i = List·Memᴰ·tail i
+    go false i = i
+
+pub those-in : (p : Placed → Bool) (log : List Placed) (x : Placed) → In x (those p log) → In x log × p x ≡ true
+unfolding those pick
+those-in p [] x m = absurd (List·Memᴰ·not-nil m)
+those-in p (y ∷ ys) x m = go (p y) refl m (λ i. those-in p ys x i)
+  where
+    tail : In x ys × p x ≡ true → In x (y ∷ ys) × p x ≡ true
+    tail h = (List·Memᴰ·tail (h .0), h .1)
+
+    front : p y ≡ true → In x (y ∷ those p ys) → (In x (those p ys) → In x ys × p x ≡ true) → In x (y ∷ ys) × p x ≡ true
+    front d (List·Memᴰ·head e) ih = (List·Memᴰ·head e, ap p e ∙ d)
+    front d (List·Memᴰ·tail i) ih = tail (ih i)
+
+    go : (b : Bool) → p y ≡ b → In x (pick b (y ∷ those p ys) (those p ys)) → (In x (those p ys) → In x ys × p x ≡ true) →
+        In x (y ∷ ys) × p x ≡ true
+    go true d i ih = front d i ih
+    go false d i ih = tail (ih i)
+
+-- the sum of a number for each entry
+unfoldable pub total : (Entry → ℕ) → List Entry → ℕ
+total f [] = 0
+total f (e ∷ es) = f e + total f es
+
+pub total-append : (f : Entry → ℕ) (a b : List Entry) → total f (a ++ b) ≡ total f a + total f b
+unfolding total
+total-append f [] b = omega arith
+total-append f (e ∷ a) b = omega (arith, total-append f a b)
+
+-- what more members are picked sums to no less
+pub total-those : (f : Entry → ℕ) (p q : Placed → Bool) (log : List Placed) → ((x : Placed) → In x log → p x ≡ true → q x ≡ true) →
+    total f (entriesOf (those p log)) ≤ total f (entriesOf (those q log))
+unfolding those total pick
+total-those f p q [] h = omega arith
+total-those f p q (x ∷ xs) h = go (p x) (q x) (h x first) (total-those f p q xs (λ y m. h y (List·Memᴰ·tail m)))
+  where
+    go : (s t : Bool) → (s ≡ true → t ≡ true) → total f (entriesOf (those p xs)) ≤ total f (entriesOf (those q xs)) →
+        total f (entriesOf (pick s (x ∷ those p xs) (those p xs))) ≤ total f (entriesOf (pick t (x ∷ those q xs) (those q xs)))
+    go true true i ih = omega arith
+    go true false i ih = absurd (clash false (i refl) refl)
+    go false true i ih = omega arith
+    go false false i ih = ih
+
+-- those that a test picks and those that it does not are all
+pub total-split : (f : Entry → ℕ) (p : Placed → Bool) (log : List Placed) →
+    total f (entriesOf (those p log)) + total f (entriesOf (those (λ x. not (p x)) log)) ≡ total f (entriesOf log)
+unfolding those total pick
+total-split f p [] = omega arith
+total-split f p (x ∷ xs) = go (p x) (total-split f p xs)
+  where
+    out : List Placed
+    out = those (λ x. not (p x)) xs
+
+    go : (t : Bool) → total f (entriesOf (those p xs)) + total f (entriesOf out) ≡ total f (entriesOf xs) →
+        total f (entriesOf (pick t (x ∷ those p xs) (those p xs))) + total f (entriesOf (pick (not t) (x ∷ out) out)) ≡ f (x .entry) + total f (entriesOf xs)
+    go true ih = omega arith
+    go false ih = omega arith
