@@ -1,7 +1,9 @@
 -- 01, "Bytes of a segment": the digest, at offset 0 alone.
-use Prim.Native.Nat.{ℕ, _+_}
+use Prim.Native.Nat.{ℕ}
+use mathlib.Core.Bool.{Bool}
 use mathlib.Core.List.{List, _∷_, _++_}
-use lib.ListN.{take, drop}
+use lib.Dec.{eqb}
+use lib.ListN.{getD, take, drop}
 use Rattle.word.specs.Number.{numberOf, bytesOf}
 use Rattle.segment.specs.Layout.{Layout}
 use Rattle.segment.specs.declared.Digest.{Digest}
@@ -18,3 +20,7 @@ digestOf L s =
 -- the bytes of a digest: kind, digest number, slot map, next version
 abbrev pub encodedDigest : Layout → Digest → List ℕ
 encodedDigest L d = L .digestKind ∷ bytesOf 4 (d .number .0) ++ bytesOf 4 (d .map) ++ bytesOf (L .width) (d .next .0)
+
+-- whether a segment begins with a digest; one with no bytes does not
+abbrev pub isDigest : Layout → List ℕ → Bool
+isDigest L s = eqb (getD s 0 0) (L .digestKind)

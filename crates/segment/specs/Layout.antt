@@ -5,10 +5,9 @@ use mathlib.Core.Path.{_≡_, refl}
 use mathlib.Core.Bool.{Bool, true, false, not}
 use mathlib.Core.List.{List, [], _∷_}
 use mathlib.Core.Option.{Option, none, some}
-use native.Mathlib.Omega.{arith}
 use lib.Dec.{eqb, ltb}
-use borrow.Author.Tests.{eq-eqb, ne-eqb, eqb-true, eqb-false, ltb-true, not-true}
-use Rattle.segment.specs.Choice.{pick, pick-true, pick-false, both, both-left, both-right}
+use borrow.Author.Tests.{eqb-false, ltb-true, not-true}
+use Rattle.segment.specs.Choice.{pick, both, both-left, both-right}
 
 -- the second number of the first pair that begins with k
 unfoldable pub lookup : ℕ → List (ℕ × ℕ) → Option ℕ

@@ -3,3 +3,10 @@ pub mod Choice
 pub mod Layout
 pub mod Entry
 pub mod Digest
+pub mod LayoutLaws
+pub mod Packed
+pub mod DigestLaws
+pub mod EntryLaws
+pub mod Kinds
+pub mod ReaderLaws
+pub mod Written

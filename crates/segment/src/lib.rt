@@ -1,4 +1,7 @@
 // The bytes of one segment: its counters, the entry reader, the digest, and what is written.
+pub mod layout;
+pub mod reader;
+pub mod writer;
 
 // A version of an object or tombstone. Versions and digest numbers are counted apart (01, "Bytes of a segment").
 pub struct Version(pub u32);

@@ -1,0 +1,32 @@
+-- `segment::layout::kind_size` meets its contract: each arm is a row of the layout's table.
+use borrow.Author.Tests.{ne-eqb}
+use Rattle.segment.specs.Choice.{pick}
+use Rattle.segment.specs.Layout.{edition1, lookup, valueLength}
+use Rattle.segment.specs.Kinds.{sizeOrZero}
+use Rattle.segment.proofs.layout.kind_size.Statement.{statement}
+use Rattle.segment.proofs.layout.kind_size.Tie as tie
+
+returns : tie.Need-returns
+unfolding edition1 lookup valueLength sizeOrZero pick
+returns c = rw (c .match .keys1)
+
+returns-2 : tie.Need-returns-2
+unfolding edition1 lookup valueLength sizeOrZero pick
+returns-2 c = rw (c .match .keys2)
+
+returns-3 : tie.Need-returns-3
+unfolding edition1 lookup valueLength sizeOrZero pick
+returns-3 c = rw (c .match .keys3)
+
+returns-4 : tie.Need-returns-4
+unfolding edition1 lookup valueLength sizeOrZero pick
+returns-4 c = rw (c .match .keys4)
+
+returns-5 : tie.Need-returns-5
+unfolding edition1 lookup valueLength sizeOrZero pick
+returns-5 c =
+    let none-of = c .match .rest in
+    simp (ne-eqb _ 1 (none-of .0 .0 .0 .1), ne-eqb _ 2 (none-of .0 .0 .1), ne-eqb _ 3 (none-of .0 .1), ne-eqb _ 4 (none-of .1))
+
+pub kind-size-spec : {M : Type 1} → statement M
+kind-size-spec = tie.close (tie.spec returns returns-2 returns-3 returns-4 returns-5)

@@ -1,0 +1,106 @@
+-- The reader's answer at each of its tests. Premises are the tests as the code has them, and what its callees give.
+use Prim.Native.Nat.{ℕ, _+_, _-_, _≤_, _<_}
+use mathlib.Core.Path.{_≡_, refl, sym, _∙_, ap}
+use mathlib.Core.Bool.{Bool, true, false}
+use mathlib.Core.List.{List}
+use native.Mathlib.Omega.{arith}
+use lib.ListN.{length, getD, take, drop}
+use borrow.Author.Tests.{eq-eqb, ne-eqb}
+use Rattle.word.specs.Number.{numberOf}
+use Rattle.segment.specs.Choice.{pick-true, pick-false}
+use Rattle.segment.specs.Layout.{Layout, isTombstone, entrySize, goodVersion}
+use Rattle.segment.specs.Packed.{length-part}
+use Rattle.segment.specs.Entry.{Entry, sizeOf, keyOf, entry, end, damage, entryAt, answer}
+use Rattle.segment.specs.EntryLaws.{past-end, at-end, kind-end, kind-unknown, entry-long, version-bad, entry-whole}
+use Rattle.segment.specs.Kinds.{kindSize, Kind, no-size, has-size}
+use Rattle.segment.specs.declared.Read.the-variants.{Object, Tombstone, End, Damage}
+
+-- ---- the enum for each answer
+
+pub answer-end : (L : Layout) → answer L end ≡ End
+unfolding answer
+answer-end L = refl
+
+pub answer-damage : (L : Layout) → answer L damage ≡ Damage
+unfolding answer
+answer-damage L = refl
+
+module _ (L : Layout) (e : Entry) where
+  pub answer-tombstone : isTombstone L (e .kind) ≡ true → answer L (entry e) ≡ Tombstone (keyOf e) (record { 0 = e .version }) (sizeOf L e)
+  unfolding answer
+  answer-tombstone t = pick-true (isTombstone L (e .kind)) _ _ t
+
+  pub answer-object : isTombstone L (e .kind) ≡ false → answer L (entry e) ≡ Object (keyOf e) (record { 0 = e .version }) (e .kind) (sizeOf L e)
+  unfolding answer
+  answer-object t = pick-false (isTombstone L (e .kind)) _ _ t
+
+-- ---- the tests in the code's order
+
+module _ (L : Layout) (s : List ℕ) (at : ℕ) where
+  pub reads-past : length s < at → Damage ≡ answer L (entryAt L s at)
+  reads-past h = sym (ap (answer L) (past-end L s at h) ∙ answer-damage L)
+
+  pub reads-at-end : at ≤ length s → length s ≤ at → End ≡ answer L (entryAt L s at)
+  reads-at-end h p = sym (ap (answer L) (at-end L s at (omega arith)) ∙ answer-end L)
+
+  pub reads-kind-end : at < length s → getD s at 0 ≡ 0 → End ≡ answer L (entryAt L s at)
+  reads-kind-end h k = sym (ap (answer L) (kind-end L s at h k) ∙ answer-end L)
+
+  -- z is what the table of kinds gives
+  module _ (z : ℕ) (is : z ≡ kindSize L (getD s at 0)) (h : at < length s) where
+    pub reads-unknown : (getD s at 0 ≡ 0 → ⊥) → z ≡ 0 → Damage ≡ answer L (entryAt L s at)
+    reads-unknown k e = sym (ap (answer L) (kind-unknown L s at h k (no-size L (getD s at 0) (sym is ∙ e))) ∙ answer-damage L)
+
+    sized : (z ≡ 0 → ⊥) → (n : ℕ) × Kind L (getD s at 0) n
+    sized nz = has-size L (getD s at 0) (λ e. nz (is ∙ e))
+
+    pub reads-long : (z ≡ 0 → ⊥) → length s - at < z → Damage ≡ answer L (entryAt L s at)
+    reads-long nz p = go (sized nz)
+      where
+        go : (n : ℕ) × Kind L (getD s at 0) n → Damage ≡ answer L (entryAt L s at)
+        go (n, k) = sym (ap (answer L) (entry-long L s at n h (k .known) (omega (arith, k .size))) ∙ answer-damage L)
+
+    -- the whole entry is there; v is its version and g the test of it
+    module _ (nz : z ≡ 0 → ⊥) (fits : z ≤ length s - at) (v : ℕ) (vs : v ≡ numberOf (take (L .width) (drop (at + 7) s)))
+        (g : Bool) (gs : g ≡ goodVersion L v) where
+      pub reads-bad-version : g ≡ false → Damage ≡ answer L (entryAt L s at)
+      reads-bad-version bad = go (sized nz)
+        where
+          go : (n : ℕ) × Kind L (getD s at 0) n → Damage ≡ answer L (entryAt L s at)
+          go (n, k) =
+              sym (ap (answer L) (version-bad L s at n h (k .known) (omega (arith, k .size)) (ap (goodVersion L) (sym vs) ∙ sym gs ∙ bad))
+              ∙ answer-damage L)
+
+      -- t and k are its table and key
+      module _ (good : g ≡ true) (t k : ℕ) (ts : t ≡ numberOf (take 2 (drop (at + 1) s))) (ks : k ≡ numberOf (take 4 (drop (at + 3) s))) where
+        -- the entry, whatever its value
+        abbrev with-value : List ℕ → Entry
+        with-value x = record { kind = getD s at 0; table = t; key = k; version = v; value = x }
+
+        reads-entry : (x : List ℕ) × (entryAt L s at ≡ entry (with-value x)) × (sizeOf L (with-value x) ≡ z)
+        reads-entry = go (sized nz)
+          where
+            go : (n : ℕ) × Kind L (getD s at 0) n → (x : List ℕ) × (entryAt L s at ≡ entry (with-value x)) × (sizeOf L (with-value x) ≡ z)
+            go (n, kind) =
+                let size : z ≡ entrySize L n = is ∙ kind .size in (
+                  take n (drop (at + (7 + L .width)) s),
+                  entry-whole L s at n h (kind .known) (omega arith) (ap (goodVersion L) (sym vs) ∙ sym gs ∙ good)
+                      ∙ λ i. entry (record { kind = getD s at 0; table = sym ts i; key = sym ks i; version = sym vs i; value = take n (drop (at + (7 + L .width)) s) }),
+                  ap (entrySize L) (length-part n (at + (7 + L .width)) s (omega arith)) ∙ sym size,
+                )
+
+        pub reads-tombstone : getD s at 0 ≡ L .tombstoneKind → Tombstone (record { table = t; key = k }) (record { 0 = v }) z ≡ answer L (entryAt L s at)
+        reads-tombstone tomb =
+            let (x, e, size) = reads-entry in
+            sym
+            (ap (answer L) e
+            ∙ answer-tombstone L (with-value x) (eq-eqb (getD s at 0) (L .tombstoneKind) tomb)
+            ∙ ap (Tombstone (record { table = t; key = k }) (record { 0 = v })) size)
+
+        pub reads-object : (getD s at 0 ≡ L .tombstoneKind → ⊥) → Object (record { table = t; key = k }) (record { 0 = v }) (getD s at 0) z ≡ answer L (entryAt L s at)
+        reads-object no-tomb =
+            let (x, e, size) = reads-entry in
+            sym
+            (ap (answer L) e
+            ∙ answer-object L (with-value x) (ne-eqb (getD s at 0) (L .tombstoneKind) no-tomb)
+            ∙ ap (Object (record { table = t; key = k }) (record { 0 = v }) (getD s at 0)) size)

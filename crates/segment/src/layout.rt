@@ -1,0 +1,47 @@
+// The numbers of the format (01, "Bytes of a segment") as the code has them. What is proved here ties them to the layout.
+ghost use mathlib.Core.Path.{_≡_};
+ghost use Rattle.segment.specs.Layout.{edition1, objectKind, goodVersion};
+ghost use Rattle.segment.specs.Kinds.{kindSize, orZero};
+
+// The kinds that have a name.
+pub const TOMBSTONE: u8 = 4;
+
+pub const DIGEST: u8 = 5;
+
+// Bytes of an entry before its value.
+pub const HEAD_SIZE: usize = 11;
+
+// Bytes of a digest; entries start here.
+pub const DIGEST_SIZE: usize = 13;
+
+// The length of an entry of that kind, and 0 where no entry has it.
+pub fn kind_size(kind: u8) -> usize
+    ensures { λ r. ⌜ r ≡ kindSize edition1 kind ⌝ }
+{
+    match kind {
+        1 => 19,
+        2 => 35,
+        3 => 67,
+        4 => 11,
+        _ => 0,
+    }
+}
+
+// The kind of an object whose value is `length` bytes long, and 0 where no object's is.
+pub fn object_kind(length: usize) -> u8
+    ensures { λ r. ⌜ r ≡ orZero (objectKind edition1 length) ⌝ }
+{
+    match length {
+        8 => 1,
+        24 => 2,
+        56 => 3,
+        _ => 0,
+    }
+}
+
+// Whether a version is one that an entry may have.
+pub fn good_version(version: u32) -> bool
+    ensures { λ r. ⌜ r ≡ goodVersion edition1 version ⌝ }
+{
+    0 < version && version < 4294967295
+}
