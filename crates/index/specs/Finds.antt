@@ -17,7 +17,7 @@ use Rattle.model.specs.Log.{Placed, placeOf, sameKey, latest, hasKey, keysOf}
 use Rattle.model.specs.Index.{around, startCell, Met, IsLatest, CellGood, HasCell, IndexRule}
 use Rattle.laws.specs.Members.{clash, In, first, Once, empty, more, Within, once-length}
 use Rattle.laws.specs.Latest.{same-key, key-same, own-key, latest-some, latest-has, latest-none}
-use Rattle.index.specs.Keys.{in-keys}
+use Rattle.laws.specs.Keys.{key-listed}
 use Rattle.index.specs.Search.{probe}
 use Rattle.index.specs.Around.{around-onto}
 use Rattle.index.specs.Probe.{Pass, Reached, Passed, Probed, probed, reached-met, reached-below}
@@ -75,7 +75,7 @@ module _ (S : ℕ) (log : List Placed) (cells : List ℕ) (rule : IndexRule S lo
                   absurd (omega (arith, rule .once i n (omega arith) h (f i (omega arith)) (cy ∙ ap (λ (z : Placed). placeOf S z + 1) same ∙ sym c)))
 
           within : Within (keyOf (x .entry) ∷ w .keys) (keysOf log)
-          within k (List·Memᴰ·head e) = subst (λ (j : Key). In j (keysOf log)) (sym e) (in-keys log (keyOf (x .entry)) (latest-has log (keyOf (x .entry)) x l))
+          within k (List·Memᴰ·head e) = subst (λ (j : Key). In j (keysOf log)) (sym e) (key-listed log (keyOf (x .entry)) (latest-has log (keyOf (x .entry)) x l))
           within k (List·Memᴰ·tail m) = w .within k m
 
           from : (k : Key) → In k (keyOf (x .entry) ∷ w .keys)

@@ -7,7 +7,7 @@ use mathlib.Core.Option.{Option, none, some}
 use native.Mathlib.Omega.{arith}
 use lib.Dec.{ltb}
 use borrow.Author.Tests.{lt-ltb, le-ltb}
-use Rattle.segment.specs.Choice.{pick-true, pick-false}
+use Rattle.segment.specs.Choice.{pick, pick-true, pick-false}
 use Rattle.segment.specs.Entry.{keyOf}
 use Rattle.segment.specs.declared.Key.{Key}
 use Rattle.model.specs.Log.{Placed, sameKey, laterOf, latest}
@@ -51,4 +51,19 @@ module _ (log : List Placed) (x : Placed) where
       go true e =
           let here : latest log k ≡ some y = ap (latest log) (same-key k (x .entry) e) ∙ l in
           latest-its k e ∙ ap (laterOf x) here ∙ newer ∙ sym here
+      go false e = latest-other k e
+
+  -- it is there already
+  pub latest-again : latest log (keyOf (x .entry)) ≡ some x → (k : Key) → latest (x ∷ log) k ≡ latest log k
+  unfolding laterOf
+  latest-again l k = go (sameKey k (x .entry)) refl
+    where
+      itself : (t : Bool) → pick t (some x) (some x) ≡ some x
+      itself true = pick-true true (some x) (some x) refl
+      itself false = pick-false false (some x) (some x) refl
+
+      go : (t : Bool) → sameKey k (x .entry) ≡ t → latest (x ∷ log) k ≡ latest log k
+      go true e =
+          let here : latest log k ≡ some x = ap (latest log) (same-key k (x .entry) e) ∙ l in
+          latest-its k e ∙ ap (laterOf x) here ∙ itself (ltb (x .entry .version) (x .entry .version)) ∙ sym here
       go false e = latest-other k e

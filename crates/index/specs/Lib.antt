@@ -1,7 +1,9 @@
 pub mod Search
 pub mod Around
 pub mod Probe
-pub mod Keys
 pub mod Finds
 pub mod Front
 pub mod Puts
+pub mod Area
+pub mod Insert
+pub mod InsertLaws

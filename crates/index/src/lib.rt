@@ -6,3 +6,18 @@ pub enum Found {
     Free(usize),
     Full,
 }
+
+// What became of an entry: a new key's cell is filled, a newer entry replaces an older one, an older one changes nothing,
+// or every cell is taken by other keys.
+pub enum Inserted {
+    New,
+    Newer,
+    Older,
+    Full,
+}
+
+// The number of keys in a rebuilt index, or more of them than it may hold.
+pub enum Built {
+    Keys(usize),
+    TooMany,
+}
