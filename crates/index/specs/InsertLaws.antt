@@ -3,7 +3,7 @@ use Prim.Native.Nat.{ℕ, _+_, _-_, _≤_, _<_}
 use mathlib.Core.Path.{_≡_, refl, sym, _∙_, ap, subst}
 use mathlib.Core.Logic.{inl}
 use mathlib.Core.Bool.{Bool, true, false}
-use mathlib.Core.List.{List, [], _∷_, List·Memᴰ·head, List·Memᴰ·tail}
+use mathlib.Core.List.{List, [], _∷_, _++_, append-nil, List·Memᴰ·head, List·Memᴰ·tail, List·Memᴰ·not-nil}
 use mathlib.Core.Option.{Option, none, some}
 use native.Mathlib.Omega.{arith}
 use lib.Dec.{eqb, ltb}
@@ -15,7 +15,7 @@ use Rattle.segment.specs.Entry.{keyOf}
 use Rattle.segment.specs.declared.Key.{Key}
 use Rattle.model.specs.Log.{Placed, placeOf, sameKey, latest, hasKey, keysOf}
 use Rattle.model.specs.Index.{HasCell, IndexRule}
-use Rattle.laws.specs.Members.{clash, In, first, Within, Same}
+use Rattle.laws.specs.Members.{clash, In, first, Within, Same, same-sym, same-trans, added-same, added-between}
 use Rattle.laws.specs.Latest.{Newest, latest-some, latest-none, latest-has, key-none, Apart, apart-same}
 use Rattle.laws.specs.Keys.{keys-same, keys-within}
 use Rattle.index.specs.Search.{versionAt, cellHas, searchFor}
@@ -240,3 +240,57 @@ module _ (L : Layout) (area : List ℕ) (S m : ℕ) (log : List Placed) (x : Pla
   unfolding Tells insertNext
   tells-next (counted cells n) w = one cells n w
   tells-next over w = omega (arith, more-keys)
+
+-- ---- a list of entries, in any order
+
+pub tells-same : (S m : ℕ) (a b : List Placed) → Same a b → Apart a → (s : Tally) → Tells S m a s → Tells S m b s
+unfolding Tells
+tells-same S m a b e d (counted cells n) w =
+    record { rule = rule-same S a b cells e d (w .rule); keys = w .keys ∙ keys-same a b e; few = w .few; long = w .long }
+tells-same S m a b e d over w = omega (arith, keys-same a b e)
+
+-- no entries and no cell filled
+pub tells-none : (S m : ℕ) → 0 < m → Tells S m [] (counted (replicate m 0) 0)
+unfolding Tells latest keysOf
+tells-none S m h =
+    record {
+      rule =
+          record {
+            good = λ i b. inl (zeros i (rw (length-replicate {A = ℕ} m 0) at b));
+            found = λ x l. let z : _≡_ {A = ℕ} 0 1 = cc in absurd (omega arith);
+            once = λ i j b _ n _. absurd (n (zeros i (rw (length-replicate {A = ℕ} m 0) at b)));
+          };
+      keys = refl;
+      few = h;
+      long = length-replicate m 0;
+    }
+  where
+    zeros : (i : ℕ) → i < m → _≡_ {A = ℕ} (getD (replicate m 0) i 0) 0
+    zeros i b = getD-replicate m i 0 0 b
+
+module _ (L : Layout) (area : List ℕ) (S m : ℕ) (all : List Placed) (there : AllIn L area S all) (apart : Apart all) where
+  -- items are left to go through, and log is what was gone through
+  pub tells-rest :
+      (items log : List Placed) → Within items all → Within log all → (s : Tally) → Tells S m log s →
+      (gone : List Placed) × Same (items ++ log) gone × Tells S m gone (insertAll L area S items s)
+  unfolding insertAll
+  tells-rest [] log wi wl s w = (log, record { to = λ y i. i; from = λ y i. i }, w)
+  tells-rest (x ∷ items) log wi wl s w =
+      let rest = tells-rest items (x ∷ log) (λ y i. wi y (List·Memᴰ·tail i)) within (insertNext L area S x s)
+      (tells-next L area S m log x (λ y i. there y (within y i)) (λ y z i j. apart y z (within y i) (within z j)) s w) in
+      (rest .0, same-trans (added-same (added-between items x log)) (rest .1), rest .2)
+    where
+      within : Within (x ∷ log) all
+      within y (List·Memᴰ·head e) = wi y (List·Memᴰ·head e)
+      within y (List·Memᴰ·tail i) = wl y i
+
+-- Whatever the order of a log's entries, going through them gives the rule for the log and the number of its keys, or finds
+-- as many keys as cells or more.
+pub tells-log :
+    (L : Layout) (area : List ℕ) (S m : ℕ) (items log : List Placed) → 0 < m → Same items log → AllIn L area S log → Apart log →
+    Tells S m log (insertAll L area S items (counted (replicate m 0) 0))
+tells-log L area S m items log h e there apart =
+    let w = tells-rest L area S m log there apart items [] (e .to) (λ y i. absurd (List·Memᴰ·not-nil i)) (counted (replicate m 0) 0) (tells-none S m h) in
+    let same : Same (w .0) log =
+    same-trans (same-sym (w .1)) (same-trans (record { to = λ y i. rw (append-nil items) at i; from = λ y i. rw (append-nil items) i }) e) in
+    tells-same S m (w .0) log same (apart-same (same-sym same) apart) (insertAll L area S items (counted (replicate m 0) 0)) (w .2)
