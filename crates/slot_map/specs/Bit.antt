@@ -1,7 +1,7 @@
 -- The slot map of 01, "Bytes of a segment": bit i, counted from the lowest, stands for slot i.
 use Prim.Native.Nat.{ℕ, _+_, _-_, _*_, _/_, _%_, _^_}
 use mathlib.Core.Bool.{Bool}
-use lib.Dec.{eqb}
+use lib.Dec.{eqb, ltb}
 use lib.Bits.{bitAnd}
 
 -- the bit of slot i in the map m: 1 where m names slot i, else 0
@@ -12,18 +12,20 @@ bit m i = m / 2 ^ i % 2
 abbrev pub named : ℕ → ℕ → Bool
 named m i = eqb (bit m i) 1
 
--- m with slot i, and m without it; both leave a map that is so already
+-- m with slot i, and m without it: m itself where it is so already
 unfoldable pub withBit : ℕ → ℕ → ℕ
-unfolding bit
 withBit m i = m + (1 - bit m i) * 2 ^ i
 
 unfoldable pub withoutBit : ℕ → ℕ → ℕ
-unfolding bit
 withoutBit m i = m - bit m i * 2 ^ i
 
 -- m without the slots that v names
 unfoldable pub less : ℕ → ℕ → ℕ
 less m v = m - bitAnd m v
+
+-- whether every slot that m names is below n
+abbrev pub namesBelow : ℕ → ℕ → Bool
+namesBelow n m = ltb m (2 ^ n)
 
 -- whether m names every slot that v names
 abbrev pub within : ℕ → ℕ → Bool

@@ -1,6 +1,6 @@
--- The slot that a new head takes. 01, "Operations": the first free slot after the old head, going round.
+-- The slot that a new head takes. 01, "Operations, store by store": the first free slot after the old head, going round.
 use Prim.Native.Nat.{ℕ, zero, suc, _+_}
-use mathlib.Core.Bool.{Bool, true, false}
+use mathlib.Core.Bool.{true, false}
 use lib.Dec.{ltb}
 use Rattle.slot_map.specs.Bit.{named}
 
@@ -10,11 +10,9 @@ slotAfter n i = elim (ltb (i + 1) n) [ true ↦ i + 1 | false ↦ 0 ]
 
 -- the first of f slots from i on, going round, that m does not name; n where it names all of them
 unfoldable pub freeFrom : ℕ → ℕ → ℕ → ℕ → ℕ
-unfolding slotAfter
 freeFrom zero n m i = n
 freeFrom (suc f) n m i = elim (named m i) [ true ↦ freeFrom f n m (slotAfter n i) | false ↦ i ]
 
 -- the first free slot of n after the head, which comes last; n where m names all n
 unfoldable pub nextFree : ℕ → ℕ → ℕ → ℕ
-unfolding slotAfter freeFrom
 nextFree n m head = freeFrom n n m (slotAfter n head)

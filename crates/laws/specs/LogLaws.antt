@@ -1,0 +1,319 @@
+-- The log of slots by their views: it is put together slot by slot, so a change of one slot changes one part of it.
+use Prim.Native.Nat.{ℕ, zero, suc, _+_, _<_}
+use mathlib.Core.Path.{_≡_, refl, sym, ap, subst, _∙_}
+use mathlib.Core.Bool.{Bool, true, false}
+use mathlib.Core.Logic.{_⊎_, inl, inr}
+use mathlib.Core.List.{List, [], _∷_, _++_, append-assoc, append-nil, List·Memᴰ·head, List·Memᴰ·tail}
+use mathlib.Core.List.{List·Memᴰ·append-cases, List·Memᴰ·not-nil, List·Memᴰ·eq-of-singleton, Memᴰ·append-left, Memᴰ·append-right}
+use mathlib.Core.Option.{Option, none, some}
+use native.Mathlib.Decide.{ℕ-discrete}
+use native.Mathlib.Omega.{arith}
+use lib.ListN.{length}
+use Rattle.segment.specs.Choice.{pick, pick-true, pick-false, both, either, either-false, either-false-left, either-false-right}
+use Rattle.segment.specs.Entry.{keyOf}
+use Rattle.segment.specs.declared.Digest.{Digest}
+use Rattle.model.specs.Log.{View, Item, Placed, Scan, itemsOf, isDamaged, placedIn, logOf, keysOf, hasVersion, versionShared, highest}
+use Rattle.model.specs.Operations.{countNew}
+use Rattle.model.specs.Recovery.{noDigest, namesNoDigest, logDamaged}
+use Rattle.laws.specs.Members.{In, Added, added-between}
+use Rattle.laws.specs.Versions.{count, count-append, shared-fewer, shared-append, below-highest, highest-added}
+use Rattle.laws.specs.Keys.{keys-added}
+
+-- ---- tests of every slot
+
+-- whether g holds of a slot below n
+unfoldable pub anyBelow : (ℕ → Bool) → ℕ → Bool
+anyBelow g zero = false
+anyBelow g (suc n) = either (anyBelow g n) (g n)
+
+pub any-same : (n : ℕ) (g g′ : ℕ → Bool) → ((i : ℕ) → i < n → g′ i ≡ g i) → anyBelow g′ n ≡ anyBelow g n
+unfolding anyBelow
+any-same zero g g′ f = refl
+any-same (suc n) g g′ f = cc (any-same n g g′ (λ i l. f i (omega arith)), f n (omega arith))
+
+pub none-below : (n : ℕ) (g : ℕ → Bool) → ((i : ℕ) → i < n → g i ≡ false) → anyBelow g n ≡ false
+unfolding anyBelow
+none-below zero g f = refl
+none-below (suc n) g f = either-false (anyBelow g n) (g n) (none-below n g (λ i l. f i (omega arith))) (f n (omega arith))
+
+pub below-none : (n : ℕ) (g : ℕ → Bool) → anyBelow g n ≡ false → (i : ℕ) → i < n → g i ≡ false
+unfolding anyBelow
+below-none zero g e i l = absurd (omega arith)
+below-none (suc n) g e i l = go (ℕ-discrete i n) (λ m. below-none n g (either-false-left (anyBelow g n) (g n) e) i m)
+  where
+    go : Dec (i ≡ n) → (i < n → g i ≡ false) → g i ≡ false
+    go (yes q) r = ap g q ∙ either-false-right (anyBelow g n) (g n) e
+    go (no q) r = r (omega arith)
+
+-- the two that recovery makes
+names-any : (v : ℕ → View) (p : ℕ → Bool) (n : ℕ) → namesNoDigest v p n ≡ anyBelow (λ i. both (p i) (noDigest (v i .digest))) n
+unfolding namesNoDigest anyBelow
+names-any v p zero = refl
+names-any v p (suc n) = cc (names-any v p n)
+
+damaged-any : (v : ℕ → View) (p : ℕ → Bool) (n : ℕ) → logDamaged v p n ≡ anyBelow (λ i. both (p i) (isDamaged (v i .scan))) n
+unfolding logDamaged anyBelow
+damaged-any v p zero = refl
+damaged-any v p (suc n) = cc (damaged-any v p n)
+
+-- a test that looks only at picked slots, and has only views of those to look at
+picked-same : (t t′ : Bool) (a a′ : Bool) → t′ ≡ t → (t ≡ true → a′ ≡ a) → both t′ a′ ≡ both t a
+unfolding both
+picked-same true t′ a a′ e f = rw e (f refl)
+picked-same false t′ a a′ e f = rw e
+
+module _ (v v′ : ℕ → View) (p p′ : ℕ → Bool) (n : ℕ) (same-picks : (i : ℕ) → i < n → p′ i ≡ p i) where
+  pub names-same : ((i : ℕ) → i < n → p i ≡ true → v′ i .digest ≡ v i .digest) → namesNoDigest v′ p′ n ≡ namesNoDigest v p n
+  names-same f =
+      names-any v′ p′ n ∙
+      any-same n (λ i. both (p i) (noDigest (v i .digest))) (λ i. both (p′ i) (noDigest (v′ i .digest)))
+      (λ i l. picked-same (p i) (p′ i) (noDigest (v i .digest)) (noDigest (v′ i .digest)) (same-picks i l) (λ e. ap noDigest (f i l e))) ∙
+      sym (names-any v p n)
+
+  pub damaged-same : ((i : ℕ) → i < n → p i ≡ true → v′ i .scan ≡ v i .scan) → logDamaged v′ p′ n ≡ logDamaged v p n
+  damaged-same f =
+      damaged-any v′ p′ n ∙
+      any-same n (λ i. both (p i) (isDamaged (v i .scan))) (λ i. both (p′ i) (isDamaged (v′ i .scan)))
+      (λ i l. picked-same (p i) (p′ i) (isDamaged (v i .scan)) (isDamaged (v′ i .scan)) (same-picks i l) (λ e. ap isDamaged (f i l e))) ∙
+      sym (damaged-any v p n)
+
+-- ---- what the tests of every slot say
+
+-- Every slot that p picks has a digest, and its entries can all be read.
+abbrev pub AllDigests : (ℕ → View) → (ℕ → Bool) → ℕ → Type 0
+AllDigests v p n = (i : ℕ) → i < n → p i ≡ true → (d : Digest) × (v i .digest ≡ some d)
+
+abbrev pub AllScanned : (ℕ → View) → (ℕ → Bool) → ℕ → Type 0
+AllScanned v p n = (i : ℕ) → i < n → p i ≡ true → isDamaged (v i .scan) ≡ false
+
+both-true-false : (a b : Bool) → both a b ≡ false → a ≡ true → b ≡ false
+unfolding both
+both-true-false true b e f = e
+both-true-false false b e f = cc
+
+both-of-true : (a b : Bool) → (a ≡ true → b ≡ false) → both a b ≡ false
+unfolding both
+both-of-true true b f = f refl
+both-of-true false b f = refl
+
+has-digest : (o : Option Digest) → noDigest o ≡ false → (d : Digest) × (o ≡ some d)
+unfolding noDigest
+has-digest none e = let z : _≡_ {A = ℕ} 0 1 = cc in absurd (omega arith)
+has-digest (some d) e = (d, refl)
+
+digest-had : (o : Option Digest) (d : Digest) → o ≡ some d → noDigest o ≡ false
+unfolding noDigest
+digest-had o d e = rw e
+
+module _ (v : ℕ → View) (p : ℕ → Bool) (n : ℕ) where
+  pub names-digests : namesNoDigest v p n ≡ false → AllDigests v p n
+  names-digests e i l q =
+      has-digest (v i .digest)
+      (both-true-false (p i) (noDigest (v i .digest))
+      (below-none n (λ k. both (p k) (noDigest (v k .digest))) (sym (names-any v p n) ∙ e) i l) q)
+
+  pub digests-named : AllDigests v p n → namesNoDigest v p n ≡ false
+  digests-named f =
+      names-any v p n ∙
+      none-below n (λ k. both (p k) (noDigest (v k .digest)))
+      (λ i l. both-of-true (p i) (noDigest (v i .digest)) (λ q. let d = f i l q in digest-had (v i .digest) (d .0) (d .1)))
+
+  pub undamaged-scans : logDamaged v p n ≡ false → AllScanned v p n
+  undamaged-scans e i l q =
+      both-true-false (p i) (isDamaged (v i .scan))
+      (below-none n (λ k. both (p k) (isDamaged (v k .scan))) (sym (damaged-any v p n) ∙ e) i l) q
+
+  pub scans-undamaged : AllScanned v p n → logDamaged v p n ≡ false
+  scans-undamaged f =
+      damaged-any v p n ∙
+      none-below n (λ k. both (p k) (isDamaged (v k .scan))) (λ i l. both-of-true (p i) (isDamaged (v i .scan)) (f i l))
+
+-- ---- the parts of a log
+
+-- what slot i adds to the log
+abbrev pub partOf : (ℕ → View) → (ℕ → Bool) → ℕ → List Placed
+partOf v p i = pick (p i) (placedIn i (itemsOf (v i .scan))) []
+
+pub part-picked : (v : ℕ → View) (p : ℕ → Bool) (i : ℕ) → p i ≡ true → partOf v p i ≡ placedIn i (itemsOf (v i .scan))
+part-picked v p i e = pick-true (p i) (placedIn i (itemsOf (v i .scan))) [] e
+
+pub part-passed : (v : ℕ → View) (p : ℕ → Bool) (i : ℕ) → p i ≡ false → partOf v p i ≡ []
+part-passed v p i e = pick-false (p i) (placedIn i (itemsOf (v i .scan))) [] e
+
+pub part-same : (v v′ : ℕ → View) (p p′ : ℕ → Bool) (i : ℕ) → p′ i ≡ p i → (p i ≡ true → v′ i .scan ≡ v i .scan)
+    → partOf v′ p′ i ≡ partOf v p i
+part-same v v′ p p′ i e f = go (p i) refl
+  where
+    go : (t : Bool) → p i ≡ t → partOf v′ p′ i ≡ partOf v p i
+    go true q = part-picked v′ p′ i (e ∙ q) ∙ ap (λ (s : Scan). placedIn i (itemsOf s)) (f q) ∙ sym (part-picked v p i q)
+    go false q = part-passed v′ p′ i (e ∙ q) ∙ sym (part-passed v p i q)
+
+module _ (v v′ : ℕ → View) (p p′ : ℕ → Bool) where
+  pub log-of-parts : (n : ℕ) → ((i : ℕ) → i < n → partOf v′ p′ i ≡ partOf v p i) → logOf v′ p′ n ≡ logOf v p n
+  unfolding logOf
+  log-of-parts zero f = refl
+  log-of-parts (suc n) f = cc (log-of-parts n (λ i l. f i (omega arith)), f n (omega arith))
+
+  -- the log goes by the picked slots alone
+  pub log-same : (n : ℕ) → ((i : ℕ) → i < n → p′ i ≡ p i) → ((i : ℕ) → i < n → p i ≡ true → v′ i .scan ≡ v i .scan)
+      → logOf v′ p′ n ≡ logOf v p n
+  log-same n e f = log-of-parts n (λ i l. part-same v v′ p p′ i (e i l) (f i l))
+
+-- ---- members
+
+-- an entry with its slot left out, and put back
+abbrev pub itemOf : Placed → Item
+itemOf x = record { offset = x .offset; entry = x .entry }
+
+abbrev pub placedAt : ℕ → Item → Placed
+placedAt i y = record { slot = i; offset = y .offset; entry = y .entry }
+
+pub placed-mem : (i : ℕ) {y : Item} {ys : List Item} → In y ys → In (placedAt i y) (placedIn i ys)
+unfolding placedIn
+placed-mem i (List·Memᴰ·head e) = List·Memᴰ·head (ap (placedAt i) e)
+placed-mem i (List·Memᴰ·tail m) = List·Memᴰ·tail (placed-mem i m)
+
+pub mem-placed : (i : ℕ) (x : Placed) (ys : List Item) → In x (placedIn i ys) → (x .slot ≡ i) × In (itemOf x) ys
+unfolding placedIn
+mem-placed i x [] m = absurd (List·Memᴰ·not-nil m)
+mem-placed i x (y ∷ ys) m = go m (λ r. mem-placed i x ys r)
+  where
+    go : In x (placedAt i y ∷ placedIn i ys) → (In x (placedIn i ys) → (x .slot ≡ i) × In (itemOf x) ys)
+        → (x .slot ≡ i) × In (itemOf x) (y ∷ ys)
+    go (List·Memᴰ·head e) r = (ap (λ (z : Placed). z .slot) e, List·Memᴰ·head (ap itemOf e))
+    go (List·Memᴰ·tail k) r = (r k .0, List·Memᴰ·tail (r k .1))
+
+pub placed-append : (i : ℕ) (xs ys : List Item) → placedIn i (xs ++ ys) ≡ placedIn i xs ++ placedIn i ys
+unfolding placedIn
+placed-append i [] ys = refl
+placed-append i (x ∷ xs) ys = ap (λ (r : List Placed). placedAt i x ∷ r) (placed-append i xs ys)
+
+-- x stands in a slot below n that p picks.
+pub record InLog (v : ℕ → View) (p : ℕ → Bool) (n : ℕ) (x : Placed) : Type 0 where
+  pub below : x .slot < n
+  pub picked : p (x .slot) ≡ true
+  pub item : In (itemOf x) (itemsOf (v (x .slot) .scan))
+
+module _ (v : ℕ → View) (p : ℕ → Bool) where
+  part-mem : (n i : ℕ) (x : Placed) → i < n → In x (partOf v p i) → In x (logOf v p n)
+  unfolding logOf
+  part-mem zero i x l m = absurd (omega arith)
+  part-mem (suc n) i x l m = go (ℕ-discrete i n) (λ k. part-mem n i x k m)
+    where
+      go : Dec (i ≡ n) → (i < n → In x (logOf v p n)) → In x (logOf v p n ++ partOf v p n)
+      go (yes e) r = Memᴰ·append-right (logOf v p n) (subst (λ (k : ℕ). In x (partOf v p k)) e m)
+      go (no e) r = Memᴰ·append-left (partOf v p n) (r (omega arith))
+
+  mem-part : (n : ℕ) (x : Placed) → In x (logOf v p n) → (i : ℕ) × (i < n) × In x (partOf v p i)
+  unfolding logOf
+  mem-part zero x m = absurd (List·Memᴰ·not-nil m)
+  mem-part (suc n) x m = go (List·Memᴰ·append-cases (logOf v p n) m) (λ k. mem-part n x k)
+    where
+      go : In x (logOf v p n) ⊎ In x (partOf v p n) → (In x (logOf v p n) → (i : ℕ) × (i < n) × In x (partOf v p i))
+          → (i : ℕ) × (i < suc n) × In x (partOf v p i)
+      go (inl k) r = let t = r k in (t .0, omega (arith, t .1), t .2)
+      go (inr k) r = (n, omega arith, k)
+
+  pub in-log : (n : ℕ) (x : Placed) → InLog v p n x → In x (logOf v p n)
+  in-log n x h =
+      part-mem n (x .slot) x (h .below) (rw (part-picked v p (x .slot) (h .picked)) (placed-mem (x .slot) (h .item)))
+
+  pub log-in : (n : ℕ) (x : Placed) → In x (logOf v p n) → InLog v p n x
+  log-in n x m = let t = mem-part n x m in go (t .0) (t .1) (t .2) (p (t .0)) refl
+    where
+      at : (i : ℕ) → i < n → p i ≡ true → (x .slot ≡ i) × In (itemOf x) (itemsOf (v i .scan)) → InLog v p n x
+      at i l q h =
+          record {
+            below = omega (arith, h .0);
+            picked = ap p (h .0) ∙ q;
+            item = subst (λ (k : ℕ). In (itemOf x) (itemsOf (v k .scan))) (sym (h .0)) (h .1);
+          }
+
+      go : (i : ℕ) → i < n → In x (partOf v p i) → (t : Bool) → p i ≡ t → InLog v p n x
+      go i l k true q = at i l q (mem-placed i x (itemsOf (v i .scan)) (rw (part-picked v p i q) at k))
+      go i l k false q = absurd (List·Memᴰ·not-nil (rw (part-passed v p i q) at k))
+
+-- ---- one slot changes
+
+-- Two lists that differ in one part.
+pub record OnePart (part part′ log log′ : List Placed) : Type 0 where
+  pub before : List Placed
+  pub after : List Placed
+  pub old : log ≡ before ++ (part ++ after)
+  pub new : log′ ≡ before ++ (part′ ++ after)
+
+module _ (v v′ : ℕ → View) (p p′ : ℕ → Bool) (j : ℕ) where
+  -- where every other slot adds what it added
+  pub one-slot : (n : ℕ) → j < n → ((i : ℕ) → i < n → (i ≡ j → ⊥) → partOf v′ p′ i ≡ partOf v p i)
+      → OnePart (partOf v p j) (partOf v′ p′ j) (logOf v p n) (logOf v′ p′ n)
+  unfolding logOf
+  one-slot zero l f = absurd (omega arith)
+  one-slot (suc n) l f = go (ℕ-discrete j n) (λ k. one-slot n k (λ i m. f i (omega arith)))
+    where
+      go : Dec (j ≡ n) → (j < n → OnePart (partOf v p j) (partOf v′ p′ j) (logOf v p n) (logOf v′ p′ n))
+          → OnePart (partOf v p j) (partOf v′ p′ j) (logOf v p n ++ partOf v p n) (logOf v′ p′ n ++ partOf v′ p′ n)
+      go (yes e) r =
+          record {
+            before = logOf v p n;
+            after = [];
+            old = rw (append-nil (partOf v p j), e);
+            new =
+                rw (append-nil (partOf v′ p′ j), e, log-of-parts v v′ p p′ n (λ i m. f i (omega arith) (λ q. omega arith)));
+          }
+      go (no e) r =
+          let h = r (omega arith) in
+          record {
+            before = h .before;
+            after = h .after ++ partOf v p n;
+            old = rw (h .old, append-assoc (h .before) (partOf v p j ++ h .after) (partOf v p n), append-assoc (partOf v p j) (h .after) (partOf v p n));
+            new =
+                rw (h .new, f n (omega arith) (λ q. e (sym q)), append-assoc (h .before) (partOf v′ p′ j ++ h .after) (partOf v p n), append-assoc (partOf v′ p′ j) (h .after) (partOf v p n));
+          }
+
+-- One entry has come in.
+pub record Entered (log : List Placed) (x : Placed) (after : List Placed) : Type 0 where
+  pub before : List Placed
+  pub behind : List Placed
+  pub old : log ≡ before ++ behind
+  pub new : after ≡ before ++ x ∷ behind
+
+pub part-entered : (part : List Placed) (x : Placed) (log after : List Placed) → OnePart part (part ++ x ∷ []) log after → Entered log x after
+part-entered part x log after c =
+    record {
+      before = c .before ++ part;
+      behind = c .after;
+      old = c .old ∙ sym (append-assoc (c .before) part (c .after));
+      new =
+          c .new
+          ∙ rw (append-assoc part (x ∷ []) (c .after), append-assoc (c .before) part (x ∷ c .after));
+    }
+
+module _ (log : List Placed) (x : Placed) (after : List Placed) (w : Entered log x after) where
+  pub entered-added : Added log x after
+  entered-added = rw (w .old, w .new) (added-between (w .before) x (w .behind))
+
+  pub entered-count : (k : ℕ) → count k after ≡ count k log + count k (x ∷ [])
+  entered-count k =
+      omega (
+        arith,
+        ap (count k) (w .old),
+        ap (count k) (w .new),
+        count-append k (w .before) (w .behind),
+        count-append k (w .before) (x ∷ w .behind),
+        count-append k (x ∷ []) (w .behind)
+      )
+
+  -- Where its version is above all others, no version is shared, and its version is the highest.
+  pub entered-versions : highest log < x .entry .version → versionShared log ≡ false → versionShared after ≡ false
+  unfolding versionShared hasVersion either
+  entered-versions top e =
+      shared-fewer after (x ∷ [] ++ log) (λ k. omega (arith, entered-count k, count-append k (x ∷ []) log))
+      (shared-append (x ∷ []) log refl e
+      (λ y z m o q.
+      omega (arith, below-highest log (x .entry .version) top z o, ap (λ (u : Placed). u .entry .version) (List·Memᴰ·eq-of-singleton m))))
+
+  pub entered-highest : highest log < x .entry .version → highest after ≡ x .entry .version
+  entered-highest top = omega (arith, highest-added log x after entered-added)
+
+  pub entered-keys : length (keysOf after) ≡ length (keysOf log) + countNew log (keyOf (x .entry))
+  entered-keys = keys-added log x after entered-added

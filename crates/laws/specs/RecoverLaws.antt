@@ -1,0 +1,383 @@
+-- What an accepted recovery tells of an area, as one record of facts, and that these facts are all that it asks.
+use Prim.Native.Nat.{ℕ, _*_, _-_, _^_, _≤_, _<_}
+use mathlib.Core.Path.{_≡_, refl, sym, ap, subst, _∙_}
+use mathlib.Core.Bool.{Bool, true, false, not}
+use mathlib.Core.List.{List, [], _∷_, _++_}
+use mathlib.Core.Option.{Option, none, some}
+use native.Mathlib.Decide.{ℕ-discrete}
+use native.Mathlib.Omega.{arith}
+use lib.Dec.{ltb}
+use lib.ListN.{length}
+use borrow.Author.Tests.{ltb-true, ltb-false, eqb-true, eqb-false, not-false, lt-ltb, le-ltb, le-leb, eq-eqb, ne-eqb}
+use Rattle.segment.specs.Choice.{pick, pick-true, pick-false, both, both-left, both-right, both-true, either, either-false, either-false-left, either-false-right}
+use Rattle.segment.specs.Layout.{Layout, digestSize}
+use Rattle.segment.specs.declared.Digest.{Digest}
+use Rattle.slot_map.specs.Bit.{named}
+use Rattle.slot_map.specs.Count.{used}
+use Rattle.record.specs.Range.{between, slotsGood, sizeGood, cellsGood, mapGood, leftGood, inRange, lengthsOwn, fitsLent}
+use Rattle.record.specs.declared.Refusal.{Refusal}
+use Rattle.record.specs.declared.Refusal.the-variants.{BadOrder}
+use Rattle.record.specs.declared.Store.{Store}
+use Rattle.record.specs.declared.Recovery.{Recovery}
+use Rattle.record.specs.declared.RecoverAnswer.{RecoverAnswer}
+use Rattle.model.specs.Log.{View, Head, viewsOf, headOf, logOf, endOf, isDamaged, keysOf, versionShared, nextVersion}
+use Rattle.model.specs.Causes.{Cause, when, firstCause}
+use Rattle.model.specs.Recovery.{noHead, headElse, sharing, mapBad, logSlots, logUnder, storeUnder, imageCauses, keyCauses, lentCauses, areaCauses, ifNone, storeOf, recovered, orderBad, recoveryFor, recovery, recoverCauses}
+use Rattle.laws.specs.Members.{clash}
+use Rattle.laws.specs.HeadLaws.{SameViews, digests-same, TopHead, head-is, is-top, top-head, top-alone, top-stays}
+use Rattle.laws.specs.LogLaws.{AllDigests, AllScanned, names-digests, digests-named, undamaged-scans, scans-undamaged, log-same}
+
+-- ---- no cause holds
+
+abbrev pub NoCause : List Cause → Type 0
+NoCause [] = Unit {0}
+NoCause (c ∷ cs) = (c .holds ≡ false) × NoCause cs
+
+pub no-cause : (cs : List Cause) → firstCause cs ≡ none → NoCause cs
+unfolding firstCause
+no-cause [] e = tt
+no-cause (c ∷ cs) e = go (c .holds) refl e (λ f. no-cause cs f)
+  where
+    go : (t : Bool) → c .holds ≡ t → pick t (some (c .refusal)) (firstCause cs) ≡ none → (firstCause cs ≡ none → NoCause cs)
+        → (c .holds ≡ false) × NoCause cs
+    go true q f r =
+        let z : _≡_ {A = ℕ} 0 1 = cc (pick-true true (some (c .refusal)) (firstCause cs) refl) in
+        absurd (omega arith)
+    go false q f r = (q, r (sym (pick-false false (some (c .refusal)) (firstCause cs) refl) ∙ f))
+
+pub cause-none : (cs : List Cause) → NoCause cs → firstCause cs ≡ none
+unfolding firstCause
+cause-none [] f = refl
+cause-none (c ∷ cs) f = pick-false (c .holds) (some (c .refusal)) (firstCause cs) (f .0) ∙ cause-none cs (f .1)
+
+-- a cause that does not hold might as well be left out
+pub cause-passed : (before : List Cause) (c : Cause) (after : List Cause) → c .holds ≡ false
+    → firstCause (before ++ c ∷ after) ≡ firstCause (before ++ after)
+unfolding firstCause
+cause-passed [] c after e = pick-false (c .holds) (some (c .refusal)) (firstCause after) e
+cause-passed (b ∷ bs) c after e =
+    ap (λ (o : Option Refusal). pick (b .holds) (some (b .refusal)) o) (cause-passed bs c after e)
+
+-- ---- an image that recovery accepts
+
+-- The slots with these views have the head h and a log that nothing is wrong with, of no more keys than the index has room for.
+pub record Sound (v : ℕ → View) (n m : ℕ) (h : Head) : Type 0 where
+  pub top : TopHead v n h
+  pub numbered : h .digest .number .0 ≡ 0 → ⊥
+  pub map-good : mapGood n (h .slot) (h .digest .map) ≡ true
+  pub digests : AllDigests v (logSlots h) n
+  pub next-set : h .digest .next .0 ≡ 0 → ⊥
+  pub scans : AllScanned v (logSlots h) n
+  pub versions : versionShared (logUnder v n h) ≡ false
+  pub keys : length (keysOf (logUnder v n h)) ≤ m - 1
+
+-- a map is bad exactly if it is not good
+map-bad-good : (n : ℕ) (h : Head) → mapBad n h ≡ not (mapGood n (h .slot) (h .digest .map))
+unfolding mapGood both either
+map-bad-good n h = go (ltb (h .digest .map) (2 ^ n)) (named (h .digest .map) (h .slot)) (ltb (used n (h .digest .map)) n)
+  where
+    go : (a b c : Bool) → either (not a) (either (not b) (not c)) ≡ not (both a (both b c))
+    go true true c = refl
+    go true false c = refl
+    go false b c = refl
+
+module _ (v : ℕ → View) (n m : ℕ) where
+  -- 16 to 20, as tests of a head that was found
+  abbrev pub headCauses : Head → List Cause
+  headCauses h = imageCauses v n (some h) ++ keyCauses v n m (some h)
+
+  pub clear-sound : (h : Head) → headOf v n ≡ some h → NoCause (headCauses h) → Sound v n m h
+  unfolding noHead headElse
+  clear-sound h e f =
+      let digest = f .1 .0 in
+      let number = either-false-left _ _ digest in
+      let rest = either-false-right _ _ digest in
+      let others = either-false-right _ _ rest in
+      record {
+        top =
+            is-top v n h (head-is v n h e)
+            (ltb-false 1 (sharing v (h .digest .number .0) n) (either-false-right _ _ number));
+        numbered = eqb-false (h .digest .number .0) 0 (either-false-left _ _ number);
+        map-good = not-false _ (sym (map-bad-good n h) ∙ either-false-left _ _ rest);
+        digests = names-digests v (logSlots h) n (either-false-left _ _ others);
+        next-set = eqb-false (h .digest .next .0) 0 (either-false-right _ _ others);
+        scans = undamaged-scans v (logSlots h) n (f .1 .1 .0);
+        versions = f .1 .1 .1 .0;
+        keys = ltb-false (m - 1) (length (keysOf (logUnder v n h))) (f .1 .1 .1 .1 .0);
+      }
+
+  pub sound-clear : (h : Head) → Sound v n m h → NoCause (headCauses h)
+  unfolding noHead headElse
+  sound-clear h s =
+      let number =
+      either-false _ _ (ne-eqb (h .digest .number .0) 0 (s .numbered))
+      (le-ltb 1 (sharing v (h .digest .number .0) n) (omega (arith, top-alone v n h (s .top)))) in
+      let map : mapBad n h ≡ false = map-bad-good n h ∙ ap not (s .map-good) in
+      let others = either-false _ _ (digests-named v (logSlots h) n (s .digests)) (ne-eqb (h .digest .next .0) 0 (s .next-set)) in (
+        refl,
+        (
+          either-false _ _ number (either-false _ _ map others),
+          (scans-undamaged v (logSlots h) n (s .scans), (s .versions, (le-ltb (m - 1) (length (keysOf (logUnder v n h))) (s .keys), tt))),
+        ),
+      )
+
+  pub sound-head : (h : Head) → Sound v n m h → headOf v n ≡ some h
+  sound-head h s = top-head v n h (s .top)
+
+  -- an image without a cause has a head
+  pub clear-head : NoCause (imageCauses v n (headOf v n) ++ keyCauses v n m (headOf v n)) → (h : Head) × (headOf v n ≡ some h) × Sound v n m h
+  unfolding noHead
+  clear-head = go (headOf v n) refl
+    where
+      go : (o : Option Head) → headOf v n ≡ o → NoCause (imageCauses v n o ++ keyCauses v n m o) → (h : Head) × (headOf v n ≡ some h) × Sound v n m h
+      go none e f = let q : true ≡ false = f .0 in let z : _≡_ {A = ℕ} 0 1 = cc in absurd (omega arith)
+      go (some h) e f = (h, e, clear-sound h e f)
+
+-- ---- an area that recovery accepts
+
+-- The lent memory is of a length that the format allows.
+pub record Lent (n s m areaLength : ℕ) : Type 0 where
+  pub slots-good : slotsGood n ≡ true
+  pub size-good : sizeGood s ≡ true
+  pub long : areaLength ≡ n * s
+  pub cells-good : cellsGood m ≡ true
+
+-- Recovery of the area gives r: all that it has tested, and r itself.
+pub record Recovers (L : Layout) (n s m : ℕ) (area : List ℕ) (r : Store) : Type 0 where
+  pub lent : Lent n s m (length area)
+  pub head : Head
+  pub head-is : headOf (viewsOf L area s) n ≡ some head
+  pub sound : Sound (viewsOf L area s) n m head
+  pub same : r ≡ storeUnder (viewsOf L area s) n s m head
+
+clear-lent : (n s m areaLength : ℕ) → NoCause (lentCauses n s m areaLength) → Lent n s m areaLength
+clear-lent n s m areaLength f =
+    let good = not-false _ (f .0) in
+    let sizes = both-left _ _ good in
+    record {
+      slots-good = both-left _ _ sizes;
+      size-good = both-right _ _ sizes;
+      long = eqb-true areaLength (n * s) (both-right _ _ good);
+      cells-good = not-false _ (f .1 .0);
+    }
+
+lent-clear : (n s m areaLength : ℕ) → Lent n s m areaLength → NoCause (lentCauses n s m areaLength)
+lent-clear n s m areaLength l = (
+  ap not (both-true _ _ (both-true _ _ (l .slots-good) (l .size-good)) (eq-eqb areaLength (n * s) (l .long))),
+  (ap not (l .cells-good), tt),
+)
+
+if-none : (o : Option Refusal) (a r : Store) → ifNone o a ≡ some r → (o ≡ none) × (a ≡ r)
+unfolding ifNone
+if-none none a r e = (refl, cc)
+if-none (some c) a r e = let z : _≡_ {A = ℕ} 0 1 = cc in absurd (omega arith)
+
+module _ (L : Layout) (n s m : ℕ) (area : List ℕ) where
+  -- the views of the area
+  abbrev v : ℕ → View
+  v = viewsOf L area s
+
+  pub recovered-facts : (r : Store) → recovered L n s m area ≡ some r → Recovers L n s m area r
+  unfolding recovered headElse
+  recovered-facts r e =
+      let accepted = if-none (firstCause (areaCauses L n s m area)) (storeOf L n s m area) r e in
+      let clear = no-cause (areaCauses L n s m area) (accepted .0) in
+      let found = clear-head v n m (clear .1 .1) in
+      record {
+        lent = clear-lent n s m (length area) (clear .0, (clear .1 .0, tt));
+        head = found .0;
+        head-is = found .1;
+        sound = found .2;
+        same = sym (accepted .1) ∙ ap (λ (o : Option Head). storeUnder v n s m (headElse o)) (found .1);
+      }
+
+  pub facts-recovered : (r : Store) → Recovers L n s m area r → recovered L n s m area ≡ some r
+  unfolding recovered headElse ifNone
+  facts-recovered r f =
+      let lent = lent-clear n s m (length area) (f .lent) in
+      let image : NoCause (imageCauses v n (headOf v n) ++ keyCauses v n m (headOf v n)) =
+      subst (λ (o : Option Head). NoCause (imageCauses v n o ++ keyCauses v n m o)) (sym (f .head-is))
+      (sound-clear v n m (f .head) (f .sound)) in
+      let accepted = cause-none (areaCauses L n s m area) (lent .0, (lent .1 .0, image)) in
+      ap (λ (o : Option Refusal). ifNone o (storeOf L n s m area)) accepted ∙
+      ap some (ap (λ (o : Option Head). storeUnder v n s m (headElse o)) (f .head-is) ∙ sym (f .same))
+
+  -- the record by the facts alone: the head's slot and its equation follow from the rest
+  pub sound-recovered : (h : Head) → Lent n s m (length area) → Sound v n m h → recovered L n s m area ≡ some (storeUnder v n s m h)
+  sound-recovered h l f =
+      facts-recovered (storeUnder v n s m h)
+      (record { lent = l; head = h; head-is = sound-head v n m h f; sound = f; same = refl })
+
+  -- ---- with an order of slots
+
+  -- An order that is none of cause 15's changes nothing.
+  pub order-free : (order : List ℕ) → orderBad n order ≡ false
+      → recovery L n s m order area ≡ recoveryFor (firstCause (areaCauses L n s m area)) (storeOf L n s m area)
+  unfolding recovery
+  order-free order e =
+      ap (λ (o : Option Refusal). recoveryFor o (storeOf L n s m area))
+      (cause-passed (lentCauses n s m (length area)) (when (orderBad n order) BadOrder)
+      (imageCauses v n (headOf v n) ++ keyCauses v n m (headOf v n)) e)
+
+  recovery-none : (o : Option Refusal) (a r : Store) → recoveryFor o a ≡ record { answer = RecoverAnswer.Recovered; store = r } → (o ≡ none) × (a ≡ r)
+  unfolding recoveryFor
+  recovery-none none a r e = (refl, ap (λ (x : Recovery). x .store) e)
+  recovery-none (some c) a r e =
+      let q : RecoverAnswer.Refused c ≡ RecoverAnswer.Recovered = ap (λ (x : Recovery). x .answer) e in
+      let z : _≡_ {A = ℕ} 0 1 = cc in
+      absurd (omega arith)
+
+  -- The call gives a record exactly if the area does, and the order names each slot once.
+  pub recovery-order : (order : List ℕ) (r : Store) → recovery L n s m order area ≡ record { answer = RecoverAnswer.Recovered; store = r }
+      → orderBad n order ≡ false
+  unfolding recovery
+  recovery-order order r e =
+      no-cause (recoverCauses L n s m order area) (recovery-none (firstCause (recoverCauses L n s m order area)) (storeOf L n s m area) r e .0) .1 .1 .0
+
+  pub recovery-recovered : (order : List ℕ) (r : Store) → recovery L n s m order area ≡ record { answer = RecoverAnswer.Recovered; store = r }
+      → recovered L n s m area ≡ some r
+  unfolding recovered ifNone
+  recovery-recovered order r e =
+      let accepted =
+      recovery-none (firstCause (areaCauses L n s m area)) (storeOf L n s m area) r (sym (order-free order (recovery-order order r e)) ∙ e) in
+      ap (λ (o : Option Refusal). ifNone o (storeOf L n s m area)) (accepted .0) ∙ ap some (accepted .1)
+
+  pub recovered-recovery : (order : List ℕ) (r : Store) → orderBad n order ≡ false → recovered L n s m area ≡ some r
+      → recovery L n s m order area ≡ record { answer = RecoverAnswer.Recovered; store = r }
+  unfolding recovered recoveryFor
+  recovered-recovery order r good e =
+      let accepted = if-none (firstCause (areaCauses L n s m area)) (storeOf L n s m area) r e in
+      order-free order good ∙ ap (λ (o : Option Refusal). recoveryFor o (storeOf L n s m area)) (accepted .0) ∙
+      ap (λ (x : Store). record { answer = RecoverAnswer.Recovered; store = x }) (accepted .1)
+
+-- ---- the record is in range
+
+module _ (n head map : ℕ) where
+  pub good-below : mapGood n head map ≡ true → map < 2 ^ n
+  unfolding mapGood
+  good-below e = ltb-true map (2 ^ n) (both-left _ _ e)
+
+  pub good-names : mapGood n head map ≡ true → named map head ≡ true
+  unfolding mapGood
+  good-names e = both-left _ _ (both-right _ _ e)
+
+  pub good-free : mapGood n head map ≡ true → used n map < n
+  unfolding mapGood
+  good-free e = ltb-true (used n map) n (both-right _ _ (both-right _ _ e))
+
+  pub map-is-good : map < 2 ^ n → named map head ≡ true → used n map < n → mapGood n head map ≡ true
+  unfolding mapGood
+  map-is-good below names free = both-true _ _ (lt-ltb map (2 ^ n) below) (both-true _ _ names (lt-ltb (used n map) n free))
+
+module _ (L : Layout) (v : ℕ → View) (n s m : ℕ) (h : Head) where
+  -- the head's entries end in its segment, behind the digest
+  abbrev pub EndsInside : Type 0
+  EndsInside = (digestSize L ≤ endOf (v (h .slot) .scan)) × (endOf (v (h .slot) .scan) ≤ s)
+
+  pub under-in-range : (areaLength : ℕ) → Lent n s m areaLength → Sound v n m h → EndsInside → inRange L (storeUnder v n s m h) ≡ true
+  unfolding inRange between leftGood
+  under-in-range areaLength l f e =
+      both-true _ _
+      (both-true _ _ (both-true _ _ (l .slots-good) (l .size-good)) (both-true _ _ (l .cells-good) (f .map-good)))
+      (both-true _ _
+      (both-true _ _
+      (both-true _ _ (le-leb (digestSize L) (endOf (v (h .slot) .scan)) (e .0)) (le-leb (endOf (v (h .slot) .scan)) s (e .1)))
+      (both-true _ _ (ap not (ne-eqb (h .digest .number .0) 0 (f .numbered)))
+      (ap not (ne-eqb (nextVersion (h .digest) (logUnder v n h)) 0 (λ z. omega arith)))))
+      (both-true _ _ (le-leb (length (keysOf (logUnder v n h))) (m - 1) (f .keys)) refl))
+
+  pub under-fits : (areaLength : ℕ) → Lent n s m areaLength → Sound v n m h → EndsInside
+      → fitsLent L (storeUnder v n s m h) areaLength m ≡ true
+  unfolding fitsLent lengthsOwn
+  under-fits areaLength l f e =
+      both-true _ _ (under-in-range areaLength l f e) (both-true _ _ (eq-eqb areaLength (n * s) (l .long)) (eq-eqb m m refl))
+
+-- ---- what leaves the store as it was
+
+-- The views of the log's slots stay, and no digest comes: slots outside the log may change otherwise.
+pub record Untouched (v v′ : ℕ → View) (n : ℕ) (h : Head) : Type 0 where
+  pub kept : (i : ℕ) → i < n → logSlots h i ≡ true → v′ i ≡ v i
+  pub no-digest-more : (i : ℕ) → i < n → (d : Digest) → v′ i .digest ≡ some d → v i .digest ≡ some d
+
+pub same-untouched : (v v′ : ℕ → View) (n : ℕ) (h : Head) → SameViews n v v′ → Untouched v v′ n h
+same-untouched v v′ n h s =
+    record { kept = λ i l e. s i l; no-digest-more = λ i l d e. sym (digests-same s i l) ∙ e }
+
+-- a cut in the middle of a new head: one slot outside the log has lost its digest
+pub cut-untouched : (v v′ : ℕ → View) (n j : ℕ) (h : Head) → logSlots h j ≡ false → ((i : ℕ) → i < n → (i ≡ j → ⊥) → v′ i ≡ v i)
+    → v′ j .digest ≡ none → Untouched v v′ n h
+cut-untouched v v′ n j h free s e =
+    record {
+      kept = λ i l q. s i l (λ f. clash (logSlots h i) q (ap (logSlots h) f ∙ free));
+      no-digest-more = λ i l d f. go i l d f (ℕ-discrete i j);
+    }
+  where
+    go : (i : ℕ) → i < n → (d : Digest) → v′ i .digest ≡ some d → Dec (i ≡ j) → v i .digest ≡ some d
+    go i l d f (yes q) = let z : v′ i .digest ≡ none = ap (λ (k : ℕ). v′ k .digest) q ∙ e in cc
+    go i l d f (no q) = sym (ap (λ (x : View). x .digest) (s i l q)) ∙ f
+
+module _ (v v′ : ℕ → View) (n m : ℕ) (h : Head) (f : Sound v n m h) (u : Untouched v v′ n h) where
+  pub untouched-log : logUnder v′ n h ≡ logUnder v n h
+  untouched-log =
+      log-same v v′ (logSlots h) (logSlots h) n (λ i l. refl) (λ i l e. ap (λ (x : View). x .scan) (u .kept i l e))
+
+  head-kept : v′ (h .slot) ≡ v (h .slot)
+  head-kept = u .kept (h .slot) (f .top .below) (good-names n (h .slot) (h .digest .map) (f .map-good))
+
+  pub untouched-sound : Sound v′ n m h
+  untouched-sound =
+      record {
+        top =
+            top-stays v n h v′ (λ i l o d e. u .no-digest-more i l d e) (ap (λ (x : View). x .digest) head-kept) (f .top);
+        numbered = f .numbered;
+        map-good = f .map-good;
+        digests = λ i l e. let d = f .digests i l e in (d .0, ap (λ (x : View). x .digest) (u .kept i l e) ∙ d .1);
+        next-set = f .next-set;
+        scans = λ i l e. ap (λ (x : View). isDamaged (x .scan)) (u .kept i l e) ∙ f .scans i l e;
+        versions = ap versionShared untouched-log ∙ f .versions;
+        keys = rw untouched-log (f .keys);
+      }
+
+  pub untouched-store : (s : ℕ) → storeUnder v′ n s m h ≡ storeUnder v n s m h
+  untouched-store s = rw (untouched-log, head-kept)
+
+both-ways : (a b : Option Store) → ((r : Store) → a ≡ some r → b ≡ some r) → ((r : Store) → b ≡ some r → a ≡ some r) → b ≡ a
+both-ways none none to from = refl
+both-ways none (some r) to from = sym (from r refl)
+both-ways (some r) b to from = to r refl
+
+module _ (L : Layout) (n s m : ℕ) (area area′ : List ℕ) (same-length : length area′ ≡ length area) where
+  pub untouched-recovered : (r : Store) (f : Recovers L n s m area r) → Untouched (viewsOf L area s) (viewsOf L area′ s) n (f .head)
+      → recovered L n s m area′ ≡ some r
+  untouched-recovered r f u =
+      sound-recovered L n s m area′ (f .head) (subst (Lent n s m) (sym same-length) (f .lent))
+      (untouched-sound (viewsOf L area s) (viewsOf L area′ s) n m (f .head) (f .sound) u) ∙
+      ap some (untouched-store (viewsOf L area s) (viewsOf L area′ s) n m (f .head) (f .sound) u s ∙ sym (f .same))
+
+  views-kept : SameViews n (viewsOf L area s) (viewsOf L area′ s) → (r : Store) → recovered L n s m area ≡ some r
+      → recovered L n s m area′ ≡ some r
+  views-kept same r e =
+      let f = recovered-facts L n s m area r e in
+      untouched-recovered r f (same-untouched (viewsOf L area s) (viewsOf L area′ s) n (f .head) same)
+
+module _ (L : Layout) (n s m : ℕ) (area area′ : List ℕ) (same-length : length area′ ≡ length area) where
+  -- Where no view changes recovery gives what it gave, a refusal too.
+  pub views-recovered : SameViews n (viewsOf L area s) (viewsOf L area′ s) → recovered L n s m area′ ≡ recovered L n s m area
+  views-recovered same =
+      both-ways (recovered L n s m area) (recovered L n s m area′) (views-kept L n s m area area′ same-length same)
+      (views-kept L n s m area′ area (sym same-length) (λ i l. sym (same i l)))
+
+  -- A slot that the map does not name may change, as long as it has no digest then.
+  module _ (r : Store) (j : ℕ) (free : named (r .map) j ≡ false)
+      (others : (i : ℕ) → i < n → (i ≡ j → ⊥) → viewsOf L area′ s i ≡ viewsOf L area s i) where
+    pub cut-recovered : recovered L n s m area ≡ some r → viewsOf L area′ s j .digest ≡ none → recovered L n s m area′ ≡ some r
+    cut-recovered e d =
+        let f = recovered-facts L n s m area r e in
+        untouched-recovered L n s m area area′ same-length r f
+        (cut-untouched (viewsOf L area s) (viewsOf L area′ s) n j (f .head)
+        (ap (λ (x : Store). named (x .map) j) (sym (f .same)) ∙ free) others d)
+
+    pub cut-log : logOf (viewsOf L area′ s) (named (r .map)) n ≡ logOf (viewsOf L area s) (named (r .map)) n
+    cut-log =
+        log-same (viewsOf L area s) (viewsOf L area′ s) (named (r .map)) (named (r .map)) n (λ i l. refl)
+        (λ i l e. ap (λ (x : View). x .scan) (others i l (λ q. clash (named (r .map) i) e (ap (named (r .map)) q ∙ free))))

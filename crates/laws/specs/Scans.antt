@@ -1,0 +1,280 @@
+-- A scan as a relation: on which bytes it depends, what an appended entry adds, and the scan of entries laid one behind the other.
+use Prim.Native.Nat.{ℕ, zero, suc, _+_, _≤_, _<_}
+use mathlib.Core.Path.{_≡_, refl, sym, _∙_, ap, subst}
+use mathlib.Core.List.{List, [], _∷_, _++_, append-nil, map, List·Memᴰ, List·Memᴰ·head, List·Memᴰ·tail}
+use mathlib.Core.Option.{none, some}
+use native.Mathlib.Nat.{add-zero}
+use native.Mathlib.Omega.{arith}
+use lib.Dec.{eqb}
+use lib.ListN.{length, getD, take, drop, length-append}
+use lib.Seq.{getD-take, take-take, take-add, take-length, take-append-seam, drop-append-seam, drop-drop}
+use Rattle.word.specs.Number.{Bytes}
+use Rattle.word.specs.Laws.{bytes-append}
+use Rattle.segment.specs.Choice.{pick}
+use Rattle.segment.specs.Layout.{Layout, digestSize}
+use Rattle.segment.specs.Packed.{take-drop-take}
+use Rattle.segment.specs.Entry.{Entry, Found, entry, end, damage, entryAt, encoded, sizeOf, WellFormed, Stands}
+use Rattle.segment.specs.EntryLaws.{length-encoded, bytes-encoded, found-fits, found-end, found-stands, stands-found, zero-end, own-bytes, own-end}
+use Rattle.segment.specs.Digest.{digestOf}
+use Rattle.segment.specs.DigestLaws.{digest-own-bytes}
+use Rattle.segment.specs.declared.Digest.{Digest}
+use Rattle.model.specs.Log.{Item, Scan, damaged, scanned, itemFirst, scanFrom, scan, placedIn, digestIn, viewOf}
+use Rattle.model.specs.Operations.{allEncoded, placedFrom}
+
+abbrev pub itemAt : ℕ → Entry → Item
+itemAt at x = record { offset = at; entry = x }
+
+abbrev pub entriesOf : List Item → List Entry
+entriesOf is = map (λ (x : Item). x .entry) is
+
+-- ---- the relation, and that it is the scan
+
+-- From an offset on stand these items, one behind the other, and the end stands at e.
+pub data Scans (L : Layout) (s : List ℕ) : ℕ → List Item → ℕ → Type 0 where
+  done : {at : ℕ} → entryAt L s at ≡ end → Scans L s at [] at
+  more : {at e : ℕ} {is : List Item} (x : Entry) → entryAt L s at ≡ entry x → Scans L s (at + sizeOf L x) is e → Scans L s at (itemAt at x ∷ is) e
+
+module _ (L : Layout) (s : List ℕ) (f at : ℕ) where
+  scan-entry : (x : Entry) → entryAt L s at ≡ entry x → scanFrom L s (suc f) at ≡ itemFirst (itemAt at x) (scanFrom L s f (at + sizeOf L x))
+  unfolding scanFrom
+  scan-entry x p = rw (p, scanFrom)
+
+  scan-end : entryAt L s at ≡ end → scanFrom L s (suc f) at ≡ scanned [] at
+  unfolding scanFrom
+  scan-end p = rw (p, scanFrom)
+
+  scan-damage : entryAt L s at ≡ damage → scanFrom L s (suc f) at ≡ damaged
+  unfolding scanFrom
+  scan-damage p = rw (p, scanFrom)
+
+-- a scan that begins with an item goes on behind it
+item-first : {i : Item} {is : List Item} {e : ℕ} (r : Scan) → itemFirst i r ≡ scanned is e → (js : List Item) × (r ≡ scanned js e) × (i ∷ js ≡ is)
+unfolding itemFirst
+item-first damaged p = let z : _≡_ {A = ℕ} 0 1 = cc in absurd (omega arith)
+item-first (scanned js k) p = (js, cc, cc)
+
+module _ (L : Layout) (s : List ℕ) where
+  pub scanned-scans : (f at : ℕ) {is : List Item} {e : ℕ} → scanFrom L s f at ≡ scanned is e → Scans L s at is e
+  unfolding scanFrom
+  scanned-scans zero at p = let z : _≡_ {A = ℕ} 0 1 = cc in absurd (omega arith)
+  scanned-scans (suc f) at {is} {e} p = go (entryAt L s at) refl (λ b js q. scanned-scans f b q)
+    where
+      go : (r : Found) → entryAt L s at ≡ r → ((b : ℕ) (js : List Item) → scanFrom L s f b ≡ scanned js e → Scans L s b js e) → Scans L s at is e
+      go (entry x) q below =
+          let (js, rest, all) = item-first (scanFrom L s f (at + sizeOf L x)) (sym (scan-entry L s f at x q) ∙ p) in
+          subst (λ (l : List Item). Scans L s at l e) all (more x q (below (at + sizeOf L x) js rest))
+      go end q below =
+          let nothing : [] ≡ is = cc (scan-end L s f at q) in
+          let here : at ≡ e = cc (scan-end L s f at q) in
+          subst (λ (l : List Item). Scans L s at l e) nothing (subst (λ (k : ℕ). Scans L s at [] k) here (done q))
+      go damage q below = let z : _≡_ {A = ℕ} 0 1 = cc (scan-damage L s f at q) in absurd (omega arith)
+
+  -- each entry is at least a byte long, so that fuel for each byte from the offset on suffices
+  pub scans-scanned : {at e : ℕ} {is : List Item} → Scans L s at is e → (f : ℕ) → length s < at + f → scanFrom L s f at ≡ scanned is e
+  unfolding itemFirst
+  scans-scanned (done {at} p) zero h = absurd (omega (arith, found-end L s at p .0))
+  scans-scanned (done {at} p) (suc f) h = scan-end L s f at p
+  scans-scanned (more {at} x p r) zero h = absurd (omega (arith, found-fits L s at x p))
+  scans-scanned (more {at} x p r) (suc f) h =
+      scan-entry L s f at x p ∙ ap (itemFirst (itemAt at x)) (scans-scanned r f (omega arith))
+
+  pub scan-scans : {is : List Item} {e : ℕ} → scan L s ≡ scanned is e → Scans L s (digestSize L) is e
+  scan-scans p = scanned-scans (suc (length s)) (digestSize L) p
+
+  pub scans-scan : {is : List Item} {e : ℕ} → Scans L s (digestSize L) is e → scan L s ≡ scanned is e
+  scans-scan r = scans-scanned r (suc (length s)) (omega arith)
+
+-- ---- parts of lists
+
+-- a list begins with a and then b
+module _ (a b l : List ℕ) where
+  pub part-first : take (length (a ++ b)) l ≡ a ++ b → take (length a) l ≡ a
+  part-first e =
+      sym (take-take (length a) (length (a ++ b)) l (omega (arith, length-append a b))) ∙ ap (take (length a)) e ∙ take-append-seam a b
+
+  pub part-second : take (length (a ++ b)) l ≡ a ++ b → take (length b) (drop (length a) l) ≡ b
+  part-second e =
+      sym (take-drop-take (length b) (length a) (length (a ++ b)) l (omega (arith, length-append a b)))
+      ∙ ap (λ (m : List ℕ). take (length b) (drop (length a) m)) e
+      ∙ ap (take (length b)) (drop-append-seam a b)
+      ∙ take-length b
+
+  pub parts-whole : take (length a) l ≡ a → take (length b) (drop (length a) l) ≡ b → take (length (a ++ b)) l ≡ a ++ b
+  parts-whole p q = rw (length-append a b, take-add (length a) (length b) l, p, q)
+
+getD-member {ℓ} : {A : Type ℓ} (l : List A) (k : ℕ) (z : A) → k < length l → List·Memᴰ (getD l k z) l
+getD-member [] k z h = absurd (omega arith)
+getD-member (x ∷ l) zero z h = List·Memᴰ·head refl
+getD-member (x ∷ l) (suc k) z h = List·Memᴰ·tail (getD-member l k z (omega arith))
+
+-- lists with one front have its bytes and its parts
+module _ (m : ℕ) (s t : List ℕ) (same : take m t ≡ take m s) where
+  pub byte-alike : (k : ℕ) → k < m → getD t k 0 ≡ getD s k 0
+  byte-alike k h = sym (getD-take m t k 0 h) ∙ ap (λ (l : List ℕ). getD l k 0) same ∙ getD-take m s k 0 h
+
+  pub part-alike : (k w : ℕ) → k + w ≤ m → take w (drop k t) ≡ take w (drop k s)
+  part-alike k w h = sym (take-drop-take w k m t h) ∙ ap (λ (l : List ℕ). take w (drop k l)) same ∙ take-drop-take w k m s h
+
+-- ---- what is known of the items
+
+module _ {L : Layout} {s : List ℕ} where
+  pub scans-low : {at e : ℕ} {is : List Item} → Scans L s at is e → at ≤ e
+  scans-low (done p) = omega arith
+  scans-low (more x p r) = omega (arith, scans-low r)
+
+  pub scans-high : {at e : ℕ} {is : List Item} → Scans L s at is e → e ≤ length s
+  scans-high (done {at} p) = found-end L s at p .0
+  scans-high (more x p r) = scans-high r
+
+  -- the end: a 0, or that of the segment
+  pub scans-end : {at e : ℕ} {is : List Item} → Scans L s at is e → entryAt L s e ≡ end
+  scans-end (done p) = p
+  scans-end (more x p r) = scans-end r
+
+  pub scans-found : {at e : ℕ} {is : List Item} {i : Item} → Scans L s at is e → List·Memᴰ i is → entryAt L s (i .offset) ≡ entry (i .entry)
+  scans-found (more x p r) (List·Memᴰ·head q) = subst (λ (j : Item). entryAt L s (j .offset) ≡ entry (j .entry)) (sym q) p
+  scans-found (more x p r) (List·Memᴰ·tail m) = scans-found r m
+
+  pub scans-from : {at e : ℕ} {is : List Item} {i : Item} → Scans L s at is e → List·Memᴰ i is → at ≤ i .offset
+  scans-from (more x p r) (List·Memᴰ·head q) = omega (arith, ap (λ (j : Item). j .offset) q)
+  scans-from (more x p r) (List·Memᴰ·tail m) = omega (arith, scans-from r m)
+
+  pub scans-to : {at e : ℕ} {is : List Item} {i : Item} → Scans L s at is e → List·Memᴰ i is → i .offset + sizeOf L (i .entry) ≤ e
+  scans-to {e = e} (more x p r) (List·Memᴰ·head q) = subst (λ (j : Item). j .offset + sizeOf L (j .entry) ≤ e) (sym q) (scans-low r)
+  scans-to (more x p r) (List·Memᴰ·tail m) = scans-to r m
+
+  -- an item ends at or before the place where a later one begins
+  pub scans-ascend : {at e : ℕ} {is : List Item} → Scans L s at is e → (z : Item) (j k : ℕ) → j < k → k < length is
+      → getD is j z .offset + sizeOf L (getD is j z .entry) ≤ getD is k z .offset
+  scans-ascend (done p) z j k h l = absurd (omega arith)
+  scans-ascend (more x p r) z j zero h l = absurd (omega arith)
+  scans-ascend (more {is = is} x p r) z zero (suc k) h l = scans-from r (getD-member is k z (omega arith))
+  scans-ascend (more x p r) z (suc j) (suc k) h l = scans-ascend r z j k (omega arith) (omega arith)
+
+  -- items of one offset are one
+  pub scans-alike : {at e : ℕ} {is : List Item} {i j : Item} → Scans L s at is e → List·Memᴰ i is → List·Memᴰ j is → i .offset ≡ j .offset → i ≡ j
+  scans-alike {i = i} {j = j} r m n q =
+      let same : i .entry ≡ j .entry = cc (scans-found r m, scans-found r n) in
+      λ k. record { offset = q k; entry = same k }
+
+  -- of a segment of bytes, the items are entries of the layout, and their bytes are those that stand there
+  pub scans-stands : {at e : ℕ} {is : List Item} {i : Item} → Bytes s → Scans L s at is e → List·Memᴰ i is → Stands L s (i .offset) (i .entry)
+  scans-stands {i = i} h r m = found-stands L s (i .offset) (i .entry) (scans-found r m) h
+
+  -- from the offset on the items fill the segment up to their end
+  pub scans-total : {at e : ℕ} {is : List Item} → Scans L s at is e → at + length (allEncoded L (entriesOf is)) ≡ e
+  unfolding allEncoded
+  scans-total (done p) = add-zero _
+  scans-total (more {is = is} x p r) =
+      omega (arith, scans-total r, length-append (encoded L x) (allEncoded L (entriesOf is)), length-encoded L x)
+
+  pub scans-bytes : {at e : ℕ} {is : List Item} → Bytes s → Scans L s at is e
+      → take (length (allEncoded L (entriesOf is))) (drop at s) ≡ allEncoded L (entriesOf is)
+  unfolding allEncoded
+  scans-bytes h (done p) = refl
+  scans-bytes h (more {at} {is = is} x p r) =
+      parts-whole (encoded L x) (allEncoded L (entriesOf is)) (drop at s)
+      (ap (λ (n : ℕ). take n (drop at s)) (length-encoded L x) ∙ found-stands L s at x p h .same)
+      (ap (λ (l : List ℕ). take (length (allEncoded L (entriesOf is))) l)
+      (drop-drop (length (encoded L x)) at s ∙ ap (λ (n : ℕ). drop (at + n) s) (length-encoded L x))
+      ∙ scans-bytes h r)
+
+-- ---- on which bytes a scan depends
+
+module _ {L : Layout} {s : List ℕ} (t : List ℕ) (size : length t ≡ length s) where
+  -- on those up to and with the kind byte at its end: where it ends with the segment, that is on all
+  pub scans-agree : {at e : ℕ} {is : List Item} → Scans L s at is e → take (e + 1) t ≡ take (e + 1) s → Scans L t at is e
+  scans-agree (done {at} p) q =
+      done (own-end L s t at p (omega (arith, found-end L s at p .0)) (byte-alike (at + 1) s t q at (omega arith)))
+  scans-agree (more {at} {e} x p r) q =
+      more x
+      (own-bytes L s t at at x p (omega (arith, scans-low r, scans-high r))
+      (part-alike (e + 1) s t q at (sizeOf L x) (omega (arith, scans-low r)))) (scans-agree r q)
+
+  -- an entry that comes to stand at the end, with the end behind it, is one item more
+  pub scans-append : {at e : ℕ} {is : List Item} (x : Entry) → Scans L s at is e → take e t ≡ take e s → Stands L t e x
+      → getD t (e + sizeOf L x) 0 ≡ 0 → Scans L t at (is ++ (itemAt e x ∷ [])) (e + sizeOf L x)
+  scans-append x (done {at} p) q h z =
+      more x (stands-found L t at x h) (done (zero-end L t (at + sizeOf L x) (h .fits) z))
+  scans-append x (more {at} {e} y p r) q h z =
+      more y
+      (own-bytes L s t at at y p (omega (arith, scans-low r, scans-high r))
+      (part-alike e s t q at (sizeOf L y) (scans-low r))) (scans-append x r q h z)
+
+-- ---- entries laid one behind the other
+
+unfoldable pub itemsFrom : Layout → ℕ → List Entry → List Item
+itemsFrom L at [] = []
+itemsFrom L at (x ∷ xs) = itemAt at x ∷ itemsFrom L (at + sizeOf L x) xs
+
+module _ (L : Layout) where
+  pub placed-items : (i at : ℕ) (xs : List Entry) → placedIn i (itemsFrom L at xs) ≡ placedFrom L i at xs
+  unfolding placedIn placedFrom itemsFrom
+  placed-items i at [] = refl
+  placed-items i at (x ∷ xs) = rw (placed-items i (at + sizeOf L x) xs)
+
+  pub entries-items : (at : ℕ) (xs : List Entry) → entriesOf (itemsFrom L at xs) ≡ xs
+  unfolding itemsFrom
+  entries-items at [] = refl
+  entries-items at (x ∷ xs) = ap (λ (ys : List Entry). x ∷ ys) (entries-items (at + sizeOf L x) xs)
+
+  pub encoded-one : (x : Entry) → allEncoded L (x ∷ []) ≡ encoded L x
+  unfolding allEncoded
+  encoded-one x = append-nil (encoded L x)
+
+  pub length-allEncoded : (x : Entry) (xs : List Entry) → length (allEncoded L (x ∷ xs)) ≡ sizeOf L x + length (allEncoded L xs)
+  unfolding allEncoded
+  length-allEncoded x xs = length-append (encoded L x) (allEncoded L xs) ∙ ap (λ (n : ℕ). n + length (allEncoded L xs)) (length-encoded L x)
+
+  pub bytes-allEncoded : (xs : List Entry) → ((x : Entry) → List·Memᴰ x xs → WellFormed L x) → Bytes (allEncoded L xs)
+  unfolding allEncoded
+  bytes-allEncoded [] h = λ i. omega arith
+  bytes-allEncoded (x ∷ xs) h =
+      bytes-append (encoded L x) (allEncoded L xs) (bytes-encoded L x (h x (List·Memᴰ·head refl))) (bytes-allEncoded xs (λ y m. h y (List·Memᴰ·tail m)))
+
+  -- what begins with their bytes, with the end behind them, scans to them
+  pub scans-encoded : (t : List ℕ) (at e : ℕ) (xs : List Entry) → ((x : Entry) → List·Memᴰ x xs → WellFormed L x)
+      → e ≡ at + length (allEncoded L xs) → e ≤ length t
+      → take (length (allEncoded L xs)) (drop at t) ≡ allEncoded L xs → getD t e 0 ≡ 0 → Scans L t at (itemsFrom L at xs) e
+  unfolding itemsFrom allEncoded
+  scans-encoded t at e [] h q fits own z = subst (λ (k : ℕ). Scans L t at [] k) here (done (zero-end L t at (omega arith) (rw here z)))
+    where
+      here : at ≡ e
+      here = omega arith
+  scans-encoded t at e (x ∷ xs) h q fits own z =
+      more x
+      (stands-found L t at x
+      (record {
+        formed = h x (List·Memᴰ·head refl);
+        fits = omega (arith, length-allEncoded x xs);
+        same = ap (λ (n : ℕ). take n (drop at t)) (sym (length-encoded L x)) ∙ part-first (encoded L x) (allEncoded L xs) (drop at t) own;
+      }))
+      (scans-encoded t (at + sizeOf L x) e xs (λ y m. h y (List·Memᴰ·tail m)) (omega (arith, length-allEncoded x xs)) fits
+      (ap (λ (l : List ℕ). take (length (allEncoded L xs)) l)
+      (sym (drop-drop (length (encoded L x)) at t ∙ ap (λ (n : ℕ). drop (at + n) t) (length-encoded L x)))
+      ∙ part-second (encoded L x) (allEncoded L xs) (drop at t) own) z)
+
+-- a scan's items are its entries, one behind the other
+pub scans-items : {L : Layout} {s : List ℕ} {at e : ℕ} {is : List Item} → Scans L s at is e → is ≡ itemsFrom L at (entriesOf is)
+unfolding itemsFrom
+scans-items (done p) = refl
+scans-items (more {at} x p r) = ap (λ (js : List Item). itemAt at x ∷ js) (scans-items r)
+
+-- ---- the view of a segment
+
+-- the digest depends on its own bytes
+pub digest-alike : (L : Layout) (m : ℕ) (s t : List ℕ) → digestSize L ≤ m → take m t ≡ take m s → digestIn L t ≡ digestIn L s
+unfolding digestIn
+digest-alike L m s t h same =
+    ap (λ (b : ℕ). pick (eqb b (L .digestKind)) (some (digestOf L t)) none) (byte-alike m s t same 0 (omega arith))
+    ∙ ap (λ (d : Digest). pick (eqb (getD s 0 0) (L .digestKind)) (some d) none)
+    (digest-own-bytes L t s (part-alike m s t same 0 (digestSize L) (omega arith)))
+
+-- segments that have the same bytes up to and with the kind byte at the end are viewed alike
+pub view-agree : (L : Layout) (s t : List ℕ) {is : List Item} {e : ℕ} → length t ≡ length s → scan L s ≡ scanned is e
+    → take (e + 1) t ≡ take (e + 1) s → viewOf L t ≡ viewOf L s
+view-agree L s t {is} {e} size p same =
+    let r : Scans L s (digestSize L) is e = scan-scans L s p in
+    let d : digestIn L t ≡ digestIn L s = digest-alike L (e + 1) s t (omega (arith, scans-low r)) same in
+    let c : scan L t ≡ scan L s = scans-scan L t (scans-agree t size r same) ∙ sym p in
+    λ i. record { digest = d i; scan = c i }
