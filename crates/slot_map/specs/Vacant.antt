@@ -83,9 +83,6 @@ module _ (n m f head : ℕ) (p : FreeMap n m f) where
     pub next-above : (above f head ≡ 0 → ⊥) → head + 1 + trailingZeros k (above f head) ≡ nextFree n m head
     next-above q = sym (next-is n m head (head + 1 + trailingZeros k (above f head)) at (free-above (omega (arith, q))))
 
-    pub next-above-below : (above f head ≡ 0 → ⊥) → head + 1 + trailingZeros k (above f head) < n
-    next-above-below q = free-above (omega (arith, q)) .below
-
     pub next-round : above f head ≡ 0 → (f ≡ 0 → ⊥) → trailingZeros k f ≡ nextFree n m head
     next-round z q =
         sym

@@ -4,9 +4,11 @@ use Prim.Native.Nat.{ℕ, _+_, _-_, _/_, _^_, _≤_, _<_}
 use native.Mathlib.Omega.{arith}
 use borrow.Author.Needs.{needs}
 use lib.Bits.{bitAnd}
-use lib.Count.{trailingZeros}
+use lib.Count.{trailingZeros, trailing-le}
+use mir.Syntax.{w32}
+use mir.Val.{Fits}
 use Rattle.slot_map.specs.Next.{nextFree}
-use Rattle.slot_map.specs.Vacant.{above, next-above, next-above-below, next-round, next-nothing}
+use Rattle.slot_map.specs.Vacant.{above, next-above, next-round, next-nothing}
 use Rattle.slot_map.specs.Words.{free-map}
 use Rattle.slot_map.proofs.next_free.Statement.{statement}
 use Rattle.slot_map.proofs.next_free.Tie as tie
@@ -14,10 +16,11 @@ use Rattle.slot_map.proofs.next_free.Tie as tie
 abbrev vacant : ℕ → ℕ → ℕ
 vacant n m = bitAnd (0xffff_ffff - m) (0xffff_ffff / 2 ^ (32 - n))
 
-module _ {n m head : ℕ} (pre : (1 ≤ n) × (n ≤ 32) × (head < n)) (fits : m < 2 ^ 32) where
-  over-fits : (above (vacant n m) head ≡ 0 → ⊥) → head + 1 + trailingZeros 32 (above (vacant n m) head) < n
-  over-fits = next-above-below n m (vacant n m) head (free-map 32 n m (pre .1) fits) 32 (pre .1) (pre .2)
+-- a word has at most 32 trailing zeros
+sum-fits : (a x : ℕ) → a ≤ 32 → Fits w32 (a + trailingZeros 32 x)
+sum-fits a x h = omega (arith, trailing-le 32 x)
 
+module _ {n m head : ℕ} (pre : (1 ≤ n) × (n ≤ 32) × (head < n)) (fits : m < 2 ^ 32) where
   over : (above (vacant n m) head ≡ 0 → ⊥) → head + 1 + trailingZeros 32 (above (vacant n m) head) ≡ nextFree n m head
   over = next-above n m (vacant n m) head (free-map 32 n m (pre .1) fits) 32 (pre .1) (pre .2)
 
@@ -40,7 +43,7 @@ add-result : tie.Need-add-result
 add-result c = search needs
 
 add-result-2 : tie.Need-add-result-2
-add-result-2 c = omega (arith, over-fits (c .before .pre) (c .before .fits .map .fits) (c .if1 .taken))
+add-result-2 c = sum-fits _ _ (omega arith)
 
 returns : tie.Need-returns
 returns c = over (c .before .pre) (c .before .fits .map .fits) (c .if1 .taken)
