@@ -7,3 +7,5 @@ pub mod Puts
 pub mod Area
 pub mod Insert
 pub mod InsertLaws
+pub mod Build
+pub mod Entries

@@ -300,7 +300,7 @@ module _ (log : List Placed) (x : Placed) (after : List Placed) (w : Entered log
         ap (count k) (w .new),
         count-append k (w .before) (w .behind),
         count-append k (w .before) (x ∷ w .behind),
-        count-append k (x ∷ []) (w .behind)
+        count-append k (x ∷ []) (w .behind),
       )
 
   -- Where its version is above all others, no version is shared, and its version is the highest.
