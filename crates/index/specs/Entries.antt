@@ -13,7 +13,7 @@ use Rattle.laws.specs.Scans.{Scans, done, more, itemAt, scan-scans}
 use Rattle.index.specs.Build.{entriesFrom, entriesAt}
 
 -- TEMP until laws has it
-scan-whole : (s : Scan) → isDamaged s ≡ false → s ≡ scanned (itemsOf s) (endOf s)
+pub scan-whole : (s : Scan) → isDamaged s ≡ false → s ≡ scanned (itemsOf s) (endOf s)
 unfolding isDamaged itemsOf endOf
 scan-whole damaged e = let z : _≡_ {A = ℕ} 0 1 = cc in absurd (omega arith)
 scan-whole (scanned is k) e = refl

@@ -9,3 +9,4 @@ pub mod Insert
 pub mod InsertLaws
 pub mod Build
 pub mod Entries
+pub mod BuildLaws
