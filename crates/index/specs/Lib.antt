@@ -1,6 +1,7 @@
 pub mod Search
 pub mod Around
 pub mod Probe
+pub mod SearchLaws
 pub mod Finds
 pub mod Front
 pub mod Puts

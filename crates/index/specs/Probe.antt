@@ -1,16 +1,16 @@
 -- What a search over any cells says, by its answer.
 use Prim.Native.Nat.{ℕ, zero, suc, _+_, _<_}
 use mathlib.Core.Path.{_≡_, refl, sym, _∙_, ap, subst}
-use mathlib.Core.Logic.{⊎-elim}
 use mathlib.Core.Bool.{Bool, true, false}
 use mathlib.Core.List.{List}
-use native.Mathlib.Nat.{add-zero, zero-add, eq-or-lt-of-le, le-of-suc-le-suc}
+use native.Mathlib.Nat.{add-zero, zero-add}
+use native.Mathlib.Numerals.{add-one}
 use native.Mathlib.Omega.{arith}
 use lib.Dec.{eqb}
 use lib.ListN.{length, getD}
 use borrow.Author.Count.{below-more}
 use borrow.Author.Tests.{eq-eqb, ne-eqb, eqb-true, eqb-false}
-use Rattle.segment.specs.Choice.{pick-true, pick-false}
+use Rattle.segment.specs.Choice.{pick, pick-true, pick-false}
 use Rattle.model.specs.Index.{around, Met}
 use Rattle.index.specs.Search.{probe}
 use Rattle.index.specs.Around.{around-below, around-lt, around-next}
@@ -24,22 +24,27 @@ module _ (t : ℕ → Bool) (cells : List ℕ) where
   unfolding probe
   probe-none at = refl
 
-  module _ (f at : ℕ) where
-    pub probe-free : getD cells at 0 ≡ 0 → probe t cells (suc f) at ≡ Free at
-    unfolding probe
-    probe-free e = pick-true (eqb (getD cells at 0) 0) (Free at) _ (eq-eqb (getD cells at 0) 0 e)
+  -- f cells to go, of which g are left behind this one
+  module _ (f g at : ℕ) (e : f ≡ g + 1) where
+    turn : probe t cells f at ≡ probe t cells (suc g) at
+    turn = ap (λ (n : ℕ). probe t cells n at) (e ∙ add-one g)
 
-    pub probe-at : (getD cells at 0 ≡ 0 → ⊥) → t (getD cells at 0) ≡ true → probe t cells (suc f) at ≡ At at
+    pub probe-free : getD cells at 0 ≡ 0 → probe t cells f at ≡ Free at
     unfolding probe
-    probe-at n e =
-        pick-false (eqb (getD cells at 0) 0) (Free at) _ (ne-eqb (getD cells at 0) 0 n) ∙ pick-true (t (getD cells at 0)) (At at) _ e
+    probe-free z = turn ∙ pick-true (eqb (getD cells at 0) 0) (Free at) _ (eq-eqb (getD cells at 0) 0 z)
+
+    held : (getD cells at 0 ≡ 0 → ⊥) →
+        probe t cells f at ≡ pick (t (getD cells at 0)) (At at) (probe t cells g (around (length cells) (at + 1)))
+    unfolding probe
+    held n = turn ∙ pick-false (eqb (getD cells at 0) 0) (Free at) _ (ne-eqb (getD cells at 0) 0 n)
+
+    pub probe-at : (getD cells at 0 ≡ 0 → ⊥) → t (getD cells at 0) ≡ true → probe t cells f at ≡ At at
+    probe-at n p = held n ∙ pick-true (t (getD cells at 0)) (At at) _ p
 
     pub probe-next :
         (getD cells at 0 ≡ 0 → ⊥) → t (getD cells at 0) ≡ false →
-        probe t cells (suc f) at ≡ probe t cells f (around (length cells) (at + 1))
-    unfolding probe
-    probe-next n e =
-        pick-false (eqb (getD cells at 0) 0) (Free at) _ (ne-eqb (getD cells at 0) 0 n) ∙ pick-false (t (getD cells at 0)) (At at) _ e
+        probe t cells f at ≡ probe t cells g (around (length cells) (at + 1))
+    probe-next n p = held n ∙ pick-false (t (getD cells at 0)) (At at) _ p
 
   -- ---- what was passed, and where the search stopped
 
@@ -84,11 +89,11 @@ module _ (t : ℕ → Bool) (cells : List ℕ) where
       go : (z : Bool) → eqb (getD cells at 0) 0 ≡ z → (s : Bool) → t (getD cells at 0) ≡ s
           → (Passed start (d + 1) → Probed start (probe t cells f (around (length cells) (start + (d + 1)))))
           → Probed start (probe t cells (suc f) at)
-      go true ez s es ih = rw (probe-free f at (eqb-true (getD cells at 0) 0 ez)) (reached, eqb-true (getD cells at 0) 0 ez)
+      go true ez s es ih = rw (probe-free (suc f) f at (omega arith) (eqb-true (getD cells at 0) 0 ez)) (reached, eqb-true (getD cells at 0) 0 ez)
       go false ez true es ih =
-          rw (probe-at f at (eqb-false (getD cells at 0) 0 ez) es) (reached, eqb-false (getD cells at 0) 0 ez, es)
+          rw (probe-at (suc f) f at (omega arith) (eqb-false (getD cells at 0) 0 ez) es) (reached, eqb-false (getD cells at 0) 0 ez, es)
       go false ez false es ih =
-          rw (probe-next f at (eqb-false (getD cells at 0) 0 ez) es, around-next (length cells) start d h (omega arith))
+          rw (probe-next (suc f) f at (omega arith) (eqb-false (getD cells at 0) 0 ez) es, around-next (length cells) start d h (omega arith))
           (ih (below-more (Pass start) d p (record { held = eqb-false (getD cells at 0) 0 ez; other = es })))
 
   pub probed : (start : ℕ) → start < length cells → Probed start (probe t cells (length cells) start)

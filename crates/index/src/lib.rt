@@ -1,4 +1,6 @@
 // The index over the caller's cells: search, put and rebuild.
+pub mod put;
+pub mod search;
 
 // What a search for a key meets: the cell that holds it, a free cell, or neither in any cell.
 pub enum Found {
