@@ -1,3 +1,5 @@
 -- What the calls of this crate compute, and the laws that take it to their promises.
 pub mod FormatLaws
 pub mod Order
+pub mod Lookups
+pub mod LookupLaws
