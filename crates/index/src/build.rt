@@ -85,3 +85,38 @@ fn index_entry(
         Inserted::Full => Built::TooMany,
     }
 }
+
+// The entries of one slot, whose segment is cut from the area at slot × size.
+fn index_slot(area: &[u8], cells: &mut [u32], slot: usize, size: usize, keys: usize) -> Built
+    requires { ⌜
+        (slot * size + size ≤ length (now area))
+        × (slot * size + size < 4294967295)
+        × (keys ≤ length (now cells))
+        ⌝ }
+    ensures { λ r.
+        ⌜
+        tallyOf r (now (cells .exit))
+        ≡ insertAll edition1 (now (area .entry)) size (slotEntries edition1 (now (area .entry)) size slot) (counted (now (cells .entry)) keys)
+        ⌝ }
+{
+    let start = slot * size;
+    let end = start + size;
+    let s = &area[start..end];
+    let mut at = DIGEST_SIZE;
+    let mut keys = keys;
+    loop {
+        let Next::Entry {
+            key,
+            version,
+            length,
+        } = next_entry(s, at)
+        else {
+            return Built::Keys(keys);
+        };
+        let Built::Keys(n) = index_entry(area, cells, start + at, key, version, keys) else {
+            return Built::TooMany;
+        };
+        keys = n;
+        at += length;
+    }
+}
