@@ -2,11 +2,14 @@
 use Prim.Native.Nat.{ℕ, _+_, _-_, _≤_, _<_}
 use mathlib.Core.Path.{_≡_, refl, sym, _∙_, ap}
 use mathlib.Core.Bool.{Bool, true, false}
+use native.Mathlib.Nat.{mod-lt}
 use native.Mathlib.Omega.{arith}
 use lib.Dec.{ltb}
 use borrow.Author.Tests.{lt-ltb, le-ltb, ltb-true, ltb-false}
 use Rattle.segment.specs.Choice.{pick-true, pick-false}
-use Rattle.model.specs.Index.{around}
+use Rattle.word.specs.Fnv.{keyHash}
+use Rattle.segment.specs.declared.Key.{Key}
+use Rattle.model.specs.Index.{around, startCell}
 
 pub around-below : (m x : ℕ) → x < m → around m x ≡ x
 unfolding around
@@ -44,3 +47,6 @@ around-onto m a i ha hi = go (ltb i a) refl
         (i + m - a, omega (arith, ltb-true i a e), around-over m (a + (i + m - a)) (omega (arith, ltb-true i a e)) ∙ omega (arith, ltb-true i a e))
     go false e =
         (i - a, omega (arith, ltb-false i a e), around-below m (a + (i - a)) (omega (arith, ltb-false i a e)) ∙ omega (arith, ltb-false i a e))
+
+pub start-below : (m : ℕ) (k : Key) → 0 < m → startCell m k < m
+start-below m k h = mod-lt (keyHash (k .table) (k .key)) h

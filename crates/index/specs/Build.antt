@@ -6,11 +6,18 @@ use lib.Dec.{leb}
 use lib.ListN.{length, replicate}
 use Rattle.segment.specs.Choice.{pick, both}
 use Rattle.segment.specs.Layout.{Layout, digestSize}
-use Rattle.segment.specs.Entry.{Found, entry, end, damage, entryAt, sizeOf}
+use Rattle.segment.specs.Entry.{Found, entry, end, damage, entryAt, sizeOf, keyOf}
 use Rattle.slot_map.specs.Bit.{named}
 use Rattle.model.specs.Log.{Item, Placed, segmentOf, placedIn}
 use Rattle.index.specs.Insert.{Tally, counted, over, insertAll}
 use Rattle.index.specs.declared.Built.{Built}
+use Rattle.index.specs.declared.Next.{Next}
+
+-- What the index wants of an entry that the reader finds. Damage ends a segment: a log that is recovered has none.
+unfoldable pub nextOf : Layout → Found → Next
+nextOf L (entry e) = Next.Entry (keyOf e) (record { 0 = e .version }) (sizeOf L e)
+nextOf L end = Next.Stop
+nextOf L damage = Next.Stop
 
 -- the entries of a segment from an offset on, up to its end or to damage; f bounds how many there can be
 unfoldable pub entriesFrom : Layout → List ℕ → ℕ → ℕ → List Item
@@ -27,8 +34,8 @@ abbrev pub entriesAt : Layout → List ℕ → ℕ → List Item
 entriesAt L s at = entriesFrom L s (suc (length s)) at
 
 -- a slot that the map names and whose segment lies within the area
-unfoldable pub inLog : List ℕ → ℕ → ℕ → ℕ → Bool
-inLog area S map i = both (named map i) (leb (i * S + S) (length area))
+unfoldable pub inLog : ℕ → ℕ → ℕ → ℕ → Bool
+inLog areaLength S map i = both (named map i) (leb (i * S + S) areaLength)
 
 -- the entries of one slot, and of the slots of a list in their order
 abbrev pub slotEntries : Layout → List ℕ → ℕ → ℕ → List Placed
@@ -36,7 +43,12 @@ slotEntries L area S i = placedIn i (entriesAt L (segmentOf area S i) (digestSiz
 
 unfoldable pub listed : Layout → List ℕ → ℕ → ℕ → List ℕ → List Placed
 listed L area S map [] = []
-listed L area S map (i ∷ order) = pick (inLog area S map i) (slotEntries L area S i) [] ++ listed L area S map order
+listed L area S map (i ∷ order) = pick (inLog (length area) S map i) (slotEntries L area S i) [] ++ listed L area S map order
+
+-- the tally that an answer stands for, with the cells
+unfoldable pub tallyOf : Built → List ℕ → Tally
+tallyOf (Built.Keys n) cells = counted cells n
+tallyOf Built.TooMany cells = over
 
 -- What a rebuilding answers, and the cells that it leaves: with too many keys they are all 0.
 pub record Rebuilt : Type 0 where

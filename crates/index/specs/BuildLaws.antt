@@ -87,38 +87,38 @@ order-lists n order e i h =
 
 module _ (L : Layout) (area : List ℕ) (S map : ℕ) where
   -- from a slot of the list, and to one
-  listed-from : (order : List ℕ) (x : Placed) → In x (listed L area S map order) → (i : ℕ) × (inLog area S map i ≡ true) × In x (slotEntries L area S i)
+  listed-from : (order : List ℕ) (x : Placed) → In x (listed L area S map order) → (i : ℕ) × (inLog (length area) S map i ≡ true) × In x (slotEntries L area S i)
   unfolding listed
   listed-from [] x m = absurd (List·Memᴰ·not-nil m)
   listed-from (i ∷ order) x m =
-      go (inLog area S map i) refl (List·Memᴰ·append-cases (pick (inLog area S map i) (slotEntries L area S i) []) m) (λ r. listed-from order x r)
+      go (inLog (length area) S map i) refl (List·Memᴰ·append-cases (pick (inLog (length area) S map i) (slotEntries L area S i) []) m) (λ r. listed-from order x r)
     where
-      go : (t : Bool) → inLog area S map i ≡ t → In x (pick (inLog area S map i) (slotEntries L area S i) []) ⊎ In x (listed L area S map order) →
-          (In x (listed L area S map order) → (j : ℕ) × (inLog area S map j ≡ true) × In x (slotEntries L area S j)) →
-          (j : ℕ) × (inLog area S map j ≡ true) × In x (slotEntries L area S j)
-      go true e (inl p) ih = (i, e, rw (pick-true (inLog area S map i) (slotEntries L area S i) [] e) at p)
-      go false e (inl p) ih = absurd (List·Memᴰ·not-nil (rw (pick-false (inLog area S map i) (slotEntries L area S i) [] e) at p))
+      go : (t : Bool) → inLog (length area) S map i ≡ t → In x (pick (inLog (length area) S map i) (slotEntries L area S i) []) ⊎ In x (listed L area S map order) →
+          (In x (listed L area S map order) → (j : ℕ) × (inLog (length area) S map j ≡ true) × In x (slotEntries L area S j)) →
+          (j : ℕ) × (inLog (length area) S map j ≡ true) × In x (slotEntries L area S j)
+      go true e (inl p) ih = (i, e, rw (pick-true (inLog (length area) S map i) (slotEntries L area S i) [] e) at p)
+      go false e (inl p) ih = absurd (List·Memᴰ·not-nil (rw (pick-false (inLog (length area) S map i) (slotEntries L area S i) [] e) at p))
       go t e (inr r) ih = ih r
 
-  listed-to : (order : List ℕ) (i : ℕ) → In i order → inLog area S map i ≡ true → (x : Placed) → In x (slotEntries L area S i) → In x (listed L area S map order)
+  listed-to : (order : List ℕ) (i : ℕ) → In i order → inLog (length area) S map i ≡ true → (x : Placed) → In x (slotEntries L area S i) → In x (listed L area S map order)
   unfolding listed
   listed-to (j ∷ order) i (List·Memᴰ·head q) e x m =
       Memᴰ·append-left (listed L area S map order)
-      (subst (λ (k : ℕ). In x (pick (inLog area S map k) (slotEntries L area S k) [])) q
-      (rw (pick-true (inLog area S map i) (slotEntries L area S i) [] e) m))
+      (subst (λ (k : ℕ). In x (pick (inLog (length area) S map k) (slotEntries L area S k) [])) q
+      (rw (pick-true (inLog (length area) S map i) (slotEntries L area S i) [] e) m))
   listed-to (j ∷ order) i (List·Memᴰ·tail r) e x m =
-      Memᴰ·append-right (pick (inLog area S map j) (slotEntries L area S j) []) (listed-to order i r e x m)
+      Memᴰ·append-right (pick (inLog (length area) S map j) (slotEntries L area S j) []) (listed-to order i r e x m)
 
   -- n slots of S bytes, and a map of slots below n whose segments are undamaged
   module _ (n : ℕ) (long : length area ≡ n * S) (below : map < 2 ^ n) (scans : AllScanned (viewsOf L area S) (named map) n) where
     slot-below : (i : ℕ) → named map i ≡ true → i < n
     slot-below i e = set-below n map i below (named-true map i e)
 
-    in-log-named : (i : ℕ) → inLog area S map i ≡ true → named map i ≡ true
+    in-log-named : (i : ℕ) → inLog (length area) S map i ≡ true → named map i ≡ true
     unfolding inLog
     in-log-named i e = both-left (named map i) (leb (i * S + S) (length area)) e
 
-    named-in-log : (i : ℕ) → named map i ≡ true → inLog area S map i ≡ true
+    named-in-log : (i : ℕ) → named map i ≡ true → inLog (length area) S map i ≡ true
     unfolding inLog
     named-in-log i e =
         both-true (named map i) (leb (i * S + S) (length area)) e
@@ -133,7 +133,7 @@ module _ (L : Layout) (area : List ℕ) (S map : ℕ) where
         to : Within (listed L area S map order) (logOf (viewsOf L area S) (named map) n)
         to x m = go (listed-from order x m)
           where
-            go : (i : ℕ) × (inLog area S map i ≡ true) × In x (slotEntries L area S i) → In x (logOf (viewsOf L area S) (named map) n)
+            go : (i : ℕ) × (inLog (length area) S map i ≡ true) × In x (slotEntries L area S i) → In x (logOf (viewsOf L area S) (named map) n)
             go (i, e, p) =
                 let q = in-log-named i e in
                 let w = mem-placed i x (entriesAt L (segmentOf area S i) (digestSize L)) p in

@@ -5,12 +5,10 @@ use mathlib.Core.Logic.{_⊎_, inl, inr}
 use mathlib.Core.Bool.{Bool, true, false}
 use mathlib.Core.List.{List, [], _∷_, List·Memᴰ·head, List·Memᴰ·tail, List·Memᴰ·not-nil}
 use mathlib.Core.Option.{Option, none, some}
-use native.Mathlib.Nat.{mod-lt}
 use native.Mathlib.Omega.{arith}
 use lib.Dec.{ltb}
 use lib.ListN.{length, getD}
 use borrow.Author.Tests.{ltb-true, ltb-false}
-use Rattle.word.specs.Fnv.{keyHash}
 use Rattle.segment.specs.Entry.{keyOf}
 use Rattle.segment.specs.declared.Key.{Key}
 use Rattle.model.specs.Log.{Placed, placeOf, sameKey, latest, hasKey, keysOf}
@@ -19,7 +17,7 @@ use Rattle.laws.specs.Members.{clash, In, first, Once, empty, more, Within, onc
 use Rattle.laws.specs.Latest.{same-key, key-same, own-key, latest-some, latest-has, latest-none}
 use Rattle.laws.specs.Keys.{key-listed}
 use Rattle.index.specs.Search.{probe}
-use Rattle.index.specs.Around.{around-onto}
+use Rattle.index.specs.Around.{around-onto, start-below}
 use Rattle.index.specs.Probe.{Pass, Reached, Passed, Probed, probed, reached-met, reached-below}
 use Rattle.index.specs.declared.Found.{Found}
 use Rattle.index.specs.declared.Found.the-variants.{At, Free, Full}
@@ -34,9 +32,6 @@ pub record FreeCell (cells : List ℕ) (k : Key) : Type 0 where
   pub below : cell < length cells
   pub free : getD cells cell 0 ≡ 0
   pub met : Met cells (startCell (length cells) k) cell
-
-pub start-below : (m : ℕ) (k : Key) → 0 < m → startCell m k < m
-start-below m k h = mod-lt (keyHash (k .table) (k .key)) h
 
 module _ (S : ℕ) (log : List Placed) (cells : List ℕ) (rule : IndexRule S log cells) where
   -- what a cell that is not 0 holds

@@ -1,7 +1,7 @@
 -- An entry put into the index, and a list of them one after the other, as total functions of any area and any cells.
 use Prim.Native.Nat.{ℕ, _+_, _-_}
 use mathlib.Core.List.{List, [], _∷_}
-use lib.Dec.{eqb, ltb}
+use lib.Dec.{ltb}
 use lib.ListN.{length, getD, set}
 use Rattle.segment.specs.Choice.{pick}
 use Rattle.segment.specs.Layout.{Layout}
@@ -30,22 +30,26 @@ inserted L area cells place k version = insertedAt L area cells place version (s
 
 -- ---- many entries
 
--- The cells and the number of keys so far, or over: as many keys as cells, which is more than M - 1 (01, cause 20).
+-- The cells and the number of keys so far, which stays below the number of cells, or over: a key more than that (01, cause 20).
 pub data Tally : Type 0 where
   counted : List ℕ → ℕ → Tally
   over : Tally
 
 unfoldable pub tallied : Inserted → List ℕ → ℕ → Tally
-tallied Inserted.New cells n = pick (eqb (n + 1) (length cells)) over (counted cells (n + 1))
+tallied Inserted.New cells n = pick (ltb (n + 1) (length cells)) (counted cells (n + 1)) over
 tallied Inserted.Newer cells n = counted cells n
 tallied Inserted.Older cells n = counted cells n
 tallied Inserted.Full cells n = over
 
-unfoldable pub insertNext : Layout → List ℕ → ℕ → Placed → Tally → Tally
-insertNext L area S x over = over
-insertNext L area S x (counted cells n) =
-    let i = inserted L area cells (placeOf S x) (keyOf (x .entry)) (x .entry .version) in
+-- one entry more
+abbrev pub insertOne : Layout → List ℕ → ℕ → Key → ℕ → List ℕ → ℕ → Tally
+insertOne L area place k version cells n =
+    let i = inserted L area cells place k version in
     tallied (i .answer) (i .cells) n
+
+unfoldable pub insertNext : Layout → List ℕ → ℕ → Placed → Tally → Tally
+insertNext L area S x (counted cells n) = insertOne L area (placeOf S x) (keyOf (x .entry)) (x .entry .version) cells n
+insertNext L area S x over = over
 
 unfoldable pub insertAll : Layout → List ℕ → ℕ → List Placed → Tally → Tally
 insertAll L area S [] s = s

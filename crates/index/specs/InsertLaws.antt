@@ -8,7 +8,7 @@ use mathlib.Core.Option.{Option, none, some}
 use native.Mathlib.Omega.{arith}
 use lib.Dec.{eqb, ltb}
 use lib.ListN.{length, getD, set, replicate, length-set, length-replicate, getD-replicate}
-use borrow.Author.Tests.{lt-ltb, le-ltb, eq-eqb, ne-eqb, ltb-true, ltb-false, eqb-true, eqb-false}
+use borrow.Author.Tests.{lt-ltb, le-ltb, ltb-true, ltb-false, eqb-true, eqb-false}
 use Rattle.segment.specs.Choice.{pick-true, pick-false}
 use Rattle.segment.specs.Layout.{Layout}
 use Rattle.segment.specs.Entry.{keyOf}
@@ -59,13 +59,13 @@ module _ (L : Layout) (area cells : List ℕ) (place : ℕ) (k : Key) (version :
 -- ---- the tally at each answer
 
 module _ (cells : List ℕ) (n : ℕ) where
-  pub tally-over : n + 1 ≡ length cells → tallied Inserted.New cells n ≡ over
+  pub tally-new : n + 1 < length cells → tallied Inserted.New cells n ≡ counted cells (n + 1)
   unfolding tallied
-  tally-over e = pick-true (eqb (n + 1) (length cells)) over (counted cells (n + 1)) (eq-eqb (n + 1) (length cells) e)
+  tally-new h = pick-true (ltb (n + 1) (length cells)) (counted cells (n + 1)) over (lt-ltb (n + 1) (length cells) h)
 
-  pub tally-new : (n + 1 ≡ length cells → ⊥) → tallied Inserted.New cells n ≡ counted cells (n + 1)
+  pub tally-over : length cells ≤ n + 1 → tallied Inserted.New cells n ≡ over
   unfolding tallied
-  tally-new e = pick-false (eqb (n + 1) (length cells)) over (counted cells (n + 1)) (ne-eqb (n + 1) (length cells) e)
+  tally-over h = pick-false (ltb (n + 1) (length cells)) (counted cells (n + 1)) over (le-ltb (n + 1) (length cells) h)
 
   pub tally-newer : tallied Inserted.Newer cells n ≡ counted cells n
   unfolding tallied
@@ -191,7 +191,7 @@ module _ (L : Layout) (area : List ℕ) (S m : ℕ) (log : List Placed) (x : Pla
 
       fresh : Tells S m (x ∷ log) (insertNext L area S x (counted cells n))
       unfolding Tells
-      fresh = go (eqb (n + 1) (length (set cells (c .cell) (placeOf S x + 1)))) refl
+      fresh = go (ltb (n + 1) (length (set cells (c .cell) (placeOf S x + 1)))) refl
         where
           after : List ℕ
           after = set cells (c .cell) (placeOf S x + 1)
@@ -199,22 +199,22 @@ module _ (L : Layout) (area : List ℕ) (S m : ℕ) (log : List Placed) (x : Pla
           long : length after ≡ m
           long = length-set cells (c .cell) (placeOf S x + 1) ∙ ix .long
 
-          go : (t : Bool) → eqb (n + 1) (length after) ≡ t → Tells S m (x ∷ log) (insertNext L area S x (counted cells n))
+          go : (t : Bool) → ltb (n + 1) (length after) ≡ t → Tells S m (x ∷ log) (insertNext L area S x (counted cells n))
           go true e =
-              subst (Tells S m (x ∷ log)) (sym (went ∙ tally-over after n (eqb-true (n + 1) (length after) e)))
-              (omega (arith, one-more, long, eqb-true (n + 1) (length after) e))
-          go false e =
-              let unequal = eqb-false (n + 1) (length after) e in
-              subst (Tells S m (x ∷ log)) (sym (went ∙ tally-new after n unequal))
+              let below = ltb-true (n + 1) (length after) e in
+              subst (Tells S m (x ∷ log)) (sym (went ∙ tally-new after n below))
               (record {
                 rule =
                     put-newest S log cells (ix .rule) x (cellHas L area (keyOf (x .entry))) picks-all (c .cell)
                     (target-new S log cells (keyOf (x .entry)) l c)
                     (λ z i s. absurd (clash (sameKey (keyOf (x .entry)) (z .entry)) s (latest-none log (keyOf (x .entry)) l z i)));
                 keys = sym one-more;
-                few = omega (arith, ix .few, long);
+                few = omega (arith, long);
                 long = long;
               })
+          go false e =
+              let many = ltb-false (n + 1) (length after) e in
+              subst (Tells S m (x ∷ log)) (sym (went ∙ tally-over after n many)) (omega (arith, one-more, long))
 
     one : Tells S m (x ∷ log) (insertNext L area S x (counted cells n))
     one = go (latest log (keyOf (x .entry))) refl

@@ -11,3 +11,4 @@ pub mod InsertLaws
 pub mod Build
 pub mod Entries
 pub mod BuildLaws
+pub mod Turns

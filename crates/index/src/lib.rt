@@ -1,6 +1,10 @@
 // The index over the caller's cells: search, put and rebuild.
+pub mod build;
 pub mod put;
 pub mod search;
+
+use segment::Key;
+use segment::Version;
 
 // What a search for a key meets: the cell that holds it, a free cell, or neither in any cell.
 pub enum Found {
@@ -22,4 +26,14 @@ pub enum Inserted {
 pub enum Built {
     Keys(usize),
     TooMany,
+}
+
+// An entry that is met in a segment, an object or a tombstone alike, or nothing more.
+pub enum Next {
+    Entry {
+        key: Key,
+        version: Version,
+        length: usize,
+    },
+    Stop,
 }

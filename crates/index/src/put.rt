@@ -22,13 +22,11 @@ pub fn put(cells: &mut [u32], cell: usize, place: usize)
 // An entry of a key goes into the index, unless a newer one is there.
 pub fn insert(area: &[u8], cells: &mut [u32], place: usize, key: Key, version: Version) -> Inserted
     requires { ⌜ place < 4294967295 ⌝ }
-    ensures {
-        λ r.
+    ensures { λ r.
         ⌜
         record { answer = r; cells = now (cells .exit) }
         ≡ inserted edition1 (now (area .entry)) (now (cells .entry)) place key (version .0)
-        ⌝
-    }
+        ⌝ }
 {
     match search(area, cells, key) {
         Found::Full => Inserted::Full,
