@@ -1,0 +1,42 @@
+-- `log::head::has_number` meets its contract: a law for each return.
+use Prim.Native.Nat.{_+_, _-_, _≤_, max}
+use mathlib.Core.Path.{_≡_, refl, sym, _∙_, ap}
+use mathlib.Core.Bool.{true, false}
+use native.Mathlib.Omega.{arith}
+use lib.ListN.{length}
+use borrow.Author.Needs.{needs}
+use borrow.Author.Tests.{not-true, not-false}
+use Rattle.segment.specs.Layout.{edition1}
+use Rattle.model.specs.Log.{viewsOf, headOf, newer, digestIn, scan}
+use Rattle.model.specs.Recovery.{hasNumber, sharing, namesNoDigest}
+use Rattle.slot_map.specs.Bit.{named}
+use Rattle.log.specs.Shape.{Shape, inside, digest-inside}
+use Rattle.log.specs.Heads.{told, untold, later-none, later-first, later-higher, later-lower, number-none, number-same, number-other, head-turn, number-turn, sharing-le, names-skip, names-turn, names-found}
+use borrow.Author.Needs.{needs}
+use Rattle.log.proofs.head.has_number.Statement.{statement}
+use Rattle.log.proofs.head.has_number.Tie as tie
+use Rattle.log.proofs.head.has_number.Reads as reads
+use Rattle.log.proofs.head.has_number.Lts as lts
+use Rattle.segment.proofs.reader.digest.Reads as digest-reads
+use Rattle.segment.proofs.reader.is_digest.Reads as is-digest-reads
+
+is-digest-requires : tie.Need-is-digest-requires
+is-digest-requires c κs = search needs
+
+returns : tie.Need-returns
+returns c = number-none edition1 _ _ (c .before .is-digest .ensures) _ (not-true _ (c .if1 .taken))
+
+digest-requires : tie.Need-digest-requires
+digest-requires c κs = search needs
+
+returns-2 : tie.Need-returns-2
+returns-2 c =
+    number-same edition1 _ _ (c .before .before .before .before .before .before .is-digest .ensures) _ _ (c .before .before .before .before .digest .ensures) (not-false _ (c .before .before .before .before .before .if1 .left)) (c .if2 .taken)
+
+returns-3 : tie.Need-returns-3
+returns-3 c =
+    number-other edition1 _ _ (c .before .before .before .before .before .before .is-digest .ensures) _ _ (c .before .before .before .before .digest .ensures) (not-false _ (c .before .before .before .before .before .if1 .left)) (c .if2 .left)
+
+pub has-number-spec : {M : Type 1} → statement M
+has-number-spec =
+    tie.close (tie.spec is-digest-requires returns digest-requires returns-2 returns-3)

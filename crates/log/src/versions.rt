@@ -1,0 +1,1 @@
+// Versions that two entries of the log share (cause 19).
