@@ -101,19 +101,19 @@ module _ (L : Layout) (before : List ℕ) (idle : Store) (k : Key) where
   pub write-enters : (value : List ℕ) → Accepted L before idle (write k value) → Entering L before idle (writtenEntry L idle k value)
   unfolding startCauses countNew
   write-enters value a =
-      record
-        { formed =
-            record
-              { kind-known = object-kind L (length value) (kindElse (objectKind L (length value))) kind
-              ; table-fits = a .typed .0 .0
-              ; key-fits = a .typed .0 .1
-              ; version-good = version-good L (idle .next .0) (facts .next-some) (omega (arith, idle-next L before idle (write k value) a, eqb-false (idle .next .0) (versionLimit L) (tests .1 .1 .1 .1 .0)))
-              ; value-bytes = a .typed .1
-              }
-        ; takes = record { version = refl; room = new-room (hasKey log k) (idle .keys) (idle .cells) (facts .keys-high) (tests .1 .1 .1 .1 .1 .0) }
-        ; two-free = λ f. free-two (idle .slots) (used (idle .slots) (idle .map)) (omega (arith, facts .some-free)) (both-split _ _ (tests .1 .1 .1 .1 .1 .1 .0) (not-true-of _ f))
-        ; number-left = λ f. number-below (idle .number .0) (idle-number L before idle (write k value) a) (both-split _ _ (tests .1 .1 .1 .1 .1 .1 .1 .0) (not-true-of _ f))
-        }
+      record {
+        formed =
+            record {
+              kind-known = object-kind L (length value) (kindElse (objectKind L (length value))) kind;
+              table-fits = a .typed .0 .0;
+              key-fits = a .typed .0 .1;
+              version-good = version-good L (idle .next .0) (facts .next-some) (omega (arith, idle-next L before idle (write k value) a, eqb-false (idle .next .0) (versionLimit L) (tests .1 .1 .1 .1 .0)));
+              value-bytes = a .typed .1;
+            };
+        takes = record { version = refl; room = new-room (hasKey log k) (idle .keys) (idle .cells) (facts .keys-high) (tests .1 .1 .1 .1 .1 .0) };
+        two-free = λ f. free-two (idle .slots) (used (idle .slots) (idle .map)) (omega (arith, facts .some-free)) (both-split _ _ (tests .1 .1 .1 .1 .1 .1 .0) (not-true-of _ f));
+        number-left = λ f. number-below (idle .number .0) (idle-number L before idle (write k value) a) (both-split _ _ (tests .1 .1 .1 .1 .1 .1 .1 .0) (not-true-of _ f));
+      }
     where
       tests : NoCause (writeCauses L idle log (a .lengths) k value)
       tests = no-cause (startCauses L idle log (a .lengths) (write k value)) (a .no-cause)
@@ -127,34 +127,41 @@ module _ (L : Layout) (before : List ℕ) (idle : Store) (k : Key) where
   pub delete-enters : Accepted L before idle (delete k) → Entering L before idle (tombstoneEntry L idle k)
   unfolding startCauses countNew
   delete-enters a =
-      record
-        { formed =
-            record
-              { kind-known = tombstone-length L
-              ; table-fits = a .typed .0
-              ; key-fits = a .typed .1
-              ; version-good =
+      record {
+        formed =
+            record {
+              kind-known = tombstone-length L;
+              table-fits = a .typed .0;
+              key-fits = a .typed .1;
+              version-good =
                   version-good L (idle .next .0) (facts .next-some)
-                  (omega (arith, idle-next L before idle (delete k) a, eqb-false (idle .next .0) (versionLimit L) (tests .1 .1 .1 .1 .0)))
-              ; value-bytes = λ i. omega arith
-              }
-        ; takes =
-            record
-              { version = refl
-              ; room = rw (present-has L log k (tests .1 .1 .1 .0)) (pick-room (idle .keys) (idle .cells) (facts .keys-high))
-              }
-        ; two-free =
+                  (omega (arith, idle-next L before idle (delete k) a, eqb-false (idle .next .0) (versionLimit L) (tests .1 .1 .1 .1 .0)));
+              value-bytes = λ i. omega arith;
+            };
+        takes =
+            record {
+              version = refl;
+              room = rw (present-has L log k (tests .1 .1 .1 .0)) (pick-room (idle .keys) (idle .cells) (facts .keys-high));
+            };
+        two-free =
             λ f.
             free-two (idle .slots) (used (idle .slots) (idle .map)) (omega (arith, facts .some-free))
-            (both-split _ _ (tests .1 .1 .1 .1 .1 .0) (not-true-of _ f))
-        ; number-left =
+            (both-split _ _ (tests .1 .1 .1 .1 .1 .0) (not-true-of _ f));
+        number-left =
             λ f.
             number-below (idle .number .0) (idle-number L before idle (delete k) a)
-            (both-split _ _ (tests .1 .1 .1 .1 .1 .1 .0) (not-true-of _ f))
-        }
+            (both-split _ _ (tests .1 .1 .1 .1 .1 .1 .0) (not-true-of _ f));
+      }
     where
       tests : NoCause (deleteCauses L idle log (a .lengths) k)
       tests = no-cause (startCauses L idle log (a .lengths) (delete k)) (a .no-cause)
 
       facts : Lent L idle (length before) (idle .cells)
       facts = idle-lent L before idle (delete k) a
+
+  -- what is written is an object
+  pub write-object : (value : List ℕ) → Accepted L before idle (write k value) → isTombstone L (writtenEntry L idle k value .kind) ≡ false
+  unfolding startCauses
+  write-object value a =
+      object-no-tombstone L (length value) (kindElse (objectKind L (length value)))
+      (some-kind (objectKind L (length value)) (no-cause (startCauses L idle log (a .lengths) (write k value)) (a .no-cause) .1 .1 .1 .0))

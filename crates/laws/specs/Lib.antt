@@ -20,3 +20,7 @@ pub mod Operated
 pub mod Entering
 pub mod Planned
 pub mod EntryDone
+pub mod Fresh
+pub mod StoreKept
+pub mod Demand2
+pub mod Room

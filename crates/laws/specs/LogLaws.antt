@@ -421,3 +421,9 @@ log-those v p t (suc n) =
         ≡ pick (both b (t n)) (placedIn n (itemsOf (v n .scan))) []
     part true = unfold pick both in those-placed t n (itemsOf (v n .scan))
     part false = unfold pick both in refl
+
+-- a log whose every slot adds nothing
+pub no-parts : (v : ℕ → View) (p : ℕ → Bool) (n : ℕ) → ((i : ℕ) → i < n → partOf v p i ≡ []) → logOf v p n ≡ []
+unfolding logOf
+no-parts v p zero h = refl
+no-parts v p (suc n) h = rw (no-parts v p n (λ i l. h i (omega arith)), h n (omega arith))

@@ -45,15 +45,15 @@ use Rattle.laws.specs.Entering.{Roomy, Entering, idle-lent, write-enters
 pub data Planned (L : Layout) (r : Store) : List ℕ → List (ℕ × ℕ) → Type 0 where
   appends : (x : Entry) → WellFormed L x → r .end + sizeOf L x ≤ r .size → Planned L r (encoded L x) (commit (r .size) (r .head) (r .end) (encoded L x))
   heads :
-    (d : Digest) (es : List Entry) → ((x : Entry) → List·Memᴰ x es → WellFormed L x) → digestSize L + length (allEncoded L es) ≤ r .size →
-    Planned L r (headBytes L d es) (headPlan L (r .size) (newSlot r) d es)
+      (d : Digest) (es : List Entry) → ((x : Entry) → List·Memᴰ x es → WellFormed L x) → digestSize L + length (allEncoded L es) ≤ r .size →
+      Planned L r (headBytes L d es) (headPlan L (r .size) (newSlot r) d es)
 
 -- ---- which of the two
 
 module _ (L : Layout) (roomy : Roomy L) (before : List ℕ) (idle : Store) where
   planned-entry :
-    (e : Entry) → Entering L before idle e → 256 ≤ idle .size →
-    Planned L idle (laidEntry L idle e .bytes) (planOf idle (laidEntry L idle e .pending 0) (laidEntry L idle e .bytes))
+      (e : Entry) → Entering L before idle e → 256 ≤ idle .size →
+      Planned L idle (laidEntry L idle e .bytes) (planOf idle (laidEntry L idle e .pending 0) (laidEntry L idle e .bytes))
   unfolding pick planOf
   planned-entry e f big = go (fitsHead L idle e) refl
     where
@@ -70,19 +70,19 @@ module _ (L : Layout) (roomy : Roomy L) (before : List ℕ) (idle : Store) where
 
 -- every entry of a recovered log of bytes is well formed
 pub log-formed :
-  (L : Layout) (n s m : ℕ) (area : List ℕ) (r : Store) → Bytes area → recovered L n s m area ≡ some r → (x : Placed) →
-  In x (logOf (viewsOf L area s) (named (r .map)) n) → WellFormed L (x .entry)
+    (L : Layout) (n s m : ℕ) (area : List ℕ) (r : Store) → Bytes area → recovered L n s m area ≡ some r → (x : Placed) →
+    In x (logOf (viewsOf L area s) (named (r .map)) n) → WellFormed L (x .entry)
 log-formed L n s m area r bytes e x =
     recovered-case L n s m area
     (λ (k : Store). In x (logOf (viewsOf L area s) (named (k .map)) n) → WellFormed L (x .entry))
     (λ h l f i.
-      let at = log-in (viewsOf L area s) (named (h .digest .map)) n x i in
-      scans-stands (bytes-take s _ (bytes-drop (x .slot * s) area bytes))
-      (scan-scans L (segmentOf area s (x .slot)) (scan-whole (scan L (segmentOf area s (x .slot))) (f .scans (x .slot) (at .below) (at .picked))))
-      (at .item) .formed)
+    let at = log-in (viewsOf L area s) (named (h .digest .map)) n x i in
+    scans-stands (bytes-take s _ (bytes-drop (x .slot * s) area bytes))
+    (scan-scans L (segmentOf area s (x .slot)) (scan-whole (scan L (segmentOf area s (x .slot))) (f .scans (x .slot) (at .below) (at .picked))))
+    (at .item) .formed)
     r e
 
-kept-in : (L : Layout) (victims : ℕ) (log : List Placed) (e : Entry) → List·Memᴰ e (kept L victims log) → (x : Placed) × In x log × x .entry ≡ e
+pub kept-in : (L : Layout) (victims : ℕ) (log : List Placed) (e : Entry) → List·Memᴰ e (kept L victims log) → (x : Placed) × In x log × x .entry ≡ e
 kept-in L victims log e i =
     let y = entry-of (those (isKept L victims log) log) e (subst (List·Memᴰ e) (kept-those L victims log log) i) in
     (y .0, those-in (isKept L victims log) log (y .0) (y .1) .0, y .2)
@@ -126,11 +126,11 @@ module _ (L : Layout) (area : List ℕ) (r : Store) (e : recovered L (r .slots) 
   -- the digest of a new head fits its bytes
   pub new-map-fits : (victims : ℕ) → within victims (r .map) ≡ true → newDigest r victims .map < 256 ^ 4
   new-map-fits victims sub =
-      omega
-      ( arith
-      , add-below (r .slots) (r .map - victims) (newSlot r) (omega (arith, facts .map-below)) new-below
-        (clear-sub (r .map) victims (newSlot r) sub (next-clear (r .slots) (r .map) (r .head) (facts .head-below) (facts .some-free)))
-      , pow-mono (facts .slots-high)
+      omega (
+        arith,
+        add-below (r .slots) (r .map - victims) (newSlot r) (omega (arith, facts .map-below)) new-below
+            (clear-sub (r .map) victims (newSlot r) sub (next-clear (r .slots) (r .map) (r .head) (facts .head-below) (facts .some-free))),
+        pow-mono (facts .slots-high),
       )
 
   pub new-next-fits : Bytes area → r .next .0 < 256 ^ L .width
@@ -143,11 +143,11 @@ module _ (L : Layout) (area : List ℕ) (r : Store) (e : recovered L (r .slots) 
       × (logOf (viewsOf L area′ (r .size)) (named (r .map)) (r .slots) ≡ logOf (viewsOf L area (r .size)) (named (r .map)) (r .slots))
 
   same-stays : (area′ : List ℕ) → length area′ ≡ length area → ((i : ℕ) → viewsOf L area′ (r .size) i ≡ viewsOf L area (r .size) i) → Stays area′
-  same-stays area′ long same =
-      ( views-recovered L (r .slots) (r .size) (r .cells) area area′ long (λ i l. same i) ∙ e
-      , log-same (viewsOf L area (r .size)) (viewsOf L area′ (r .size)) (named (r .map)) (named (r .map)) (r .slots) (λ i l. refl)
-        (λ i l p. ap (λ (w : View). w .scan) (same i))
-      )
+  same-stays area′ long same = (
+    views-recovered L (r .slots) (r .size) (r .cells) area area′ long (λ i l. same i) ∙ e,
+    log-same (viewsOf L area (r .size)) (viewsOf L area′ (r .size)) (named (r .map)) (named (r .map)) (r .slots) (λ i l. refl)
+        (λ i l p. ap (λ (w : View). w .scan) (same i)),
+  )
 
   -- After every proper prefix of the stores recovery gives the old record, and the log is the old one.
   pub prefix-stays : (bytes : List ℕ) (plan : List (ℕ × ℕ)) → Planned L r bytes plan → (k : ℕ) → k < length plan → Stays (stored area (take k plan))
@@ -159,19 +159,19 @@ module _ (L : Layout) (area : List ℕ) (r : Store) (e : recovered L (r .slots) 
   prefix-stays bytes plan (heads d es f fits) k h = go k h
     where
       others :
-        (j i : ℕ) → (i ≡ newSlot r → ⊥) →
-        viewsOf L (stored area (take j (headPlan L (r .size) (newSlot r) d es))) (r .size) i ≡ viewsOf L area (r .size) i
+          (j i : ℕ) → (i ≡ newSlot r → ⊥) →
+          viewsOf L (stored area (take j (headPlan L (r .size) (newSlot r) d es))) (r .size) i ≡ viewsOf L area (r .size) i
       others j i q = new-head-other-prefix L (r .size) (newSlot r) area d es fits j i q
 
       go : (j : ℕ) → j < length (headPlan L (r .size) (newSlot r) d es) → Stays (stored area (take j (headPlan L (r .size) (newSlot r) d es)))
       go zero l = same-stays (stored area []) refl (λ i. refl)
-      go (suc j) l =
-          ( cut-recovered L (r .slots) (r .size) (r .cells) area (stored area (take (suc j) (headPlan L (r .size) (newSlot r) d es)))
+      go (suc j) l = (
+        cut-recovered L (r .slots) (r .size) (r .cells) area (stored area (take (suc j) (headPlan L (r .size) (newSlot r) d es)))
             (length-stored area (take (suc j) (headPlan L (r .size) (newSlot r) d es))) r (newSlot r) new-free (λ i q o. others (suc j) i o) e
-            (new-head-prefix L (r .size) (newSlot r) area d es fits (suc j) (omega arith) l)
-          , cut-log L (r .slots) (r .size) (r .cells) area (stored area (take (suc j) (headPlan L (r .size) (newSlot r) d es)))
-            (length-stored area (take (suc j) (headPlan L (r .size) (newSlot r) d es))) r (newSlot r) new-free (λ i q o. others (suc j) i o)
-          )
+            (new-head-prefix L (r .size) (newSlot r) area d es fits (suc j) (omega arith) l),
+        cut-log L (r .slots) (r .size) (r .cells) area (stored area (take (suc j) (headPlan L (r .size) (newSlot r) d es)))
+            (length-stored area (take (suc j) (headPlan L (r .size) (newSlot r) d es))) r (newSlot r) new-free (λ i q o. others (suc j) i o),
+      )
 
   -- The area stays one of bytes.
   pub prefix-bytes : (bytes : List ℕ) (plan : List (ℕ × ℕ)) → Planned L r bytes plan → Bytes area → (k : ℕ) → Bytes (stored area (take k plan))
