@@ -3,3 +3,6 @@ pub mod FormatLaws
 pub mod Order
 pub mod Lookups
 pub mod LookupLaws
+pub mod Recovering
+pub mod CheckLaws
+pub mod RecoverPromises

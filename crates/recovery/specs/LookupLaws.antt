@@ -135,6 +135,15 @@ module _ (L : Layout) (r : Store) (area cells : List ℕ) (k : Key) (p : ℕ) (v
       go true d (Hit.Free i) f = let q = looked-free L r area cells k d i f in let z : _≡_ {A = ℕ} 0 1 = cc in absurd (omega arith)
       go true d Hit.Full f = let q = looked-full L r area cells k d f in let z : _≡_ {A = ℕ} 0 1 = cc in absurd (omega arith)
 
+-- ---- the entries of an undamaged log stand in their segments
+
+pub log-stands : (L : Layout) (area : List ℕ) (S : ℕ) (p : ℕ → Bool) (n : ℕ) → AllScanned (viewsOf L area S) p n
+    → (x : Placed) → In x (logOf (viewsOf L area S) p n) → entryAt L (segmentOf area S (x .slot)) (x .offset) ≡ entry (x .entry)
+log-stands L area S p n scans x m =
+    let w = log-in (viewsOf L area S) p n x m in
+    let s : List ℕ = segmentOf area S (x .slot) in
+    scans-found (scan-scans L s (scan-whole (scan L s) (scans (x .slot) (w .below) (w .picked)))) (w .item)
+
 -- ---- a genuine store
 
 -- the lookup for a key's object, or for none
@@ -181,16 +190,10 @@ module _ (L : Layout) (r : Store) (area cells : List ℕ) (k : Key) (genuine : G
       let l = lent L r (length area) (length cells) fit in
       omega (arith, recovered-keys L (r .slots) S (r .cells) area (withPending r Idle) (genuine .recovers))
 
-  stands : (x : Placed) → In x log → entryAt L (segmentOf area S (x .slot)) (x .offset) ≡ entry (x .entry)
-  stands x m =
-      let w = log-in (viewsOf L area S) (named (r .map)) (r .slots) x m in
-      let s : List ℕ = segmentOf area S (x .slot) in
-      scans-found (scan-scans L s (scan-whole (scan L s) (scans (x .slot) (w .below) (w .picked)))) (w .item)
-
   at-place : (x : Placed) → In x log → standsAt L S area (placeOf S x) ≡ answer L (entry (x .entry))
   at-place x m =
       let s : List ℕ = segmentOf area S (x .slot) in
-      let found = stands x m in
+      let found = log-stands L area S (named (r .map)) (r .slots) scans x m in
       let inside : x .offset < S = omega (arith, found-fits L s (x .offset) (x .entry) found, length-take S (drop (x .slot * S) area)) in
       ap (λ (i : ℕ). answer L (entryAt L (segmentOf area S i) (placeOf S x % S))) (place-slot S (x .slot) (x .offset) inside)
       ∙ ap (λ (o : ℕ). answer L (entryAt L s o)) (place-offset S (x .slot) (x .offset) inside)

@@ -1,4 +1,6 @@
 // The calls that look at a store: format, recovery, and reads.
+use record::Refusal;
+use segment::Digest;
 use segment::Version;
 
 pub mod format;
@@ -16,4 +18,20 @@ pub enum Lookup {
     },
     Absent,
     Bad,
+}
+
+// Whether recovery may go on, or the cause that refuses it.
+pub enum Checked {
+    Passed,
+    Refused(Refusal),
+}
+
+// What recovery found in an area: the cause that refuses it, or the head with the highest version in its log.
+pub enum Image {
+    Refused(Refusal),
+    Sound {
+        slot: usize,
+        digest: Digest,
+        highest: Version,
+    },
 }
