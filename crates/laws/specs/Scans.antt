@@ -49,7 +49,7 @@ module _ (L : Layout) (s : List ℕ) (f at : ℕ) where
   scan-damage p = rw (p, scanFrom)
 
 -- a scan that begins with an item goes on behind it
-item-first : {i : Item} {is : List Item} {e : ℕ} (r : Scan) → itemFirst i r ≡ scanned is e → (js : List Item) × (r ≡ scanned js e) × (i ∷ js ≡ is)
+pub item-first : {i : Item} {is : List Item} {e : ℕ} (r : Scan) → itemFirst i r ≡ scanned is e → (js : List Item) × (r ≡ scanned js e) × (i ∷ js ≡ is)
 unfolding itemFirst
 item-first damaged p = let z : _≡_ {A = ℕ} 0 1 = cc in absurd (omega arith)
 item-first (scanned js k) p = (js, cc, cc)

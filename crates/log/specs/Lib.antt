@@ -2,3 +2,5 @@
 pub mod Shape
 pub mod Heads
 pub mod Extents
+pub mod Counts
+pub mod Filter

@@ -24,3 +24,7 @@ module _ {n s : ℕ} {area : List ℕ} (shape : Shape n s area) (i : ℕ) (below
   pub digest-inside : (part : List ℕ) → part ≡ segmentOf area s i → digestSize edition1 ≤ length part
   unfolding edition1
   digest-inside part e = rw e (omega (arith, length-segment area s i inside, shape .size-least))
+
+  -- and is at most 2,048 bytes long
+  pub part-short : (part : List ℕ) → part ≡ segmentOf area s i → length part ≤ 2048
+  part-short part e = rw e (omega (arith, length-segment area s i inside, shape .size-most))

@@ -1,3 +1,15 @@
+-- `log::scan::survey` meets its contract. The invariant: the slots passed that the map names are undamaged, with this highest version.
+use Prim.Native.Nat.{ℕ, _-_, _≤_}
+use mathlib.Core.Path.{_≡_, sym, _∙_, ap}
+use mathlib.Core.List.{List}
+use native.Mathlib.Omega.{arith}
+use borrow.Author.Needs.{needs}
+use borrow.Author.Tests.{not-true, not-false}
+use Rattle.segment.specs.Layout.{edition1}
+use Rattle.slot_map.specs.Bit.{named}
+use Rattle.model.specs.Log.{viewsOf, scan}
+use Rattle.log.specs.Shape.{inside}
+use Rattle.log.specs.Extents.{extentOf, Surveyed, survey-none, survey-skip, survey-sound, survey-damaged, survey-end}
 use Rattle.log.proofs.scan.survey.Statement.{statement}
 use Rattle.log.proofs.scan.survey.Tie as tie
 use Rattle.log.proofs.scan.survey.Reads as reads
@@ -8,66 +20,65 @@ use Rattle.log.proofs.slots.cut.Reads as cut-reads
 use Rattle.log.proofs.slots.is_named.Reads as is-named-reads
 
 abbrev Inv-loop : tie.InvT-loop
-Inv-loop n s area map top₀ i₀ top i = ?
+Inv-loop n s area map top₀ i₀ top i = (i ≤ n) × Surveyed (viewsOf edition1 area s) (named map) i top
 
 abbrev μ-loop : tie.MeasureT-loop
-μ-loop n s area map top₀ i₀ top i = ?
+μ-loop n s area map top₀ i₀ top i = n - i
 
--- src/scan.rt:79:5
 loop-holds : tie.Need-loop-holds Inv-loop μ-loop
-loop-holds c = ?
+loop-holds c = (omega arith, survey-none _ _)
 
--- src/scan.rt:81:9
 add-i : tie.Need-add-i Inv-loop μ-loop
-add-i c = ?
+add-i c = omega arith
 
--- src/scan.rt:82:13
 is-named-requires : tie.Need-is-named-requires Inv-loop μ-loop
-is-named-requires c κs = ?
+is-named-requires c κs = omega (arith, c .before .before .before .pre)
 
--- src/scan.rt:79:5
 loop-less : tie.Need-loop-less Inv-loop μ-loop
-loop-less c = ?
+loop-less c = omega arith
 
--- src/scan.rt:79:5
 loop-again : tie.Need-loop-again Inv-loop μ-loop
-loop-again c = ?
+loop-again c = (
+  omega arith,
+  survey-skip _ _ _ _ (c .before .before .before .loop .inv .1) (sym (c .before .is-named .ensures) ∙ not-true _ (c .if1 .taken)),
+)
 
--- src/scan.rt:85:22
 cut-requires : tie.Need-cut-requires Inv-loop μ-loop
-cut-requires c κs = ?
+cut-requires c κs = inside (c .before .before .before .before .before .pre) _ (c .before .before .loop-test .taken)
 
--- src/scan.rt:85:15
 extent-requires : tie.Need-extent-requires Inv-loop μ-loop
-extent-requires c κs = ?
+extent-requires c κs = search needs
 
--- src/scan.rt:87:17
 enum-told : tie.Need-enum-told Inv-loop μ-loop
-enum-told c = ?
+enum-told c = search needs
 
--- src/scan.rt:87:17
 returns : tie.Need-returns Inv-loop μ-loop
-returns c = ?
+returns c =
+    survey-damaged (viewsOf edition1 (c .before .before .before .before .before .before .before .before .before .args .area .now) (c .before .before .before .before .before .before .before .before .before .args .s)) _ _ _ (c .before .before .before .before .before .before .loop-test .taken)
+    (sym (c .before .before .before .before .before .is-named .ensures) ∙ not-false _ (c .before .before .before .before .if1 .left))
+    (sym (c .before .before .extent .ensures ∙ ap (λ (l : List ℕ). extentOf (scan edition1 l)) (c .before .before .before .cut .ensures)) ∙ c .enum-told .given .1)
 
--- src/scan.rt:89:37
 enum-known-highest : tie.Need-enum-known-highest Inv-loop μ-loop
-enum-known-highest c = ?
+enum-known-highest c = search needs
 
--- src/scan.rt:90:17
 higher-requires : tie.Need-higher-requires Inv-loop μ-loop
-higher-requires c κs = ?
+higher-requires c κs = search needs
 
--- src/scan.rt:79:5
 loop-less-2 : tie.Need-loop-less-2 Inv-loop μ-loop
-loop-less-2 c = ?
+loop-less-2 c = omega arith
 
--- src/scan.rt:79:5
 loop-again-2 : tie.Need-loop-again-2 Inv-loop μ-loop
-loop-again-2 c = ?
+loop-again-2 c = (
+  omega arith,
+  survey-sound _ _ _ _ (c .before .before .before .before .before .before .before .before .before .loop .inv .1) (sym (c .before .before .before .before .before .before .before .is-named .ensures) ∙ not-false _ (c .before .before .before .before .before .before .if1 .left)) _ _
+      (sym (c .before .before .before .before .extent .ensures ∙ ap (λ (l : List ℕ). extentOf (scan edition1 l)) (c .before .before .before .before .before .cut .ensures)) ∙ c .before .before .highest .given .1) _
+      (c .higher .ensures),
+)
 
--- src/scan.rt:73:1
 returns-2 : tie.Need-returns-2 Inv-loop μ-loop
-returns-2 c = ?
+returns-2 c =
+    let e : c .before .loop .i ≡ c .before .before .before .args .n = omega arith in
+    rw (← e) (survey-end _ _ _ _ (c .before .loop .inv .1))
 
 pub survey-spec : {M : Type 1} → statement M
 survey-spec =
