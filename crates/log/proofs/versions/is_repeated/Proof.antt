@@ -1,3 +1,22 @@
+-- `log::versions::is_repeated` meets its contract.
+use Prim.Native.Nat.{ℕ, _+_, _-_, _*_, _/_, _%_, _≤_}
+use mathlib.Core.Path.{_≡_, refl, sym, _∙_, ap}
+use mathlib.Core.Bool.{true, false}
+use mathlib.Core.List.{List}
+use native.Mathlib.Omega.{arith}
+use borrow.Author.Needs.{needs}
+use borrow.Author.Tests.{eq-eqb, ne-eqb, not-true, not-false}
+use lib.Dec.{eqb, ltb}
+use lib.ListN.{length, set}
+use Rattle.segment.specs.Choice.{pick, pick-true, pick-false, both}
+use Rattle.segment.specs.Layout.{edition1}
+use Rattle.slot_map.specs.Bit.{named}
+use Rattle.model.specs.Log.{viewsOf, scan, itemsOf, logOf}
+use Rattle.laws.specs.Versions.{count}
+use Rattle.log.specs.Shape.{inside}
+use Rattle.log.specs.Extents.{Meets, meets, meets-end, meets-damage, rest-whole}
+use Rattle.log.specs.Counts.{countFrom, countOf, Counting, count-turn, count-end, count-damage, total-skip, total-take}
+use Rattle.log.specs.Filter.{isMarked, markedWith, Sieved, Sieving, Entering, Sifted, sieve-start, sieve-hit, sieve-turn, sieve-end, sieve-damage, slot-inside-log, repeats, repeats-not, sieved-none, sieved-skip, enters, sieved-all}
 use borrow.Author.Needs.{needs}
 use Rattle.log.proofs.versions.is_repeated.Statement.{statement}
 use Rattle.log.proofs.versions.is_repeated.Tie as tie
@@ -6,29 +25,23 @@ use Rattle.log.proofs.versions.is_repeated.Lts as lts
 use Rattle.log.proofs.versions.count.Reads as count-reads
 use Rattle.log.proofs.versions.mark.Reads as mark-reads
 
--- src/versions.rt:98:9
 mark-requires : tie.Need-mark-requires
 mark-requires c κs = search needs
 
--- src/versions.rt:99:9
 same-length : tie.Need-same-length
 same-length c = search needs
 
--- src/versions.rt:99:9
 returns : tie.Need-returns
-returns c = ?
+returns c = (repeats-not _ _ _ (c .before .before .before .mark .ensures .0) (not-true _ (c .if1 .taken)), c .before .before .before .mark .ensures .1)
 
--- src/versions.rt:101:9
 count-requires : tie.Need-count-requires
 count-requires c κs = search needs
 
--- src/versions.rt:92:1
 same-length-2 : tie.Need-same-length-2
 same-length-2 c = search needs
 
--- src/versions.rt:92:1
 returns-2 : tie.Need-returns-2
-returns-2 c = ?
+returns-2 c = (repeats _ _ _ _ (c .before .before .before .before .mark .ensures .0) (not-false _ (c .before .if1 .left)) (c .count .ensures), c .before .before .before .before .mark .ensures .1)
 
 pub is-repeated-spec : {M : Type 1} → statement M
 is-repeated-spec =
