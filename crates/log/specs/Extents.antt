@@ -6,11 +6,11 @@ use mathlib.Core.List.{List, [], _∷_, _++_, append-nil}
 use native.Mathlib.Numerals.{add-one}
 use native.Mathlib.Omega.{arith}
 use lib.ListN.{length}
-use Rattle.segment.specs.Choice.{pick, pick-true, pick-false, both, both-true, both-false-left, both-false-right, either, either-false, either-true-left, either-true-right}
+use Rattle.segment.specs.Choice.{pick, pick-true, pick-false, both, both-true, both-false-left, both-false-right, either-false, either-true-left, either-true-right}
 use Rattle.segment.specs.Layout.{Layout, digestSize}
 use Rattle.segment.specs.Entry.{Entry, Found, entry, end, damage, entryAt, sizeOf, answer}
 use Rattle.segment.specs.EntryLaws.{past-end, found-fits}
-use Rattle.segment.specs.AnswerLaws.{Tells, tells-object, tells-tombstone, tells-end, tells-damage}
+use Rattle.segment.specs.AnswerLaws.{Tells, tells-end, tells-damage}
 use Rattle.segment.specs.declared.Key.{Key}
 use Rattle.segment.specs.declared.Version.{Version}
 use Rattle.segment.specs.declared.Read.the-variants as R

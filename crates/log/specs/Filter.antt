@@ -1,9 +1,8 @@
 -- The filter of bits over versions, and why what passes it shares no version.
-use Prim.Native.Nat.{ℕ, zero, suc, _+_, _*_, _/_, _%_, _≤_, _<_}
+use Prim.Native.Nat.{ℕ, zero, suc, _+_, _/_, _%_, _≤_, _<_}
 use mathlib.Core.Path.{_≡_, refl, sym, _∙_, ap, subst}
 use mathlib.Core.Bool.{Bool, true, false}
 use mathlib.Core.List.{List, [], _∷_, _++_, append-nil, append-assoc}
-use native.Mathlib.Numerals.{add-one}
 use native.Mathlib.Omega.{arith}
 use native.Mathlib.Decide.{decLe}
 use lib.Dec.{eqb, ltb}
@@ -11,13 +10,13 @@ use lib.ListN.{length, getD, set, length-set}
 use lib.Seq.{getD-set-same, getD-set-other}
 use borrow.Author.Tests.{eq-eqb, eqb-true, eqb-false, ltb-true, ltb-false}
 use Rattle.segment.specs.Choice.{pick, pick-true, pick-false, both, both-right, both-false-left}
-use Rattle.segment.specs.Layout.{Layout, edition1, digestSize}
-use Rattle.segment.specs.Entry.{Entry, end, damage, entryAt}
+use Rattle.segment.specs.Layout.{Layout, digestSize}
+use Rattle.segment.specs.Entry.{end, damage, entryAt}
 use Rattle.slot_map.specs.Bit.{bit, named, withBit}
 use Rattle.slot_map.specs.BitLaws.{bit-with-same, bit-with-other, named-true, set-named}
-use Rattle.model.specs.Log.{View, Item, Scan, damaged, scanned, scan, itemsOf, endOf, isDamaged, placedIn, Placed, logOf, segmentOf, versionShared}
+use Rattle.model.specs.Log.{View, Item, Scan, damaged, scanned, scan, itemsOf, endOf, isDamaged, placedIn, Placed, logOf, versionShared}
 use Rattle.model.specs.Recovery.{logDamaged}
-use Rattle.laws.specs.Scans.{itemAt, item-first}
+use Rattle.laws.specs.Scans.{item-first}
 use Rattle.laws.specs.Members.{clash, total}
 use Rattle.laws.specs.Versions.{counted, count, count-append, shared-count, count-shared}
 use Rattle.log.specs.Extents.{Meets, restOf, rest-whole, rest-entry, rest-end, rest-damage, log-take, log-skip, damaged-slot}

@@ -1,14 +1,14 @@
 -- The head search: the enum for a head, and what a turn of each loop adds.
 use Prim.Native.Nat.{ℕ, zero, suc, _+_, _≤_, _<_}
 use mathlib.Core.Path.{_≡_, refl, sym, _∙_, ap, subst}
-use mathlib.Core.Bool.{Bool, true, false, not}
+use mathlib.Core.Bool.{Bool, true, false}
 use mathlib.Core.List.{List}
 use mathlib.Core.Option.{Option, none, some}
 use native.Mathlib.Numerals.{add-one}
 use native.Mathlib.Omega.{arith}
 use lib.Dec.{eqb, ltb}
 use borrow.Author.Tests.{lt-ltb, le-ltb, eq-eqb, ne-eqb, eqb-true, eqb-false}
-use Rattle.segment.specs.Choice.{pick, pick-true, pick-false, both, both-true, both-false-left, both-false-right, either, either-false, either-true-left, either-true-right}
+use Rattle.segment.specs.Choice.{pick, pick-true, pick-false, both, both-true, both-false-left, both-false-right, either-false, either-true-left, either-true-right}
 use Rattle.segment.specs.Layout.{Layout}
 use Rattle.segment.specs.Digest.{digestOf, isDigest}
 use Rattle.segment.specs.declared.Digest.{Digest}

@@ -2,7 +2,6 @@
 use mathlib.Core.Path.{sym, _∙_}
 use Rattle.segment.specs.AnswerLaws.{tells-object, tells-tombstone}
 use Rattle.segment.specs.Layout.{edition1}
-use Rattle.segment.specs.Entry.{entryAt}
 use Rattle.log.specs.Extents.{next-entry, next-end, next-damage}
 use borrow.Author.Needs.{needs}
 use Rattle.log.proofs.scan.next.Statement.{statement}

@@ -1,23 +1,9 @@
 -- `log::versions::is_repeated` meets its contract.
-use Prim.Native.Nat.{ℕ, _+_, _-_, _*_, _/_, _%_, _≤_}
-use mathlib.Core.Path.{_≡_, refl, sym, _∙_, ap}
-use mathlib.Core.Bool.{true, false}
-use mathlib.Core.List.{List}
-use native.Mathlib.Omega.{arith}
 use borrow.Author.Needs.{needs}
-use borrow.Author.Tests.{eq-eqb, ne-eqb, not-true, not-false}
-use lib.Dec.{eqb, ltb}
-use lib.ListN.{length, set}
-use Rattle.segment.specs.Choice.{pick, pick-true, pick-false, both}
-use Rattle.segment.specs.Layout.{edition1}
-use Rattle.slot_map.specs.Bit.{named}
-use Rattle.model.specs.Log.{viewsOf, scan, itemsOf, logOf}
+use borrow.Author.Tests.{not-true, not-false}
 use Rattle.laws.specs.Versions.{count}
-use Rattle.log.specs.Shape.{inside}
-use Rattle.log.specs.Extents.{Meets, meets, meets-end, meets-damage, rest-whole}
-use Rattle.log.specs.Counts.{countFrom, countOf, Counting, count-turn, count-end, count-damage, total-skip, total-take}
-use Rattle.log.specs.Filter.{isMarked, markedWith, Sieved, Sieving, Entering, Sifted, sieve-start, sieve-hit, sieve-turn, sieve-end, sieve-damage, slot-inside-log, repeats, repeats-not, sieved-none, sieved-skip, enters, sieved-all}
-use borrow.Author.Needs.{needs}
+use Rattle.log.specs.Extents.{meets}
+use Rattle.log.specs.Filter.{repeats, repeats-not}
 use Rattle.log.proofs.versions.is_repeated.Statement.{statement}
 use Rattle.log.proofs.versions.is_repeated.Tie as tie
 use Rattle.log.proofs.versions.is_repeated.Reads as reads

@@ -1,22 +1,17 @@
 -- `log::versions::sift` meets its contract. The invariant: the entries passed share no version, and their bits are set.
-use Prim.Native.Nat.{ℕ, _+_, _-_, _*_, _/_, _%_, _≤_}
-use mathlib.Core.Path.{_≡_, refl, sym, _∙_, ap}
-use mathlib.Core.Bool.{true, false}
+use Prim.Native.Nat.{ℕ, _+_, _-_, _≤_}
+use mathlib.Core.Path.{sym, _∙_, ap}
 use mathlib.Core.List.{List}
 use native.Mathlib.Omega.{arith}
 use borrow.Author.Needs.{needs}
-use borrow.Author.Tests.{eq-eqb, ne-eqb, not-true, not-false}
-use lib.Dec.{eqb, ltb}
 use lib.ListN.{length, set}
-use Rattle.segment.specs.Choice.{pick, pick-true, pick-false, both}
 use Rattle.segment.specs.Layout.{edition1}
 use Rattle.slot_map.specs.Bit.{named}
-use Rattle.model.specs.Log.{viewsOf, scan, itemsOf, logOf}
+use Rattle.model.specs.Log.{viewsOf, scan, logOf, Placed}
 use Rattle.laws.specs.Versions.{count}
 use Rattle.log.specs.Shape.{inside}
-use Rattle.log.specs.Extents.{Meets, meets, meets-end, meets-damage, rest-whole}
-use Rattle.log.specs.Counts.{countFrom, countOf, Counting, count-turn, count-end, count-damage, total-skip, total-take}
-use Rattle.log.specs.Filter.{isMarked, markedWith, Sieved, Sieving, Entering, Sifted, sieve-start, sifted-hit, sifted-past, sieve-hit, sieve-turn, sieve-end, sieve-damage, slot-inside-log, repeats, repeats-not, sieved-none, sieved-skip, enters, sieved-all}
+use Rattle.log.specs.Extents.{Meets, meets, meets-end, meets-damage}
+use Rattle.log.specs.Filter.{Sieving, sieve-start, sifted-hit, sifted-past, sieve-hit, sieve-turn, sieve-end, sieve-damage, slot-inside-log}
 use Rattle.log.proofs.versions.sift.Statement.{statement}
 use Rattle.log.proofs.versions.sift.Tie as tie
 use Rattle.log.proofs.versions.sift.Reads as reads
@@ -47,10 +42,11 @@ enum-known-version c = search needs
 is-repeated-requires : tie.Need-is-repeated-requires Inv-loop μ-loop
 is-repeated-requires c κs = (c .before .before .before .before .before .before .before .before .before .pre .0, c .before .before .before .before .before .loop .inv .size)
 
--- the log with this slot is no longer than the whole
-within : (c : tie.Start Inv-loop μ-loop) (u : ℕ)
-    → count u (logOf (viewsOf edition1 (c .args .area .now) (c .args .s)) (named (c .args .map)) (c .args .slot + 1))
-    ≤ count u (logOf (viewsOf edition1 (c .args .area .now) (c .args .s)) (named (c .args .map)) (c .args .n))
+-- the log of the slots below k
+abbrev below : tie.Start Inv-loop μ-loop → ℕ → List Placed
+below c k = logOf (viewsOf edition1 (c .args .area .now) (c .args .s)) (named (c .args .map)) k
+
+within : (c : tie.Start Inv-loop μ-loop) (u : ℕ) → count u (below c (c .args .slot + 1)) ≤ count u (below c (c .args .n))
 within c = slot-inside-log _ _ _ _ (c .pre .1 .below)
 
 -- the entry that the turn passes
@@ -62,8 +58,9 @@ same-length : tie.Need-same-length Inv-loop μ-loop
 same-length c = c .before .before .before .is-repeated .kept .1 .1 .1 .1 .0 ∙ c .before .before .before .before .before .before .before .before .before .loop .inv .size ∙ sym (c .before .before .before .before .before .before .before .before .before .before .before .before .before .pre .1 .size)
 
 returns : tie.Need-returns Inv-loop μ-loop
-returns c = 
-    sifted-hit _ (sieve-hit edition1 _ _ (logOf (viewsOf edition1 (c .before .before .before .before .before .before .before .before .before .before .before .before .before .args .area .now) (c .before .before .before .before .before .before .before .before .before .before .before .before .before .args .s)) (named (c .before .before .before .before .before .before .before .before .before .before .before .before .before .args .map)) (c .before .before .before .before .before .before .before .before .before .before .before .before .before .args .slot + 1)) _ _ (c .before .before .before .before .before .before .before .before .before .loop .inv) (logOf (viewsOf edition1 (c .before .before .before .before .before .before .before .before .before .before .before .before .before .args .area .now) (c .before .before .before .before .before .before .before .before .before .before .before .before .before .args .s)) (named (c .before .before .before .before .before .before .before .before .before .before .before .before .before .args .map)) (c .before .before .before .before .before .before .before .before .before .before .before .before .before .args .n)) (within (c .before .before .before .before .before .before .before .before .before .before .before .before .before)) (met (c .before .before .before .before .before .before)) _ (c .before .before .before .is-repeated .ensures .0) (c .if1 .taken))
+returns c =
+    let start = c .before .before .before .before .before .before .before .before .before .before .before .before .before in
+    sifted-hit _ (sieve-hit edition1 _ _ _ _ _ (c .before .before .before .before .before .before .before .before .before .loop .inv) (below start (start .args .n)) (within start) (met (c .before .before .before .before .before .before)) _ (c .before .before .before .is-repeated .ensures .0) (c .if1 .taken))
 
 add-at : tie.Need-add-at Inv-loop μ-loop
 add-at c = omega (arith, met (c .before .before .before .before .before .before))
@@ -72,8 +69,9 @@ loop-less : tie.Need-loop-less Inv-loop μ-loop
 loop-less c = omega (arith, met (c .before .before .before .before .before .before))
 
 loop-again : tie.Need-loop-again Inv-loop μ-loop
-loop-again c = 
-    sieve-turn edition1 _ _ (logOf (viewsOf edition1 (c .before .before .before .before .before .before .before .before .before .before .before .before .before .args .area .now) (c .before .before .before .before .before .before .before .before .before .before .before .before .before .args .s)) (named (c .before .before .before .before .before .before .before .before .before .before .before .before .before .args .map)) (c .before .before .before .before .before .before .before .before .before .before .before .before .before .args .slot + 1)) _ _ (c .before .before .before .before .before .before .before .before .before .loop .inv) (logOf (viewsOf edition1 (c .before .before .before .before .before .before .before .before .before .before .before .before .before .args .area .now) (c .before .before .before .before .before .before .before .before .before .before .before .before .before .args .s)) (named (c .before .before .before .before .before .before .before .before .before .before .before .before .before .args .map)) (c .before .before .before .before .before .before .before .before .before .before .before .before .before .args .n)) (within (c .before .before .before .before .before .before .before .before .before .before .before .before .before)) (met (c .before .before .before .before .before .before)) _ (c .before .before .before .is-repeated .ensures .0) (c .if1 .left) _
+loop-again c =
+    let start = c .before .before .before .before .before .before .before .before .before .before .before .before .before in
+    sieve-turn edition1 _ _ _ _ _ (c .before .before .before .before .before .before .before .before .before .loop .inv) (below start (start .args .n)) (within start) (met (c .before .before .before .before .before .before)) _ (c .before .before .before .is-repeated .ensures .0) (c .if1 .left) _
     (c .before .before .before .is-repeated .ensures .1)
 
 enum-told : tie.Need-enum-told Inv-loop μ-loop
