@@ -36,6 +36,15 @@ unfolding told untold
 untold-told none = refl
 untold-told (some h) = refl
 
+-- what the enum tells of the head
+pub told-nothing : (h : Option Head) → told h ≡ Nothing → h ≡ none
+unfolding untold
+told-nothing h e = sym (untold-told h) ∙ ap untold e
+
+pub told-at : (h : Option Head) (i : ℕ) (d : Digest) → told h ≡ At i d → h ≡ some (record { slot = i; digest = d })
+unfolding untold
+told-at h i d e = sym (untold-told h) ∙ ap untold e
+
 -- ---- the digest of a slot's bytes, by the test for one
 
 module _ (L : Layout) (s : List ℕ) (t : Bool) (tested : t ≡ isDigest L s) where

@@ -8,10 +8,6 @@ use Rattle.log.specs.Shape.{inside, digest-inside}
 use Rattle.log.specs.Heads.{told, head-turn}
 use Rattle.log.proofs.head.find_head.Statement.{statement}
 use Rattle.log.proofs.head.find_head.Tie as tie
-use Rattle.log.proofs.head.find_head.Reads as reads
-use Rattle.log.proofs.head.find_head.Lts as lts
-use Rattle.log.proofs.head.later.Reads as later-reads
-use Rattle.log.proofs.slots.cut.Reads as cut-reads
 
 abbrev Inv-loop : tie.InvT-loop
 Inv-loop n s area best₀ i₀ best i = (i ≤ n) × (best ≡ told (headOf (viewsOf edition1 area s) i))

@@ -5,10 +5,6 @@ use Rattle.segment.specs.Layout.{edition1}
 use Rattle.log.specs.Heads.{number-none, number-same, number-other}
 use Rattle.log.proofs.head.has_number.Statement.{statement}
 use Rattle.log.proofs.head.has_number.Tie as tie
-use Rattle.log.proofs.head.has_number.Reads as reads
-use Rattle.log.proofs.head.has_number.Lts as lts
-use Rattle.segment.proofs.reader.digest.Reads as digest-reads
-use Rattle.segment.proofs.reader.is_digest.Reads as is-digest-reads
 
 is-digest-requires : tie.Need-is-digest-requires
 is-digest-requires c κs = search needs

@@ -5,10 +5,6 @@ use Rattle.segment.specs.Layout.{edition1}
 use Rattle.log.specs.Heads.{later-none, later-first, later-higher, later-lower}
 use Rattle.log.proofs.head.later.Statement.{statement}
 use Rattle.log.proofs.head.later.Tie as tie
-use Rattle.log.proofs.head.later.Reads as reads
-use Rattle.log.proofs.head.later.Lts as lts
-use Rattle.segment.proofs.reader.digest.Reads as digest-reads
-use Rattle.segment.proofs.reader.is_digest.Reads as is-digest-reads
 
 is-digest-requires : tie.Need-is-digest-requires
 is-digest-requires c κs = search needs

@@ -13,11 +13,6 @@ use Rattle.log.specs.Shape.{inside}
 use Rattle.log.specs.Heads.{names-skip, names-turn, names-found}
 use Rattle.log.proofs.head.names_no_digest.Statement.{statement}
 use Rattle.log.proofs.head.names_no_digest.Tie as tie
-use Rattle.log.proofs.head.names_no_digest.Reads as reads
-use Rattle.log.proofs.head.names_no_digest.Lts as lts
-use Rattle.log.proofs.slots.cut.Reads as cut-reads
-use Rattle.log.proofs.slots.is_named.Reads as is-named-reads
-use Rattle.segment.proofs.reader.is_digest.Reads as is-digest-reads
 
 abbrev Inv-loop : tie.InvT-loop
 Inv-loop n s area map i₀ i = (i ≤ n) × (namesNoDigest (viewsOf edition1 area s) (named map) i ≡ false)

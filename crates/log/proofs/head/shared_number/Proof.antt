@@ -10,10 +10,6 @@ use Rattle.log.specs.Shape.{inside, digest-inside}
 use Rattle.log.specs.Heads.{number-turn, sharing-le}
 use Rattle.log.proofs.head.shared_number.Statement.{statement}
 use Rattle.log.proofs.head.shared_number.Tie as tie
-use Rattle.log.proofs.head.shared_number.Reads as reads
-use Rattle.log.proofs.head.shared_number.Lts as lts
-use Rattle.log.proofs.head.has_number.Reads as has-number-reads
-use Rattle.log.proofs.slots.cut.Reads as cut-reads
 
 abbrev Inv-loop : tie.InvT-loop
 Inv-loop n s area number count₀ i₀ count i = (i ≤ n) × (count ≡ sharing (viewsOf edition1 area s) (number .0) i)

@@ -9,10 +9,6 @@ use Rattle.model.specs.Log.{scan}
 use Rattle.log.specs.Extents.{extentFrom, extentOf, restOf, rest-whole, Meets, meets, meets-end, meets-damage, extent-turn, extent-end, extent-damage}
 use Rattle.log.proofs.scan.extent.Statement.{statement}
 use Rattle.log.proofs.scan.extent.Tie as tie
-use Rattle.log.proofs.scan.extent.Reads as reads
-use Rattle.log.proofs.scan.extent.Lts as lts
-use Rattle.log.proofs.scan.higher.Reads as higher-reads
-use Rattle.log.proofs.scan.next.Reads as next-reads
 
 abbrev Inv-loop : tie.InvT-loop
 Inv-loop part at₀ highest₀ at highest = extentFrom highest (restOf edition1 part at) ≡ extentOf (scan edition1 part)

@@ -15,11 +15,6 @@ use Rattle.log.specs.Extents.{meets}
 use Rattle.log.specs.Counts.{countOf, total-skip, total-take}
 use Rattle.log.proofs.versions.count.Statement.{statement}
 use Rattle.log.proofs.versions.count.Tie as tie
-use Rattle.log.proofs.versions.count.Reads as reads
-use Rattle.log.proofs.versions.count.Lts as lts
-use Rattle.log.proofs.slots.cut.Reads as cut-reads
-use Rattle.log.proofs.slots.is_named.Reads as is-named-reads
-use Rattle.log.proofs.versions.count_in.Reads as count-in-reads
 
 abbrev Inv-loop : tie.InvT-loop
 Inv-loop n s area map version total₀ i₀ total i = (i ≤ n) × (total ≤ i * 2048) × (total ≡ count (version .0) (logOf (viewsOf edition1 area s) (named map) i))

@@ -10,10 +10,6 @@ use Rattle.log.specs.Extents.{Meets, meets, meets-end, meets-damage, res
 use Rattle.log.specs.Counts.{countFrom, Counting, count-turn, count-end, count-damage}
 use Rattle.log.proofs.versions.count_in.Statement.{statement}
 use Rattle.log.proofs.versions.count_in.Tie as tie
-use Rattle.log.proofs.versions.count_in.Reads as reads
-use Rattle.log.proofs.versions.count_in.Lts as lts
-use Rattle.log.proofs.scan.next.Reads as next-reads
-use Rattle.log.proofs.versions.same.Reads as same-reads
 
 abbrev Inv-loop : tie.InvT-loop
 Inv-loop part version at₀ count₀ at count = Counting edition1 part (version .0) at count

@@ -6,10 +6,6 @@ use Rattle.log.specs.Extents.{meets}
 use Rattle.log.specs.Filter.{repeats, repeats-not}
 use Rattle.log.proofs.versions.is_repeated.Statement.{statement}
 use Rattle.log.proofs.versions.is_repeated.Tie as tie
-use Rattle.log.proofs.versions.is_repeated.Reads as reads
-use Rattle.log.proofs.versions.is_repeated.Lts as lts
-use Rattle.log.proofs.versions.count.Reads as count-reads
-use Rattle.log.proofs.versions.mark.Reads as mark-reads
 
 mark-requires : tie.Need-mark-requires
 mark-requires c κs = search needs

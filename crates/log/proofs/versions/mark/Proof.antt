@@ -7,10 +7,6 @@ use Rattle.log.specs.Extents.{meets}
 use Rattle.log.specs.Filter.{isMarked, markedWith}
 use Rattle.log.proofs.versions.mark.Statement.{statement}
 use Rattle.log.proofs.versions.mark.Tie as tie
-use Rattle.log.proofs.versions.mark.Reads as reads
-use Rattle.log.proofs.versions.mark.Lts as lts
-use Rattle.slot_map.proofs.has_slot.Reads as has-slot-reads
-use Rattle.slot_map.proofs.with_slot.Reads as with-slot-reads
 
 cast-word : tie.Need-cast-word
 cast-word c = search needs

@@ -3,8 +3,6 @@ use borrow.Author.Tests.{eq-eqb, ne-eqb}
 use Rattle.segment.specs.Choice.{pick}
 use Rattle.log.proofs.versions.same.Statement.{statement}
 use Rattle.log.proofs.versions.same.Tie as tie
-use Rattle.log.proofs.versions.same.Reads as reads
-use Rattle.log.proofs.versions.same.Lts as lts
 
 returns : tie.Need-returns
 unfolding pick

@@ -4,7 +4,7 @@ use mathlib.Core.Path.{sym, _∙_, ap}
 use mathlib.Core.List.{List}
 use native.Mathlib.Omega.{arith}
 use borrow.Author.Needs.{needs}
-use lib.ListN.{length, set}
+use lib.ListN.{length}
 use Rattle.segment.specs.Layout.{edition1}
 use Rattle.slot_map.specs.Bit.{named}
 use Rattle.model.specs.Log.{viewsOf, scan, logOf, Placed}
@@ -14,11 +14,6 @@ use Rattle.log.specs.Extents.{Meets, meets, meets-end, meets-damage}
 use Rattle.log.specs.Filter.{Sieving, sieve-start, sifted-hit, sifted-past, sieve-hit, sieve-turn, sieve-end, sieve-damage, slot-inside-log}
 use Rattle.log.proofs.versions.sift.Statement.{statement}
 use Rattle.log.proofs.versions.sift.Tie as tie
-use Rattle.log.proofs.versions.sift.Reads as reads
-use Rattle.log.proofs.versions.sift.Lts as lts
-use Rattle.log.proofs.scan.next.Reads as next-reads
-use Rattle.log.proofs.slots.cut.Reads as cut-reads
-use Rattle.log.proofs.versions.is_repeated.Reads as is-repeated-reads
 
 abbrev Inv-loop : tie.InvT-loop
 Inv-loop n s area map slot filter₀ part at₀ filter at = Sieving edition1 part slot (logOf (viewsOf edition1 area s) (named map) (slot + 1)) at filter

@@ -3,7 +3,7 @@ use Prim.Native.Nat.{_-_, _≤_}
 use mathlib.Core.Path.{_≡_, refl, sym, _∙_}
 use native.Mathlib.Omega.{arith}
 use borrow.Author.Tests.{not-true, not-false}
-use lib.ListN.{length, set}
+use lib.ListN.{length}
 use Rattle.segment.specs.Layout.{edition1}
 use Rattle.slot_map.specs.Bit.{named}
 use Rattle.model.specs.Log.{viewsOf, logOf}
@@ -11,10 +11,6 @@ use Rattle.log.specs.Extents.{meets}
 use Rattle.log.specs.Filter.{Sieved, sieved-none, sieved-skip, enters, sieved-all}
 use Rattle.log.proofs.versions.version_shared.Statement.{statement}
 use Rattle.log.proofs.versions.version_shared.Tie as tie
-use Rattle.log.proofs.versions.version_shared.Reads as reads
-use Rattle.log.proofs.versions.version_shared.Lts as lts
-use Rattle.log.proofs.slots.is_named.Reads as is-named-reads
-use Rattle.log.proofs.versions.sift.Reads as sift-reads
 
 abbrev Inv-loop : tie.InvT-loop
 Inv-loop n s area map filter₀ i₀ filter i = (i ≤ n) × (length filter ≡ 512) × Sieved (logOf (viewsOf edition1 area s) (named map) i) filter
