@@ -1,18 +1,17 @@
 -- How many entries of a segment and of the log have a version, and what a turn of each loop adds.
-use Prim.Native.Nat.{ℕ, zero, suc, _+_, _*_, _≤_, _<_}
+use Prim.Native.Nat.{ℕ, _+_, _≤_}
 use mathlib.Core.Path.{_≡_, refl, sym, _∙_, ap}
 use mathlib.Core.Bool.{Bool, true, false}
-use mathlib.Core.List.{List, [], _∷_, _++_}
+use mathlib.Core.List.{List, [], _∷_}
 use native.Mathlib.Nat.{add-zero, add-assoc}
-use native.Mathlib.Numerals.{add-one}
 use native.Mathlib.Omega.{arith}
 use lib.Dec.{eqb}
 use lib.ListN.{length}
 use Rattle.segment.specs.Choice.{pick}
-use Rattle.segment.specs.Layout.{Layout, digestSize}
+use Rattle.segment.specs.Layout.{Layout}
 use Rattle.segment.specs.Entry.{Entry, end, damage, entryAt}
 use Rattle.segment.specs.EntryLaws.{found-end}
-use Rattle.model.specs.Log.{View, Item, Scan, damaged, scanned, itemFirst, scan, itemsOf, placedIn, Placed, logOf}
+use Rattle.model.specs.Log.{View, Item, Scan, damaged, scanned, itemFirst, scan, itemsOf, placedIn, logOf}
 use Rattle.laws.specs.Scans.{itemAt}
 use Rattle.laws.specs.Members.{total}
 use Rattle.laws.specs.Versions.{counted, count, count-append}

@@ -6,15 +6,15 @@ use mathlib.Core.List.{List, [], _∷_, _++_, append-nil}
 use native.Mathlib.Numerals.{add-one}
 use native.Mathlib.Omega.{arith}
 use lib.ListN.{length}
-use Rattle.segment.specs.Choice.{pick, pick-true, pick-false, both, both-true, both-false-left, both-false-right, either, either-false, either-true-left, either-true-right}
+use Rattle.segment.specs.Choice.{pick, pick-true, pick-false, both, both-true, both-false-left, both-false-right, either-false, either-true-left, either-true-right}
 use Rattle.segment.specs.Layout.{Layout, digestSize}
 use Rattle.segment.specs.Entry.{Entry, Found, entry, end, damage, entryAt, sizeOf, answer}
 use Rattle.segment.specs.EntryLaws.{past-end, found-fits}
-use Rattle.segment.specs.AnswerLaws.{Tells, tells-object, tells-tombstone, tells-end, tells-damage}
+use Rattle.segment.specs.AnswerLaws.{Tells, tells-end, tells-damage}
 use Rattle.segment.specs.declared.Key.{Key}
 use Rattle.segment.specs.declared.Version.{Version}
 use Rattle.segment.specs.declared.Read.the-variants as R
-use Rattle.model.specs.Log.{View, Item, Placed, Scan, damaged, scanned, itemFirst, scanFrom, scan, itemsOf, isDamaged, placedIn, logOf, highest}
+use Rattle.model.specs.Log.{View, Item, Placed, Scan, damaged, scanned, itemFirst, scanFrom, scan, itemsOf, endOf, isDamaged, placedIn, logOf, highest}
 use Rattle.model.specs.Recovery.{logDamaged}
 use Rattle.laws.specs.Scans.{itemAt, scan-entry, scan-end, scan-damage}
 use Rattle.laws.specs.Versions.{highest-append}
@@ -187,15 +187,19 @@ module _ (L : Layout) (s : List ℕ) (at top : ℕ) (whole : Extent) (so-far : e
 
 -- ---- what an extent tells of a scan
 
-sound-scan : (r : Scan) (e : ℕ) (h : Version) → extentOf r ≡ X.Sound e h
-    → (isDamaged r ≡ false) × (highestOf (itemsOf r) ≡ h .0)
-unfolding extentFrom isDamaged itemsOf
+pub record Scanned (r : Scan) (e h : ℕ) : Type 0 where
+  pub sound : isDamaged r ≡ false
+  pub ends : endOf r ≡ e
+  pub highest-is : highestOf (itemsOf r) ≡ h
+
+pub sound-scan : (r : Scan) (e : ℕ) (h : Version) → extentOf r ≡ X.Sound e h → Scanned r e (h .0)
+unfolding extentFrom isDamaged itemsOf endOf
 sound-scan damaged e h p = let z : _≡_ {A = ℕ} 0 1 = cc in absurd (omega arith)
 sound-scan (scanned is k) e h p =
     let same : max 0 (highestOf is) ≡ h .0 = cc in
-    (refl, omega arith)
+    record { sound = refl; ends = cc; highest-is = omega arith }
 
-damaged-scan : (r : Scan) → extentOf r ≡ X.Damaged → isDamaged r ≡ true
+pub damaged-scan : (r : Scan) → extentOf r ≡ X.Damaged → isDamaged r ≡ true
 unfolding extentFrom isDamaged
 damaged-scan damaged p = refl
 damaged-scan (scanned is k) p = let z : _≡_ {A = ℕ} 0 1 = cc in absurd (omega arith)
@@ -246,13 +250,13 @@ module _ (v : ℕ → View) (p : ℕ → Bool) (i top : ℕ) (so-far : Surveyed 
   pub survey-sound : p i ≡ true → (e : ℕ) (h : Version) → extentOf (v i .scan) ≡ X.Sound e h → (higher : ℕ) → higher ≡ max top (h .0)
       → Surveyed v p (i + 1) higher
   survey-sound q e h r higher m =
-      let (good, high) = sound-scan (v i .scan) e h r in
+      let found = sound-scan (v i .scan) e h r in
       record {
-        sound = sound-slot v p i (both-false-right (p i) (isDamaged (v i .scan)) good) (so-far .sound);
+        sound = sound-slot v p i (both-false-right (p i) (isDamaged (v i .scan)) (found .sound)) (so-far .sound);
         highest-is =
             m
             ∙ ap (λ (k : ℕ). max k (h .0)) (so-far .highest-is)
-            ∙ ap (max (highest (logOf v p i))) (sym (highest-placed i (itemsOf (v i .scan)) ∙ high))
+            ∙ ap (max (highest (logOf v p i))) (sym (highest-placed i (itemsOf (v i .scan)) ∙ found .highest-is))
             ∙ sym (highest-append (logOf v p i) (placedIn i (itemsOf (v i .scan))))
             ∙ ap highest (sym (log-take v p i q));
       }
@@ -273,3 +277,21 @@ pub survey-damaged : (v : ℕ → View) (p : ℕ → Bool) (i n : ℕ) → i < n
     → Y.Damaged ≡ surveyOf v p n
 unfolding surveyOf
 survey-damaged v p i n h q e = sym (pick-true (logDamaged v p n) Y.Damaged _ (damaged-slot v p i n h q (damaged-scan (v i .scan) e)))
+
+-- what the enum tells of the log
+module _ (v : ℕ → View) (p : ℕ → Bool) (n : ℕ) where
+  pub survey-tells-damage : surveyOf v p n ≡ Y.Damaged → logDamaged v p n ≡ true
+  unfolding surveyOf pick
+  survey-tells-damage e = go (logDamaged v p n) e
+    where
+      go : (t : Bool) → pick t Y.Damaged (Y.Sound (record { 0 = highest (logOf v p n) })) ≡ Y.Damaged → t ≡ true
+      go true q = refl
+      go false q = cc
+
+  pub survey-tells-sound : (h : Version) → surveyOf v p n ≡ Y.Sound h → Surveyed v p n (h .0)
+  unfolding surveyOf pick
+  survey-tells-sound h e = go (logDamaged v p n) refl e
+    where
+      go : (t : Bool) → logDamaged v p n ≡ t → pick t Y.Damaged (Y.Sound (record { 0 = highest (logOf v p n) })) ≡ Y.Sound h → Surveyed v p n (h .0)
+      go true d q = let z : _≡_ {A = ℕ} 0 1 = cc in absurd (omega arith)
+      go false d q = record { sound = d; highest-is = cc }

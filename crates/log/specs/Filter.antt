@@ -1,23 +1,22 @@
 -- The filter of bits over versions, and why what passes it shares no version.
-use Prim.Native.Nat.{ℕ, zero, suc, _+_, _*_, _/_, _%_, _≤_, _<_}
+use Prim.Native.Nat.{ℕ, zero, suc, _+_, _/_, _%_, _≤_, _<_}
 use mathlib.Core.Path.{_≡_, refl, sym, _∙_, ap, subst}
 use mathlib.Core.Bool.{Bool, true, false}
 use mathlib.Core.List.{List, [], _∷_, _++_, append-nil, append-assoc}
-use native.Mathlib.Numerals.{add-one}
 use native.Mathlib.Omega.{arith}
 use native.Mathlib.Decide.{decLe}
 use lib.Dec.{eqb, ltb}
 use lib.ListN.{length, getD, set, length-set}
 use lib.Seq.{getD-set-same, getD-set-other}
 use borrow.Author.Tests.{eq-eqb, eqb-true, eqb-false, ltb-true, ltb-false}
-use Rattle.segment.specs.Choice.{pick, pick-true, pick-false, both, both-left, both-right}
-use Rattle.segment.specs.Layout.{Layout, edition1, digestSize}
-use Rattle.segment.specs.Entry.{Entry, end, damage, entryAt}
+use Rattle.segment.specs.Choice.{pick, pick-true, pick-false, both, both-right, both-false-left}
+use Rattle.segment.specs.Layout.{Layout, digestSize}
+use Rattle.segment.specs.Entry.{end, damage, entryAt}
 use Rattle.slot_map.specs.Bit.{bit, named, withBit}
 use Rattle.slot_map.specs.BitLaws.{bit-with-same, bit-with-other, named-true, set-named}
-use Rattle.model.specs.Log.{View, Item, Scan, damaged, scanned, scan, itemsOf, endOf, isDamaged, placedIn, Placed, logOf, segmentOf, versionShared}
+use Rattle.model.specs.Log.{View, Item, Scan, damaged, scanned, scan, itemsOf, endOf, isDamaged, placedIn, Placed, logOf, versionShared}
 use Rattle.model.specs.Recovery.{logDamaged}
-use Rattle.laws.specs.Scans.{itemAt, item-first}
+use Rattle.laws.specs.Scans.{item-first}
 use Rattle.laws.specs.Members.{clash, total}
 use Rattle.laws.specs.Versions.{counted, count, count-append, shared-count, count-shared}
 use Rattle.log.specs.Extents.{Meets, restOf, rest-whole, rest-entry, rest-end, rest-damage, log-take, log-skip, damaged-slot}
@@ -77,6 +76,14 @@ module _ (filter : List ℕ) (size : length filter ≡ 512) (v : ℕ) where
           (λ e. eqb-false (v / 32 % 512) (u / 32 % 512) p (sym e)))
           ∙ was
 
+-- the exact count is taken only where the bit was set
+pub repeats-not : (t m b : Bool) → t ≡ m → t ≡ false → false ≡ both m b
+repeats-not t m b e p = sym (both-false-left m b (sym e ∙ p))
+
+pub repeats : (t m : Bool) (k l : ℕ) → t ≡ m → t ≡ true → k ≡ l → ltb 1 k ≡ both m (ltb 1 l)
+unfolding both
+repeats t m k l e p q = ap (ltb 1) q ∙ ap (λ (a : Bool). both a (ltb 1 l)) (sym (sym e ∙ p))
+
 -- ---- what has passed
 
 -- No version stands twice in the log, and the bit of each is set.
@@ -133,6 +140,13 @@ pub record Entering (v : ℕ → View) (p : ℕ → Bool) (i n : ℕ) (filter : 
 pub record Sifted (v : ℕ → View) (p : ℕ → Bool) (i n : ℕ) (r : Bool) (filter : List ℕ) : Type 0 where
   pub shared : r ≡ true → versionShared (logOf v p n) ≡ true
   pub sieved : r ≡ false → Sieved (logOf v p (i + 1)) filter
+
+module _ {v : ℕ → View} {p : ℕ → Bool} {i n : ℕ} (filter : List ℕ) where
+  pub sifted-hit : versionShared (logOf v p n) ≡ true → Sifted v p i n true filter
+  sifted-hit h = record { shared = λ e. h; sieved = λ e. absurd (clash true refl e) }
+
+  pub sifted-past : Sieved (logOf v p (i + 1)) filter → Sifted v p i n false filter
+  sifted-past h = record { shared = λ e. absurd (clash false e refl); sieved = λ e. h }
 
 -- Between two entries of the slot whose bytes are s: those before have passed, and the scan goes on from here.
 pub record Sieving (L : Layout) (s : List ℕ) (i : ℕ) (after : List Placed) (at : ℕ) (filter : List ℕ) : Type 0 where

@@ -1,14 +1,14 @@
 -- The head search: the enum for a head, and what a turn of each loop adds.
 use Prim.Native.Nat.{ℕ, zero, suc, _+_, _≤_, _<_}
 use mathlib.Core.Path.{_≡_, refl, sym, _∙_, ap, subst}
-use mathlib.Core.Bool.{Bool, true, false, not}
+use mathlib.Core.Bool.{Bool, true, false}
 use mathlib.Core.List.{List}
 use mathlib.Core.Option.{Option, none, some}
 use native.Mathlib.Numerals.{add-one}
 use native.Mathlib.Omega.{arith}
 use lib.Dec.{eqb, ltb}
 use borrow.Author.Tests.{lt-ltb, le-ltb, eq-eqb, ne-eqb, eqb-true, eqb-false}
-use Rattle.segment.specs.Choice.{pick, pick-true, pick-false, both, both-true, both-false-left, both-false-right, either, either-false, either-true-left, either-true-right}
+use Rattle.segment.specs.Choice.{pick, pick-true, pick-false, both, both-true, both-false-left, both-false-right, either-false, either-true-left, either-true-right}
 use Rattle.segment.specs.Layout.{Layout}
 use Rattle.segment.specs.Digest.{digestOf, isDigest}
 use Rattle.segment.specs.declared.Digest.{Digest}
@@ -35,6 +35,15 @@ pub untold-told : (h : Option Head) → untold (told h) ≡ h
 unfolding told untold
 untold-told none = refl
 untold-told (some h) = refl
+
+-- what the enum tells of the head
+pub told-nothing : (h : Option Head) → told h ≡ Nothing → h ≡ none
+unfolding untold
+told-nothing h e = sym (untold-told h) ∙ ap untold e
+
+pub told-at : (h : Option Head) (i : ℕ) (d : Digest) → told h ≡ At i d → h ≡ some (record { slot = i; digest = d })
+unfolding untold
+told-at h i d e = sym (untold-told h) ∙ ap untold e
 
 -- ---- the digest of a slot's bytes, by the test for one
 

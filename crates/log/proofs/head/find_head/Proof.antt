@@ -1,23 +1,13 @@
 -- `log::head::find_head` meets its contract. The invariant: the newest so far is the head of the slots passed.
-use Prim.Native.Nat.{_+_, _-_, _≤_, max}
-use mathlib.Core.Path.{_≡_, refl, sym, _∙_, ap}
-use mathlib.Core.Bool.{true, false}
+use Prim.Native.Nat.{_-_, _≤_}
+use mathlib.Core.Path.{_≡_, refl}
 use native.Mathlib.Omega.{arith}
-use lib.ListN.{length}
-use borrow.Author.Needs.{needs}
-use borrow.Author.Tests.{not-true, not-false}
 use Rattle.segment.specs.Layout.{edition1}
-use Rattle.model.specs.Log.{viewsOf, headOf, newer, digestIn, scan}
-use Rattle.model.specs.Recovery.{hasNumber, sharing, namesNoDigest}
-use Rattle.slot_map.specs.Bit.{named}
-use Rattle.log.specs.Shape.{Shape, inside, digest-inside}
-use Rattle.log.specs.Heads.{told, untold, later-none, later-first, later-higher, later-lower, number-none, number-same, number-other, head-turn, number-turn, sharing-le, names-skip, names-turn, names-found}
+use Rattle.model.specs.Log.{viewsOf, headOf}
+use Rattle.log.specs.Shape.{inside, digest-inside}
+use Rattle.log.specs.Heads.{told, head-turn}
 use Rattle.log.proofs.head.find_head.Statement.{statement}
 use Rattle.log.proofs.head.find_head.Tie as tie
-use Rattle.log.proofs.head.find_head.Reads as reads
-use Rattle.log.proofs.head.find_head.Lts as lts
-use Rattle.log.proofs.head.later.Reads as later-reads
-use Rattle.log.proofs.slots.cut.Reads as cut-reads
 
 abbrev Inv-loop : tie.InvT-loop
 Inv-loop n s area best₀ i₀ best i = (i ≤ n) × (best ≡ told (headOf (viewsOf edition1 area s) i))

@@ -1,24 +1,10 @@
 -- `log::head::later` meets its contract: a law for each return.
-use Prim.Native.Nat.{_+_, _-_, _≤_, max}
-use mathlib.Core.Path.{_≡_, refl, sym, _∙_, ap}
-use mathlib.Core.Bool.{true, false}
-use native.Mathlib.Omega.{arith}
-use lib.ListN.{length}
 use borrow.Author.Needs.{needs}
 use borrow.Author.Tests.{not-true, not-false}
 use Rattle.segment.specs.Layout.{edition1}
-use Rattle.model.specs.Log.{viewsOf, headOf, newer, digestIn, scan}
-use Rattle.model.specs.Recovery.{hasNumber, sharing, namesNoDigest}
-use Rattle.slot_map.specs.Bit.{named}
-use Rattle.log.specs.Shape.{Shape, inside, digest-inside}
-use Rattle.log.specs.Heads.{told, untold, later-none, later-first, later-higher, later-lower, number-none, number-same, number-other, head-turn, number-turn, sharing-le, names-skip, names-turn, names-found}
-use borrow.Author.Needs.{needs}
+use Rattle.log.specs.Heads.{later-none, later-first, later-higher, later-lower}
 use Rattle.log.proofs.head.later.Statement.{statement}
 use Rattle.log.proofs.head.later.Tie as tie
-use Rattle.log.proofs.head.later.Reads as reads
-use Rattle.log.proofs.head.later.Lts as lts
-use Rattle.segment.proofs.reader.digest.Reads as digest-reads
-use Rattle.segment.proofs.reader.is_digest.Reads as is-digest-reads
 
 is-digest-requires : tie.Need-is-digest-requires
 is-digest-requires c κs = search needs

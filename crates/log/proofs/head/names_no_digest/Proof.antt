@@ -1,24 +1,18 @@
 -- `log::head::names_no_digest` meets its contract. The invariant: each slot passed that the map names has a digest.
-use Prim.Native.Nat.{_+_, _-_, _≤_, max}
-use mathlib.Core.Path.{_≡_, refl, sym, _∙_, ap}
-use mathlib.Core.Bool.{true, false}
+use Prim.Native.Nat.{_-_, _≤_}
+use mathlib.Core.Path.{_≡_, refl, sym, _∙_}
+use mathlib.Core.Bool.{false}
 use native.Mathlib.Omega.{arith}
-use lib.ListN.{length}
 use borrow.Author.Needs.{needs}
 use borrow.Author.Tests.{not-true, not-false}
 use Rattle.segment.specs.Layout.{edition1}
-use Rattle.model.specs.Log.{viewsOf, headOf, newer, digestIn, scan}
-use Rattle.model.specs.Recovery.{hasNumber, sharing, namesNoDigest}
+use Rattle.model.specs.Log.{viewsOf}
+use Rattle.model.specs.Recovery.{namesNoDigest}
 use Rattle.slot_map.specs.Bit.{named}
-use Rattle.log.specs.Shape.{Shape, inside, digest-inside}
-use Rattle.log.specs.Heads.{told, untold, later-none, later-first, later-higher, later-lower, number-none, number-same, number-other, head-turn, number-turn, sharing-le, names-skip, names-turn, names-found}
+use Rattle.log.specs.Shape.{inside}
+use Rattle.log.specs.Heads.{names-skip, names-turn, names-found}
 use Rattle.log.proofs.head.names_no_digest.Statement.{statement}
 use Rattle.log.proofs.head.names_no_digest.Tie as tie
-use Rattle.log.proofs.head.names_no_digest.Reads as reads
-use Rattle.log.proofs.head.names_no_digest.Lts as lts
-use Rattle.log.proofs.slots.cut.Reads as cut-reads
-use Rattle.log.proofs.slots.is_named.Reads as is-named-reads
-use Rattle.segment.proofs.reader.is_digest.Reads as is-digest-reads
 
 abbrev Inv-loop : tie.InvT-loop
 Inv-loop n s area map i₀ i = (i ≤ n) × (namesNoDigest (viewsOf edition1 area s) (named map) i ≡ false)

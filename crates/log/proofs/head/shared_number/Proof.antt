@@ -1,24 +1,15 @@
 -- `log::head::shared_number` meets its contract. The invariant: the count is that of the slots passed.
 use lib.Dec.{ltb}
-use Prim.Native.Nat.{_+_, _-_, _≤_, max}
-use mathlib.Core.Path.{_≡_, refl, sym, _∙_, ap}
-use mathlib.Core.Bool.{true, false}
+use Prim.Native.Nat.{_+_, _-_, _≤_}
+use mathlib.Core.Path.{_≡_, refl, ap}
 use native.Mathlib.Omega.{arith}
-use lib.ListN.{length}
-use borrow.Author.Needs.{needs}
-use borrow.Author.Tests.{not-true, not-false}
 use Rattle.segment.specs.Layout.{edition1}
-use Rattle.model.specs.Log.{viewsOf, headOf, newer, digestIn, scan}
-use Rattle.model.specs.Recovery.{hasNumber, sharing, namesNoDigest}
-use Rattle.slot_map.specs.Bit.{named}
-use Rattle.log.specs.Shape.{Shape, inside, digest-inside}
-use Rattle.log.specs.Heads.{told, untold, later-none, later-first, later-higher, later-lower, number-none, number-same, number-other, head-turn, number-turn, sharing-le, names-skip, names-turn, names-found}
+use Rattle.model.specs.Log.{viewsOf}
+use Rattle.model.specs.Recovery.{sharing}
+use Rattle.log.specs.Shape.{inside, digest-inside}
+use Rattle.log.specs.Heads.{number-turn, sharing-le}
 use Rattle.log.proofs.head.shared_number.Statement.{statement}
 use Rattle.log.proofs.head.shared_number.Tie as tie
-use Rattle.log.proofs.head.shared_number.Reads as reads
-use Rattle.log.proofs.head.shared_number.Lts as lts
-use Rattle.log.proofs.head.has_number.Reads as has-number-reads
-use Rattle.log.proofs.slots.cut.Reads as cut-reads
 
 abbrev Inv-loop : tie.InvT-loop
 Inv-loop n s area number count₀ i₀ count i = (i ≤ n) × (count ≡ sharing (viewsOf edition1 area s) (number .0) i)

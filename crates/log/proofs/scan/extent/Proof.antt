@@ -1,23 +1,14 @@
 -- `log::scan::extent` meets its contract. The invariant: the scan from here on, after the highest version so far, gives the whole answer.
-use Prim.Native.Nat.{_+_, _-_, _≤_, max}
-use mathlib.Core.Path.{_≡_, refl, sym, _∙_, ap}
-use mathlib.Core.Bool.{true, false}
+use Prim.Native.Nat.{_-_}
+use mathlib.Core.Path.{_≡_, ap}
 use native.Mathlib.Omega.{arith}
 use lib.ListN.{length}
 use borrow.Author.Needs.{needs}
-use borrow.Author.Tests.{not-true, not-false}
 use Rattle.segment.specs.Layout.{edition1}
-use Rattle.model.specs.Log.{viewsOf, headOf, newer, digestIn, scan}
-use Rattle.model.specs.Recovery.{hasNumber, sharing, namesNoDigest}
-use Rattle.slot_map.specs.Bit.{named}
-use Rattle.log.specs.Shape.{Shape, inside, digest-inside}
+use Rattle.model.specs.Log.{scan}
 use Rattle.log.specs.Extents.{extentFrom, extentOf, restOf, rest-whole, Meets, meets, meets-end, meets-damage, extent-turn, extent-end, extent-damage}
 use Rattle.log.proofs.scan.extent.Statement.{statement}
 use Rattle.log.proofs.scan.extent.Tie as tie
-use Rattle.log.proofs.scan.extent.Reads as reads
-use Rattle.log.proofs.scan.extent.Lts as lts
-use Rattle.log.proofs.scan.higher.Reads as higher-reads
-use Rattle.log.proofs.scan.next.Reads as next-reads
 
 abbrev Inv-loop : tie.InvT-loop
 Inv-loop part at₀ highest₀ at highest = extentFrom highest (restOf edition1 part at) ≡ extentOf (scan edition1 part)

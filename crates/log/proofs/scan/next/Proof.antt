@@ -2,14 +2,10 @@
 use mathlib.Core.Path.{sym, _∙_}
 use Rattle.segment.specs.AnswerLaws.{tells-object, tells-tombstone}
 use Rattle.segment.specs.Layout.{edition1}
-use Rattle.segment.specs.Entry.{entryAt}
 use Rattle.log.specs.Extents.{next-entry, next-end, next-damage}
 use borrow.Author.Needs.{needs}
 use Rattle.log.proofs.scan.next.Statement.{statement}
 use Rattle.log.proofs.scan.next.Tie as tie
-use Rattle.log.proofs.scan.next.Reads as reads
-use Rattle.log.proofs.scan.next.Lts as lts
-use Rattle.segment.proofs.reader.read.Reads as read-reads
 
 read-requires : tie.Need-read-requires
 read-requires c κs = search needs

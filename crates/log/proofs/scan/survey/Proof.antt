@@ -12,12 +12,6 @@ use Rattle.log.specs.Shape.{inside}
 use Rattle.log.specs.Extents.{extentOf, Surveyed, survey-none, survey-skip, survey-sound, survey-damaged, survey-end}
 use Rattle.log.proofs.scan.survey.Statement.{statement}
 use Rattle.log.proofs.scan.survey.Tie as tie
-use Rattle.log.proofs.scan.survey.Reads as reads
-use Rattle.log.proofs.scan.survey.Lts as lts
-use Rattle.log.proofs.scan.extent.Reads as extent-reads
-use Rattle.log.proofs.scan.higher.Reads as higher-reads
-use Rattle.log.proofs.slots.cut.Reads as cut-reads
-use Rattle.log.proofs.slots.is_named.Reads as is-named-reads
 
 abbrev Inv-loop : tie.InvT-loop
 Inv-loop n s area map top₀ i₀ top i = (i ≤ n) × Surveyed (viewsOf edition1 area s) (named map) i top

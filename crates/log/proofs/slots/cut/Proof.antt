@@ -6,8 +6,6 @@ use lib.ListN.{take, drop}
 use borrow.Author.Needs.{needs}
 use Rattle.log.proofs.slots.cut.Statement.{statement}
 use Rattle.log.proofs.slots.cut.Tie as tie
-use Rattle.log.proofs.slots.cut.Reads as reads
-use Rattle.log.proofs.slots.cut.Lts as lts
 
 mul-result : tie.Need-mul-result
 mul-result c = search needs

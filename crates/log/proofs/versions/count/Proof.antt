@@ -1,30 +1,20 @@
 -- `log::versions::count` meets its contract. The invariant: the total is that of the slots passed.
-use Prim.Native.Nat.{ℕ, _+_, _-_, _*_, _/_, _%_, _≤_}
+use Prim.Native.Nat.{ℕ, _-_, _*_, _≤_}
 use mathlib.Core.Path.{_≡_, refl, sym, _∙_, ap}
-use mathlib.Core.Bool.{true, false}
 use mathlib.Core.List.{List}
 use native.Mathlib.Omega.{arith}
 use borrow.Author.Needs.{needs}
-use borrow.Author.Tests.{eq-eqb, ne-eqb, not-true, not-false}
-use lib.Dec.{eqb, ltb}
-use lib.ListN.{length, set}
-use Rattle.segment.specs.Choice.{pick, pick-true, pick-false, both}
+use borrow.Author.Tests.{not-true, not-false}
 use Rattle.segment.specs.Layout.{edition1}
 use Rattle.slot_map.specs.Bit.{named}
 use Rattle.model.specs.Log.{viewsOf, scan, itemsOf, logOf}
 use Rattle.laws.specs.Members.{total}
 use Rattle.laws.specs.Versions.{count}
 use Rattle.log.specs.Shape.{inside, part-short}
-use Rattle.log.specs.Extents.{Meets, meets, meets-end, meets-damage, rest-whole}
-use Rattle.log.specs.Counts.{countFrom, countOf, Counting, count-turn, count-end, count-damage, total-skip, total-take}
-use Rattle.log.specs.Filter.{isMarked, markedWith, Sieved, Sieving, Entering, Sifted, sieve-start, sieve-hit, sieve-turn, sieve-end, sieve-damage, slot-inside-log, sieved-none, sieved-skip, enters, sieved-all}
+use Rattle.log.specs.Extents.{meets}
+use Rattle.log.specs.Counts.{countOf, total-skip, total-take}
 use Rattle.log.proofs.versions.count.Statement.{statement}
 use Rattle.log.proofs.versions.count.Tie as tie
-use Rattle.log.proofs.versions.count.Reads as reads
-use Rattle.log.proofs.versions.count.Lts as lts
-use Rattle.log.proofs.slots.cut.Reads as cut-reads
-use Rattle.log.proofs.slots.is_named.Reads as is-named-reads
-use Rattle.log.proofs.versions.count_in.Reads as count-in-reads
 
 abbrev Inv-loop : tie.InvT-loop
 Inv-loop n s area map version total₀ i₀ total i = (i ≤ n) × (total ≤ i * 2048) × (total ≡ count (version .0) (logOf (viewsOf edition1 area s) (named map) i))

@@ -1,28 +1,15 @@
 -- `log::versions::count_in` meets its contract. The invariant: counting on from here gives the whole count.
-use Prim.Native.Nat.{ℕ, _+_, _-_, _*_, _/_, _%_, _≤_}
-use mathlib.Core.Path.{_≡_, refl, sym, _∙_, ap}
-use mathlib.Core.Bool.{true, false}
-use mathlib.Core.List.{List}
+use Prim.Native.Nat.{_+_, _-_}
+use mathlib.Core.Path.{ap}
 use native.Mathlib.Omega.{arith}
 use borrow.Author.Needs.{needs}
-use borrow.Author.Tests.{eq-eqb, ne-eqb, not-true, not-false}
-use lib.Dec.{eqb, ltb}
-use lib.ListN.{length, set}
-use Rattle.segment.specs.Choice.{pick, pick-true, pick-false, both}
+use lib.ListN.{length}
 use Rattle.segment.specs.Layout.{edition1}
-use Rattle.slot_map.specs.Bit.{named}
-use Rattle.model.specs.Log.{viewsOf, scan, itemsOf, logOf}
 use Rattle.laws.specs.Versions.{count}
-use Rattle.log.specs.Shape.{inside}
 use Rattle.log.specs.Extents.{Meets, meets, meets-end, meets-damage, rest-whole}
-use Rattle.log.specs.Counts.{countFrom, countOf, Counting, count-turn, count-end, count-damage, total-skip, total-take}
-use Rattle.log.specs.Filter.{isMarked, markedWith, Sieved, Sieving, Entering, Sifted, sieve-start, sieve-hit, sieve-turn, sieve-end, sieve-damage, slot-inside-log, sieved-none, sieved-skip, enters, sieved-all}
+use Rattle.log.specs.Counts.{countFrom, Counting, count-turn, count-end, count-damage}
 use Rattle.log.proofs.versions.count_in.Statement.{statement}
 use Rattle.log.proofs.versions.count_in.Tie as tie
-use Rattle.log.proofs.versions.count_in.Reads as reads
-use Rattle.log.proofs.versions.count_in.Lts as lts
-use Rattle.log.proofs.scan.next.Reads as next-reads
-use Rattle.log.proofs.versions.same.Reads as same-reads
 
 abbrev Inv-loop : tie.InvT-loop
 Inv-loop part version at₀ count₀ at count = Counting edition1 part (version .0) at count

@@ -1,34 +1,29 @@
+-- `log::versions::is_repeated` meets its contract.
 use borrow.Author.Needs.{needs}
+use borrow.Author.Tests.{not-true, not-false}
+use Rattle.laws.specs.Versions.{count}
+use Rattle.log.specs.Extents.{meets}
+use Rattle.log.specs.Filter.{repeats, repeats-not}
 use Rattle.log.proofs.versions.is_repeated.Statement.{statement}
 use Rattle.log.proofs.versions.is_repeated.Tie as tie
-use Rattle.log.proofs.versions.is_repeated.Reads as reads
-use Rattle.log.proofs.versions.is_repeated.Lts as lts
-use Rattle.log.proofs.versions.count.Reads as count-reads
-use Rattle.log.proofs.versions.mark.Reads as mark-reads
 
--- src/versions.rt:98:9
 mark-requires : tie.Need-mark-requires
 mark-requires c κs = search needs
 
--- src/versions.rt:99:9
 same-length : tie.Need-same-length
 same-length c = search needs
 
--- src/versions.rt:99:9
 returns : tie.Need-returns
-returns c = ?
+returns c = (repeats-not _ _ _ (c .before .before .before .mark .ensures .0) (not-true _ (c .if1 .taken)), c .before .before .before .mark .ensures .1)
 
--- src/versions.rt:101:9
 count-requires : tie.Need-count-requires
 count-requires c κs = search needs
 
--- src/versions.rt:92:1
 same-length-2 : tie.Need-same-length-2
 same-length-2 c = search needs
 
--- src/versions.rt:92:1
 returns-2 : tie.Need-returns-2
-returns-2 c = ?
+returns-2 c = (repeats _ _ _ _ (c .before .before .before .before .mark .ensures .0) (not-false _ (c .before .if1 .left)) (c .count .ensures), c .before .before .before .before .mark .ensures .1)
 
 pub is-repeated-spec : {M : Type 1} → statement M
 is-repeated-spec =

@@ -1,21 +1,8 @@
 -- `log::versions::same` meets its contract.
-use Prim.Native.Nat.{ℕ, _+_, _-_, _*_, _≤_}
-use mathlib.Core.Path.{_≡_, refl, sym, _∙_, ap}
-use mathlib.Core.List.{List}
-use native.Mathlib.Omega.{arith}
-use borrow.Author.Needs.{needs}
-use borrow.Author.Tests.{eq-eqb, ne-eqb, not-true, not-false}
-use lib.Dec.{eqb}
-use lib.ListN.{length}
-use Rattle.segment.specs.Choice.{pick, pick-true, pick-false}
-use Rattle.segment.specs.Layout.{edition1}
-use Rattle.slot_map.specs.Bit.{named}
-use Rattle.model.specs.Log.{viewsOf, scan, itemsOf, logOf}
-use Rattle.log.specs.Shape.{inside}
+use borrow.Author.Tests.{eq-eqb, ne-eqb}
+use Rattle.segment.specs.Choice.{pick}
 use Rattle.log.proofs.versions.same.Statement.{statement}
 use Rattle.log.proofs.versions.same.Tie as tie
-use Rattle.log.proofs.versions.same.Reads as reads
-use Rattle.log.proofs.versions.same.Lts as lts
 
 returns : tie.Need-returns
 unfolding pick
