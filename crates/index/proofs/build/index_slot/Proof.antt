@@ -107,7 +107,7 @@ loop-again c =
     let l = k .before .before .before .loop .inv in (
       long i,
       slot-few edition1 _ _ _ _ _ _ _ (l .2) _ (k .before .before .next-entry .ensures) _ _ _ (k .key .given .1) _ _ (i .index-entry .ensures) _
-          (c .before .n .given .1) (rw (i .index-entry .kept .1 .0) (l .1)),
+          (c .before .n .given .1) (l .1),
       slot-next edition1 _ _ _ _ _ _ _ (l .2) _ (k .before .before .next-entry .ensures) _ _ _ (k .key .given .1) _ _ (i .index-entry .ensures) _
           (c .before .n .given .1),
     )
