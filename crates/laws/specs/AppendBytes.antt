@@ -14,21 +14,20 @@ use Rattle.segment.specs.Entry.{Entry, encoded, sizeOf, WellFormed, Stands}
 use Rattle.segment.specs.EntryLaws.{length-encoded, bytes-encoded}
 use Rattle.model.specs.Log.{Item, scanned, scan, segmentOf, viewOf, viewsOf}
 use Rattle.model.specs.Operations.{commit, stored}
-use Rattle.laws.specs.Stores.{Within, Written, slot-inside, length-segment, segment-length, length-stored, bytes-stored, stores-bytes-take, stores-bytes-commit, within-other, within-front, prefix-within, commit-within, commit-written}
+use Rattle.laws.specs.Stores.{StoresBytes, Within, Written, slot-inside, length-segment, segment-length, length-stored, bytes-stored, stores-bytes-take, stores-bytes-commit, within-other, within-front, prefix-within, commit-within, commit-written}
 use Rattle.laws.specs.Scans.{itemAt, scan-scans, scans-scan, scans-low, scans-append, digest-alike, view-agree}
 
+-- the area stays one of bytes
 module _ (L : Layout) (S i e : ℕ) (area : List ℕ) (x : Entry) (formed : WellFormed L x) where
-  -- the area stays one of bytes
+  stores : StoresBytes (commit S i e (encoded L x))
+  stores = stores-bytes-commit S i e (encoded L x) (bytes-encoded L x formed)
+
   pub append-prefix-bytes : Bytes area → (k : ℕ) → Bytes (stored area (take k (commit S i e (encoded L x))))
   append-prefix-bytes h k =
-      bytes-stored area (take k (commit S i e (encoded L x))) h
-      (stores-bytes-take k (commit S i e (encoded L x))
-      (stores-bytes-commit S i e (encoded L x) (omega (arith, length-encoded L x)) (bytes-encoded L x formed)))
+      bytes-stored area (take k (commit S i e (encoded L x))) h (stores-bytes-take k (commit S i e (encoded L x)) stores)
 
   pub append-bytes : Bytes area → Bytes (stored area (commit S i e (encoded L x)))
-  append-bytes h =
-      bytes-stored area (commit S i e (encoded L x)) h
-      (stores-bytes-commit S i e (encoded L x) (omega (arith, length-encoded L x)) (bytes-encoded L x formed))
+  append-bytes h = bytes-stored area (commit S i e (encoded L x)) h stores
 
 -- the head is slot i, its items end at e, and the entry fits behind them
 module _ (L : Layout) (n S i : ℕ) (area : List ℕ) (is : List Item) (e : ℕ) (x : Entry) (whole : length area ≡ n * S) (below : i < n)

@@ -42,8 +42,8 @@ own-key e = key-same (keyOf e) e refl
 -- x is in the log, has the key k, and no entry of that key has a higher version.
 pub record Newest (log : List Placed) (k : Key) (x : Placed) : Type 0 where
   pub member : In x log
-  pub its : sameKey k (x .entry) ≡ true
-  pub above : (y : Placed) → In y log → sameKey k (y .entry) ≡ true → y .entry .version ≤ x .entry .version
+  pub of-key : sameKey k (x .entry) ≡ true
+  pub none-above : (y : Placed) → In y log → sameKey k (y .entry) ≡ true → y .entry .version ≤ x .entry .version
 
 -- No entry of the log has the key k.
 abbrev pub Keyless : List Placed → Key → Type 0
@@ -57,23 +57,23 @@ pub data LatestIs (log : List Placed) (k : Key) : Option Placed → Type 0 where
 newer-is : (x : Placed) (xs : List Placed) (k : Key) (y : Placed) → sameKey k (x .entry) ≡ true → Newest xs k y → (t : Bool) →
     ltb (x .entry .version) (y .entry .version) ≡ t → LatestIs (x ∷ xs) k (pick t (some y) (some x))
 unfolding pick
-newer-is x xs k y p n true e = found (record { member = List·Memᴰ·tail (n .member); its = n .its; above = above })
+newer-is x xs k y p n true e = found (record { member = List·Memᴰ·tail (n .member); of-key = n .of-key; none-above = above })
   where
     above : (z : Placed) → In z (x ∷ xs) → sameKey k (z .entry) ≡ true → z .entry .version ≤ y .entry .version
     above z (List·Memᴰ·head d) q =
         omega (arith, ltb-true (x .entry .version) (y .entry .version) e, ap (λ (w : Placed). w .entry .version) d)
-    above z (List·Memᴰ·tail m) q = n .above z m q
-newer-is x xs k y p n false e = found (record { member = first; its = p; above = above })
+    above z (List·Memᴰ·tail m) q = n .none-above z m q
+newer-is x xs k y p n false e = found (record { member = first; of-key = p; none-above = above })
   where
     above : (z : Placed) → In z (x ∷ xs) → sameKey k (z .entry) ≡ true → z .entry .version ≤ x .entry .version
     above z (List·Memᴰ·head d) q = omega (arith, ap (λ (w : Placed). w .entry .version) d)
-    above z (List·Memᴰ·tail m) q = omega (arith, n .above z m q, ltb-false (x .entry .version) (y .entry .version) e)
+    above z (List·Memᴰ·tail m) q = omega (arith, n .none-above z m q, ltb-false (x .entry .version) (y .entry .version) e)
 
 -- an entry in front, of the key or not
 first-is : (x : Placed) (xs : List Placed) (k : Key) (t : Bool) →
     sameKey k (x .entry) ≡ t → (o : Option Placed) → LatestIs xs k o → LatestIs (x ∷ xs) k (pick t (laterOf x o) o)
 unfolding pick laterOf
-first-is x xs k true p none (absent f) = found (record { member = first; its = p; above = above })
+first-is x xs k true p none (absent f) = found (record { member = first; of-key = p; none-above = above })
   where
     above : (z : Placed) → In z (x ∷ xs) → sameKey k (z .entry) ≡ true → z .entry .version ≤ x .entry .version
     above z (List·Memᴰ·head d) q = omega (arith, ap (λ (w : Placed). w .entry .version) d)
@@ -84,11 +84,11 @@ first-is x xs k false p none (absent f) = absent none-of
     none-of : Keyless (x ∷ xs) k
     none-of z (List·Memᴰ·head d) = ap (λ (w : Placed). sameKey k (w .entry)) d ∙ p
     none-of z (List·Memᴰ·tail m) = f z m
-first-is x xs k false p (some y) (found n) = found (record { member = List·Memᴰ·tail (n .member); its = n .its; above = above })
+first-is x xs k false p (some y) (found n) = found (record { member = List·Memᴰ·tail (n .member); of-key = n .of-key; none-above = above })
   where
     above : (z : Placed) → In z (x ∷ xs) → sameKey k (z .entry) ≡ true → z .entry .version ≤ y .entry .version
     above z (List·Memᴰ·head d) q = absurd (clash (sameKey k (z .entry)) q (ap (λ (w : Placed). sameKey k (w .entry)) d ∙ p))
-    above z (List·Memᴰ·tail m) q = n .above z m q
+    above z (List·Memᴰ·tail m) q = n .none-above z m q
 
 pub latest-is : (log : List Placed) (k : Key) → LatestIs log k (latest log k)
 unfolding latest
@@ -119,12 +119,12 @@ apart-same s ap-a x y m n e = ap-a x y (s .from x m) (s .from y n) e
 
 pub newest-one : (log : List Placed) (k : Key) (x y : Placed) → Apart log → Newest log k x → Newest log k y → x ≡ y
 newest-one log k x y d m n =
-    d x y (m .member) (n .member) (omega (arith, m .above y (n .member) (n .its), n .above x (m .member) (m .its)))
+    d x y (m .member) (n .member) (omega (arith, m .none-above y (n .member) (n .of-key), n .none-above x (m .member) (m .of-key)))
 
 pub latest-one : (log : List Placed) (k : Key) → Apart log → (a b : Option Placed) → LatestIs log k a → LatestIs log k b → a ≡ b
 latest-one log k d none none (absent f) (absent g) = refl
-latest-one log k d none (some y) (absent f) (found n) = absurd (clash (sameKey k (y .entry)) (n .its) (f y (n .member)))
-latest-one log k d (some x) none (found m) (absent g) = absurd (clash (sameKey k (x .entry)) (m .its) (g x (m .member)))
+latest-one log k d none (some y) (absent f) (found n) = absurd (clash (sameKey k (y .entry)) (n .of-key) (f y (n .member)))
+latest-one log k d (some x) none (found m) (absent g) = absurd (clash (sameKey k (x .entry)) (m .of-key) (g x (m .member)))
 latest-one log k d (some x) (some y) (found m) (found n) = ap some (newest-one log k x y d m n)
 
 pub latest-unique : (log : List Placed) (k : Key) (o : Option Placed) → Apart log → LatestIs log k o → latest log k ≡ o
@@ -134,7 +134,7 @@ latest-unique log k o d l = latest-one log k d (latest log k) o (latest-is log k
 
 pub newest-same : {a b : List Placed} {k : Key} {x : Placed} → Same a b → Newest a k x → Newest b k x
 newest-same s n =
-    record { member = s .to _ (n .member); its = n .its; above = λ y m p. n .above y (s .from y m) p }
+    record { member = s .to _ (n .member); of-key = n .of-key; none-above = λ y m p. n .none-above y (s .from y m) p }
 
 pub latest-is-same : {a b : List Placed} {k : Key} {o : Option Placed} → Same a b → LatestIs a k o → LatestIs b k o
 latest-is-same s (absent f) = absent (λ x m. f x (s .from x m))
@@ -189,11 +189,11 @@ has-key-same a b k s =
 
 -- a log has a key exactly if the key has a latest entry
 pub latest-has : (log : List Placed) (k : Key) (x : Placed) → latest log k ≡ some x → hasKey log k ≡ true
-latest-has log k x e = let n = latest-some log k x e in has-key log k x (n .member) (n .its)
+latest-has log k x e = let n = latest-some log k x e in has-key log k x (n .member) (n .of-key)
 
 pub latest-no-key : (log : List Placed) (k : Key) → hasKey log k ≡ false → latest log k ≡ none
 latest-no-key log k e = go (latest log k) (latest-is log k)
   where
     go : (o : Option Placed) → LatestIs log k o → o ≡ none
     go none l = refl
-    go (some x) (found n) = absurd (clash (hasKey log k) (has-key log k x (n .member) (n .its)) e)
+    go (some x) (found n) = absurd (clash (hasKey log k) (has-key log k x (n .member) (n .of-key)) e)

@@ -27,7 +27,7 @@ fail-together false b f g = sym (f refl)
 abbrev pub In : {A : Type 0} → A → List A → Type 0
 In x l = List·Memᴰ x l
 
--- x is in the list
+-- the first element is a member
 pub first : {A : Type 0} {x : A} {l : List A} → In x (x ∷ l)
 first = List·Memᴰ·head refl
 

@@ -1,22 +1,23 @@
 -- A scan as a relation: on which bytes it depends, what an appended entry adds, and the scan of entries laid one behind the other.
-use Prim.Native.Nat.{ℕ, zero, suc, _+_, _≤_, _<_}
+use Prim.Native.Nat.{ℕ, zero, suc, _+_, _^_, _≤_, _<_}
 use mathlib.Core.Path.{_≡_, refl, sym, _∙_, ap, subst}
 use mathlib.Core.List.{List, [], _∷_, _++_, append-nil, map, List·Memᴰ, List·Memᴰ·head, List·Memᴰ·tail}
 use mathlib.Core.Option.{none, some}
 use native.Mathlib.Nat.{add-zero}
 use native.Mathlib.Omega.{arith}
 use lib.Dec.{eqb}
-use lib.ListN.{length, getD, take, drop, length-append}
+use lib.ListN.{length, getD, take, drop, length-append, take-append-drop}
 use lib.Seq.{getD-take, take-take, take-add, take-length, take-append-seam, drop-append-seam, drop-drop}
+use borrow.Author.Tests.{eq-eqb, ne-eqb}
 use Rattle.word.specs.Number.{Bytes}
 use Rattle.word.specs.Laws.{bytes-append}
-use Rattle.segment.specs.Choice.{pick}
-use Rattle.segment.specs.Layout.{Layout, digestSize}
+use Rattle.segment.specs.Choice.{pick, pick-true, pick-false}
+use Rattle.segment.specs.Layout.{Layout, digestSize, digest-not-end}
 use Rattle.segment.specs.Packed.{take-drop-take}
 use Rattle.segment.specs.Entry.{Entry, Found, entry, end, damage, entryAt, encoded, sizeOf, WellFormed, Stands}
 use Rattle.segment.specs.EntryLaws.{length-encoded, bytes-encoded, found-fits, found-end, found-stands, stands-found, zero-end, own-bytes, own-end}
-use Rattle.segment.specs.Digest.{digestOf}
-use Rattle.segment.specs.DigestLaws.{digest-own-bytes}
+use Rattle.segment.specs.Digest.{digestOf, encodedDigest}
+use Rattle.segment.specs.DigestLaws.{digest-own-bytes, digest-decoded}
 use Rattle.segment.specs.declared.Digest.{Digest}
 use Rattle.model.specs.Log.{Item, Scan, damaged, scanned, itemFirst, scanFrom, scan, placedIn, digestIn, viewOf}
 use Rattle.model.specs.Operations.{allEncoded, placedFrom}
@@ -24,8 +25,8 @@ use Rattle.model.specs.Operations.{allEncoded, placedFrom}
 abbrev pub itemAt : ℕ → Entry → Item
 itemAt at x = record { offset = at; entry = x }
 
-abbrev pub entriesOf : List Item → List Entry
-entriesOf is = map (λ (x : Item). x .entry) is
+abbrev pub itemEntries : List Item → List Entry
+itemEntries is = map (λ (x : Item). x .entry) is
 
 -- ---- the relation, and that it is the scan
 
@@ -162,20 +163,20 @@ module _ {L : Layout} {s : List ℕ} where
   scans-stands {i = i} h r m = found-stands L s (i .offset) (i .entry) (scans-found r m) h
 
   -- from the offset on the items fill the segment up to their end
-  pub scans-total : {at e : ℕ} {is : List Item} → Scans L s at is e → at + length (allEncoded L (entriesOf is)) ≡ e
+  pub scans-total : {at e : ℕ} {is : List Item} → Scans L s at is e → at + length (allEncoded L (itemEntries is)) ≡ e
   unfolding allEncoded
   scans-total (done p) = add-zero _
   scans-total (more {is = is} x p r) =
-      omega (arith, scans-total r, length-append (encoded L x) (allEncoded L (entriesOf is)), length-encoded L x)
+      omega (arith, scans-total r, length-append (encoded L x) (allEncoded L (itemEntries is)), length-encoded L x)
 
   pub scans-bytes : {at e : ℕ} {is : List Item} → Bytes s → Scans L s at is e
-      → take (length (allEncoded L (entriesOf is))) (drop at s) ≡ allEncoded L (entriesOf is)
+      → take (length (allEncoded L (itemEntries is))) (drop at s) ≡ allEncoded L (itemEntries is)
   unfolding allEncoded
   scans-bytes h (done p) = refl
   scans-bytes h (more {at} {is = is} x p r) =
-      parts-whole (encoded L x) (allEncoded L (entriesOf is)) (drop at s)
+      parts-whole (encoded L x) (allEncoded L (itemEntries is)) (drop at s)
       (ap (λ (n : ℕ). take n (drop at s)) (length-encoded L x) ∙ found-stands L s at x p h .same)
-      (ap (λ (l : List ℕ). take (length (allEncoded L (entriesOf is))) l)
+      (ap (λ (l : List ℕ). take (length (allEncoded L (itemEntries is))) l)
       (drop-drop (length (encoded L x)) at s ∙ ap (λ (n : ℕ). drop (at + n) s) (length-encoded L x))
       ∙ scans-bytes h r)
 
@@ -213,7 +214,7 @@ module _ (L : Layout) where
   placed-items i at [] = refl
   placed-items i at (x ∷ xs) = rw (placed-items i (at + sizeOf L x) xs)
 
-  pub entries-items : (at : ℕ) (xs : List Entry) → entriesOf (itemsFrom L at xs) ≡ xs
+  pub entries-items : (at : ℕ) (xs : List Entry) → itemEntries (itemsFrom L at xs) ≡ xs
   unfolding itemsFrom
   entries-items at [] = refl
   entries-items at (x ∷ xs) = ap (λ (ys : List Entry). x ∷ ys) (entries-items (at + sizeOf L x) xs)
@@ -255,7 +256,7 @@ module _ (L : Layout) where
       ∙ part-second (encoded L x) (allEncoded L xs) (drop at t) own) z)
 
 -- a scan's items are its entries, one behind the other
-pub scans-items : {L : Layout} {s : List ℕ} {at e : ℕ} {is : List Item} → Scans L s at is e → is ≡ itemsFrom L at (entriesOf is)
+pub scans-items : {L : Layout} {s : List ℕ} {at e : ℕ} {is : List Item} → Scans L s at is e → is ≡ itemsFrom L at (itemEntries is)
 unfolding itemsFrom
 scans-items (done p) = refl
 scans-items (more {at} x p r) = ap (λ (js : List Item). itemAt at x ∷ js) (scans-items r)
@@ -269,6 +270,27 @@ digest-alike L m s t h same =
     ap (λ (b : ℕ). pick (eqb b (L .digestKind)) (some (digestOf L t)) none) (byte-alike m s t same 0 (omega arith))
     ∙ ap (λ (d : Digest). pick (eqb (getD s 0 0) (L .digestKind)) (some d) none)
     (digest-own-bytes L t s (part-alike m s t same 0 (digestSize L) (omega arith)))
+
+-- a segment whose byte 0 is 0 has none
+pub no-digest : (L : Layout) (s : List ℕ) → getD s 0 0 ≡ 0 → digestIn L s ≡ none
+unfolding digestIn
+no-digest L s z =
+    pick-false (eqb (getD s 0 0) (L .digestKind)) (some (digestOf L s)) none
+    (ne-eqb (getD s 0 0) (L .digestKind) (λ e. digest-not-end L (sym e ∙ z)))
+
+-- a segment that begins with a digest's bytes has that digest
+pub digest-begins : (L : Layout) (s : List ℕ) (d : Digest) → take (digestSize L) s ≡ encodedDigest L d
+    → d .number .0 < 256 ^ 4 → d .map < 256 ^ 4 → d .next .0 < 256 ^ L .width → digestIn L s ≡ some d
+unfolding digestIn
+digest-begins L s d own number map next =
+    pick-true (eqb (getD s 0 0) (L .digestKind)) (some (digestOf L s)) none (eq-eqb (getD s 0 0) (L .digestKind) first)
+    ∙ ap some (ap (digestOf L) (sym both) ∙ digest-decoded L d (drop (digestSize L) s) number map next)
+  where
+    first : getD s 0 0 ≡ L .digestKind
+    first = sym (getD-take (digestSize L) s 0 0 (omega arith)) ∙ ap (λ (l : List ℕ). getD l 0 0) own
+
+    both : encodedDigest L d ++ drop (digestSize L) s ≡ s
+    both = ap (λ (l : List ℕ). l ++ drop (digestSize L) s) (sym own) ∙ take-append-drop (digestSize L) s
 
 -- segments that have the same bytes up to and with the kind byte at the end are viewed alike
 pub view-agree : (L : Layout) (s t : List ℕ) {is : List Item} {e : ℕ} → length t ≡ length s → scan L s ≡ scanned is e

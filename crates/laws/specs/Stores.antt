@@ -8,7 +8,7 @@ use native.Mathlib.Numerals.{add-one}
 use native.Mathlib.Omega.{arith}
 use lib.Dec.{ltb}
 use lib.ListN.{length, getD, take, drop, set, length-append, length-take, length-drop, length-set, List·getD-append, List·getD-eq-default}
-use lib.Seq.{sets, length-sets, set-comm, getD-drop, getD-at, getD-set-same, drop-set-add, drop-set-lt, take-set-lt, take-set-le, take-append-le}
+use lib.Seq.{sets, length-sets, set-comm, getD-drop, getD-at, getD-set-same, drop-set-add, drop-set-lt, take-set-lt, take-set-le, take-append-le, take-length}
 use borrow.Author.Tests.{ltb-true, ltb-false, lt-ltb, le-ltb}
 use Rattle.word.specs.Number.{Bytes}
 use Rattle.word.specs.Laws.{bytes-drop, bytes-set, taken-sets}
@@ -55,6 +55,24 @@ module _ (area : List ℕ) (S i j b : ℕ) (inside : j < S) where
       go true p = store-above k (ltb-true k i p)
       go false p = let h = ltb-false k i p in store-below k (omega arith)
 
+-- a store of 0 at byte 0 of a slot
+module _ (area : List ℕ) (S i : ℕ) (some-byte : 0 < S) where
+  at-first : set area (i * S) 0 ≡ set area (i * S + 0) 0
+  at-first = rw (add-zero (i * S))
+
+  pub first-own : getD (segmentOf (set area (i * S) 0) S i) 0 0 ≡ 0
+  first-own =
+      ap (λ (a : List ℕ). getD (segmentOf a S i) 0 0) at-first
+      ∙ ap (λ (s : List ℕ). getD s 0 0) (store-own area S i 0 0 some-byte)
+      ∙ first-zero (segmentOf area S i)
+    where
+      first-zero : (s : List ℕ) → getD (set s 0 0) 0 0 ≡ 0
+      first-zero [] = refl
+      first-zero (b ∷ s) = refl
+
+  pub first-other : (k : ℕ) → (k ≡ i → ⊥) → segmentOf (set area (i * S) 0) S k ≡ segmentOf area S k
+  first-other k apart = ap (λ (a : List ℕ). segmentOf a S k) at-first ∙ store-other area S i 0 0 some-byte k apart
+
 -- ---- the stores of a plan
 
 pub length-stored : (area : List ℕ) (plan : List (ℕ × ℕ)) → length (stored area plan) ≡ length area
@@ -67,7 +85,14 @@ unfolding stored
 stored-append area [] b = refl
 stored-append area (x ∷ a) b = stored-append (set area (x .0) (x .1)) a b
 
--- one store more
+-- before the first store, after the last, and one store more
+pub stored-none : (area : List ℕ) → stored area [] ≡ area
+unfolding stored
+stored-none area = refl
+
+pub stored-all : (area : List ℕ) (plan : List (ℕ × ℕ)) → stored area (take (length plan) plan) ≡ stored area plan
+stored-all area plan = ap (stored area) (take-length plan)
+
 pub stored-next : (area : List ℕ) (plan : List (ℕ × ℕ)) (k : ℕ) → k < length plan
     → stored area (take (suc k) plan) ≡ set (stored area (take k plan)) (getD plan k (0, 0) .0) (getD plan k (0, 0) .1)
 unfolding stored
@@ -152,6 +177,13 @@ module _ {S i lo : ℕ} where
   within-lower m l no-store = no-store
   within-lower m l (one-store j b h q w) = one-store j b (omega arith) q (within-lower m l w)
 
+  -- each place is one of the slot
+  pub within-place : {plan : List (ℕ × ℕ)} → Within S i lo plan → (k : ℕ) → k < length plan
+      → (i * S + lo ≤ getD plan k (0, 0) .0) × (getD plan k (0, 0) .0 < i * S + S)
+  within-place no-store k l = absurd (omega arith)
+  within-place (one-store j b h q w) zero l = (omega arith, omega arith)
+  within-place (one-store j b h q w) (suc k) l = within-place w k (omega arith)
+
   pub within-other : (area : List ℕ) {plan : List (ℕ × ℕ)} → Within S i lo plan → (k : ℕ) → (k ≡ i → ⊥)
       → segmentOf (stored area plan) S k ≡ segmentOf area S k
   unfolding stored
@@ -223,6 +255,16 @@ module _ (S i o n : ℕ) where
       go true p = rw (end-stored (ltb-true (o + n) S p)) zero-byte
       go false p = rw (no-end-stored (ltb-false (o + n) S p)) (λ j. omega arith)
 
+pub stores-bytes-commit : (S i o : ℕ) (bytes : List ℕ) → Bytes bytes → StoresBytes (commit S i o bytes)
+stores-bytes-commit S i o bytes h =
+    stores-bytes-append (commitBody S i o bytes) ((i * S + o, getD bytes 0 0) ∷ [])
+    (stores-bytes-append (storesFrom (i * S + o + 1) (drop 1 bytes)) (endStore S i o (length bytes))
+    (stores-bytes-from (i * S + o + 1) (drop 1 bytes) (bytes-drop 1 bytes h)) (end-bytes S i o (length bytes))) last-byte
+  where
+    last-byte : StoresBytes ((i * S + o, getD bytes 0 0) ∷ [])
+    last-byte zero = h 0
+    last-byte (suc j) = omega arith
+
 module _ (S i o : ℕ) (bytes : List ℕ) (some-byte : 0 < length bytes) where
   length-run : length (storesFrom (i * S + o + 1) (drop 1 bytes)) ≡ length bytes - 1
   length-run = length-storesFrom (i * S + o + 1) (drop 1 bytes) ∙ length-drop 1 bytes
@@ -233,6 +275,13 @@ module _ (S i o : ℕ) (bytes : List ℕ) (some-byte : 0 < length bytes) where
 
   pub length-commit-full : S ≤ o + length bytes → length (commit S i o bytes) ≡ length bytes
   length-commit-full h = rw (no-end-stored S i o (length bytes) h) (simp length-append (omega (arith, length-run)))
+
+  pub commit-room : o + length bytes ≤ S → o + length (commit S i o bytes) ≤ S
+  commit-room fits = go (ltb (o + length bytes) S) refl
+    where
+      go : (t : Bool) → ltb (o + length bytes) S ≡ t → o + length (commit S i o bytes) ≤ S
+      go true p = let h = ltb-true (o + length bytes) S p in omega (arith, length-commit-within h)
+      go false p = let h = ltb-false (o + length bytes) S p in omega (arith, length-commit-full h)
 
   -- the bytes from the second on
   pub commit-byte : (k : ℕ) → k + 1 < length bytes → getD (commit S i o bytes) k (0, 0) ≡ (i * S + o + 1 + k, getD bytes (k + 1) 0)
@@ -256,16 +305,6 @@ module _ (S i o : ℕ) (bytes : List ℕ) (some-byte : 0 < length bytes) where
   commit-last k e =
       getD-at (commitBody S i o bytes) (i * S + o, getD bytes 0 0) [] (0, 0) k
       (omega (arith, length-append (commitBody S i o bytes) ((i * S + o, getD bytes 0 0) ∷ [])))
-
-  pub stores-bytes-commit : Bytes bytes → StoresBytes (commit S i o bytes)
-  stores-bytes-commit h =
-      stores-bytes-append (commitBody S i o bytes) ((i * S + o, getD bytes 0 0) ∷ [])
-      (stores-bytes-append (storesFrom (i * S + o + 1) (drop 1 bytes)) (endStore S i o (length bytes))
-      (stores-bytes-from (i * S + o + 1) (drop 1 bytes) (bytes-drop 1 bytes h)) (end-bytes S i o (length bytes))) last-byte
-    where
-      last-byte : StoresBytes ((i * S + o, getD bytes 0 0) ∷ [])
-      last-byte zero = h 0
-      last-byte (suc j) = omega arith
 
 -- ---- what a commit does to its slot
 

@@ -16,27 +16,28 @@ use Rattle.laws.specs.Latest.{Apart}
 
 -- ---- how many entries of the log have the version v
 
-unfoldable pub hasIt : ℕ → Entry → ℕ
-hasIt v e = pick (eqb (e .version) v) 1 0
+-- 1 for an entry of version v, else 0
+unfoldable pub counted : ℕ → Entry → ℕ
+counted v e = pick (eqb (e .version) v) 1 0
 
-has-it : (v : ℕ) (e : Entry) → e .version ≡ v → hasIt v e ≡ 1
-unfolding hasIt
-has-it v e d = pick-true (eqb (e .version) v) 1 0 (eq-eqb (e .version) v d)
+counted-one : (v : ℕ) (e : Entry) → e .version ≡ v → counted v e ≡ 1
+unfolding counted
+counted-one v e d = pick-true (eqb (e .version) v) 1 0 (eq-eqb (e .version) v d)
 
-has-it-not : (v : ℕ) (e : Entry) → eqb (e .version) v ≡ false → hasIt v e ≡ 0
-unfolding hasIt
-has-it-not v e d = pick-false (eqb (e .version) v) 1 0 d
+counted-not : (v : ℕ) (e : Entry) → eqb (e .version) v ≡ false → counted v e ≡ 0
+unfolding counted
+counted-not v e d = pick-false (eqb (e .version) v) 1 0 d
 
 abbrev pub count : ℕ → List Placed → ℕ
-count v log = total (hasIt v) (entriesOf log)
+count v log = total (counted v) (entriesOf log)
 
 pub count-append : (v : ℕ) (a b : List Placed) → count v (a ++ b) ≡ count v a + count v b
-count-append v a b = rw (entries-append a b) (total-append (hasIt v) (entriesOf a) (entriesOf b))
+count-append v a b = rw (entries-append a b) (total-append (counted v) (entriesOf a) (entriesOf b))
 
 pub count-member : (v : ℕ) {log : List Placed} {x : Placed} → In x log → x .entry .version ≡ v → 1 ≤ count v log
 unfolding total
 count-member v {x = x} (List·Memᴰ·head {x = y} d) e =
-    omega (arith, has-it v (y .entry) (ap (λ (w : Placed). w .entry .version) (sym d) ∙ e))
+    omega (arith, counted-one v (y .entry) (ap (λ (w : Placed). w .entry .version) (sym d) ∙ e))
 count-member v (List·Memᴰ·tail m) e = omega (arith, count-member v m e)
 
 pub count-found : (v : ℕ) (log : List Placed) → 1 ≤ count v log → (x : Placed) × In x log × x .entry .version ≡ v
@@ -47,7 +48,7 @@ count-found v (y ∷ ys) h = go (eqb (y .entry .version) v) refl (λ i. count-fo
     go : (t : Bool) → eqb (y .entry .version) v ≡ t → (1 ≤ count v ys → (x : Placed) × In x ys × x .entry .version ≡ v) →
         (x : Placed) × In x (y ∷ ys) × x .entry .version ≡ v
     go true e ih = (y, first, eqb-true (y .entry .version) v e)
-    go false e ih = let r = ih (omega (arith, has-it-not v (y .entry) e)) in (r .0, List·Memᴰ·tail (r .1), r .2)
+    go false e ih = let r = ih (omega (arith, counted-not v (y .entry) e)) in (r .0, List·Memᴰ·tail (r .1), r .2)
 
 -- ---- whether two entries share a version
 
@@ -58,14 +59,14 @@ version-none [] v h = refl
 version-none (x ∷ xs) v h = go (eqb (x .entry .version) v) refl (λ i. version-none xs v i)
   where
     go : (t : Bool) → eqb (x .entry .version) v ≡ t → (count v xs ≡ 0 → hasVersion xs v ≡ false) → either t (hasVersion xs v) ≡ false
-    go true e ih = absurd (omega (arith, has-it v (x .entry) (eqb-true (x .entry .version) v e)))
+    go true e ih = absurd (omega (arith, counted-one v (x .entry) (eqb-true (x .entry .version) v e)))
     go false e ih = either-false false (hasVersion xs v) refl (ih (omega arith))
 
 none-counted : (log : List Placed) (v : ℕ) → hasVersion log v ≡ false → count v log ≡ 0
 unfolding total hasVersion
 none-counted [] v h = refl
 none-counted (x ∷ xs) v h =
-    let out : hasIt v (x .entry) ≡ 0 = has-it-not v (x .entry) (either-false-left (eqb (x .entry .version) v) (hasVersion xs v) h) in
+    let out : counted v (x .entry) ≡ 0 = counted-not v (x .entry) (either-false-left (eqb (x .entry .version) v) (hasVersion xs v) h) in
     omega (arith, none-counted xs v (either-false-right (eqb (x .entry .version) v) (hasVersion xs v) h))
 
 -- Versions are shared unless each stands at most once.
@@ -79,18 +80,18 @@ shared-count (x ∷ xs) h v =
     alone : count (x .entry .version) xs ≡ 0
     alone = none-counted xs (x .entry .version) (either-false-left (hasVersion xs (x .entry .version)) (versionShared xs) h)
 
-    go : (t : Bool) → eqb (x .entry .version) v ≡ t → count v xs ≤ 1 → hasIt v (x .entry) + count v xs ≤ 1
+    go : (t : Bool) → eqb (x .entry .version) v ≡ t → count v xs ≤ 1 → counted v (x .entry) + count v xs ≤ 1
     go true e ih =
         let d : x .entry .version ≡ v = eqb-true (x .entry .version) v e in
-        omega (arith, has-it v (x .entry) d, rw d at alone)
-    go false e ih = omega (arith, has-it-not v (x .entry) e)
+        omega (arith, counted-one v (x .entry) d, rw d at alone)
+    go false e ih = omega (arith, counted-not v (x .entry) e)
 
 pub count-shared : (log : List Placed) → ((v : ℕ) → count v log ≤ 1) → versionShared log ≡ false
 unfolding total versionShared
 count-shared [] h = refl
 count-shared (x ∷ xs) h =
     either-false (hasVersion xs (x .entry .version)) (versionShared xs)
-    (version-none xs (x .entry .version) (omega (arith, h (x .entry .version), has-it (x .entry .version) (x .entry) refl)))
+    (version-none xs (x .entry .version) (omega (arith, h (x .entry .version), counted-one (x .entry .version) (x .entry) refl)))
     (count-shared xs (λ v. omega (arith, h v)))
 
 -- So the order of the log does not matter, and fewer entries share no more.
@@ -143,11 +144,11 @@ shared-append a b p q d =
     go v (no i) j = omega (arith, shared-count b q v)
 
 -- One entry more, wherever it stands, with a version of its own.
-pub count-between : (v : ℕ) (a : List Placed) (x : Placed) (b : List Placed) → count v (a ++ x ∷ b) ≡ hasIt v (x .entry) + count v (a ++ b)
+pub count-between : (v : ℕ) (a : List Placed) (x : Placed) (b : List Placed) → count v (a ++ x ∷ b) ≡ counted v (x .entry) + count v (a ++ b)
 unfolding total
 count-between v a x b = omega (arith, count-append v a (x ∷ b), count-append v a b)
 
-pub shared-added : (log : List Placed) (x : Placed) (after : List Placed) → ((v : ℕ) → count v after ≡ hasIt v (x .entry) + count v log) →
+pub shared-added : (log : List Placed) (x : Placed) (after : List Placed) → ((v : ℕ) → count v after ≡ counted v (x .entry) + count v log) →
     versionShared log ≡ false → ((y : Placed) → In y log → y .entry .version < x .entry .version) → versionShared after ≡ false
 unfolding total versionShared
 shared-added log x after h p above =

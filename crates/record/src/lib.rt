@@ -1,6 +1,11 @@
 // The store record, the pending operation, the refusals and the answers of the seven calls.
 use segment::DigestNumber;
 use segment::Version;
+ghost use mathlib.Core.Path.{_≡_};
+ghost use Rattle.record.specs.Answers.{blank, storesLeft, withPending};
+ghost use Rattle.record.specs.Refusals.{numberOfRefusal};
+
+pub mod range;
 
 // What an operation still has to do. The bytes themselves stand in the work buffer; `length` is how many of them are the
 // operation's, and `left` how many stores are left.
@@ -112,4 +117,91 @@ pub enum StepAnswer {
 pub struct Stepped {
     pub answer: StepAnswer,
     pub store: Store,
+}
+
+// 01's number for a cause.
+pub fn number(r: Refusal) -> u32
+    ensures { λ n. ⌜ n ≡ numberOfRefusal r ⌝ }
+{
+    match r {
+        Refusal::Geometry => 1,
+        Refusal::Cells => 2,
+        Refusal::WorkShort => 3,
+        Refusal::BadRecord => 4,
+        Refusal::Busy => 5,
+        Refusal::NonePending => 6,
+        Refusal::ValueLength => 7,
+        Refusal::Absent => 8,
+        Refusal::VersionsSpent => 9,
+        Refusal::NumbersSpent => 10,
+        Refusal::KeysFull => 11,
+        Refusal::NoRoom => 12,
+        Refusal::BadVictims => 13,
+        Refusal::KeptTooLong => 14,
+        Refusal::BadOrder => 15,
+        Refusal::NoDigest => 16,
+        Refusal::BadDigest => 17,
+        Refusal::DamagedLog => 18,
+        Refusal::SharedVersion => 19,
+        Refusal::TooManyKeys => 20,
+    }
+}
+
+// How many stores an operation has left; 0 where none is pending.
+pub fn stores_left(p: Pending) -> u32
+    ensures { λ r. ⌜ r ≡ storesLeft p ⌝ }
+{
+    match p {
+        Pending::Idle => 0,
+        Pending::Append { length: _, left } => left,
+        Pending::NewHead {
+            slot: _,
+            length: _,
+            left,
+        } => left,
+        Pending::Clean {
+            slot: _,
+            victims: _,
+            length: _,
+            left,
+        } => left,
+    }
+}
+
+// The record with another pending operation.
+pub fn with_pending(store: Store, p: Pending) -> Store
+    ensures { λ r. ⌜ r ≡ withPending store p ⌝ }
+{
+    let number = store.number;
+    let next = store.next;
+    Store {
+        slots: store.slots,
+        size: store.size,
+        cells: store.cells,
+        head: store.head,
+        end: store.end,
+        number: number,
+        map: store.map,
+        next: next,
+        keys: store.keys,
+        pending: p,
+    }
+}
+
+// The record that stands beside a refusal of recovery.
+pub fn blank() -> Store
+    ensures { λ r. ⌜ r ≡ blank ⌝ }
+{
+    Store {
+        slots: 0,
+        size: 0,
+        cells: 0,
+        head: 0,
+        end: 0,
+        number: DigestNumber(0),
+        map: 0,
+        next: Version(0),
+        keys: 0,
+        pending: Pending::Idle,
+    }
 }

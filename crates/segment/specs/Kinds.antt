@@ -3,7 +3,8 @@ use Prim.Native.Nat.{ℕ, _+_, _≤_}
 use mathlib.Core.Path.{_≡_, refl, sym, _∙_, ap}
 use mathlib.Core.Option.{Option, none, some}
 use native.Mathlib.Omega.{arith}
-use Rattle.segment.specs.Layout.{Layout, valueLength, entrySize}
+use Rattle.segment.specs.Layout.{Layout, valueLength, objectKind, entrySize}
+use Rattle.segment.specs.LayoutLaws.{entry-not-end, object-kind}
 
 unfoldable pub orZero : Option ℕ → ℕ
 orZero none = 0
@@ -42,3 +43,20 @@ module _ (L : Layout) (k : ℕ) where
   -- an entry has at least the bytes before its value
   pub size-least : (kindSize L k ≡ 0 → ⊥) → 7 + L .width ≤ kindSize L k
   size-least h = let (n, kind) = has-size h in omega (arith, kind .size)
+
+module _ (L : Layout) (n : ℕ) where
+  pub no-kind : orZero (objectKind L n) ≡ 0 → objectKind L n ≡ none
+  unfolding orZero
+  no-kind e = go (objectKind L n) refl
+    where
+      go : (o : Option ℕ) → objectKind L n ≡ o → objectKind L n ≡ none
+      go none p = p
+      go (some k) p = absurd (entry-not-end L k n (object-kind L n k p) (ap orZero (sym p) ∙ e))
+
+  pub has-kind : (k : ℕ) → k ≡ orZero (objectKind L n) → (k ≡ 0 → ⊥) → objectKind L n ≡ some k
+  unfolding orZero
+  has-kind k e h = go (objectKind L n) refl
+    where
+      go : (o : Option ℕ) → objectKind L n ≡ o → objectKind L n ≡ some k
+      go none p = absurd (h (e ∙ ap orZero p))
+      go (some m) p = p ∙ ap some (sym (e ∙ ap orZero p))

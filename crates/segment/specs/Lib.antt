@@ -8,5 +8,6 @@ pub mod Packed
 pub mod DigestLaws
 pub mod EntryLaws
 pub mod Kinds
+pub mod AnswerLaws
 pub mod ReaderLaws
 pub mod Written

@@ -1,40 +1,19 @@
--- The reader's answer at each of its tests. Premises are the tests as the code has them, and what its callees give.
+-- The reader's answer at each of its tests, in the code's order. Premises are the tests as the code has them, and what its callees give.
 use Prim.Native.Nat.{ℕ, _+_, _-_, _≤_, _<_}
-use mathlib.Core.Path.{_≡_, refl, sym, _∙_, ap}
+use mathlib.Core.Path.{_≡_, sym, _∙_, ap}
 use mathlib.Core.Bool.{Bool, true, false}
 use mathlib.Core.List.{List}
 use native.Mathlib.Omega.{arith}
 use lib.ListN.{length, getD, take, drop}
 use borrow.Author.Tests.{eq-eqb, ne-eqb}
 use Rattle.word.specs.Number.{numberOf}
-use Rattle.segment.specs.Choice.{pick-true, pick-false}
-use Rattle.segment.specs.Layout.{Layout, isTombstone, entrySize, goodVersion}
+use Rattle.segment.specs.Layout.{Layout, entrySize, goodVersion}
 use Rattle.segment.specs.Packed.{length-part}
-use Rattle.segment.specs.Entry.{Entry, sizeOf, keyOf, entry, end, damage, entryAt, answer}
+use Rattle.segment.specs.Entry.{Entry, sizeOf, entry, entryAt, answer}
 use Rattle.segment.specs.EntryLaws.{past-end, at-end, kind-end, kind-unknown, entry-long, version-bad, entry-whole}
+use Rattle.segment.specs.AnswerLaws.{answer-end, answer-damage, answer-tombstone, answer-object}
 use Rattle.segment.specs.Kinds.{kindSize, Kind, no-size, has-size}
 use Rattle.segment.specs.declared.Read.the-variants.{Object, Tombstone, End, Damage}
-
--- ---- the enum for each answer
-
-pub answer-end : (L : Layout) → answer L end ≡ End
-unfolding answer
-answer-end L = refl
-
-pub answer-damage : (L : Layout) → answer L damage ≡ Damage
-unfolding answer
-answer-damage L = refl
-
-module _ (L : Layout) (e : Entry) where
-  pub answer-tombstone : isTombstone L (e .kind) ≡ true → answer L (entry e) ≡ Tombstone (keyOf e) (record { 0 = e .version }) (sizeOf L e)
-  unfolding answer
-  answer-tombstone t = pick-true (isTombstone L (e .kind)) _ _ t
-
-  pub answer-object : isTombstone L (e .kind) ≡ false → answer L (entry e) ≡ Object (keyOf e) (record { 0 = e .version }) (e .kind) (sizeOf L e)
-  unfolding answer
-  answer-object t = pick-false (isTombstone L (e .kind)) _ _ t
-
--- ---- the tests in the code's order
 
 module _ (L : Layout) (s : List ℕ) (at : ℕ) where
   pub reads-past : length s < at → Damage ≡ answer L (entryAt L s at)

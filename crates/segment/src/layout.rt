@@ -14,6 +14,11 @@ pub const HEAD_SIZE: usize = 11;
 // Bytes of a digest; entries start here.
 pub const DIGEST_SIZE: usize = 13;
 
+// The highest next version and the highest digest number.
+pub const VERSION_LIMIT: u32 = 4294967295;
+
+pub const NUMBER_LIMIT: u32 = 4294967295;
+
 // The length of an entry of that kind, and 0 where no entry has it.
 pub fn kind_size(kind: u8) -> usize
     ensures { λ r. ⌜ r ≡ kindSize edition1 kind ⌝ }
@@ -43,5 +48,5 @@ pub fn object_kind(length: usize) -> u8
 pub fn good_version(version: u32) -> bool
     ensures { λ r. ⌜ r ≡ goodVersion edition1 version ⌝ }
 {
-    0 < version && version < 4294967295
+    0 < version && version < VERSION_LIMIT
 }

@@ -1,0 +1,93 @@
+-- What the last store of an operation does to the record is what it does to the book.
+use Prim.Native.Nat.{ℕ, zero, suc, _+_, _<_}
+use native.Mathlib.Omega.{arith}
+use mathlib.Core.Path.{_≡_, refl, sym, ap, _∙_}
+use mathlib.Core.Bool.{Bool, true, false}
+use mathlib.Core.List.{List, [], _∷_}
+use mathlib.Core.Option.{Option, none, some}
+use lib.Dec.{eqb}
+use lib.ListN.{length}
+use borrow.Author.Tests.{eqb-true}
+use Rattle.segment.specs.Choice.{pick, both, both-left, both-right}
+use Rattle.segment.specs.Layout.{Layout, objectKind}
+use Rattle.segment.specs.Entry.{Entry}
+use Rattle.segment.specs.declared.Key.{Key}
+use Rattle.record.specs.declared.Store.{Store}
+use Rattle.model.specs.Log.{Placed, sameKey}
+use Rattle.model.specs.Operations.{Operation, write, delete, clean, logNow, kindElse, writtenEntry, tombstoneEntry, fitsHead, appendedStore, headedStore, finishedStore, toldVersion}
+use Rattle.laws.specs.Operated.{mapAfter}
+use Rattle.history.specs.Book.{Kept, Book, finish, versionFor, sameKeys, withKey}
+use Rattle.history.proofs.Invariant.{bookEntry}
+
+-- nothing is pending once an operation is finished
+pub finish-calm : (b : Book) (o : Operation) → finish b o .pending ≡ none
+unfolding finish
+finish-calm b (write k value) = refl
+finish-calm b (delete k) = refl
+finish-calm b (clean victims) = refl
+
+module _ (L : Layout) (before : List ℕ) (idle : Store) (b : Book) (same : idle .next .0 ≡ b .next) where
+  -- the record's next version and the book's
+  entry-next : (t : Bool) (e : Entry) (log : List Placed) → pick t (appendedStore L idle log e) (headedStore L idle log e) .next .0 ≡ b .next + 1
+  unfolding pick
+  entry-next true e log = rw same refl
+  entry-next false e log = rw same refl
+
+  pub finished-next : (o : Operation) → finishedStore L before idle o .next .0 ≡ finish b o .next
+  unfolding finishedStore finish
+  finished-next (write k value) = entry-next (fitsHead L idle (writtenEntry L idle k value)) (writtenEntry L idle k value) (logNow L before idle)
+  finished-next (delete k) = entry-next (fitsHead L idle (tombstoneEntry L idle k)) (tombstoneEntry L idle k) (logNow L before idle)
+  finished-next (clean victims) = same
+
+  -- the version that the last step tells
+  pub told-same : (o : Operation) → toldVersion idle o ≡ versionFor b o
+  unfolding toldVersion versionFor
+  told-same (write k value) = same
+  told-same (delete k) = same
+  told-same (clean victims) = refl
+
+  pub told-below : (o : Operation) → 0 < b .next → toldVersion idle o < finish b o .next
+  unfolding toldVersion finish
+  told-below (write k value) h = omega (arith, same)
+  told-below (delete k) h = omega (arith, same)
+  told-below (clean victims) h = h
+
+  pub next-grows : (o : Operation) (t : ℕ) → t < b .next → t < finish b o .next
+  unfolding finish
+  next-grows (write k value) t h = omega arith
+  next-grows (delete k) t h = omega arith
+  next-grows (clean victims) t h = h
+
+  -- the map and the book's keys
+  written :
+      (k j : Key) (value : List ℕ) (old : Option Entry) (x : Option Kept) → old ≡ bookEntry L j x → (t : Bool) → sameKeys j k ≡ t →
+      pick t (some (writtenEntry L idle k value)) old ≡ bookEntry L j (pick t (some (record { version = b .next; value = value })) x)
+  unfolding pick bookEntry sameKeys
+  written k j value old x e true p =
+      let ht : j .table ≡ k .table = eqb-true (j .table) (k .table) (both-left (eqb (j .table) (k .table)) (eqb (j .key) (k .key)) p) in
+      let hk : j .key ≡ k .key = eqb-true (j .key) (k .key) (both-right (eqb (j .table) (k .table)) (eqb (j .key) (k .key)) p) in
+      ap
+      (λ (y : Entry). some y)
+      (λ i.
+      record {
+        kind = kindElse (objectKind L (length value));
+        table = sym ht i;
+        key = sym hk i;
+        version = same i;
+        value = value;
+      })
+  written k j value old x e false p = e
+
+  deleted :
+      (j : Key) (old : Option Entry) (x : Option Kept) → old ≡ bookEntry L j x → (t : Bool) → pick t none old ≡ bookEntry L j (pick t none x)
+  unfolding pick bookEntry
+  deleted j old x e true = refl
+  deleted j old x e false = e
+
+  pub finished-map :
+      (o : Operation) (old : Key → Option Entry) → ((j : Key) → old j ≡ bookEntry L j (b .keys j)) → (j : Key) →
+      mapAfter L idle o old j ≡ bookEntry L j (finish b o .keys j)
+  unfolding mapAfter finish sameKey sameKeys
+  finished-map (write k value) old e j = written k j value (old j) (b .keys j) (e j) (sameKeys j k) refl
+  finished-map (delete k) old e j = deleted j (old j) (b .keys j) (e j) (sameKeys j k)
+  finished-map (clean victims) old e j = e j

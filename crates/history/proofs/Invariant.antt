@@ -1,0 +1,150 @@
+-- The invariant: the area recovers to the book; if a record is held it is genuine; a pending operation is started, and its stores left
+-- are the book's.
+use Prim.Native.Nat.{ℕ, zero, suc, _+_, _-_, _≤_, _<_, max}
+use mathlib.Core.Path.{_≡_, refl, sym, ap, _∙_, subst}
+use mathlib.Core.Bool.{Bool, true, false}
+use mathlib.Core.List.{List, [], _∷_, _++_}
+use mathlib.Core.Option.{Option, none, some}
+use lib.ListN.{length}
+use Rattle.word.specs.Number.{Bytes}
+use Rattle.segment.specs.Layout.{Layout, objectKind}
+use Rattle.segment.specs.Entry.{Entry}
+use Rattle.segment.specs.declared.Key.{Key}
+use Rattle.record.specs.Answers.{withPending}
+use Rattle.record.specs.declared.Pending.the-variants.{Idle}
+use Rattle.record.specs.declared.Refusal.{Refusal}
+use Rattle.record.specs.declared.Store.{Store}
+use Rattle.model.specs.Log.{Placed}
+use Rattle.model.specs.Causes.{firstCause}
+use Rattle.model.specs.Recovery.{recovered, storeOf, ifNone, areaCauses}
+use Rattle.model.specs.Operations.{logNow, kindElse, storesFor}
+use Rattle.model.specs.Promises.{Genuine, Started}
+use Rattle.laws.specs.MapLaws.{valueAt}
+use Rattle.history.specs.Book.{Kept, Awaited, Book}
+use Rattle.history.specs.Runs.{Held, World}
+
+-- the entry by which a log holds what the book holds of a key
+unfoldable pub bookEntry : Layout → Key → Option Kept → Option Entry
+bookEntry L k none = none
+bookEntry L k (some x) =
+    some
+    (record {
+      kind = kindElse (objectKind L (length (x .value)));
+      table = k .table;
+      key = k .key;
+      version = x .version;
+      value = x .value;
+    })
+
+-- The bytes of the area say what the book holds.
+pub record Agrees (L : Layout) (n s : ℕ) (area : List ℕ) (b : Book) : Type 0 where
+  pub next-same : storeOf L n s 16 area .next .0 ≡ b .next
+  pub map-same : (k : Key) → valueAt L (logNow L area (storeOf L n s 16 area)) k ≡ bookEntry L k (b .keys k)
+
+-- how many cells are known to suffice
+unfoldable pub baseCells : Option ℕ → ℕ
+baseCells none = 16
+baseCells (some m) = m
+
+-- Nothing is pending, or a started operation with the book's stores left.
+pub data Phase (L : Layout) (area : List ℕ) (b : Book) (h : Held) : Type 0 where
+  calm : h .store .pending ≡ Idle → b .pending ≡ none → Phase L area b h
+  busy :
+      (t : Started L area (h .store) (h .work)) →
+      b .pending ≡
+      some
+      (record {
+        operation = t .operation;
+        left = storesFor L (t .idle) (logNow L (t .before) (t .idle)) (t .operation) - t .since;
+      }) →
+      Phase L area b h
+
+pub record Holding (L : Layout) (n s : ℕ) (area : List ℕ) (m : Option ℕ) (b : Book) (h : Held) : Type 0 where
+  pub slots-same : h .store .slots ≡ n
+  pub size-same : h .store .size ≡ s
+  pub cells-same : m ≡ some (h .store .cells)
+  pub genuine : Genuine L area (h .store) (h .cells)
+  pub phase : Phase L area b h
+
+unfoldable pub HeldGood : Layout → ℕ → ℕ → List ℕ → Option ℕ → Book → Option Held → Type 0
+HeldGood L n s area m b none = Unit
+HeldGood L n s area m b (some h) = Holding L n s area m b h
+
+-- The invariant of a world with its book, and the highest version told so far.
+pub record Inv (L : Layout) (n s : ℕ) (w : World) (b : Book) (told : ℕ) : Type 0 where
+  pub bytes : Bytes (w .area)
+  pub base : recovered L n s (baseCells (w .cells)) (w .area) ≡ some (storeOf L n s (baseCells (w .cells)) (w .area))
+  pub agrees : Agrees L n s (w .area) b
+  pub below : told < b .next
+  pub held : HeldGood L n s (w .area) (w .cells) b (w .held)
+
+-- ---- recovered records
+
+-- the record that recovery gives is the one that the area's bytes say
+pub recovered-is : (L : Layout) (n s m : ℕ) (area : List ℕ) (r : Store) → recovered L n s m area ≡ some r → r ≡ storeOf L n s m area
+unfolding recovered ifNone
+recovered-is L n s m area r e = go (firstCause (areaCauses L n s m area)) e
+  where
+    go : (c : Option Refusal) → ifNone c (storeOf L n s m area) ≡ some r → r ≡ storeOf L n s m area
+    go none p = cc
+    go (some c) p = cc
+
+-- its next version and its log do not go by the number of cells
+pub next-of :
+    (L : Layout) (n s m : ℕ) (area : List ℕ) (r : Store) → recovered L n s m area ≡ some r → storeOf L n s 16 area .next .0 ≡ r .next .0
+next-of L n s m area r e = ap (λ (x : Store). x .next .0) (sym (recovered-is L n s m area r e))
+
+pub log-of :
+    (L : Layout) (n s m : ℕ) (area : List ℕ) (r : Store) → recovered L n s m area ≡ some r →
+    logNow L area (storeOf L n s 16 area) ≡ logNow L area r
+log-of L n s m area r e = ap (logNow L area) (sym (recovered-is L n s m area r e))
+
+pub calm-of : (L : Layout) (n s m : ℕ) (area : List ℕ) (r : Store) → recovered L n s m area ≡ some r → r .pending ≡ Idle
+calm-of L n s m area r e = ap (λ (x : Store). x .pending) (recovered-is L n s m area r e)
+
+pub slots-of : (L : Layout) (n s m : ℕ) (area : List ℕ) (r : Store) → recovered L n s m area ≡ some r → r .slots ≡ n
+slots-of L n s m area r e = ap (λ (x : Store). x .slots) (recovered-is L n s m area r e)
+
+pub size-of : (L : Layout) (n s m : ℕ) (area : List ℕ) (r : Store) → recovered L n s m area ≡ some r → r .size ≡ s
+size-of L n s m area r e = ap (λ (x : Store). x .size) (recovered-is L n s m area r e)
+
+pub cells-of : (L : Layout) (n s m : ℕ) (area : List ℕ) (r : Store) → recovered L n s m area ≡ some r → r .cells ≡ m
+cells-of L n s m area r e = ap (λ (x : Store). x .cells) (recovered-is L n s m area r e)
+
+-- another way to write the geometry
+pub with-geometry :
+    (L : Layout) (n n′ s s′ m : ℕ) (area : List ℕ) (x : Option Store) → n ≡ n′ → s ≡ s′ → recovered L n s m area ≡ x → recovered L n′ s′ m area ≡ x
+with-geometry L n n′ s s′ m area x p q e =
+    subst (λ (k : ℕ). recovered L k s′ m area ≡ x) p (subst (λ (k : ℕ). recovered L n k m area ≡ x) q e)
+
+-- so a recovered record is what recovery with its own geometry gives
+pub own-geometry :
+    (L : Layout) (n s m : ℕ) (area : List ℕ) (r : Store) → recovered L n s m area ≡ some r →
+    recovered L (r .slots) (r .size) (r .cells) area ≡ some r
+own-geometry L n s m area r e = moved ∙ e
+  where
+    moved : recovered L (r .slots) (r .size) (r .cells) area ≡ recovered L n s m area
+    moved = λ i. recovered L (slots-of L n s m area r e i) (size-of L n s m area r e i) (cells-of L n s m area r e i) area
+
+-- a record with nothing pending is itself, its pending operation aside
+pub idle-same : (r : Store) → r .pending ≡ Idle → withPending r Idle ≡ r
+idle-same r p = ap (withPending r) (sym p)
+
+-- The invariant from a recovered record that agrees with the book.
+pub rebuilt :
+    (L : Layout) (n s m : ℕ) (area : List ℕ) (r : Store) (held : Option Held) (b : Book) (told : ℕ) → Bytes area →
+    recovered L n s m area ≡ some r → r .next .0 ≡ b .next → ((k : Key) → valueAt L (logNow L area r) k ≡ bookEntry L k (b .keys k)) →
+    told < b .next → HeldGood L n s area (some m) b held → Inv L n s (record { area = area; held = held; cells = some m }) b told
+unfolding baseCells
+rebuilt L n s m area r held b told ab e next same less good =
+    record {
+      bytes = ab;
+      base = e ∙ ap some (recovered-is L n s m area r e);
+      agrees =
+          record {
+            next-same = next-of L n s m area r e ∙ next;
+            map-same = λ k. ap (λ (log : List Placed). valueAt L log k) (log-of L n s m area r e) ∙ same k;
+          };
+      below = less;
+      held = good;
+    }

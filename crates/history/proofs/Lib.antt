@@ -1,0 +1,9 @@
+-- Demand 3, proved by one invariant that every call's promise and every cut keeps.
+pub mod Invariant
+pub mod Starts
+pub mod Finished
+pub mod Steps
+pub mod Readings
+pub mod Recoveries
+pub mod Theorem
+pub mod Corollaries

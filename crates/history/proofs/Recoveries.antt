@@ -1,0 +1,150 @@
+-- A recovery and a cut keep the invariant.
+use Prim.Native.Nat.{ℕ, zero, suc, _<_, max}
+use native.Mathlib.Nat.{max-zero}
+use native.Mathlib.Omega.{arith}
+use mathlib.Core.Path.{_≡_, refl, sym, ap, _∙_, subst, subst⁻¹}
+use mathlib.Core.Bool.{Bool, true, false, not}
+use mathlib.Core.List.{List, [], _∷_, _++_}
+use mathlib.Core.Option.{Option, none, some}
+use lib.Dec.{eqb}
+use lib.ListN.{length}
+use Rattle.segment.specs.Choice.{pick, pick-true, pick-false}
+use Rattle.segment.specs.Layout.{Layout}
+use Rattle.segment.specs.declared.Key.{Key}
+use Rattle.record.specs.Answers.{recoverSaid, refusal, blank}
+use Rattle.record.specs.Refusals.{numberOfRefusal}
+use Rattle.record.specs.declared.Pending.the-variants.{Idle}
+use Rattle.record.specs.declared.Recovery.{Recovery}
+use Rattle.record.specs.declared.RecoverAnswer.{RecoverAnswer}
+use Rattle.record.specs.declared.Refusal.{Refusal}
+use Rattle.record.specs.declared.Refusal.the-variants.{BadOrder}
+use Rattle.record.specs.declared.Store.{Store}
+use Rattle.model.specs.Log.{viewsOf, headOf}
+use Rattle.model.specs.Causes.{Cause, when, firstCause}
+use Rattle.model.specs.Recovery.{recovered, storeOf, ifNone, areaCauses, recoverCauses, lentCauses, imageCauses, keyCauses, orderBad, recovery, recoveryFor}
+use Rattle.model.specs.Index.{IndexRule}
+use Rattle.model.specs.Operations.{logNow}
+use Rattle.model.specs.Promises.{RecoverPromise, IndexAfter}
+use Rattle.laws.specs.CauseLaws.{none-left, none-right, none-both, cause-none, cause-rest, refusal-number}
+use Rattle.laws.specs.Operated.{StoreLaws}
+use Rattle.history.specs.Book.{recovers, Event, called, cut, accepted, Book, feed, feedCall, withoutPending, toldBy}
+use Rattle.history.specs.Runs.{Held, World, recoveredWorld}
+use Rattle.history.proofs.Invariant.{Inv, Agrees, Holding, HeldGood, Phase, calm, rebuilt}
+
+-- ---- the causes with and without an order list
+
+module _ (L : Layout) (n s m : ℕ) (order area : List ℕ) where
+  abbrev rest : List Cause
+  rest = imageCauses (viewsOf L area s) n (headOf (viewsOf L area s) n) ++ keyCauses (viewsOf L area s) n m (headOf (viewsOf L area s) n)
+
+  -- where recovery is accepted, the area recovers to its record
+  pub accepted-recovers : firstCause (recoverCauses L n s m order area) ≡ none → recovered L n s m area ≡ some (storeOf L n s m area)
+  unfolding recovered ifNone
+  accepted-recovers e = ap (λ (c : Option Refusal). ifNone c (storeOf L n s m area)) none-there
+    where
+      lent : firstCause (lentCauses n s m (length area)) ≡ none
+      lent = none-left (lentCauses n s m (length area)) ((when (orderBad n order) BadOrder ∷ []) ++ rest) e
+
+      others : firstCause rest ≡ none
+      others = cause-rest (when (orderBad n order) BadOrder) rest (none-right (lentCauses n s m (length area)) ((when (orderBad n order) BadOrder ∷ []) ++ rest) e)
+
+      none-there : firstCause (areaCauses L n s m area) ≡ none
+      none-there = none-both (lentCauses n s m (length area)) rest lent others
+
+  -- and the other way round, in any order that is one
+  pub recovers-accepted :
+      recovered L n s m area ≡ some (storeOf L n s m area) → orderBad n order ≡ false → firstCause (recoverCauses L n s m order area) ≡ none
+  unfolding recovered ifNone
+  recovers-accepted e good =
+      none-both (lentCauses n s m (length area)) ((when (orderBad n order) BadOrder ∷ []) ++ rest)
+      (none-left (lentCauses n s m (length area)) rest none-there)
+      (cause-none (when (orderBad n order) BadOrder) rest good (none-right (lentCauses n s m (length area)) rest none-there))
+    where
+      from : (c : Option Refusal) → ifNone c (storeOf L n s m area) ≡ some (storeOf L n s m area) → c ≡ none
+      from none p = refl
+      from (some c) p = cc
+
+      none-there : firstCause (areaCauses L n s m area) ≡ none
+      none-there = from (firstCause (areaCauses L n s m area)) e
+
+module _ (L : Layout) (n s : ℕ) where
+  -- what is to be shown of a recovery that answers r and leaves these cells
+  abbrev pub RecoverGoal : World → Book → ℕ → List ℕ → Recovery → Type 0
+  RecoverGoal w b t cells′ r =
+      Inv L n s (recoveredWorld w cells′ r) (feed b (called recovers (recoverSaid (r .answer))))
+      (max t (toldBy (called recovers (recoverSaid (r .answer)))))
+
+  -- without what is held, the invariant stays
+  pub dropped : (w : World) (b : Book) (t : ℕ) → Inv L n s w b t → Inv L n s (record { area = w .area; held = none; cells = w .cells }) b t
+  unfolding HeldGood
+  dropped w b t inv = record { bytes = inv .bytes; base = inv .base; agrees = inv .agrees; below = inv .below; held = tt }
+
+  refused :
+      (w : World) (b : Book) (t : ℕ) (cells′ : List ℕ) (c : Refusal) → Inv L n s w b t →
+      RecoverGoal w b t cells′ (record { answer = RecoverAnswer.Refused c; store = blank })
+  unfolding feed toldBy pick
+  refused w b t cells′ c inv = rw (max-zero t, refusal-number c) (go (eqb (numberOfRefusal c) 20))
+    where
+      go : (twenty : Bool) → Inv L n s (pick twenty (record { area = w .area; held = none; cells = w .cells }) w) b t
+      go true = dropped w b t inv
+      go false = inv
+
+  accepts :
+      (w : World) (b : Book) (t : ℕ) (order cells cells′ : List ℕ) → Inv L n s w b t →
+      firstCause (recoverCauses L n s (length cells) order (w .area)) ≡ none → length cells′ ≡ length cells →
+      IndexRule s (logNow L (w .area) (storeOf L n s (length cells) (w .area))) cells′ →
+      RecoverGoal w b t cells′ (record { answer = RecoverAnswer.Recovered; store = storeOf L n s (length cells) (w .area) })
+  unfolding feed feedCall toldBy HeldGood pick
+  accepts w b t order cells cells′ inv e same rule =
+      rw (max-zero t, same)
+      (rebuilt L n s (length cells) (w .area) (storeOf L n s (length cells) (w .area)) (some held′) (withoutPending b) t (inv .bytes)
+      (accepted-recovers L n s (length cells) order (w .area) e) (inv .agrees .next-same) (inv .agrees .map-same) (inv .below) holding′)
+    where
+      held′ : Held
+      held′ = record { store = storeOf L n s (length cells) (w .area); cells = cells′; work = [] }
+
+      holding′ : Holding L n s (w .area) (some (length cells)) (withoutPending b) held′
+      holding′ =
+          record {
+            slots-same = refl;
+            size-same = refl;
+            cells-same = refl;
+            genuine = record { recovers = accepted-recovers L n s (length cells) order (w .area) e; rule = rule };
+            phase = calm refl refl;
+          }
+
+  -- A recovery keeps the invariant.
+  pub recover-keeps :
+      (w : World) (b : Book) (t : ℕ) (order cells cells′ : List ℕ) (r : Recovery) → RecoverPromise L n s order (w .area) cells cells′ r →
+      Inv L n s w b t → RecoverGoal w b t cells′ r
+  unfolding recovery recoveryFor IndexAfter
+  recover-keeps w b t order cells cells′ r p inv =
+      subst⁻¹ (λ (x : Recovery). RecoverGoal w b t cells′ x) (p .answers) (go cause refl index′)
+    where
+      store : Store
+      store = storeOf L n s (length cells) (w .area)
+
+      cause : Option Refusal
+      cause = firstCause (recoverCauses L n s (length cells) order (w .area))
+
+      index′ : IndexAfter L (w .area) cells cells′ (recoveryFor cause store) (recoveryFor cause store .answer)
+      index′ = subst (λ (x : Recovery). IndexAfter L (w .area) cells cells′ x (x .answer)) (p .answers) (p .index)
+
+      go : (c : Option Refusal) → cause ≡ c → IndexAfter L (w .area) cells cells′ (recoveryFor c store) (recoveryFor c store .answer) → RecoverGoal w b t cells′ (recoveryFor c store)
+      go none e i = accepts w b t order cells cells′ inv e (p .same-length) i
+      go (some c) e i = refused w b t cells′ c inv
+
+  -- A cut leaves what the stores so far say.
+  pub cut-keeps :
+      (w : World) (b : Book) (t : ℕ) → Inv L n s w b t →
+      Inv L n s (record { area = w .area; held = none; cells = w .cells }) (feed b cut) (max t (toldBy cut))
+  unfolding feed toldBy HeldGood
+  cut-keeps w b t inv =
+      rw (max-zero t)
+      (record {
+        bytes = inv .bytes;
+        base = inv .base;
+        agrees = record { next-same = inv .agrees .next-same; map-same = inv .agrees .map-same };
+        below = inv .below;
+        held = tt;
+      })

@@ -1,0 +1,167 @@
+-- A start keeps the invariant: refused it changes nothing, accepted it is pending with its stores.
+use Prim.Native.Nat.{ℕ, zero, suc, _+_, _-_, _≤_, _<_, max}
+use native.Mathlib.Nat.{sub-zero, max-zero}
+use native.Mathlib.Omega.{arith}
+use mathlib.Core.Path.{_≡_, refl, sym, ap, _∙_, subst, subst⁻¹}
+use mathlib.Core.Bool.{Bool, true, false, not}
+use mathlib.Core.List.{List, [], _∷_, _++_}
+use mathlib.Core.Option.{Option, none, some}
+use lib.Dec.{eqb, ltb}
+use lib.ListN.{length, take, drop}
+use lib.Seq.{sets}
+use borrow.Author.Tests.{ltb-false}
+use Rattle.word.specs.Number.{Bytes}
+use Rattle.word.specs.Laws.{taken-sets}
+use Rattle.segment.specs.Choice.{pick, pick-false}
+use Rattle.segment.specs.Layout.{Layout}
+use Rattle.record.specs.Answers.{Said, startSaid, withPending, refusal}
+use Rattle.record.specs.Refusals.{numberOfRefusal}
+use Rattle.record.specs.declared.Pending.{Pending}
+use Rattle.record.specs.declared.Pending.the-variants.{Idle, Append, NewHead, Clean}
+use Rattle.record.specs.declared.Refusal.{Refusal}
+use Rattle.record.specs.declared.Start.{Start}
+use Rattle.record.specs.declared.StartAnswer.{StartAnswer}
+use Rattle.record.specs.declared.Store.{Store}
+use Rattle.model.specs.Log.{Placed}
+use Rattle.model.specs.Causes.{Cause, firstCause}
+use Rattle.model.specs.Recovery.{recovered, storeOf}
+use Rattle.model.specs.Operations.{Operation, write, delete, clean, Typed, logNow, laid, planFor, storesFor, startedStore, stored}
+use Rattle.model.specs.Refused.{Lengths, recordBad, workShort, isPending, startCauses}
+use Rattle.model.specs.Promises.{Genuine, Started, StartPromise, Begun, begun, lentLengths}
+use Rattle.laws.specs.CauseLaws.{cause-false, cause-rest, refusal-number}
+use Rattle.laws.specs.Operated.{Accepted, StoreLaws}
+use Rattle.history.specs.Book.{starts, Event, called, Book, feed, feedCall, toldBy}
+use Rattle.history.specs.Runs.{Held, World, heldAfter}
+use Rattle.history.specs.Demand3.{EventAgrees}
+use Rattle.history.proofs.Invariant.{idle-same, Inv, Holding, HeldGood, Phase, calm, busy}
+
+-- ---- what an accepted start has tested first
+
+pub not-pending : (p : Pending) → isPending p ≡ false → p ≡ Idle
+unfolding isPending
+not-pending Idle e = refl
+not-pending (Append n k) e = cc
+not-pending (NewHead i n k) e = cc
+not-pending (Clean i v n k) e = cc
+
+pub record Led (L : Layout) (r : Store) (l : Lengths) : Type 0 where
+  pub fit : recordBad L r l ≡ false
+  pub long : workShort r l ≡ false
+  pub calm : isPending (r .pending) ≡ false
+
+lead : (a b c : Cause) (cs : List Cause) → firstCause (a ∷ b ∷ c ∷ cs) ≡ none → (a .holds ≡ false) × (b .holds ≡ false) × (c .holds ≡ false)
+lead a b c cs e = (
+  cause-false a (b ∷ c ∷ cs) e,
+  cause-false b (c ∷ cs) (cause-rest a (b ∷ c ∷ cs) e),
+  cause-false c cs (cause-rest b (c ∷ cs) (cause-rest a (b ∷ c ∷ cs) e)),
+)
+
+pub start-led :
+    (L : Layout) (r : Store) (log : List Placed) (l : Lengths) (o : Operation) → firstCause (startCauses L r log l o) ≡ none → Led L r l
+unfolding startCauses
+start-led L r log l (write k value) e = let h = lead _ _ _ _ e in record { fit = h .0; long = h .1; calm = h .2 }
+start-led L r log l (delete k) e = let h = lead _ _ _ _ e in record { fit = h .0; long = h .1; calm = h .2 }
+start-led L r log l (clean victims) e = let h = lead _ _ _ _ e in record { fit = h .0; long = h .1; calm = h .2 }
+
+-- ---- the two ways of a start
+
+module _ (L : Layout) (laws : StoreLaws L) (n s : ℕ) where
+  -- what is to be shown of a start that answers a and leaves the work buffer work′
+  abbrev pub StartGoal : List ℕ → Held → Option ℕ → Operation → Book → ℕ → Start → List ℕ → Type 0
+  StartGoal area h m o b t a work′ =
+      Inv L n s (record { area = area; held = some (heldAfter h work′ a); cells = m }) (feed b (called (starts o) (startSaid (a .answer))))
+      (max t (toldBy (called (starts o) (startSaid (a .answer)))))
+      × EventAgrees b (called (starts o) (startSaid (a .answer)))
+
+  refused :
+      (area : List ℕ) (h : Held) (m : Option ℕ) (o : Operation) (b : Book) (t : ℕ) (work′ : List ℕ) (c : Refusal) →
+      Inv L n s (record { area = area; held = some h; cells = m }) b t →
+      StartGoal area h m o b t (record { answer = StartAnswer.Refused c; store = h .store }) work′
+  unfolding feed toldBy EventAgrees
+  refused area h m o b t work′ c inv = (rw (max-zero t, pick-false (eqb (numberOfRefusal c) 0) work′ (h .work), pick-false (eqb (numberOfRefusal c) 0) (feedCall b (starts o) (refusal (numberOfRefusal c))) b, refusal-number c) inv, tt)
+
+  accepted :
+      (area : List ℕ) (h : Held) (m : Option ℕ) (o : Operation) (b : Book) (t : ℕ) (work : List ℕ) → Typed o →
+      Inv L n s (record { area = area; held = some h; cells = m }) b t →
+      firstCause (startCauses L (h .store) (logNow L area (h .store)) (lentLengths area (h .cells) work) o) ≡ none →
+      StartGoal area h m o b t
+      (record {
+        answer = StartAnswer.Started (storesFor L (h .store) (logNow L area (h .store)) o);
+        store = startedStore L (h .store) (logNow L area (h .store)) o;
+      })
+      (sets work 0 (laid L (h .store) (logNow L area (h .store)) o .bytes))
+  unfolding feed feedCall toldBy EventAgrees pick HeldGood stored
+  accepted area h m o b t work ty inv e = (
+    record {
+      bytes = inv .bytes;
+      base = inv .base;
+      agrees = record { next-same = inv .agrees .next-same; map-same = inv .agrees .map-same };
+      below = rw (max-zero t) (inv .below);
+      held =
+          record {
+            slots-same = inv .held .slots-same;
+            size-same = inv .held .size-same;
+            cells-same = inv .held .cells-same;
+            genuine = record { recovers = inv .held .genuine .recovers; rule = inv .held .genuine .rule };
+            phase = busy begun-now (rw sub-zero refl);
+          };
+    },
+    tt,
+  )
+    where
+      r : Store
+      r = h .store
+
+      log : List Placed
+      log = logNow L area r
+
+      led : Led L r (lentLengths area (h .cells) work)
+      led = start-led L r log (lentLengths area (h .cells) work) o e
+
+      idle : r .pending ≡ Idle
+      idle = not-pending (r .pending) (led .calm)
+
+      recovers : recovered L (r .slots) (r .size) (r .cells) area ≡ some r
+      recovers = inv .held .genuine .recovers ∙ ap some (idle-same r idle)
+
+      acc : Accepted L area r o
+      acc = record { lengths = lentLengths area (h .cells) work; area-bytes = inv .bytes; typed = ty; recovers = recovers; no-cause = e }
+
+      fits : length (laid L r log o .bytes) ≤ length work
+      fits = omega (arith, laws .bytes-fit area r o acc, ltb-false (length work) (r .size) (led .long))
+
+      begun-now : Started L area (startedStore L r log o) (sets work 0 (laid L r log o .bytes))
+      begun-now =
+          record {
+            operation = o;
+            before = area;
+            idle = r;
+            since = 0;
+            lengths = lentLengths area (h .cells) work;
+            typed = ty;
+            area-bytes = inv .bytes;
+            recovers = recovers;
+            accepted = e;
+            some-left = laws .some-stores area r o acc;
+            record-now = rw sub-zero refl;
+            area-now = refl;
+            work-now = taken-sets work 0 (laid L r log o .bytes) (length (laid L r log o .bytes)) refl (omega (arith, fits));
+          }
+
+  -- A start keeps the invariant.
+  pub start-keeps :
+      (area work work′ : List ℕ) (h : Held) (m : Option ℕ) (o : Operation) (a : Start) (b : Book) (t : ℕ) → Typed o →
+      StartPromise L o (h .store) area (h .cells) work work′ a → Inv L n s (record { area = area; held = some h; cells = m }) b t →
+      StartGoal area h m o b t a work′
+  unfolding HeldGood begun
+  start-keeps area work work′ h m o a b t ty p inv = subst⁻¹ Goal (p .exact (inv .held .genuine)) (go cause refl)
+    where
+      cause : Option Refusal
+      cause = firstCause (startCauses L (h .store) (logNow L area (h .store)) (lentLengths area (h .cells) work) o)
+
+      Goal : Begun → Type 0
+      Goal x = StartGoal area h m o b t (x .start) (x .work)
+
+      go : (c : Option Refusal) → cause ≡ c → Goal (begun L (h .store) (logNow L area (h .store)) o work c)
+      go none e = accepted area h m o b t work ty inv e
+      go (some c) e = refused area h m o b t work c inv

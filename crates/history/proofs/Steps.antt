@@ -1,0 +1,342 @@
+-- A step keeps the invariant, and answers what the book says.
+use Prim.Native.Nat.{ℕ, zero, suc, _+_, _-_, _≤_, _<_, max}
+use native.Mathlib.Nat.{max-zero}
+use native.Mathlib.Omega.{arith}
+use mathlib.Core.Path.{_≡_, refl, sym, ap, _∙_, subst, subst⁻¹}
+use mathlib.Core.Bool.{Bool, true, false, not}
+use mathlib.Core.List.{List, [], _∷_, _++_}
+use mathlib.Core.Option.{Option, none, some}
+use lib.Dec.{eqb}
+use lib.ListN.{length, take}
+use lib.Seq.{take-all}
+use borrow.Author.Tests.{not-false}
+use Rattle.word.specs.Number.{Bytes}
+use Rattle.segment.specs.Choice.{pick, pick-false}
+use Rattle.segment.specs.Layout.{Layout}
+use Rattle.segment.specs.declared.Key.{Key}
+use Rattle.record.specs.Answers.{stepSaid, withPending, refusal}
+use Rattle.record.specs.Refusals.{numberOfRefusal}
+use Rattle.record.specs.declared.Pending.{Pending}
+use Rattle.record.specs.declared.Pending.the-variants.{Idle}
+use Rattle.record.specs.declared.Refusal.{Refusal}
+use Rattle.record.specs.declared.Stepped.{Stepped}
+use Rattle.record.specs.declared.StepAnswer.{StepAnswer}
+use Rattle.record.specs.declared.Store.{Store}
+use Rattle.model.specs.Log.{Placed}
+use Rattle.model.specs.Causes.{Cause, firstCause}
+use Rattle.model.specs.Recovery.{recovered, storeOf}
+use Rattle.model.specs.Index.{IndexRule}
+use Rattle.model.specs.Operations.{Operation, logNow, laid, planFor, storesFor, stored, finishedStore, toldVersion}
+use Rattle.model.specs.Refused.{Lengths, isPending, stepCauses}
+use Rattle.model.specs.Promises.{Genuine, Started, StepPromise, StepRefused, StepExact, stepped, IndexStepped, leftAfter, lentLengths}
+use Rattle.laws.specs.CauseLaws.{cause-false, cause-rest, refusal-number}
+use Rattle.laws.specs.MapLaws.{valueAt}
+use Rattle.laws.specs.Operated.{Accepted, StoreLaws, planAt}
+use Rattle.history.specs.Book.{steps, Event, called, Awaited, Book, feed, feedCall, takeOne, oneOff, finish, versionFor, toldBy}
+use Rattle.history.specs.Runs.{Held, World}
+use Rattle.history.specs.Demand3.{EventAgrees, StepAgrees}
+use Rattle.history.proofs.Invariant.{Inv, Holding, HeldGood, Phase, calm, busy, baseCells, recovered-is, next-of, log-of, calm-of, slots-of, size-of, cells-of, idle-same, with-geometry, own-geometry, rebuilt, bookEntry}
+use Rattle.history.proofs.Finished.{finish-calm, finished-next, told-same, told-below, next-grows, finished-map}
+
+module _ (L : Layout) (laws : StoreLaws L) (n s : ℕ) where
+  -- what is to be shown of a step that answers a and leaves this area and these cells
+  abbrev pub StepGoal : Held → Option ℕ → Book → ℕ → List ℕ → List ℕ → Stepped → Type 0
+  StepGoal h m b t area′ cells′ a =
+      Inv L n s (record { area = area′; held = some (record { store = a .store; cells = cells′; work = h .work }); cells = m })
+      (feed b (called steps (stepSaid (a .answer)))) (max t (toldBy (called steps (stepSaid (a .answer)))))
+      × EventAgrees b (called steps (stepSaid (a .answer)))
+
+  -- ---- refused
+
+  refused :
+      (area : List ℕ) (h : Held) (m : Option ℕ) (b : Book) (t : ℕ) (c : Refusal) → Inv L n s (record { area = area; held = some h; cells = m }) b t →
+      StepGoal h m b t area (h .cells) (record { answer = StepAnswer.Refused c; store = h .store })
+  unfolding feed toldBy EventAgrees
+  refused area h m b t c inv = (
+    rw (max-zero t, pick-false (eqb (numberOfRefusal c) 0) (feedCall b steps (refusal (numberOfRefusal c))) b, refusal-number c) inv,
+    λ p. absurd (never (sym p ∙ refusal-number c)),
+  )
+    where
+      never : _≡_ {A = Bool} true false → ⊥
+      never p = let z : _≡_ {A = ℕ} 0 1 = cc in absurd (omega arith)
+
+  -- ---- a step of a started operation
+
+  module _ (area : List ℕ) (h : Held) (m : Option ℕ) (b : Book) (t : ℕ) (inv : Inv L n s (record { area = area; held = some h; cells = m }) b t)
+      (good : Holding L n s area m b h) (st : Started L area (h .store) (h .work))
+      (awaited :
+      b .pending ≡
+      some (record { operation = st .operation; left = storesFor L (st .idle) (logNow L (st .before) (st .idle)) (st .operation) - st .since }))
+    where
+      acc : Accepted L (st .before) (st .idle) (st .operation)
+      acc =
+          record {
+            lengths = st .lengths;
+            area-bytes = st .area-bytes;
+            typed = st .typed;
+            recovers = st .recovers;
+            no-cause = st .accepted;
+          }
+
+      -- the geometry of the store is that of the run
+      slots-idle : st .idle .slots ≡ n
+      slots-idle = ap (λ (x : Store). x .slots) (sym (st .record-now)) ∙ good .slots-same
+
+      size-idle : st .idle .size ≡ s
+      size-idle = ap (λ (x : Store). x .size) (sym (st .record-now)) ∙ good .size-same
+
+      cells-idle : some (st .idle .cells) ≡ m
+      cells-idle = ap (λ (x : Store). some (x .cells)) (sym (st .record-now)) ∙ sym (good .cells-same)
+
+      -- a record recovered with the store's own geometry is recovered with the run's
+      own : (after : List ℕ) (r : Store) → recovered L (st .idle .slots) (st .idle .size) (st .idle .cells) after ≡ some r → recovered L n s (st .idle .cells) after ≡ some r
+      own after r e = with-geometry L (st .idle .slots) n (st .idle .size) s (st .idle .cells) after (some r) slots-idle size-idle e
+
+      -- the old area recovers to the idle record, whose log is the one at the start
+      area-recovers : recovered L n s (st .idle .cells) area ≡ some (st .idle)
+      area-recovers = own area (st .idle) (rw (st .area-now) (laws .prefix-recovers (st .before) (st .idle) (st .operation) acc (st .since) (st .some-left)))
+
+      area-log : logNow L area (st .idle) ≡ logNow L (st .before) (st .idle)
+      area-log = rw (st .area-now) (laws .prefix-log (st .before) (st .idle) (st .operation) acc (st .since) (st .some-left))
+
+      next-idle : st .idle .next .0 ≡ b .next
+      next-idle = sym (next-of L n s (st .idle .cells) area (st .idle) area-recovers) ∙ inv .agrees .next-same
+
+      map-idle : (k : Key) → valueAt L (logNow L (st .before) (st .idle)) k ≡ bookEntry L k (b .keys k)
+      map-idle k =
+          ap (λ (x : List Placed). valueAt L x k) (sym area-log ∙ sym (log-of L n s (st .idle .cells) area (st .idle) area-recovers)) ∙
+          inv .agrees .map-same k
+
+      -- the area after one more store
+      abbrev after : List ℕ
+      after = stored (st .before) (take (suc (st .since)) (planAt L (st .before) (st .idle) (st .operation)))
+
+      abbrev left : ℕ
+      left = leftAfter L area (h .store) (h .work) st
+
+      one-more : storesFor L (st .idle) (logNow L (st .before) (st .idle)) (st .operation) - st .since ≡ suc left
+      one-more = omega (arith, st .some-left)
+
+      one-less : storesFor L (st .idle) (logNow L (st .before) (st .idle)) (st .operation) - st .since - 1 ≡ left
+      one-less = omega (arith, st .some-left)
+
+      -- one off the book's stores left
+      book-left :
+          (stores version : ℕ) →
+          feed b (called steps (record { refused = 0; stores = stores; version = version; kind = 0 })) ≡ oneOff b (st .operation) left
+      unfolding feed feedCall takeOne pick
+      book-left stores version = ap (takeOne b) awaited ∙ ap (oneOff b (st .operation)) one-less
+
+      agrees-with : (a : StepAnswer) → stepSaid a .stores ≡ left → (left ≡ 0 → stepSaid a .version ≡ versionFor b (st .operation)) → EventAgrees b (called steps (stepSaid a))
+      unfolding EventAgrees StepAgrees
+      agrees-with a e v _ =
+          subst⁻¹ (λ (x : Option Awaited). StepAgrees b (stepSaid a) x) awaited (e ∙ sym one-less, λ p. v (omega (arith, one-less, p)))
+
+      -- not the last: the same record with one store less, the same log, the same index
+      goes-on : (k : ℕ) → left ≡ suc k → StepGoal h m b t after (h .cells) (record { answer = StepAnswer.Left (suc k); store = withPending (st .idle) (laid L (st .idle) (logNow L (st .before) (st .idle)) (st .operation) .pending (suc k)) })
+      unfolding oneOff HeldGood toldBy
+      goes-on k e = (
+        rw
+            (book-left (suc k) 0, max-zero t, e)
+            (subst (λ (c : Option ℕ). Inv L n s (record { area = after; held = some held′; cells = c }) b′ t) cells-idle
+            (rebuilt L n s (st .idle .cells) after (st .idle) (some held′) b′ t bytes′ recovers′ next-idle
+            (λ j. ap (λ (x : List Placed). valueAt L x j) log′ ∙ map-idle j) (inv .below) holding′)),
+        agrees-with (StepAnswer.Left (suc k)) (sym e) (λ z. absurd (omega (arith, e, z))),
+      )
+        where
+          held′ : Held
+          held′ =
+              record {
+                store = withPending (st .idle) (laid L (st .idle) (logNow L (st .before) (st .idle)) (st .operation) .pending (suc k));
+                cells = h .cells;
+                work = h .work;
+              }
+
+          b′ : Book
+          b′ = record { keys = b .keys; next = b .next; pending = some (record { operation = st .operation; left = suc k }) }
+
+          more : suc (st .since) < length (planAt L (st .before) (st .idle) (st .operation))
+          more = omega (arith, e, st .some-left)
+
+          bytes′ : Bytes after
+          bytes′ = laws .plan-bytes (st .before) (st .idle) (st .operation) acc (suc (st .since))
+
+          own-recovers : recovered L (st .idle .slots) (st .idle .size) (st .idle .cells) after ≡ some (st .idle)
+          own-recovers = laws .prefix-recovers (st .before) (st .idle) (st .operation) acc (suc (st .since)) more
+
+          recovers′ : recovered L n s (st .idle .cells) after ≡ some (st .idle)
+          recovers′ = own after (st .idle) own-recovers
+
+          log′ : logNow L after (st .idle) ≡ logNow L (st .before) (st .idle)
+          log′ = laws .prefix-log (st .before) (st .idle) (st .operation) acc (suc (st .since)) more
+
+          calm′ : st .idle .pending ≡ Idle
+          calm′ = calm-of L n s (st .idle .cells) area (st .idle) area-recovers
+
+          rule-idle : IndexRule (st .idle .size) (logNow L area (st .idle)) (h .cells)
+          rule-idle = subst (λ (x : Store). IndexRule (x .size) (logNow L area x) (h .cells)) (st .record-now) (good .genuine .rule)
+
+          started′ : Started L after (held′ .store) (h .work)
+          started′ =
+              record {
+                operation = st .operation;
+                before = st .before;
+                idle = st .idle;
+                since = suc (st .since);
+                lengths = st .lengths;
+                typed = st .typed;
+                area-bytes = st .area-bytes;
+                recovers = st .recovers;
+                accepted = st .accepted;
+                some-left = more;
+                record-now = ap (λ (x : ℕ). withPending (st .idle) (laid L (st .idle) (logNow L (st .before) (st .idle)) (st .operation) .pending x)) (sym e);
+                area-now = refl;
+                work-now = st .work-now;
+              }
+
+          holding′ : Holding L n s after (some (st .idle .cells)) b′ held′
+          holding′ =
+              record {
+                slots-same = slots-idle;
+                size-same = size-idle;
+                cells-same = refl;
+                genuine =
+                    record {
+                      recovers = own-recovers ∙ ap some (sym (idle-same (st .idle) calm′));
+                      rule = subst (λ (x : List Placed). IndexRule (st .idle .size) x (h .cells)) (area-log ∙ sym log′) rule-idle;
+                    };
+                phase = busy started′ (ap (λ (x : ℕ). some (record { operation = st .operation; left = x })) (sym e));
+              }
+
+      -- the last: the record, the map and the index of the finished operation
+      ends : (cells′ : List ℕ) → left ≡ 0 → IndexRule (finishedStore L (st .before) (st .idle) (st .operation) .size) (logNow L after (finishedStore L (st .before) (st .idle) (st .operation))) cells′ → StepGoal h m b t after cells′ (record { answer = StepAnswer.Done (record { 0 = toldVersion (st .idle) (st .operation) }); store = finishedStore L (st .before) (st .idle) (st .operation) })
+      unfolding oneOff HeldGood toldBy
+      ends cells′ e rule = (
+        rw
+            (book-left 0 (toldVersion (st .idle) (st .operation)), e)
+            (subst (λ (c : Option ℕ). Inv L n s (record { area = after; held = some held′; cells = c }) b′ t′) cells-idle
+            (rebuilt L n s (st .idle .cells) after fin (some held′) b′ t′ bytes′ recovers′
+            (finished-next L (st .before) (st .idle) b next-idle (st .operation))
+            (λ j. ap (λ (x : List ℕ). valueAt L (logNow L x fin) j) all-stored ∙ laws .finish-map (st .before) (st .idle) (st .operation) acc j ∙ finished-map L (st .before) (st .idle) b next-idle (st .operation) (valueAt L (logNow L (st .before) (st .idle))) map-idle j)
+            told′ holding′)),
+        agrees-with (StepAnswer.Done (record { 0 = toldVersion (st .idle) (st .operation) })) (sym e) (λ z. told-same L (st .before) (st .idle) b next-idle (st .operation)),
+      )
+        where
+          fin : Store
+          fin = finishedStore L (st .before) (st .idle) (st .operation)
+
+          held′ : Held
+          held′ = record { store = fin; cells = cells′; work = h .work }
+
+          b′ : Book
+          b′ = finish b (st .operation)
+
+          t′ : ℕ
+          t′ = max t (toldVersion (st .idle) (st .operation))
+
+          all-stored : after ≡ stored (st .before) (planAt L (st .before) (st .idle) (st .operation))
+          all-stored =
+              ap (stored (st .before))
+              (take-all (suc (st .since)) (planAt L (st .before) (st .idle) (st .operation)) (omega (arith, e, st .some-left)))
+
+          bytes′ : Bytes after
+          bytes′ = laws .plan-bytes (st .before) (st .idle) (st .operation) acc (suc (st .since))
+
+          own-recovers : recovered L (st .idle .slots) (st .idle .size) (st .idle .cells) after ≡ some fin
+          own-recovers =
+              ap (recovered L (st .idle .slots) (st .idle .size) (st .idle .cells)) all-stored ∙
+              laws .finish-recovers (st .before) (st .idle) (st .operation) acc
+
+          recovers′ : recovered L n s (st .idle .cells) after ≡ some fin
+          recovers′ = own after fin own-recovers
+
+          told′ : t′ < b′ .next
+          told′ =
+              omega (
+                arith,
+                next-grows L (st .before) (st .idle) b next-idle (st .operation) t (inv .below),
+                told-below L (st .before) (st .idle) b next-idle (st .operation) (omega (arith, inv .below)),
+              )
+
+          fin-slots : fin .slots ≡ n
+          fin-slots = slots-of L n s (st .idle .cells) after fin recovers′
+
+          fin-size : fin .size ≡ s
+          fin-size = size-of L n s (st .idle .cells) after fin recovers′
+
+          fin-cells : fin .cells ≡ st .idle .cells
+          fin-cells = cells-of L n s (st .idle .cells) after fin recovers′
+
+          calm′ : fin .pending ≡ Idle
+          calm′ = calm-of L n s (st .idle .cells) after fin recovers′
+
+          holding′ : Holding L n s after (some (st .idle .cells)) b′ held′
+          holding′ =
+              record {
+                slots-same = fin-slots;
+                size-same = fin-size;
+                cells-same = ap some (sym fin-cells);
+                genuine =
+                    record {
+                      recovers = own-geometry L n s (st .idle .cells) after fin recovers′ ∙ ap some (sym (idle-same fin calm′));
+                      rule = rule;
+                    };
+                phase = calm calm′ (finish-calm b (st .operation));
+              }
+
+      -- whichever store it is
+      one-step :
+          (area′ cells′ : List ℕ) (a : Stepped) → StepExact L (h .store) area area′ (h .cells) cells′ (h .work) a st → StepGoal h m b t area′ cells′ a
+      unfolding stepped IndexStepped
+      one-step area′ cells′ a x =
+          subst⁻¹ (λ (y : Stepped). StepGoal h m b t area′ cells′ y) (x .answers)
+          (subst⁻¹ (λ (y : List ℕ). StepGoal h m b t y cells′ (at-left left)) (x .stores) (go left refl index′))
+        where
+          at-left : ℕ → Stepped
+          at-left j = stepped L (st .before) (st .idle) (st .operation) j
+
+          index′ : IndexStepped L after (h .cells) cells′ (at-left left .store) left
+          index′ =
+              subst (λ (y : List ℕ). IndexStepped L y (h .cells) cells′ (at-left left .store) left) (x .stores)
+              (subst (λ (y : Stepped). IndexStepped L area′ (h .cells) cells′ (y .store) left) (x .answers) (x .index))
+
+          go : (j : ℕ) → left ≡ j → IndexStepped L after (h .cells) cells′ (at-left j .store) j → StepGoal h m b t after cells′ (at-left j)
+          go zero e i = ends cells′ e i
+          go (suc k) e i = subst⁻¹ (λ (y : List ℕ). StepGoal h m b t after y (at-left (suc k))) i (goes-on k e)
+
+  -- A step keeps the invariant.
+  pub step-keeps :
+      (area area′ cells′ work : List ℕ) (h : Held) (m : Option ℕ) (a : Stepped) (b : Book) (t : ℕ) →
+      (isPending (h .store .pending) ≡ true → work ≡ h .work) → StepPromise L (h .store) area area′ (h .cells) cells′ work a →
+      Inv L n s (record { area = area; held = some h; cells = m }) b t → StepGoal h m b t area′ cells′ a
+  unfolding HeldGood isPending
+  step-keeps area area′ cells′ work h m a b t own-work p inv = go cause refl
+    where
+      cause : Option Refusal
+      cause = firstCause (stepCauses L (h .store) (lentLengths area (h .cells) work))
+
+      go : (c : Option Refusal) → cause ≡ c → StepGoal h m b t area′ cells′ a
+      go (some c) e =
+          let rf = p .refused c e in
+          subst⁻¹ (λ (x : Stepped). StepGoal h m b t area′ cells′ x) (rf .answers)
+          (subst⁻¹ (λ (x : List ℕ). StepGoal h m b t x cells′ (record { answer = StepAnswer.Refused c; store = h .store })) (rf .area-same)
+          (subst⁻¹ (λ (x : List ℕ). StepGoal h m b t area x (record { answer = StepAnswer.Refused c; store = h .store })) (rf .index-same)
+          (refused area h m b t c inv)))
+      go none e = by-phase (inv .held .phase)
+        where
+          pending : isPending (h .store .pending) ≡ true
+          pending = not-false (isPending (h .store .pending)) (cause-false _ _ (cause-rest _ _ (cause-rest _ _ e)))
+
+          same-work : work ≡ h .work
+          same-work = own-work pending
+
+          by-phase : Phase L area b h → StepGoal h m b t area′ cells′ a
+          by-phase (calm q _) = absurd (never (sym pending ∙ ap isPending q))
+            where
+              never : _≡_ {A = Bool} true false → ⊥
+              never z = let y : _≡_ {A = ℕ} 0 1 = cc in absurd (omega arith)
+          by-phase (busy st awaited) =
+              one-step area h m b t inv (inv .held) st awaited area′ cells′ a
+              (subst (λ (x : List ℕ). StepPromise L (h .store) area area′ (h .cells) cells′ x a) same-work p .exact
+              (subst (λ (x : List ℕ). firstCause (stepCauses L (h .store) (lentLengths area (h .cells) x)) ≡ none) same-work e)
+              (inv .held .genuine) st)

@@ -1,0 +1,219 @@
+-- Demand 3, from the laws of the store.
+use Prim.Native.Nat.{ℕ, zero, suc, _≤_, _<_, max}
+use native.Mathlib.Nat.{max-zero, zero-max}
+use native.Mathlib.Omega.{arith}
+use mathlib.Core.Path.{_≡_, refl, sym, ap, _∙_, subst, subst⁻¹}
+use mathlib.Core.Bool.{Bool, true, false, not}
+use mathlib.Core.List.{List, [], _∷_}
+use mathlib.Core.Option.{Option, none, some}
+use lib.Dec.{leb}
+use lib.ListN.{length}
+use borrow.Author.Tests.{leb-true}
+use Rattle.word.specs.Number.{Bytes}
+use Rattle.segment.specs.Choice.{pick, both, both-left}
+use Rattle.segment.specs.Layout.{Layout, edition1, objectKind}
+use Rattle.segment.specs.Entry.{Entry}
+use Rattle.segment.specs.declared.Key.{Key}
+use Rattle.record.specs.Range.{between, cellsGood, fitsLent}
+use Rattle.record.specs.declared.FormatAnswer.{FormatAnswer}
+use Rattle.record.specs.declared.Reading.{Reading}
+use Rattle.record.specs.declared.ReadAnswer.{ReadAnswer}
+use Rattle.record.specs.declared.Recovery.{Recovery}
+use Rattle.record.specs.declared.RecoverAnswer.{RecoverAnswer}
+use Rattle.record.specs.declared.Refusal.{Refusal}
+use Rattle.record.specs.declared.Refusal.the-variants.{BadRecord, Absent, Geometry}
+use Rattle.record.specs.declared.Store.{Store}
+use Rattle.model.specs.Log.{Placed, present, latest, objectOnly}
+use Rattle.model.specs.Causes.{Cause, when, firstCause}
+use Rattle.model.specs.Recovery.{recovered, storeOf, orderBad, geometryBad, recovery, recoveryFor, recoverCauses}
+use Rattle.model.specs.Operations.{logNow, TypedKey, kindElse, formatted}
+use Rattle.model.specs.Refused.{recordBad, keyAbsent, isAbsent, readCauses, formatCauses}
+use Rattle.model.specs.Promises.{Genuine, FormatPromise, RecoverPromise, ReadPromise, ValuePromise, IndexAfter, formatAnswer, areaUnless, readAnswer, presentAnswer, readLengths, valueAnswer, valuePart}
+use Rattle.laws.specs.CauseLaws.{cause-skip, cause-first, cause-none, cause-false}
+use Rattle.laws.specs.MapLaws.{valueAt, entryOf}
+use Rattle.laws.specs.Operated.{StoreLaws}
+use Rattle.laws.specs.StoreKept.{edition1-laws}
+use Rattle.history.specs.Book.{Event, called, cut, Kept, Book, freshBook, feed, bookAfter, bookOf, toldBy, highestTold}
+use Rattle.history.specs.Runs.{Held, World, freshWorld, Moves, start, step, read, readValue, recover, cuts, Run, stop, go}
+use Rattle.history.specs.Demand3.{LargeEnough, bookAnswer, bookValue, GivesBook, EventAgrees, StepsAgree, Holds, Demand3For, Demand3}
+use Rattle.history.proofs.Invariant.{Inv, HeldGood, baseCells, bookEntry, own-geometry}
+use Rattle.history.proofs.Starts.{start-keeps}
+use Rattle.history.proofs.Steps.{step-keeps}
+use Rattle.history.proofs.Readings.{read-keeps, value-keeps}
+use Rattle.history.proofs.Recoveries.{recovers-accepted, recover-keeps, cut-keeps}
+
+module _ (L : Layout) (laws : StoreLaws L) (n s : ℕ) where
+  -- ---- one event
+
+  move-keeps : {w x : World} {e : Event} (b : Book) (t : ℕ) → Moves L n s w e x → Inv L n s w b t → Inv L n s x (feed b e) (max t (toldBy e)) × EventAgrees b e
+  unfolding EventAgrees HeldGood
+  move-keeps b t (start {area} {work} {work′} {h} {m} {o} {a} ty p) inv = start-keeps L laws n s area work work′ h m o a b t ty p inv
+  move-keeps b t (step {area} {area′} {cells′} {work} {h} {m} {a} own p) inv = step-keeps L laws n s area area′ cells′ work h m a b t own p inv
+  move-keeps b t (read {area} {h} {m} {k} {a} ty p) inv = (read-keeps L laws n s area h m b t inv (inv .held) k a p, tt)
+  move-keeps b t (readValue {area} {value} {h} {m} {k} ty p) inv = (value-keeps L laws n s area h m b t k inv, tt)
+  move-keeps b t (recover {w} {order} {cells} {cells′} {r} p) inv = (recover-keeps L n s w b t order cells cells′ r p inv, tt)
+  move-keeps b t (cuts {w}) inv = (cut-keeps L n s w b t inv, tt)
+
+  -- ---- a list of events
+
+  run-keeps :
+      {w x : World} {es : List Event} (b : Book) (t : ℕ) → Run L n s w es x → Inv L n s w b t →
+      Inv L n s x (bookAfter b es) (max t (highestTold es)) × StepsAgree b es
+  unfolding bookAfter highestTold StepsAgree
+  run-keeps b t stop inv = (rw (max-zero t) inv, tt)
+  run-keeps b t (go {w} {x} {y} {e} {es} m r) inv =
+      let one = move-keeps b t m inv in
+      let rest = run-keeps (feed b e) (max t (toldBy e)) r (one .0) in
+      (subst (λ (k : ℕ). Inv L n s y (bookAfter (feed b e) es) k) (omega arith) (rest .0), (one .1, rest .1))
+
+  -- ---- what recovery then gives
+
+  -- an index that is large enough suffices
+  enough :
+      (w : World) (b : Book) (t m : ℕ) → Inv L n s w b t → LargeEnough (w .cells) m →
+      recovered L n s m (w .area) ≡ some (storeOf L n s m (w .area))
+  unfolding LargeEnough baseCells between
+  enough w b t m inv large = go′ (w .cells) (inv .base) large
+    where
+      go′ :
+          (c : Option ℕ) → recovered L n s (baseCells c) (w .area) ≡ some (storeOf L n s (baseCells c) (w .area)) → LargeEnough c m →
+          recovered L n s m (w .area) ≡ some (storeOf L n s m (w .area))
+      go′ none e h = laws .more-cells n s 16 m (w .area) e h (leb-true 16 m (both-left (leb 16 m) (leb m 4096) h))
+      go′ (some c) e h = laws .more-cells n s c m (w .area) e (h .0) (h .1)
+
+  -- what a read answers of a key is what the book holds of it
+  present-answer :
+      (k : Key) (p : Option Placed) (x : Option Kept) → entryOf p ≡ bookEntry L k x →
+      readAnswer (firstCause (when (isAbsent p) Absent ∷ [])) p ≡ bookAnswer L x
+  unfolding entryOf bookEntry firstCause pick isAbsent readAnswer presentAnswer bookAnswer
+  present-answer k none none e = refl
+  present-answer k none (some y) e = cc
+  present-answer k (some p) none e = cc
+  present-answer k (some p) (some y) e = ap (λ (z : Entry). ReadAnswer.Present (record { 0 = z .version }) (z .kind)) (some-same e)
+    where
+      some-same : {u v : Entry} → _≡_ {A = Option Entry} (some u) (some v) → u ≡ v
+      some-same q = cc
+
+  present-value :
+      (area : List ℕ) (size : ℕ) (k : Key) (p : Option Placed) (x : Option Kept) → entryOf p ≡ bookEntry L k x →
+      ((y : Placed) → p ≡ some y → valuePart L size area (some y) ≡ y .entry .value) →
+      valueAnswer L size area (firstCause (when (isAbsent p) Absent ∷ [])) p ≡ bookValue x
+  unfolding entryOf bookEntry firstCause pick isAbsent valueAnswer valuePart bookValue
+  present-value area size k none none e part = refl
+  present-value area size k none (some y) e part = cc
+  present-value area size k (some p) none e part = cc
+  present-value area size k (some p) (some y) e part = part p refl ∙ ap (λ (z : Entry). z .value) (some-same e)
+    where
+      some-same : {u v : Entry} → _≡_ {A = Option Entry} (some u) (some v) → u ≡ v
+      some-same q = cc
+
+  module _ (area cells′ : List ℕ) (m : ℕ) (r : Store) (ab : Bytes area) (e : recovered L n s m area ≡ some r) (long : length cells′ ≡ m) (k : Key)
+      (x : Option Kept) (same : valueAt L (logNow L area r) k ≡ bookEntry L k x)
+    where
+      fits : recordBad L r (readLengths area cells′) ≡ false
+      fits = ap not (ap (λ (c : ℕ). fitsLent L r (length area) c) long ∙ laws .own-lengths n s m area r ab e)
+
+      only-absent :
+          firstCause (readCauses L r (logNow L area r) (readLengths area cells′) k) ≡ firstCause (when (keyAbsent L (logNow L area r) k) Absent ∷ [])
+      only-absent = cause-skip (when (recordBad L r (readLengths area cells′)) BadRecord) (when (keyAbsent L (logNow L area r) k) Absent ∷ []) fits
+
+      read-answer :
+          readAnswer (firstCause (readCauses L r (logNow L area r) (readLengths area cells′) k)) (present L (logNow L area r) k) ≡ bookAnswer L x
+      read-answer =
+          ap (λ (c : Option Refusal). readAnswer c (present L (logNow L area r) k)) only-absent ∙
+          present-answer k (present L (logNow L area r) k) x same
+
+      value-answer :
+          valueAnswer L (r .size) area (firstCause (readCauses L r (logNow L area r) (readLengths area cells′) k)) (present L (logNow L area r) k) ≡
+          bookValue x
+      value-answer =
+          ap (λ (c : Option Refusal). valueAnswer L (r .size) area c (present L (logNow L area r) k)) only-absent ∙
+          present-value area (r .size) k (present L (logNow L area r) k) x same
+          (λ y q. laws .value-part area r ab (own-geometry L n s m area r e) k y q)
+
+  gives-book :
+      (w : World) (b : Book) (t : ℕ) → Inv L n s w b t → (order cells cells′ : List ℕ) (r : Recovery) → orderBad n order ≡ false →
+      LargeEnough (w .cells) (length cells) → RecoverPromise L n s order (w .area) cells cells′ r → GivesBook L (w .area) cells′ r b
+  unfolding recovery recoveryFor IndexAfter
+  gives-book w b t inv order cells cells′ r good large p = subst⁻¹ (λ (x : Recovery). GivesBook L (w .area) cells′ x b) answered book
+    where
+      store : Store
+      store = storeOf L n s (length cells) (w .area)
+
+      recovers : recovered L n s (length cells) (w .area) ≡ some store
+      recovers = enough w b t (length cells) inv large
+
+      answered : r ≡ recoveryFor none store
+      answered =
+          p .answers ∙
+          ap (λ (c : Option Refusal). recoveryFor c store) (recovers-accepted L n s (length cells) order (w .area) recovers good)
+
+      rule : IndexAfter L (w .area) cells cells′ (recoveryFor none store) (recoveryFor none store .answer)
+      rule = subst (λ (x : Recovery). IndexAfter L (w .area) cells cells′ x (x .answer)) answered (p .index)
+
+      genuine : Genuine L (w .area) store cells′
+      genuine = record { recovers = recovers; rule = rule }
+
+      book : GivesBook L (w .area) cells′ (recoveryFor none store) b
+      book =
+          record {
+            is-accepted = refl;
+            next-version = inv .agrees .next-same;
+            answers = λ k ty a q. q .exact genuine ∙ read-answer (w .area) cells′ (length cells) store (inv .bytes) recovers (p .same-length) k (b .keys k) (inv .agrees .map-same k);
+            values = λ k ty v q. q .exact genuine ∙ value-answer (w .area) cells′ (length cells) store (inv .bytes) recovers (p .same-length) k (b .keys k) (inv .agrees .map-same k);
+          }
+
+  -- ---- the fresh store
+
+  fresh : (area₀ area : List ℕ) → Bytes area₀ → FormatPromise L n s area₀ area FormatAnswer.Formatted → Inv L n s (freshWorld area) freshBook 0
+  unfolding formatAnswer areaUnless baseCells HeldGood between both present latest objectOnly entryOf bookEntry
+  fresh area₀ area ab p = subst⁻¹ (λ (x : List ℕ). Inv L n s (freshWorld x) freshBook 0) left start′
+    where
+      cause : Option Refusal
+      cause = firstCause (formatCauses n s (length area₀))
+
+      none-of : (c : Option Refusal) → FormatAnswer.Formatted ≡ formatAnswer c → c ≡ none
+      none-of none q = refl
+      none-of (some c) q = cc
+
+      no-cause : cause ≡ none
+      no-cause = none-of cause (p .answers)
+
+      geometry : geometryBad n s (length area₀) ≡ false
+      geometry = cause-false (when (geometryBad n s (length area₀)) Geometry) [] no-cause
+
+      left : area ≡ formatted L n s area₀
+      left = p .leaves ∙ ap (λ (c : Option Refusal). areaUnless c (formatted L n s area₀) area₀) no-cause
+
+      start′ : Inv L n s (freshWorld (formatted L n s area₀)) freshBook 0
+      start′ =
+          record {
+            bytes = laws .format-bytes n s area₀ ab;
+            base = laws .format-recovers n s 16 area₀ geometry refl;
+            agrees =
+                record {
+                  next-same = laws .format-log n s 16 area₀ geometry .1;
+                  map-same = λ k. ap (λ (log : List Placed). valueAt L log k) (laws .format-log n s 16 area₀ geometry .0);
+                };
+            below = omega arith;
+            held = tt;
+          }
+
+  pub holds :
+      (area₀ area : List ℕ) → Bytes area₀ → FormatPromise L n s area₀ area FormatAnswer.Formatted → (es : List Event) (w : World) →
+      Run L n s (freshWorld area) es w → Holds L n s w es
+  holds area₀ area ab p es w r =
+      let kept = run-keeps freshBook 0 r (fresh area₀ area ab p) in
+      record {
+        recovery = gives-book w (bookOf es) (max 0 (highestTold es)) (kept .0);
+        above-told = omega (arith, kept .0 .below);
+        steps-agree = kept .1;
+      }
+
+-- Demand 3 for every layout whose store keeps the laws.
+pub demand-3-for : (L : Layout) → StoreLaws L → Demand3For L
+demand-3-for L laws n s area₀ area ab p es w r = holds L laws n s area₀ area ab p es w r
+
+-- Demand 3.
+pub demand-3 : Demand3
+demand-3 = demand-3-for edition1 edition1-laws

@@ -1,0 +1,86 @@
+-- Demand 3, as one claim about a whole list of calls and cuts. Each phrase of the demand stands beside the part that renders it.
+use Prim.Native.Nat.{ℕ, zero, suc, _-_, _≤_, _<_}
+use mathlib.Core.Path.{_≡_}
+use mathlib.Core.Bool.{Bool, true, false}
+use mathlib.Core.List.{List, [], _∷_}
+use mathlib.Core.Option.{Option, none, some}
+use lib.ListN.{length}
+use Rattle.word.specs.Number.{Bytes}
+use Rattle.segment.specs.Layout.{Layout, edition1, objectKind}
+use Rattle.segment.specs.declared.Key.{Key}
+use Rattle.record.specs.Answers.{Said}
+use Rattle.record.specs.Range.{cellsGood}
+use Rattle.record.specs.declared.FormatAnswer.{FormatAnswer}
+use Rattle.record.specs.declared.Reading.{Reading}
+use Rattle.record.specs.declared.ReadAnswer.{ReadAnswer}
+use Rattle.record.specs.declared.Recovery.{Recovery}
+use Rattle.record.specs.declared.RecoverAnswer.{RecoverAnswer}
+use Rattle.record.specs.declared.Refusal.{Refusal}
+use Rattle.model.specs.Operations.{TypedKey, kindElse}
+use Rattle.model.specs.Recovery.{orderBad}
+use Rattle.model.specs.Promises.{FormatPromise, RecoverPromise, ReadPromise, ValuePromise}
+use Rattle.history.specs.Book.{Call, starts, steps, reads, readsValue, recovers, Event, called, cut, accepted, Kept, Awaited, Book, freshBook, feed, bookOf, versionFor, highestTold}
+use Rattle.history.specs.Runs.{World, freshWorld, Run}
+
+-- "its index as large as at the last accepted one": within the limits, and no smaller; before the first, any within the limits
+unfoldable pub LargeEnough : Option ℕ → ℕ → Type 0
+LargeEnough none m = cellsGood m ≡ true
+LargeEnough (some k) m = (cellsGood m ≡ true) × (k ≤ m)
+
+-- what a read answers of a key by the book: version and kind, or 8
+unfoldable pub bookAnswer : Layout → Option Kept → ReadAnswer
+bookAnswer L none = ReadAnswer.Refused Refusal.Absent
+bookAnswer L (some x) = ReadAnswer.Present (record { 0 = x .version }) (kindElse (objectKind L (length (x .value))))
+
+-- and its value, the empty part where read refuses
+unfoldable pub bookValue : Option Kept → List ℕ
+bookValue none = []
+bookValue (some x) = x .value
+
+-- "It gives exactly what 01's book of that list holds"
+pub record GivesBook (L : Layout) (area cells′ : List ℕ) (r : Recovery) (b : Book) : Type 0 where
+  -- "recovery ... is accepted"
+  pub is-accepted : r .answer ≡ RecoverAnswer.Recovered
+  -- "and the next version"
+  pub next-version : r .store .next .0 ≡ b .next
+  -- "the keys, versions and values left by the operations whose last store was done": for each key what a read then answers
+  pub answers : (k : Key) → TypedKey k → (a : Reading) → ReadPromise L (r .store) area cells′ k a → a .answer ≡ bookAnswer L (b .keys k)
+  pub values : (k : Key) → TypedKey k → (v : List ℕ) → ValuePromise L (r .store) area cells′ k v → v ≡ bookValue (b .keys k)
+
+-- "Each accepted step answers the stores left in the book, and an operation's last step also the book's version for it"
+unfoldable pub StepAgrees : Book → Said → Option Awaited → Type 0
+StepAgrees b a none = ⊥
+StepAgrees b a (some p) = (a .stores ≡ p .left - 1) × (p .left ≡ 1 → a .version ≡ versionFor b (p .operation))
+
+unfoldable pub EventAgrees : Book → Event → Type 0
+EventAgrees b (called (starts o) a) = Unit
+EventAgrees b (called steps a) = accepted a ≡ true → StepAgrees b a (b .pending)
+EventAgrees b (called (reads k) a) = Unit
+EventAgrees b (called (readsValue k) a) = Unit
+EventAgrees b (called recovers a) = Unit
+EventAgrees b cut = Unit
+
+-- for every event, the book being that of the list before it
+unfoldable pub StepsAgree : Book → List Event → Type 0
+StepsAgree b [] = Unit
+StepsAgree b (e ∷ es) = EventAgrees b e × StepsAgree (feed b e) es
+
+-- What demand 3 says of one list that leads to the world w.
+pub record Holds (L : Layout) (n s : ℕ) (w : World) (es : List Event) : Type 0 where
+  -- "recovery by 01's rules of use, its index as large as at the last accepted one, is accepted, whichever order the segments are
+  -- read in. It gives exactly what 01's book of that list holds"
+  pub recovery :
+      (order cells cells′ : List ℕ) (r : Recovery) → orderBad n order ≡ false → LargeEnough (w .cells) (length cells) →
+      RecoverPromise L n s order (w .area) cells cells′ r → GivesBook L (w .area) cells′ r (bookOf es)
+  -- "above every version told to a caller since that format"
+  pub above-told : highestTold es < bookOf es .next
+  pub steps-agree : StepsAgree freshBook es
+
+-- "For every list of calls on one store ... and cuts, from an accepted format on"
+abbrev pub Demand3For : Layout → Type 0
+Demand3For L =
+    (n s : ℕ) (area₀ area : List ℕ) → Bytes area₀ → FormatPromise L n s area₀ area FormatAnswer.Formatted → (es : List Event) (w : World) →
+    Run L n s (freshWorld area) es w → Holds L n s w es
+
+abbrev pub Demand3 : Type 0
+Demand3 = Demand3For edition1

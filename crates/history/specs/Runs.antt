@@ -1,0 +1,92 @@
+-- 01, "Rules of use, for the promise about cuts": the lists of calls and cuts that can happen on one store. Every transition is the
+-- promise of the call, so whatever is proved of runs is proved of what the contracts say.
+use Prim.Native.Nat.{ℕ}
+use mathlib.Core.Path.{_≡_}
+use mathlib.Core.Bool.{Bool, true, false}
+use mathlib.Core.List.{List, [], _∷_}
+use mathlib.Core.Option.{Option, none, some}
+use lib.Dec.{eqb}
+use lib.ListN.{length}
+use Rattle.segment.specs.Choice.{pick}
+use Rattle.segment.specs.Layout.{Layout}
+use Rattle.segment.specs.declared.Key.{Key}
+use Rattle.record.specs.Answers.{Said, recoverSaid, readSaid, startSaid, stepSaid, refusal}
+use Rattle.record.specs.declared.Store.{Store}
+use Rattle.record.specs.declared.Recovery.{Recovery}
+use Rattle.record.specs.declared.Reading.{Reading}
+use Rattle.record.specs.declared.Start.{Start}
+use Rattle.record.specs.declared.Stepped.{Stepped}
+use Rattle.model.specs.Operations.{Operation, Typed, TypedKey}
+use Rattle.model.specs.Refused.{isPending}
+use Rattle.model.specs.Promises.{RecoverPromise, ReadPromise, ValuePromise, StartPromise, StepPromise}
+use Rattle.history.specs.Book.{Call, starts, steps, reads, readsValue, recovers, Event, called, cut, accepted}
+
+-- What the firmware holds from an accepted recovery to the next cut: the newest record, the index of that recovery, and the work
+-- buffer that the last accepted start filled.
+pub record Held : Type 0 where
+  pub store : Store
+  pub cells : List ℕ
+  pub work : List ℕ
+
+-- The area, what is held if anything is, and the number of cells at the last accepted recovery if there was one.
+pub record World : Type 0 where
+  pub area : List ℕ
+  pub held : Option Held
+  pub cells : Option ℕ
+
+-- After the format no record is held.
+abbrev pub freshWorld : List ℕ → World
+freshWorld area = record { area = area; held = none; cells = none }
+
+-- A start hands back the record; where it is accepted, its work buffer is the one that the steps get.
+abbrev pub heldAfter : Held → List ℕ → Start → Held
+heldAfter h work′ a = record { store = a .store; cells = h .cells; work = pick (accepted (startSaid (a .answer))) work′ (h .work) }
+
+-- An accepted recovery gives the record and the index. One that is refused with 20 leaves no index, so no call with a record
+-- comes before the next accepted recovery; any other refusal leaves all as it was.
+abbrev pub recoveredWorld : World → List ℕ → Recovery → World
+recoveredWorld w cells′ r =
+    pick (accepted (recoverSaid (r .answer)))
+    (record { area = w .area; held = some (record { store = r .store; cells = cells′; work = [] }); cells = some (length cells′) })
+    (pick (eqb (recoverSaid (r .answer) .refused) 20) (record { area = w .area; held = none; cells = w .cells }) w)
+
+-- One event. A cut takes what is held and leaves the area with the stores made so far. The stores of an operation are made one by
+-- one, each by a step, and no other call stores anything; so a cut during a call is one before it, or one after it once its store
+-- is done, and a list with a cut at every place between events covers every single store before or after which the power fails.
+pub data Moves (L : Layout) (n s : ℕ) : World → Event → World → Type 0 where
+  -- a write, delete or clean with the newest record and its index, and any work buffer
+  start :
+      {area work work′ : List ℕ} {h : Held} {m : Option ℕ} {o : Operation} {a : Start} → Typed o →
+      StartPromise L o (h .store) area (h .cells) work work′ a →
+      Moves L n s (record { area = area; held = some h; cells = m }) (called (starts o) (startSaid (a .answer)))
+      (record { area = area; held = some (heldAfter h work′ a); cells = m })
+  -- a step; while an operation is pending it gets the work buffer that the start filled
+  step :
+      {area area′ cells′ work : List ℕ} {h : Held} {m : Option ℕ} {a : Stepped} →
+      (isPending (h .store .pending) ≡ true → work ≡ h .work) →
+      StepPromise L (h .store) area area′ (h .cells) cells′ work a →
+      Moves L n s (record { area = area; held = some h; cells = m }) (called steps (stepSaid (a .answer)))
+      (record { area = area′; held = some (record { store = a .store; cells = cells′; work = h .work }); cells = m })
+  -- reads, also while an operation is pending
+  read :
+      {area : List ℕ} {h : Held} {m : Option ℕ} {k : Key} {a : Reading} → TypedKey k →
+      ReadPromise L (h .store) area (h .cells) k a →
+      Moves L n s (record { area = area; held = some h; cells = m }) (called (reads k) (readSaid (a .answer)))
+      (record { area = area; held = some h; cells = m })
+  readValue :
+      {area value : List ℕ} {h : Held} {m : Option ℕ} {k : Key} → TypedKey k →
+      ValuePromise L (h .store) area (h .cells) k value →
+      Moves L n s (record { area = area; held = some h; cells = m }) (called (readsValue k) (refusal 0))
+      (record { area = area; held = some h; cells = m })
+  -- a recovery with the N and S of the format, any order list and any index, with or without a cut before it
+  recover :
+      {w : World} {order cells cells′ : List ℕ} {r : Recovery} →
+      RecoverPromise L n s order (w .area) cells cells′ r →
+      Moves L n s w (called recovers (recoverSaid (r .answer))) (recoveredWorld w cells′ r)
+  -- the power fails
+  cuts : {w : World} → Moves L n s w cut (record { area = w .area; held = none; cells = w .cells })
+
+-- A list of events, one after the other.
+pub data Run (L : Layout) (n s : ℕ) : World → List Event → World → Type 0 where
+  stop : {w : World} → Run L n s w [] w
+  go : {w x y : World} {e : Event} {es : List Event} → Moves L n s w e x → Run L n s x es y → Run L n s w (e ∷ es) y

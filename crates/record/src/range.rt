@@ -1,0 +1,118 @@
+// The range-and-length test of 01, "Refused calls": whether a record is one that a call may go by, as far as can be told
+// without a look at the log.
+use crate::Pending;
+use crate::Store;
+use segment::layout::DIGEST_SIZE;
+ghost use Prim.Native.Nat.{_≤_};
+ghost use mathlib.Core.Path.{_≡_};
+ghost use Rattle.record.specs.Range.{between, slotsGood, sizeGood, cellsGood, mapGood, leftGood, inRange, fitsLent, lengthsOwn};
+ghost use Rattle.record.specs.RangeLaws.{limitsGood, countersGood};
+ghost use Rattle.segment.specs.Layout.{edition1};
+
+// Whether x is from low to high.
+fn between(low: usize, high: usize, x: usize) -> bool
+    ensures { λ r. ⌜ r ≡ between low high x ⌝ }
+{
+    low <= x && x <= high
+}
+
+// Whether there can be so many slots.
+pub fn slots_good(slots: u32) -> bool
+    ensures { λ r. ⌜ r ≡ slotsGood slots ⌝ }
+{
+    between(4, 32, slots as usize)
+}
+
+// Whether a segment can be so long.
+pub fn size_good(size: u32) -> bool
+    ensures { λ r. ⌜ r ≡ sizeGood size ⌝ }
+{
+    between(256, 2048, size as usize)
+}
+
+// Whether the index can have so many cells.
+pub fn cells_good(cells: usize) -> bool
+    ensures { λ r. ⌜ r ≡ cellsGood cells ⌝ }
+{
+    between(16, 4096, cells)
+}
+
+// Whether the map names only slots below `slots`, the head among them, and leaves one free.
+pub fn map_good(slots: u32, head: u32, map: u32) -> bool
+    requires { ⌜ (1 ≤ slots) × (slots ≤ 32) ⌝ }
+    ensures { λ r. ⌜ r ≡ mapGood slots head map ⌝ }
+{
+    if !slot_map::names_below(slots, map) {
+        return false;
+    }
+    if slots <= head {
+        return false;
+    }
+    slot_map::has_slot(map, head) && slot_map::used_slots(map) < slots
+}
+
+// Whether a pending operation has as many stores left as one can have.
+fn left_good(size: u32, pending: Pending) -> bool
+    requires { ⌜ size ≤ 2048 ⌝ }
+    ensures { λ r. ⌜ r ≡ leftGood size pending ⌝ }
+{
+    if let Pending::Idle = pending {
+        return true;
+    }
+    between(1, size as usize + 1, crate::stores_left(pending) as usize)
+}
+
+// Whether N, S and M are within their limits.
+fn limits_good(store: Store) -> bool
+    ensures { λ r. ⌜ r ≡ limitsGood store ⌝ }
+{
+    if !slots_good(store.slots) {
+        return false;
+    }
+    size_good(store.size) && cells_good(store.cells as usize)
+}
+
+// Whether the end of the head's entries, the digest number, the next version and the number of keys can be so.
+fn counters_good(store: Store) -> bool
+    requires { ⌜ 1 ≤ store .cells ⌝ }
+    ensures { λ r. ⌜ r ≡ countersGood edition1 store ⌝ }
+{
+    let number = store.number;
+    let next = store.next;
+    if !between(DIGEST_SIZE, store.size as usize, store.end as usize) {
+        return false;
+    }
+    if number.0 == 0 {
+        return false;
+    }
+    next.0 != 0 && store.keys <= store.cells - 1
+}
+
+// Whether every number of the record is in range.
+pub fn in_range(store: Store) -> bool
+    ensures { λ r. ⌜ r ≡ inRange edition1 store ⌝ }
+{
+    if !limits_good(store) {
+        return false;
+    }
+    if !map_good(store.slots, store.head, store.map) {
+        return false;
+    }
+    let pending = store.pending;
+    counters_good(store) && left_good(store.size, pending)
+}
+
+// Whether the area is N × S bytes long and the index M cells.
+fn lengths_own(store: Store, area: usize, index: usize) -> bool
+    requires { ⌜ (store .slots ≤ 32) × (store .size ≤ 2048) ⌝ }
+    ensures { λ r. ⌜ r ≡ lengthsOwn store area index ⌝ }
+{
+    area == store.slots as usize * store.size as usize && index == store.cells as usize
+}
+
+// Whether the record is in range, and the area and the index that are lent are as long as it says.
+pub fn fits_lent(store: Store, area: usize, index: usize) -> bool
+    ensures { λ r. ⌜ r ≡ fitsLent edition1 store area index ⌝ }
+{
+    in_range(store) && lengths_own(store, area, index)
+}

@@ -1,0 +1,276 @@
+//! The start of a cleaning (01, "Operations, store by store").
+
+use crate::counters::Version;
+use crate::index::{search, Search};
+use crate::layout::MAX_AREA_BYTES;
+use crate::log::walk;
+use crate::operations::{hand_back, lay_digest, Started};
+use crate::record::{Pending, Record};
+use crate::refusal::Refusal;
+use crate::rules::{AsWritten, Rules};
+use crate::segment::{Fields, Key, DIGEST_BYTES, TOMBSTONE, TOMBSTONE_BYTES};
+use crate::slot_map::SlotMap;
+use crate::step::new_head_stores;
+
+/// Starts to move what is needed of the victims to a new head.
+pub fn clean(
+    record: Record,
+    area: &[u8],
+    index: &[u32],
+    work: &mut [u8],
+    victims: SlotMap,
+) -> Started {
+    clean_by::<AsWritten>(record, area, index, work, victims)
+}
+
+/// [`clean`] by chosen rules.
+pub fn clean_by<R: Rules>(
+    record: Record,
+    area: &[u8],
+    index: &[u32],
+    work: &mut [u8],
+    victims: SlotMap,
+) -> Started {
+    let pending = start::<R>(&record, area, index, work, victims);
+    hand_back(record, pending)
+}
+
+/// The checks in 01's order, then digest and kept entries into the work buffer.
+fn start<R: Rules>(
+    record: &Record,
+    area: &[u8],
+    index: &[u32],
+    work: &mut [u8],
+    victims: SlotMap,
+) -> Result<Pending, Refusal> {
+    record.check_start(area, index, work)?;
+    if victims == SlotMap::EMPTY || !victims.is_within(record.map) {
+        return Err(Refusal::Victims);
+    }
+    let mut choice = Choice::of_victims(record, area, index, victims)?;
+    choice.keep_needed_tombstones(record, area, index, victims)?;
+    if R::TOMBSTONE_GOES_WITH_NEWEST_OBJECT {
+        choice.drop_by_newest_object(record, area, victims)?;
+    }
+    if DIGEST_BYTES + choice.bytes > record.slot_bytes as usize {
+        return Err(Refusal::KeptLength);
+    }
+    let slot = record.new_head_slot()?;
+    lay_digest(record, work, slot, victims);
+    let length = copy_kept(record, area, work, victims, &choice.kept)?;
+    Ok(Pending::Clean {
+        slot,
+        length,
+        victims,
+        left: new_head_stores::<R>(record, length),
+    })
+}
+
+/// Copies the kept entries by ascending slot and offset behind the digest; gives the
+/// length of all.
+fn copy_kept(
+    record: &Record,
+    area: &[u8],
+    work: &mut [u8],
+    victims: SlotMap,
+    kept: &EntrySet,
+) -> Result<u32, Refusal> {
+    let mut at = DIGEST_BYTES;
+    walk_slots(record, area, victims, |place, fields| {
+        if kept.has(place) {
+            let end = at + fields.length;
+            work[at..end].copy_from_slice(&area[place..place + fields.length]);
+            at = end;
+        }
+        Ok(())
+    })?;
+    Ok(at as u32)
+}
+
+/// Walks slots of the log; damage is a byte that no log holds.
+#[inline]
+fn walk_slots(
+    record: &Record,
+    area: &[u8],
+    slots: SlotMap,
+    visit: impl FnMut(usize, Fields) -> Result<(), Refusal>,
+) -> Result<(), Refusal> {
+    let damage = Refusal::Record;
+    walk(area, record.slot_bytes, slots.slots(), damage, visit)
+}
+
+/// The place of the newest entry of a key that has one.
+#[inline]
+fn newest(area: &[u8], index: &[u32], key: Key) -> Result<usize, Refusal> {
+    match search(area, index, key) {
+        Search::Found { place, .. } => Ok(place),
+        Search::Free { .. } | Search::Broken => Err(Refusal::Record),
+    }
+}
+
+/// Which entries of the victims are kept.
+struct Choice {
+    /// Entries to keep.
+    kept: EntrySet,
+    /// Their length together.
+    bytes: usize,
+    /// Tombstones that are the newest entry of their key, and their keys.
+    tombstones: EntrySet,
+    tombstone_keys: KeyFilter,
+}
+
+impl Choice {
+    /// Keeps the objects that are their key's newest entry and notes such tombstones.
+    fn of_victims(
+        record: &Record,
+        area: &[u8],
+        index: &[u32],
+        victims: SlotMap,
+    ) -> Result<Choice, Refusal> {
+        let mut choice = Choice {
+            kept: EntrySet::new(),
+            bytes: 0,
+            tombstones: EntrySet::new(),
+            tombstone_keys: KeyFilter::new(),
+        };
+        walk_slots(record, area, victims, |place, fields| {
+            if newest(area, index, fields.key)? != place {
+                return Ok(());
+            }
+            if fields.kind == TOMBSTONE {
+                choice.tombstones.add(place);
+                choice.tombstone_keys.add(fields.key);
+            } else {
+                choice.kept.add(place);
+                choice.bytes += fields.length;
+            }
+            Ok(())
+        })?;
+        Ok(choice)
+    }
+
+    /// Keeps the noted tombstones whose key has an object in a slot that stays.
+    fn keep_needed_tombstones(
+        &mut self,
+        record: &Record,
+        area: &[u8],
+        index: &[u32],
+        victims: SlotMap,
+    ) -> Result<(), Refusal> {
+        if self.tombstone_keys.is_empty() {
+            return Ok(());
+        }
+        walk_slots(record, area, record.map.without(victims), |_, fields| {
+            if fields.kind == TOMBSTONE || !self.tombstone_keys.may_have(fields.key) {
+                return Ok(());
+            }
+            let place = newest(area, index, fields.key)?;
+            if self.tombstones.has(place) && !self.kept.has(place) {
+                self.kept.add(place);
+                self.bytes += TOMBSTONE_BYTES;
+            }
+            Ok(())
+        })
+    }
+
+    /// A rule that 01 calls wrong, for tests: forgets the kept tombstones of keys whose
+    /// newest object is in a victim.
+    fn drop_by_newest_object(
+        &mut self,
+        record: &Record,
+        area: &[u8],
+        victims: SlotMap,
+    ) -> Result<(), Refusal> {
+        walk_slots(record, area, victims, |place, tombstone| {
+            if tombstone.kind != TOMBSTONE || !self.kept.has(place) {
+                return Ok(());
+            }
+            let mut newest = (Version(0), 0);
+            walk_slots(record, area, record.map, |place, fields| {
+                if fields.kind != TOMBSTONE && fields.key == tombstone.key {
+                    newest = newest.max((fields.version, place));
+                }
+                Ok(())
+            })?;
+            if victims.has(newest.1 as u32 / record.slot_bytes) {
+                self.kept.remove(place);
+                self.bytes -= TOMBSTONE_BYTES;
+            }
+            Ok(())
+        })
+    }
+}
+
+/// A set of entries of the log, one bit each. No two entries start within the length of
+/// the shortest, so the place divided by that length tells them apart.
+struct EntrySet([u32; EntrySet::WORDS]);
+
+impl EntrySet {
+    const WORDS: usize = MAX_AREA_BYTES / TOMBSTONE_BYTES / 32 + 1;
+
+    fn new() -> EntrySet {
+        EntrySet([0; EntrySet::WORDS])
+    }
+
+    #[inline]
+    fn bit(place: usize) -> (usize, u32) {
+        let number = place / TOMBSTONE_BYTES;
+        (number / 32, 1 << (number % 32))
+    }
+
+    #[inline]
+    fn has(&self, place: usize) -> bool {
+        let (word, mask) = EntrySet::bit(place);
+        self.0[word] & mask != 0
+    }
+
+    #[inline]
+    fn add(&mut self, place: usize) {
+        let (word, mask) = EntrySet::bit(place);
+        self.0[word] |= mask;
+    }
+
+    fn remove(&mut self, place: usize) {
+        let (word, mask) = EntrySet::bit(place);
+        self.0[word] &= !mask;
+    }
+}
+
+/// A set of keys that may claim a key it was not given, but never misses one.
+struct KeyFilter {
+    bits: [u32; 128],
+    empty: bool,
+}
+
+impl KeyFilter {
+    fn new() -> KeyFilter {
+        KeyFilter {
+            bits: [0; 128],
+            empty: true,
+        }
+    }
+
+    fn is_empty(&self) -> bool {
+        self.empty
+    }
+
+    #[inline]
+    fn bit(key: Key) -> (usize, u32) {
+        let mixed = (key.key ^ u32::from(key.table).rotate_left(16)).wrapping_mul(0x9E37_79B1);
+        let number = mixed >> 20;
+        ((number / 32) as usize, 1 << (number % 32))
+    }
+
+    #[inline]
+    fn add(&mut self, key: Key) {
+        let (word, mask) = KeyFilter::bit(key);
+        self.bits[word] |= mask;
+        self.empty = false;
+    }
+
+    #[inline]
+    fn may_have(&self, key: Key) -> bool {
+        let (word, mask) = KeyFilter::bit(key);
+        self.bits[word] & mask != 0
+    }
+}

@@ -1,0 +1,43 @@
+//! The drive parameter store of document 01, as a plain library on borrowed memory.
+//!
+//! Every call is a function on slices and a [`Record`] that is copied in and handed
+//! back. None of the calls allocates, and none panics: what it cannot accept it
+//! refuses with a [`Refusal`], whose number is that of 01's table. The book, the
+//! checker of the index rule and the dump are aids for comparison and do allocate.
+//!
+//! The modules follow the sections of 01.
+
+#![forbid(unsafe_code)]
+#![warn(missing_docs)]
+
+pub mod book;
+pub mod cleaning;
+pub mod counters;
+pub mod dump;
+pub mod fnv;
+pub mod index;
+pub mod layout;
+mod log;
+pub mod operations;
+pub mod read;
+pub mod record;
+pub mod recovery;
+pub mod refusal;
+pub mod rng;
+pub mod rules;
+pub mod segment;
+pub mod slot_map;
+pub mod step;
+mod versions;
+
+pub use cleaning::clean;
+pub use counters::{DigestNumber, Version};
+pub use dump::dump;
+pub use operations::{delete, format, write, Started};
+pub use read::{read, read_value, Found};
+pub use record::{Pending, Record};
+pub use recovery::recover;
+pub use refusal::Refusal;
+pub use segment::Key;
+pub use slot_map::SlotMap;
+pub use step::{next_store, step, step_kept, Progress, Stepped, Store};

@@ -1,0 +1,198 @@
+//! Format, and the starts of write and delete (01, "Operations, store by store").
+
+use crate::counters::{DigestNumber, Version};
+use crate::index::{search, Search};
+use crate::layout::geometry_holds;
+use crate::record::{Pending, Record};
+use crate::refusal::Refusal;
+use crate::rules::{AsWritten, Rules};
+use crate::segment::{
+    lay_entry, object_kind, read_entry, Digest, Entry, Key, DIGEST_BYTES, END, TOMBSTONE,
+    TOMBSTONE_BYTES,
+};
+use crate::slot_map::SlotMap;
+use crate::step::{append_stores, new_head_stores};
+
+/// The answer of a start: the record, changed only if the start was accepted, and the
+/// number of stores to come or the refusal.
+pub type Started = (Record, Result<u32, Refusal>);
+
+/// Lays down an empty store: no slot has a digest but slot 0, which holds nothing else.
+pub fn format(slots: u32, slot_bytes: u32, area: &mut [u8]) -> Result<(), Refusal> {
+    if !geometry_holds(slots, slot_bytes, area.len()) {
+        return Err(Refusal::Geometry);
+    }
+    for segment in area.chunks_exact_mut(slot_bytes as usize) {
+        segment[0] = END;
+    }
+    let digest = Digest {
+        number: DigestNumber::FIRST,
+        map: SlotMap::EMPTY.with(0),
+        next: Version(1),
+    };
+    area[..DIGEST_BYTES].copy_from_slice(&digest.stored());
+    area[DIGEST_BYTES] = END;
+    Ok(())
+}
+
+/// Starts to write a value under a key.
+pub fn write(
+    record: Record,
+    area: &[u8],
+    index: &[u32],
+    work: &mut [u8],
+    key: Key,
+    value: &[u8],
+) -> Started {
+    write_by::<AsWritten>(record, area, index, work, key, value)
+}
+
+/// [`write()`] by chosen rules.
+pub fn write_by<R: Rules>(
+    record: Record,
+    area: &[u8],
+    index: &[u32],
+    work: &mut [u8],
+    key: Key,
+    value: &[u8],
+) -> Started {
+    let pending = check_write(&record, area, index, work, key, value)
+        .map(|(kind, room)| lay::<R>(&record, work, room, kind, key, value));
+    hand_back(record, pending)
+}
+
+/// Starts to delete a key.
+pub fn delete(record: Record, area: &[u8], index: &[u32], work: &mut [u8], key: Key) -> Started {
+    delete_by::<AsWritten>(record, area, index, work, key)
+}
+
+/// [`delete`] by chosen rules.
+pub fn delete_by<R: Rules>(
+    record: Record,
+    area: &[u8],
+    index: &[u32],
+    work: &mut [u8],
+    key: Key,
+) -> Started {
+    let pending = check_delete(&record, area, index, work, key)
+        .map(|room| lay::<R>(&record, work, room, TOMBSTONE, key, &[]));
+    hand_back(record, pending)
+}
+
+/// Puts the pending operation into the record, or hands back the refusal.
+pub(crate) fn hand_back(record: Record, pending: Result<Pending, Refusal>) -> Started {
+    match pending {
+        Ok(pending) => (Record { pending, ..record }, Ok(pending.left())),
+        Err(refusal) => (record, Err(refusal)),
+    }
+}
+
+/// Where an entry will go.
+enum Room {
+    /// At the end of the head.
+    Head,
+    /// Into a new head in this slot.
+    NewHead(u32),
+}
+
+/// The checks of a write in 01's order; gives the kind of the object and its room.
+fn check_write(
+    record: &Record,
+    area: &[u8],
+    index: &[u32],
+    work: &[u8],
+    key: Key,
+    value: &[u8],
+) -> Result<(u8, Room), Refusal> {
+    record.check_start(area, index, work)?;
+    let kind = object_kind(value.len()).ok_or(Refusal::ValueLength)?;
+    if record.next == Version::SPENT {
+        return Err(Refusal::VersionsSpent);
+    }
+    if record.keys == record.cells - 1 {
+        match search(area, index, key) {
+            Search::Found { .. } => {}
+            Search::Free { .. } => return Err(Refusal::KeysFull),
+            Search::Broken => return Err(Refusal::Record),
+        }
+    }
+    let room = find_room(record, TOMBSTONE_BYTES + value.len())?;
+    Ok((kind, room))
+}
+
+/// The checks of a delete in 01's order; gives the room of the tombstone.
+fn check_delete(
+    record: &Record,
+    area: &[u8],
+    index: &[u32],
+    work: &[u8],
+    key: Key,
+) -> Result<Room, Refusal> {
+    record.check_start(area, index, work)?;
+    match search(area, index, key) {
+        Search::Found { place, .. } => match read_entry(area, place) {
+            Entry::Object(_) => {}
+            Entry::Tombstone(_) => return Err(Refusal::Absent),
+            Entry::End | Entry::Damage => return Err(Refusal::Record),
+        },
+        Search::Free { .. } => return Err(Refusal::Absent),
+        Search::Broken => return Err(Refusal::Record),
+    }
+    if record.next == Version::SPENT {
+        return Err(Refusal::VersionsSpent);
+    }
+    find_room(record, TOMBSTONE_BYTES)
+}
+
+/// Room for an entry: the head if it fits there, else a new head, which 12 and 10 may
+/// refuse. A write's new head leaves a slot free for cleaning.
+fn find_room(record: &Record, length: usize) -> Result<Room, Refusal> {
+    if record.end as usize + length <= record.slot_bytes as usize {
+        return Ok(Room::Head);
+    }
+    if record.free_slots() < 2 {
+        return Err(Refusal::SlotsFull);
+    }
+    record.new_head_slot().map(Room::NewHead)
+}
+
+/// Fills the work buffer with the entry, after a digest if there is a new head.
+fn lay<R: Rules>(
+    record: &Record,
+    work: &mut [u8],
+    room: Room,
+    kind: u8,
+    key: Key,
+    value: &[u8],
+) -> Pending {
+    let start = match room {
+        Room::Head => 0,
+        Room::NewHead(slot) => lay_digest(record, work, slot, SlotMap::EMPTY),
+    };
+    let end = start + TOMBSTONE_BYTES + value.len();
+    lay_entry(&mut work[start..end], kind, key, record.next, value);
+    let length = end as u32;
+    match room {
+        Room::Head => Pending::Append {
+            length,
+            left: append_stores::<R>(record, length),
+        },
+        Room::NewHead(slot) => Pending::NewHead {
+            slot,
+            length,
+            left: new_head_stores::<R>(record, length),
+        },
+    }
+}
+
+/// Lays the digest of a new head into the work buffer and gives its length. The record
+/// has a digest number to spare.
+pub(crate) fn lay_digest(record: &Record, work: &mut [u8], slot: u32, victims: SlotMap) -> usize {
+    let digest = Digest {
+        number: DigestNumber(record.digest.0 + 1),
+        map: record.map.without(victims).with(slot),
+        next: record.next,
+    };
+    work[..DIGEST_BYTES].copy_from_slice(&digest.stored());
+    DIGEST_BYTES
+}

@@ -1,0 +1,49 @@
+//! Read and the value read (01, "Read").
+
+use crate::counters::Version;
+use crate::index::{search, Search};
+use crate::record::Record;
+use crate::refusal::Refusal;
+use crate::segment::{read_entry, Entry, Fields, Key, TOMBSTONE_BYTES};
+
+/// What a read tells of a present key besides its value.
+#[derive(Clone, Copy, PartialEq, Eq, Debug)]
+pub struct Found {
+    /// The version.
+    pub version: Version,
+    /// The kind of the object: 1, 2 or 3.
+    pub kind: u8,
+}
+
+/// Tells version and kind of a key's object, or refuses with 4 or 8.
+pub fn read(record: &Record, area: &[u8], index: &[u32], key: Key) -> Result<Found, Refusal> {
+    let (_, fields) = find(record, area, index, key)?;
+    Ok(Found {
+        version: fields.version,
+        kind: fields.kind,
+    })
+}
+
+/// The value of a key's object as a part of the area. Where [`read`] refuses, it is the
+/// empty part at the start.
+pub fn read_value<'a>(record: &Record, area: &'a [u8], index: &[u32], key: Key) -> &'a [u8] {
+    match find(record, area, index, key) {
+        Ok((place, fields)) => &area[place + TOMBSTONE_BYTES..place + fields.length],
+        Err(_) => &area[..0],
+    }
+}
+
+/// The object that a key's cell leads to.
+#[inline]
+fn find(record: &Record, area: &[u8], index: &[u32], key: Key) -> Result<(usize, Fields), Refusal> {
+    record.check(area, index)?;
+    match search(area, index, key) {
+        Search::Found { place, .. } => match read_entry(area, place) {
+            Entry::Object(fields) => Ok((place, fields)),
+            Entry::Tombstone(_) => Err(Refusal::Absent),
+            Entry::End | Entry::Damage => Err(Refusal::Record),
+        },
+        Search::Free { .. } => Err(Refusal::Absent),
+        Search::Broken => Err(Refusal::Record),
+    }
+}

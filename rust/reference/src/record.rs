@@ -1,0 +1,172 @@
+//! The store record and when it is out of range (01, "Memory the caller lends" and
+//! "Refused calls").
+
+use crate::counters::{DigestNumber, Version};
+use crate::layout::{geometry_holds, CELLS, SLOTS, SLOT_BYTES};
+use crate::refusal::Refusal;
+use crate::segment::DIGEST_BYTES;
+use crate::slot_map::SlotMap;
+
+/// An operation that was started and whose stores are not all made. The stores left come
+/// first in every variant, so that they lie at one place whatever the operation is.
+#[derive(Clone, Copy, PartialEq, Eq, Hash, Debug)]
+pub enum Pending {
+    /// No operation.
+    None,
+    /// A write or delete whose entry goes to the end of the head.
+    Append {
+        /// Stores left.
+        left: u32,
+        /// Length of the entry, which is what the work buffer holds.
+        length: u32,
+    },
+    /// A write or delete whose entry goes to a new head.
+    NewHead {
+        /// Stores left.
+        left: u32,
+        /// Length of digest and entry together, which the work buffer holds.
+        length: u32,
+        /// Slot of the new head.
+        slot: u32,
+    },
+    /// A cleaning.
+    Clean {
+        /// Stores left.
+        left: u32,
+        /// Length of digest and kept entries, which the work buffer holds.
+        length: u32,
+        /// Slot of the new head.
+        slot: u32,
+        /// The slots to leave the log.
+        victims: SlotMap,
+    },
+}
+
+impl Pending {
+    /// The stores left; 0 if there is no operation.
+    #[inline]
+    pub fn left(self) -> u32 {
+        match self {
+            Pending::None => 0,
+            Pending::Append { left, .. }
+            | Pending::NewHead { left, .. }
+            | Pending::Clean { left, .. } => left,
+        }
+    }
+
+    /// Changes the stores left of an operation.
+    #[inline]
+    pub(crate) fn set_left(&mut self, stores: u32) {
+        match self {
+            Pending::None => {}
+            Pending::Append { left, .. }
+            | Pending::NewHead { left, .. }
+            | Pending::Clean { left, .. } => *left = stores,
+        }
+    }
+}
+
+/// What the calls know of the store besides its area and index.
+#[derive(Clone, Copy, PartialEq, Eq, Hash, Debug)]
+pub struct Record {
+    /// Number of slots (N).
+    pub slots: u32,
+    /// Bytes in a slot (S).
+    pub slot_bytes: u32,
+    /// Cells of the index (M).
+    pub cells: u32,
+    /// Slot of the head.
+    pub head: u32,
+    /// Offset in the head at which its entries end.
+    pub end: u32,
+    /// Number of the head's digest.
+    pub digest: DigestNumber,
+    /// The slots of the log.
+    pub map: SlotMap,
+    /// The version that the next write or delete takes.
+    pub next: Version,
+    /// How many keys have an entry in the log, tombstones included.
+    pub keys: u32,
+    /// The operation under way.
+    pub pending: Pending,
+}
+
+impl Record {
+    /// Whether every field lies where 01 wants it; otherwise a call answers 4.
+    #[inline]
+    pub fn is_in_range(&self) -> bool {
+        SLOTS.contains(&self.slots)
+            && SLOT_BYTES.contains(&self.slot_bytes)
+            && CELLS.contains(&self.cells)
+            && self.map.is_within(SlotMap::below(self.slots))
+            && self.map.has(self.head)
+            && self.map != SlotMap::below(self.slots)
+            && self.end >= DIGEST_BYTES as u32
+            && self.end <= self.slot_bytes
+            && self.digest.0 != 0
+            && self.next.0 != 0
+            && self.keys < self.cells
+            && self.is_pending_in_range()
+    }
+
+    #[inline]
+    fn is_pending_in_range(&self) -> bool {
+        let left = self.pending.left();
+        matches!(self.pending, Pending::None) || (left != 0 && left <= self.slot_bytes + 1)
+    }
+
+    /// Refuses with 4 unless the record is in range and the lent lengths are its own.
+    #[inline]
+    pub(crate) fn check(&self, area: &[u8], index: &[u32]) -> Result<(), Refusal> {
+        let fits = self.is_in_range()
+            && geometry_holds(self.slots, self.slot_bytes, area.len())
+            && index.len() == self.cells as usize;
+        if fits {
+            Ok(())
+        } else {
+            Err(Refusal::Record)
+        }
+    }
+
+    /// Refuses with 3 unless the work buffer has room for a slot.
+    #[inline]
+    pub(crate) fn check_work(&self, work: &[u8]) -> Result<(), Refusal> {
+        if work.len() < self.slot_bytes as usize {
+            return Err(Refusal::WorkLength);
+        }
+        Ok(())
+    }
+
+    /// The checks that every start begins with: 4, 3 and 5.
+    #[inline]
+    pub(crate) fn check_start(
+        &self,
+        area: &[u8],
+        index: &[u32],
+        work: &[u8],
+    ) -> Result<(), Refusal> {
+        self.check(area, index)?;
+        self.check_work(work)?;
+        if !matches!(self.pending, Pending::None) {
+            return Err(Refusal::Pending);
+        }
+        Ok(())
+    }
+
+    /// How many slots are outside the log.
+    #[inline]
+    pub(crate) fn free_slots(&self) -> u32 {
+        self.slots - self.map.count()
+    }
+
+    /// The slot that a new head would take, or 10 if no digest number is left for it.
+    #[inline]
+    pub(crate) fn new_head_slot(&self) -> Result<u32, Refusal> {
+        if self.digest == DigestNumber::LAST {
+            return Err(Refusal::DigestsSpent);
+        }
+        self.map
+            .first_free_after(self.head, self.slots)
+            .ok_or(Refusal::Record)
+    }
+}

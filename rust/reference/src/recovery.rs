@@ -1,0 +1,167 @@
+//! Recovery (01, "Operations, store by store" and causes 1, 2 and 15 to 20).
+
+use crate::counters::{DigestNumber, Version};
+use crate::index::rebuild;
+use crate::layout::{geometry_holds, index_holds, segment};
+use crate::log::walk_segment;
+use crate::record::{Pending, Record};
+use crate::refusal::Refusal;
+use crate::rules::{AsWritten, Rules};
+use crate::segment::{Digest, DIGEST, DIGEST_BYTES};
+use crate::slot_map::SlotMap;
+use crate::versions::Sieve;
+
+/// Finds the head, reads the log in the order given and fills the index.
+///
+/// M is the length of the index. The index stays as it was unless the call is accepted
+/// or refused with 20, which leaves it all 0.
+pub fn recover(
+    slots: u32,
+    slot_bytes: u32,
+    area: &[u8],
+    index: &mut [u32],
+    order: &[u8],
+) -> Result<Record, Refusal> {
+    recover_by::<AsWritten>(slots, slot_bytes, area, index, order)
+}
+
+/// [`recover`] by chosen rules.
+pub fn recover_by<R: Rules>(
+    slots: u32,
+    slot_bytes: u32,
+    area: &[u8],
+    index: &mut [u32],
+    order: &[u8],
+) -> Result<Record, Refusal> {
+    if !geometry_holds(slots, slot_bytes, area.len()) {
+        return Err(Refusal::Geometry);
+    }
+    if !index_holds(index.len()) {
+        return Err(Refusal::IndexLength);
+    }
+    if !is_order(slots, order) {
+        return Err(Refusal::Order);
+    }
+    let (head, digest) = find_head::<R>(slots, slot_bytes, area)?;
+    check_head(slots, slot_bytes, area, head, digest)?;
+    let log = order
+        .iter()
+        .map(|&slot| u32::from(slot))
+        .filter(|&slot| digest.map.has(slot));
+    let survey = survey(slot_bytes, area, log.clone(), head)?;
+    let keys = rebuild(area, slot_bytes, log, index, Refusal::Entry)?;
+    Ok(Record {
+        slots,
+        slot_bytes,
+        cells: index.len() as u32,
+        head,
+        end: survey.end,
+        digest: digest.number,
+        map: digest.map,
+        next: next_version::<R>(digest, survey.highest),
+        keys,
+        pending: Pending::None,
+    })
+}
+
+/// Whether the order names each slot below N once and nothing else.
+fn is_order(slots: u32, order: &[u8]) -> bool {
+    let named = order
+        .iter()
+        .fold(SlotMap::EMPTY, |named, &slot| named.with(u32::from(slot)));
+    order.len() == slots as usize && named == SlotMap::below(slots)
+}
+
+/// The slot and digest of the head. All slots with a digest count, in the log or not.
+fn find_head<R: Rules>(slots: u32, slot_bytes: u32, area: &[u8]) -> Result<(u32, Digest), Refusal> {
+    let mut best: Option<(u32, Digest)> = None;
+    let mut shared = false;
+    for slot in 0..slots {
+        let Some(digest) = Digest::read(segment(area, slot_bytes, slot)) else {
+            continue;
+        };
+        match best {
+            Some((_, head)) if R::HEAD_IS_HIGHEST_SLOT || digest.number > head.number => {
+                best = Some((slot, digest));
+                shared = false;
+            }
+            Some((_, head)) => shared |= digest.number == head.number,
+            None => best = Some((slot, digest)),
+        }
+    }
+    let (head, digest) = best.ok_or(Refusal::NoDigest)?;
+    if shared || digest.number == DigestNumber(0) {
+        return Err(Refusal::HeadDigest);
+    }
+    Ok((head, digest))
+}
+
+/// Refuses with 17 if the head's map or next version is not possible.
+fn check_head(
+    slots: u32,
+    slot_bytes: u32,
+    area: &[u8],
+    head: u32,
+    digest: Digest,
+) -> Result<(), Refusal> {
+    let all = SlotMap::below(slots);
+    let possible = digest.map.is_within(all)
+        && digest.map.has(head)
+        && digest.map != all
+        && digest.next != Version(0)
+        && digest
+            .map
+            .slots()
+            .all(|slot| segment(area, slot_bytes, slot).first() == Some(&DIGEST));
+    if possible {
+        Ok(())
+    } else {
+        Err(Refusal::HeadDigest)
+    }
+}
+
+/// What the first reading of the log gives.
+struct Survey {
+    /// Where the head's entries end.
+    end: u32,
+    /// The highest version of an entry; 0 if there is none.
+    highest: Version,
+}
+
+/// Reads the whole log once: refuses damage with 18 and then shared versions with 19.
+fn survey(
+    slot_bytes: u32,
+    area: &[u8],
+    log: impl Iterator<Item = u32> + Clone,
+    head: u32,
+) -> Result<Survey, Refusal> {
+    let mut end = DIGEST_BYTES;
+    let mut highest = Version(0);
+    let mut sieve = Sieve::new();
+    for slot in log.clone() {
+        let bytes = segment(area, slot_bytes, slot);
+        let stop = walk_segment(bytes, Refusal::Entry, |_, fields| {
+            highest = highest.max(fields.version);
+            sieve.note(fields.version);
+            Ok(())
+        })?;
+        if slot == head {
+            end = stop;
+        }
+    }
+    sieve.check(area, slot_bytes, log)?;
+    Ok(Survey {
+        end: end as u32,
+        highest,
+    })
+}
+
+/// The next version: no lower than the head digest's and above every entry.
+fn next_version<R: Rules>(digest: Digest, highest: Version) -> Version {
+    let after = Version(highest.0 + 1);
+    if R::NEXT_FROM_ENTRIES_ALONE {
+        after
+    } else {
+        after.max(digest.next)
+    }
+}

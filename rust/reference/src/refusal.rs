@@ -1,0 +1,86 @@
+//! The causes of refusal and their numbers (01, "Refused calls").
+
+/// Why a call was refused. The discriminant is the number in 01's table.
+#[derive(Clone, Copy, PartialEq, Eq, PartialOrd, Ord, Hash, Debug)]
+#[repr(u8)]
+pub enum Refusal {
+    /// N or S is outside its limits, or the area is not N × S long.
+    Geometry = 1,
+    /// The index has a length outside the limits of M.
+    IndexLength = 2,
+    /// The work buffer is shorter than a slot.
+    WorkLength = 3,
+    /// The record is out of range or does not fit the lent memory, or a byte that no
+    /// log holds was met.
+    Record = 4,
+    /// An operation is pending.
+    Pending = 5,
+    /// No operation is pending.
+    NonePending = 6,
+    /// The value is not 8, 24 or 56 bytes long.
+    ValueLength = 7,
+    /// The key is not present.
+    Absent = 8,
+    /// The next version is at its limit.
+    VersionsSpent = 9,
+    /// The digest number is at its limit and a new head is needed.
+    DigestsSpent = 10,
+    /// The key is new to the log and M - 1 keys are in it.
+    KeysFull = 11,
+    /// The entry does not fit the head and fewer than two slots are free.
+    SlotsFull = 12,
+    /// The victims are none, or not all in the log.
+    Victims = 13,
+    /// What the cleaning keeps does not fit one slot.
+    KeptLength = 14,
+    /// The order does not name every slot once.
+    Order = 15,
+    /// No slot has a digest.
+    NoDigest = 16,
+    /// The highest digest number is 0 or shared, or the head's digest is not possible.
+    HeadDigest = 17,
+    /// An entry of the log has an unknown kind, passes its slot's end or has a
+    /// version that no entry can have.
+    Entry = 18,
+    /// Two entries of the log have one version.
+    VersionShared = 19,
+    /// The log has more than M - 1 keys.
+    TooManyKeys = 20,
+}
+
+impl Refusal {
+    /// All causes, by number.
+    pub const ALL: [Refusal; 20] = [
+        Refusal::Geometry,
+        Refusal::IndexLength,
+        Refusal::WorkLength,
+        Refusal::Record,
+        Refusal::Pending,
+        Refusal::NonePending,
+        Refusal::ValueLength,
+        Refusal::Absent,
+        Refusal::VersionsSpent,
+        Refusal::DigestsSpent,
+        Refusal::KeysFull,
+        Refusal::SlotsFull,
+        Refusal::Victims,
+        Refusal::KeptLength,
+        Refusal::Order,
+        Refusal::NoDigest,
+        Refusal::HeadDigest,
+        Refusal::Entry,
+        Refusal::VersionShared,
+        Refusal::TooManyKeys,
+    ];
+
+    /// The number in 01's table.
+    pub fn number(self) -> u32 {
+        self as u32
+    }
+
+    /// The cause with this number.
+    pub fn from_number(number: u32) -> Option<Refusal> {
+        let place = usize::try_from(number).ok()?.checked_sub(1)?;
+        Refusal::ALL.get(place).copied()
+    }
+}

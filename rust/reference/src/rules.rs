@@ -1,0 +1,25 @@
+//! The rules that 01 lists under "Plausible and wrong", as switches.
+//!
+//! The public calls are compiled for [`AsWritten`]. Tests compile the same calls for
+//! rules with one switch on and show that a history exposes it. The switches are
+//! constants, so the right rules pay nothing for them.
+
+/// One choice for each reading that 01 calls wrong; all are off unless overridden.
+pub trait Rules {
+    /// The head is the highest slot with a digest, whatever its number.
+    const HEAD_IS_HIGHEST_SLOT: bool = false;
+    /// The head digest's next version is ignored at recovery.
+    const NEXT_FROM_ENTRIES_ALONE: bool = false;
+    /// An append stores its kind byte before the body.
+    const KIND_BYTE_FIRST: bool = false;
+    /// No 0 is stored after the last entry.
+    const OLD_BYTE_AFTER_ENTRY: bool = false;
+    /// A tombstone is dropped once the newest object of its key is among the victims.
+    const TOMBSTONE_GOES_WITH_NEWEST_OBJECT: bool = false;
+}
+
+/// The rules of 01.
+#[derive(Clone, Copy, PartialEq, Eq, Debug)]
+pub struct AsWritten;
+
+impl Rules for AsWritten {}

@@ -1,0 +1,272 @@
+//! One store of a pending operation (01, "Operations, store by store").
+
+use crate::counters::{DigestNumber, Version};
+use crate::index::{point_to, rebuild};
+use crate::record::{Pending, Record};
+use crate::refusal::Refusal;
+use crate::rules::{AsWritten, Rules};
+use crate::segment::{Key, DIGEST_BYTES, END};
+use crate::slot_map::SlotMap;
+
+/// A byte and the place in the area that it goes to.
+#[derive(Clone, Copy, PartialEq, Eq, Debug)]
+pub struct Store {
+    /// The place in the area.
+    pub place: usize,
+    /// The byte.
+    pub byte: u8,
+}
+
+/// The answer of an accepted step.
+#[derive(Clone, Copy, PartialEq, Eq, Debug)]
+pub enum Progress {
+    /// The operation goes on.
+    More {
+        /// Stores left, at least 1.
+        left: u32,
+    },
+    /// No stores are left: the operation counts.
+    Done {
+        /// The version that a write or delete took; 0 for a cleaning.
+        version: Version,
+    },
+}
+
+impl Progress {
+    /// Stores left; 0 once the operation counts.
+    #[inline]
+    pub fn left(self) -> u32 {
+        match self {
+            Progress::More { left } => left,
+            Progress::Done { .. } => 0,
+        }
+    }
+}
+
+/// The answer of a step: the record, changed only if the step was accepted, and the
+/// progress or the refusal.
+pub type Stepped = (Record, Result<Progress, Refusal>);
+
+/// The stores of an append: the entry, and a 0 after it unless it ends its slot.
+#[inline]
+pub(crate) fn append_stores<R: Rules>(record: &Record, length: u32) -> u32 {
+    length + closing_stores::<R>(record, record.end + length)
+}
+
+/// The stores of a new head: all its bytes, the first one twice, and a 0 after the last
+/// unless it ends its slot.
+#[inline]
+pub(crate) fn new_head_stores<R: Rules>(record: &Record, length: u32) -> u32 {
+    length + 1 + closing_stores::<R>(record, length)
+}
+
+#[inline]
+fn closing_stores<R: Rules>(record: &Record, end: u32) -> u32 {
+    u32::from(end < record.slot_bytes && !R::OLD_BYTE_AFTER_ENTRY)
+}
+
+/// The store that the next step makes, with the refusals of that step.
+pub fn next_store(
+    record: &Record,
+    area: &[u8],
+    index: &[u32],
+    work: &[u8],
+) -> Result<Store, Refusal> {
+    next_store_by::<AsWritten>(record, area, index, work)
+}
+
+/// [`next_store`] by chosen rules.
+#[inline(always)]
+pub fn next_store_by<R: Rules>(
+    record: &Record,
+    area: &[u8],
+    index: &[u32],
+    work: &[u8],
+) -> Result<Store, Refusal> {
+    record.check(area, index)?;
+    record.check_work(work)?;
+    let store = match record.pending {
+        Pending::None => return Err(Refusal::NonePending),
+        Pending::Append { length, left } => append_store::<R>(record, work, length, left),
+        Pending::NewHead { slot, length, left }
+        | Pending::Clean {
+            slot, length, left, ..
+        } => new_head_store::<R>(record, work, slot, length, left),
+    };
+    store
+        .filter(|store| store.place < area.len())
+        .ok_or(Refusal::Record)
+}
+
+/// Body bytes ascending, the 0 after the entry, and the kind byte last. None if the
+/// pending operation is not one that a start gives.
+#[inline(always)]
+fn append_store<R: Rules>(record: &Record, work: &[u8], length: u32, left: u32) -> Option<Store> {
+    if length == 0 || length > record.slot_bytes - record.end {
+        return None;
+    }
+    let total = append_stores::<R>(record, length);
+    let mut done = total.checked_sub(left)?;
+    if R::KIND_BYTE_FIRST {
+        done = (done + total - 1) % total;
+    }
+    let (offset, byte) = if done + 1 == total {
+        (0, *work.first()?)
+    } else if done + 1 == length {
+        (length, END)
+    } else {
+        (done + 1, *work.get(done as usize + 1)?)
+    };
+    let start = record.head * record.slot_bytes + record.end;
+    Some(Store {
+        place: (start + offset) as usize,
+        byte,
+    })
+}
+
+/// A 0 at the first byte, the bytes from 1 ascending, the 0 after the last, and the
+/// first byte last. None if the pending operation is not one that a start gives.
+#[inline(always)]
+fn new_head_store<R: Rules>(
+    record: &Record,
+    work: &[u8],
+    slot: u32,
+    length: u32,
+    left: u32,
+) -> Option<Store> {
+    if slot >= record.slots || length < DIGEST_BYTES as u32 || length > record.slot_bytes {
+        return None;
+    }
+    let total = new_head_stores::<R>(record, length);
+    let done = total.checked_sub(left)?;
+    let (offset, byte) = if done + 1 == total {
+        (0, *work.first()?)
+    } else if done == 0 || done == length {
+        (done, END)
+    } else {
+        (done, *work.get(done as usize)?)
+    };
+    Some(Store {
+        place: (slot * record.slot_bytes + offset) as usize,
+        byte,
+    })
+}
+
+/// Makes one store of the pending operation. The last one makes the operation count,
+/// brings the index up to date and tells the version.
+pub fn step(record: Record, area: &mut [u8], index: &mut [u32], work: &[u8]) -> Stepped {
+    step_by::<AsWritten>(record, area, index, work)
+}
+
+/// [`step`] by chosen rules.
+#[inline]
+pub fn step_by<R: Rules>(
+    mut record: Record,
+    area: &mut [u8],
+    index: &mut [u32],
+    work: &[u8],
+) -> Stepped {
+    let answer = step_kept_by::<R>(&mut record, area, index, work);
+    (record, answer)
+}
+
+/// [`step`] on a record that the caller keeps.
+pub fn step_kept(
+    record: &mut Record,
+    area: &mut [u8],
+    index: &mut [u32],
+    work: &[u8],
+) -> Result<Progress, Refusal> {
+    step_kept_by::<AsWritten>(record, area, index, work)
+}
+
+#[inline]
+fn step_kept_by<R: Rules>(
+    record: &mut Record,
+    area: &mut [u8],
+    index: &mut [u32],
+    work: &[u8],
+) -> Result<Progress, Refusal> {
+    let store = next_store_by::<R>(record, area, index, work)?;
+    area[store.place] = store.byte;
+    let left = record.pending.left() - 1;
+    if left > 0 {
+        record.pending.set_left(left);
+        return Ok(Progress::More { left });
+    }
+    let (after, version) = finish(record, area, index, work)?;
+    *record = after;
+    Ok(Progress::Done { version })
+}
+
+/// Record, index and version after the last store. Refuses with 4 only if record, index
+/// or work buffer are not what a start and its steps left.
+fn finish(
+    record: &Record,
+    area: &[u8],
+    index: &mut [u32],
+    work: &[u8],
+) -> Result<(Record, Version), Refusal> {
+    match record.pending {
+        Pending::None => Err(Refusal::NonePending),
+        Pending::Append { length, .. } => {
+            let place = record.head * record.slot_bytes + record.end;
+            let grown = Record {
+                end: record.end + length,
+                ..*record
+            };
+            finish_entry(grown, area, index, work, place as usize)
+        }
+        Pending::NewHead { slot, length, .. } => {
+            let headed = new_head(record, slot, length, SlotMap::EMPTY)?;
+            let place = (slot * record.slot_bytes) as usize + DIGEST_BYTES;
+            finish_entry(headed, area, index, &work[DIGEST_BYTES..], place)
+        }
+        Pending::Clean {
+            slot,
+            length,
+            victims,
+            ..
+        } => {
+            let mut after = new_head(record, slot, length, victims)?;
+            let log = after.map.slots();
+            after.keys = rebuild(area, after.slot_bytes, log, index, Refusal::Record)
+                .map_err(|_| Refusal::Record)?;
+            Ok((after, Version::NONE))
+        }
+    }
+}
+
+/// Leads the index to the entry just stored and counts its key and version.
+#[inline]
+fn finish_entry(
+    record: Record,
+    area: &[u8],
+    index: &mut [u32],
+    entry: &[u8],
+    place: usize,
+) -> Result<(Record, Version), Refusal> {
+    let leading = entry.first_chunk().ok_or(Refusal::Record)?;
+    let next = record.next.0.checked_add(1).ok_or(Refusal::Record)?;
+    let new = point_to(area, index, Key::of_entry(leading), place)?;
+    let after = Record {
+        next: Version(next),
+        keys: record.keys + u32::from(new),
+        pending: Pending::None,
+        ..record
+    };
+    Ok((after, record.next))
+}
+
+/// The record with a new head in place.
+fn new_head(record: &Record, slot: u32, length: u32, victims: SlotMap) -> Result<Record, Refusal> {
+    let number = record.digest.0.checked_add(1).ok_or(Refusal::Record)?;
+    Ok(Record {
+        head: slot,
+        end: length,
+        digest: DigestNumber(number),
+        map: record.map.without(victims).with(slot),
+        pending: Pending::None,
+        ..*record
+    })
+}

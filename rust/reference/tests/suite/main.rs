@@ -1,0 +1,15 @@
+//! Tests of the reference store against the cases, rules and demands of document 01.
+
+mod cases;
+mod damaged_images;
+mod dump;
+mod fnv;
+mod images;
+mod index_rule;
+mod naive;
+mod not_genuine;
+mod plausible_and_wrong;
+mod random_histories;
+mod refusals;
+mod rig;
+mod short_histories;

@@ -1,0 +1,311 @@
+//! 01 once more, as directly as it can be put: everything is recomputed from the whole
+//! area into growing lists. The store under test must agree with it.
+
+use std::collections::{BTreeMap, BTreeSet};
+
+use reference::book::Operation;
+use reference::{DigestNumber, Key, Pending, Record, SlotMap, Version};
+
+/// An entry of the log.
+#[derive(Clone, PartialEq, Eq, Debug)]
+pub struct Line {
+    pub slot: u32,
+    pub place: usize,
+    pub key: Key,
+    pub version: u32,
+    pub bytes: Vec<u8>,
+}
+
+impl Line {
+    pub fn is_object(&self) -> bool {
+        self.bytes[0] != 4
+    }
+}
+
+/// All that recovery learns of an area.
+#[derive(Clone, PartialEq, Eq, Debug)]
+pub struct View {
+    pub record: Record,
+    /// Ascending slot, then offset.
+    pub lines: Vec<Line>,
+}
+
+/// What an accepted start puts into the work buffer, and the stores it brings.
+#[derive(Clone, PartialEq, Eq, Debug)]
+pub struct Plan {
+    pub work: Vec<u8>,
+    pub stores: Vec<(usize, u8)>,
+}
+
+fn number(bytes: &[u8], at: usize, width: usize) -> u32 {
+    (0..width)
+        .rev()
+        .fold(0, |value, place| value * 256 + u32::from(bytes[at + place]))
+}
+
+/// The entries of one slot and where they end, or 18.
+fn lines_of(area: &[u8], slot_bytes: u32, slot: u32) -> Result<(Vec<Line>, u32), u32> {
+    let start = (slot * slot_bytes) as usize;
+    let segment = &area[start..start + slot_bytes as usize];
+    let mut lines = Vec::new();
+    let mut at = 13;
+    while at < segment.len() && segment[at] != 0 {
+        let length = match segment[at] {
+            1 => 19,
+            2 => 35,
+            3 => 67,
+            4 => 11,
+            _ => return Err(18),
+        };
+        if at + length > segment.len() {
+            return Err(18);
+        }
+        let version = number(segment, at + 7, 4);
+        if version == 0 || version == u32::MAX {
+            return Err(18);
+        }
+        lines.push(Line {
+            slot,
+            place: start + at,
+            key: Key {
+                table: number(segment, at + 1, 2) as u16,
+                key: number(segment, at + 3, 4),
+            },
+            version,
+            bytes: segment[at..at + length].to_vec(),
+        });
+        at += length;
+    }
+    Ok((lines, at as u32))
+}
+
+/// The head's slot, or 16 or 17.
+fn head_of(slots: u32, slot_bytes: u32, area: &[u8]) -> Result<u32, u32> {
+    let byte_0 = |slot: u32| area[(slot * slot_bytes) as usize];
+    let mut numbers: Vec<(u32, u32)> = (0..slots)
+        .filter(|&slot| byte_0(slot) == 5)
+        .map(|slot| (number(area, (slot * slot_bytes) as usize + 1, 4), slot))
+        .collect();
+    numbers.sort_unstable();
+    let &(highest, head) = numbers.last().ok_or(16u32)?;
+    if highest == 0 || numbers.iter().filter(|pair| pair.0 == highest).count() > 1 {
+        return Err(17);
+    }
+    let map = number(area, (head * slot_bytes) as usize + 5, 4);
+    let next = number(area, (head * slot_bytes) as usize + 9, 4);
+    let in_map = |slot: u32| map >> slot & 1 == 1;
+    let beyond = (slots..32).any(in_map);
+    let full = (0..slots).all(in_map);
+    let blank = (0..slots).any(|slot| in_map(slot) && byte_0(slot) != 5);
+    if beyond || full || blank || !in_map(head) || next == 0 {
+        return Err(17);
+    }
+    Ok(head)
+}
+
+/// Refuses what recovery does not even look at: 1, 2 and 15.
+fn check_lent(
+    slots: u32,
+    slot_bytes: u32,
+    area: &[u8],
+    cells: usize,
+    order: &[u8],
+) -> Result<(), u32> {
+    if !(4..=32).contains(&slots)
+        || !(256..=2048).contains(&slot_bytes)
+        || area.len() != (slots * slot_bytes) as usize
+    {
+        return Err(1);
+    }
+    if !(16..=4096).contains(&cells) {
+        return Err(2);
+    }
+    let mut sorted = order.to_vec();
+    sorted.sort_unstable();
+    if sorted != (0..slots as u8).collect::<Vec<u8>>() {
+        return Err(15);
+    }
+    Ok(())
+}
+
+/// What recovery must answer.
+pub fn view(
+    slots: u32,
+    slot_bytes: u32,
+    area: &[u8],
+    cells: usize,
+    order: &[u8],
+) -> Result<View, u32> {
+    check_lent(slots, slot_bytes, area, cells, order)?;
+    let head = head_of(slots, slot_bytes, area)?;
+    let digest = &area[(head * slot_bytes) as usize..];
+    let map = SlotMap(number(digest, 5, 4));
+    let mut lines = Vec::new();
+    let mut end = 0;
+    for slot in (0..slots).filter(|&slot| map.0 >> slot & 1 == 1) {
+        let (found, stop) = lines_of(area, slot_bytes, slot)?;
+        lines.extend(found);
+        if slot == head {
+            end = stop;
+        }
+    }
+    let versions: BTreeSet<u32> = lines.iter().map(|line| line.version).collect();
+    if versions.len() != lines.len() {
+        return Err(19);
+    }
+    let keys: BTreeSet<Key> = lines.iter().map(|line| line.key).collect();
+    if keys.len() > cells - 1 {
+        return Err(20);
+    }
+    let after = versions.last().map_or(1, |version| version + 1);
+    let record = Record {
+        slots,
+        slot_bytes,
+        cells: cells as u32,
+        head,
+        end,
+        digest: DigestNumber(number(digest, 1, 4)),
+        map,
+        next: Version(after.max(number(digest, 9, 4))),
+        keys: keys.len() as u32,
+        pending: Pending::None,
+    };
+    Ok(View { record, lines })
+}
+
+impl View {
+    /// The highest-version entry of each key.
+    pub fn newest(&self) -> BTreeMap<Key, &Line> {
+        let mut newest: BTreeMap<Key, &Line> = BTreeMap::new();
+        for line in &self.lines {
+            let best = newest.entry(line.key).or_insert(line);
+            if line.version > best.version {
+                *best = line;
+            }
+        }
+        newest
+    }
+
+    fn entry(&self, kind: u8, key: Key, value: &[u8]) -> Vec<u8> {
+        let mut bytes = vec![kind];
+        bytes.extend(key.table.to_le_bytes());
+        bytes.extend(key.key.to_le_bytes());
+        bytes.extend(self.record.next.0.to_le_bytes());
+        bytes.extend(value);
+        bytes
+    }
+
+    fn free(&self) -> Vec<u32> {
+        (0..self.record.slots)
+            .filter(|&slot| self.record.map.0 >> slot & 1 == 0)
+            .collect()
+    }
+
+    /// What a start owes on this store, nothing pending and enough work buffer lent.
+    pub fn plan(&self, operation: &Operation) -> Result<Plan, u32> {
+        match operation {
+            Operation::Write(key, value) => self.plan_write(*key, value),
+            Operation::Delete(key) => self.plan_delete(*key),
+            Operation::Clean(victims) => self.plan_clean(victims.0),
+        }
+    }
+
+    fn plan_write(&self, key: Key, value: &[u8]) -> Result<Plan, u32> {
+        let kind = match value.len() {
+            8 => 1,
+            24 => 2,
+            56 => 3,
+            _ => return Err(7),
+        };
+        if self.record.next.0 == u32::MAX {
+            return Err(9);
+        }
+        let newest = self.newest();
+        if !newest.contains_key(&key) && newest.len() as u32 == self.record.cells - 1 {
+            return Err(11);
+        }
+        self.plan_entry(self.entry(kind, key, value))
+    }
+
+    fn plan_delete(&self, key: Key) -> Result<Plan, u32> {
+        if !self.newest().get(&key).is_some_and(|line| line.is_object()) {
+            return Err(8);
+        }
+        if self.record.next.0 == u32::MAX {
+            return Err(9);
+        }
+        self.plan_entry(self.entry(4, key, &[]))
+    }
+
+    fn plan_entry(&self, entry: Vec<u8>) -> Result<Plan, u32> {
+        let slot_end = ((self.record.head + 1) * self.record.slot_bytes) as usize;
+        let start = (self.record.head * self.record.slot_bytes + self.record.end) as usize;
+        let end = start + entry.len();
+        if end > slot_end {
+            if self.free().len() < 2 {
+                return Err(12);
+            }
+            return self.plan_new_head(0, entry);
+        }
+        let mut stores: Vec<(usize, u8)> = (1..entry.len())
+            .map(|place| (start + place, entry[place]))
+            .collect();
+        if end < slot_end {
+            stores.push((end, 0));
+        }
+        stores.push((start, entry[0]));
+        Ok(Plan {
+            work: entry,
+            stores,
+        })
+    }
+
+    fn plan_clean(&self, victims: u32) -> Result<Plan, u32> {
+        if victims == 0 || victims & !self.record.map.0 != 0 {
+            return Err(13);
+        }
+        let is_victim = |line: &Line| victims >> line.slot & 1 == 1;
+        let newest = self.newest();
+        let kept: Vec<u8> = self
+            .lines
+            .iter()
+            .filter(|line| is_victim(line) && newest[&line.key] == *line)
+            .filter(|line| {
+                line.is_object()
+                    || self.lines.iter().any(|other| {
+                        other.key == line.key && other.is_object() && !is_victim(other)
+                    })
+            })
+            .flat_map(|line| line.bytes.clone())
+            .collect();
+        if 13 + kept.len() > self.record.slot_bytes as usize {
+            return Err(14);
+        }
+        self.plan_new_head(victims, kept)
+    }
+
+    fn plan_new_head(&self, victims: u32, entries: Vec<u8>) -> Result<Plan, u32> {
+        if self.record.digest.0 == u32::MAX {
+            return Err(10);
+        }
+        let free = self.free();
+        let slot = *free
+            .iter()
+            .find(|&&slot| slot > self.record.head)
+            .unwrap_or(&free[0]);
+        let map = self.record.map.0 & !victims | 1 << slot;
+        let mut work = vec![5];
+        work.extend((self.record.digest.0 + 1).to_le_bytes());
+        work.extend(map.to_le_bytes());
+        work.extend(self.record.next.0.to_le_bytes());
+        work.extend(entries);
+        let start = (slot * self.record.slot_bytes) as usize;
+        let mut stores = vec![(start, 0)];
+        stores.extend((1..work.len()).map(|place| (start + place, work[place])));
+        if work.len() < self.record.slot_bytes as usize {
+            stores.push((start + work.len(), 0));
+        }
+        stores.push((start, 5));
+        Ok(Plan { work, stores })
+    }
+}

@@ -1,0 +1,155 @@
+//! Records, indexes and work buffers that no start or recovery gave: no call panics or
+//! runs on, a start stores nothing, and a step alters at most one byte of the area.
+
+use reference::rng::Rng;
+use reference::{
+    clean, delete, next_store, read, read_value, recover, step, write, DigestNumber, Key, Pending,
+    Record, SlotMap, Version,
+};
+
+use crate::images::Shape;
+
+fn number(rng: &mut Rng, likely: u32) -> u32 {
+    match rng.below(6) {
+        0 => rng.bits() as u32,
+        1 => u32::MAX - rng.below(3),
+        2 => rng.below(3),
+        _ => rng.below(likely.max(1)),
+    }
+}
+
+fn pending(rng: &mut Rng) -> Pending {
+    let (slot, length) = (number(rng, 32), number(rng, 2048));
+    let left = match rng.below(3) {
+        0 => 1,
+        1 => length.saturating_add(rng.below(3)),
+        _ => number(rng, 2049),
+    };
+    match rng.below(4) {
+        0 => Pending::None,
+        1 => Pending::Append { length, left },
+        2 => Pending::NewHead { slot, length, left },
+        _ => Pending::Clean {
+            slot,
+            length,
+            victims: SlotMap(rng.bits() as u32),
+            left,
+        },
+    }
+}
+
+/// A record like the given one, some fields of which are anything.
+fn forged(rng: &mut Rng, genuine: Record) -> Record {
+    let mut record = genuine;
+    for _ in 0..rng.below(4) {
+        match rng.below(9) {
+            0 => record.head = number(rng, record.slots),
+            1 => record.end = number(rng, record.slot_bytes),
+            2 => record.digest = DigestNumber(number(rng, u32::MAX)),
+            3 => record.map = SlotMap(rng.bits() as u32 | 1 << (record.head % 32)),
+            4 => record.next = Version(number(rng, u32::MAX)),
+            5 => record.keys = number(rng, record.cells),
+            6 => record.slots = number(rng, 33),
+            7 => record.slot_bytes = number(rng, 2049),
+            _ => record.cells = number(rng, 4097),
+        }
+    }
+    record.pending = pending(rng);
+    record
+}
+
+fn forge_index(rng: &mut Rng, index: &mut [u32], area_bytes: u32) {
+    match rng.below(4) {
+        0 => {}
+        1 => index.fill(number(rng, area_bytes)),
+        2 => {
+            for cell in index.iter_mut() {
+                *cell = number(rng, area_bytes);
+            }
+        }
+        _ => {
+            for _ in 0..8 {
+                let cell = rng.below(index.len() as u32) as usize;
+                index[cell] = number(rng, area_bytes);
+            }
+        }
+    }
+}
+
+/// Every call once on what was forged.
+fn call_all(rng: &mut Rng, record: Record, area: &mut [u8], index: &mut [u32], work: &mut [u8]) {
+    let key = Key {
+        table: rng.below(3) as u16,
+        key: rng.below(20),
+    };
+    let value = vec![3; *rng.pick(&[8, 24, 56, 0, 70])];
+    let _ = read(&record, area, index, key);
+    assert!(read_value(&record, area, index, key).len() <= 56);
+    let _ = write(record, area, index, work, key, &value);
+    let _ = delete(record, area, index, work, key);
+    let victims = match rng.below(3) {
+        0 => record.map,
+        1 => SlotMap(record.map.0 & rng.bits() as u32),
+        _ => SlotMap(rng.bits() as u32),
+    };
+    let _ = clean(record, area, index, work, victims);
+    let before = area.to_vec();
+    let store = next_store(&record, area, index, work);
+    let (_, answer) = step(record, area, index, work);
+    let altered: Vec<usize> = (0..area.len())
+        .filter(|&place| area[place] != before[place])
+        .collect();
+    assert!(altered.len() <= 1, "{record:?}");
+    if let (Err(refusal), Err(other)) = (store, answer) {
+        assert_eq!(refusal, other);
+        assert!(altered.is_empty());
+    }
+    if let Err(refusal) = answer {
+        assert!([3, 4, 6].contains(&refusal.number()));
+    }
+}
+
+#[test]
+fn no_call_panics_or_alters_more_than_a_byte() {
+    let mut rng = Rng::new(5);
+    let mut rounds = 0;
+    while rounds < 30_000 {
+        let mut shape = Shape::random(&mut rng);
+        shape.slot_bytes = shape.slot_bytes.min(600);
+        let mut image = shape.make(&mut rng);
+        let order = rng.order(image.slots);
+        let mut index = vec![0; *rng.pick(&[16, 50, 4096])];
+        let (slots, slot_bytes) = (image.slots, image.slot_bytes);
+        let Ok(genuine) = recover(slots, slot_bytes, &image.area, &mut index, &order) else {
+            continue;
+        };
+        for _ in 0..10 {
+            rounds += 1;
+            let record = forged(&mut rng, genuine);
+            forge_index(&mut rng, &mut index, slots * slot_bytes);
+            if rng.one_in(3) {
+                image.damage(&mut rng);
+            }
+            let mut work = vec![0; slot_bytes as usize + rng.below(2) as usize];
+            rng.fill(&mut work);
+            call_all(&mut rng, record, &mut image.area, &mut index, &mut work);
+        }
+    }
+}
+
+/// An area or index of another length than the record's is refused before it is read.
+#[test]
+fn lengths_not_the_records_own_are_refused() {
+    let mut rng = Rng::new(6);
+    let image = Shape::random(&mut rng).make(&mut rng);
+    let order = rng.order(image.slots);
+    let mut index = vec![0; 4096];
+    let (slots, slot_bytes) = (image.slots, image.slot_bytes);
+    let record = recover(slots, slot_bytes, &image.area, &mut index, &order).unwrap();
+    let key = Key { table: 0, key: 0 };
+    let short = &image.area[1..];
+    assert_eq!(read(&record, short, &index, key).unwrap_err().number(), 4);
+    let answer = read(&record, &image.area, &index[1..], key);
+    assert_eq!(answer.unwrap_err().number(), 4);
+    assert!(read_value(&record, &[], &index, key).is_empty());
+}

@@ -1,0 +1,324 @@
+//! Random histories with cuts, refused calls and recoveries at any time, over many
+//! geometries. Every call is held to the book and to the naive reading of 01.
+
+use reference::book::Operation;
+use reference::rng::Rng;
+use reference::rules::AsWritten;
+use reference::{
+    clean, delete, format, read, step, write, DigestNumber, Key, Pending, Record, Refusal, SlotMap,
+    Version,
+};
+
+use crate::rig::{same, Fault, Rig};
+
+/// Which refusals and how many operations a run met.
+#[derive(Default)]
+struct Tally {
+    refused: [u32; 21],
+    operations: u32,
+    cuts: u32,
+}
+
+impl Tally {
+    fn count<T>(&mut self, answer: Result<T, Refusal>) {
+        match answer {
+            Ok(_) => self.operations += 1,
+            Err(refusal) => self.refused[refusal.number() as usize] += 1,
+        }
+    }
+}
+
+struct Player {
+    rng: Rng,
+    rig: Rig<AsWritten>,
+    tally: Tally,
+    /// One action in so many is a cleaning.
+    clean_rarity: u32,
+}
+
+impl Player {
+    fn new(seed: u64) -> Player {
+        let mut rng = Rng::new(seed);
+        let slots = match rng.below(3) {
+            0 => 4,
+            1 => rng.within(4, 8),
+            _ => rng.within(4, 32),
+        };
+        let slot_bytes = match rng.below(3) {
+            0 => 256,
+            1 => rng.within(256, 400),
+            _ => rng.within(256, 2048),
+        };
+        let cells = match rng.below(3) {
+            0 => 16,
+            1 => rng.within(16, 64),
+            _ => rng.within(16, 4096),
+        };
+        let mut area = vec![0; (slots * slot_bytes) as usize];
+        rng.fill(&mut area);
+        format(slots, slot_bytes, &mut area).unwrap();
+        let mut rig = Rig::unrecovered(slots, slot_bytes, cells as usize, area);
+        age(&mut rng, &mut rig);
+        rig.keys = (0..rng.within(2, 24)).map(|_| any_key(&mut rng)).collect();
+        rig.strict = true;
+        rig.must_recover(&rng.order(slots)).unwrap();
+        let clean_rarity = *rng.pick(&[4, 8, 30]);
+        Player {
+            rng,
+            rig,
+            tally: Tally::default(),
+            clean_rarity,
+        }
+    }
+
+    fn play(&mut self, actions: u32) -> Result<(), Fault> {
+        for _ in 0..actions {
+            match self.rig.record {
+                None => self.recover()?,
+                Some(_) => self.act()?,
+            }
+        }
+        self.cut();
+        let order = self.rng.order(self.rig.slots);
+        self.rig.must_recover(&order)
+    }
+
+    fn act(&mut self) -> Result<(), Fault> {
+        match self.rng.below(40) {
+            0 | 1 => self.cut(),
+            2 | 3 => self.recover()?,
+            4 => self.misuse()?,
+            5 => self.start()?,
+            6 | 7 => self.few_steps()?,
+            8 | 9 => {
+                let key = *self.rng.pick(&self.rig.keys);
+                self.rig.check_read(key)?;
+            }
+            _ => {
+                if self.rig.record().pending == Pending::None {
+                    self.start()?;
+                }
+                if self.rng.one_in(4) {
+                    self.few_steps()?;
+                } else {
+                    self.rig.finish()?;
+                }
+            }
+        }
+        Ok(())
+    }
+
+    fn start(&mut self) -> Result<(), Fault> {
+        let operation = self.operation();
+        let enough = self.rig.work.len();
+        let lent = match self.rng.below(30) {
+            0 => self.rng.below(self.rig.slot_bytes) as usize,
+            1 => self.rig.slot_bytes as usize,
+            _ => enough,
+        };
+        let answer = self.rig.start_with(&operation, lent)?;
+        self.tally.count(answer);
+        Ok(())
+    }
+
+    fn operation(&mut self) -> Operation {
+        let rng = &mut self.rng;
+        let key = *rng.pick(&self.rig.keys);
+        if rng.one_in(self.clean_rarity) {
+            let map = self.rig.record().map.0;
+            return Operation::Clean(SlotMap(match rng.below(8) {
+                0 => map,
+                1 => rng.bits() as u32,
+                2 => 0,
+                3 => map & rng.bits() as u32,
+                4 => 1 << self.rig.record().head,
+                _ => 1 << rng.below(self.rig.slots),
+            }));
+        }
+        if rng.one_in(3) {
+            return Operation::Delete(key);
+        }
+        let bytes = match rng.below(20) {
+            0 => rng.below(70) as usize,
+            _ => *rng.pick(&[8, 24, 56]),
+        };
+        let mut value = vec![0; bytes];
+        rng.fill(&mut value);
+        Operation::Write(key, value)
+    }
+
+    fn few_steps(&mut self) -> Result<(), Fault> {
+        let left = self.rig.record().pending.left();
+        let steps = match self.rng.below(3) {
+            0 => 1,
+            1 => left.max(2) - 1,
+            _ => self.rng.below(left + 2),
+        };
+        for _ in 0..steps {
+            let answer = self.rig.step()?;
+            if let Err(refusal) = answer {
+                self.tally.refused[refusal.number() as usize] += 1;
+            }
+        }
+        Ok(())
+    }
+
+    fn cut(&mut self) {
+        self.tally.cuts += 1;
+        self.rig.cut();
+    }
+
+    /// A recovery, with or without a cut before it, often as demand 3 has it.
+    fn recover(&mut self) -> Result<(), Fault> {
+        let rng = &mut self.rng;
+        let mut order = rng.order(self.rig.slots);
+        let mut cells = self.rig.index.len();
+        match rng.below(8) {
+            0 => order[0] = rng.bits() as u8,
+            1 => order.truncate(3),
+            2 => cells = rng.below(40) as usize,
+            3 => cells = rng.within(16, 4200) as usize,
+            _ => {
+                self.rig.must_recover(&order)?;
+                return Ok(());
+            }
+        }
+        let answer = self.rig.recover(cells, &order)?;
+        if let Err(refusal) = answer {
+            self.tally.refused[refusal.number() as usize] += 1;
+        }
+        Ok(())
+    }
+
+    /// Calls with a record out of range or memory of other lengths: all answer 4 and
+    /// leave everything.
+    fn misuse(&mut self) -> Result<(), Fault> {
+        let genuine = self.rig.record();
+        let record = out_of_range(&mut self.rng, genuine);
+        let lent = self.rng.below(3);
+        let record = if lent == 0 { record } else { genuine };
+        let key = self.rig.keys[0];
+        let (mut area, mut index) = (self.rig.area.clone(), self.rig.index.clone());
+        match lent {
+            0 => {}
+            1 => area.truncate(area.len() - 1),
+            _ => index.push(0),
+        }
+        let (area_before, index_before) = (area.clone(), index.clone());
+        let mut work = self.rig.work.clone();
+        let starts = [
+            write(record, &area, &index, &mut work, key, &[0; 8]),
+            delete(record, &area, &index, &mut work, key),
+            clean(record, &area, &index, &mut work, genuine.map),
+        ];
+        for started in starts {
+            same!("misused start", started, (record, Err(Refusal::Record)));
+        }
+        let stepped = step(record, &mut area, &mut index, &work);
+        same!("misused step", stepped, (record, Err(Refusal::Record)));
+        let found = read(&record, &area, &index, key);
+        same!("misused read", found, Err(Refusal::Record));
+        same!("work buffer of misuse", work, self.rig.work);
+        same!("area of misuse", area, area_before);
+        same!("index of misuse", index, index_before);
+        self.tally.refused[4] += 1;
+        Ok(())
+    }
+}
+
+/// In some stores, counters close to their limits, as after a long life.
+fn age(rng: &mut Rng, rig: &mut Rig<AsWritten>) {
+    if rng.one_in(6) {
+        let next = u32::MAX - rng.below(12);
+        rig.area[9..13].copy_from_slice(&next.to_le_bytes());
+        rig.book.next = Version(next);
+    }
+    if rng.one_in(6) {
+        let number = u32::MAX - rng.below(4);
+        rig.area[1..5].copy_from_slice(&number.to_le_bytes());
+    }
+}
+
+fn any_key(rng: &mut Rng) -> Key {
+    match rng.below(3) {
+        0 => Key {
+            table: *rng.pick(&[0, 1, u16::MAX]),
+            key: *rng.pick(&[0, 1, u32::MAX]),
+        },
+        _ => Key {
+            table: rng.bits() as u16,
+            key: rng.bits() as u32,
+        },
+    }
+}
+
+fn out_of_range(rng: &mut Rng, genuine: Record) -> Record {
+    let mut record = genuine;
+    let over = genuine.slot_bytes + 2;
+    match rng.below(13) {
+        0 => record.slots = *rng.pick(&[0, 3, 33, u32::MAX]),
+        1 => record.slot_bytes = *rng.pick(&[0, 255, 2049, u32::MAX]),
+        2 => record.cells = *rng.pick(&[0, 15, 4097, u32::MAX]),
+        3 => record.map = SlotMap(genuine.map.0 & !(1 << genuine.head)),
+        4 => record.map = SlotMap(u32::MAX >> (32 - genuine.slots)),
+        5 => record.head = *rng.pick(&[genuine.slots, 32, 64, u32::MAX]),
+        6 => record.end = *rng.pick(&[0, 12, genuine.slot_bytes + 1, u32::MAX]),
+        7 => record.digest = DigestNumber(0),
+        8 => record.next = Version(0),
+        9 => record.keys = *rng.pick(&[genuine.cells, u32::MAX]),
+        10 => {
+            record.pending = Pending::Append {
+                length: 19,
+                left: 0,
+            }
+        }
+        11 => {
+            record.pending = Pending::NewHead {
+                slot: 1,
+                length: 32,
+                left: over,
+            }
+        }
+        _ => {
+            record.pending = Pending::Clean {
+                slot: 1,
+                length: 13,
+                victims: SlotMap(1),
+                left: *rng.pick(&[0, over, u32::MAX]),
+            }
+        }
+    }
+    record
+}
+
+fn play_all(seeds: std::ops::Range<u64>, actions: u32) {
+    let mut total = Tally::default();
+    for seed in seeds {
+        let mut player = Player::new(seed);
+        if let Err(fault) = player.play(actions) {
+            panic!("seed {seed}: {fault} after\n{}", player.rig.history());
+        }
+        total.operations += player.tally.operations;
+        total.cuts += player.tally.cuts;
+        for (sum, count) in total.refused.iter_mut().zip(player.tally.refused) {
+            *sum += count;
+        }
+    }
+    println!(
+        "{} operations, {} cuts, refused {:?}",
+        total.operations, total.cuts, total.refused
+    );
+    for cause in (2..=15).chain([20]) {
+        assert!(total.refused[cause] > 0, "{:?}", total.refused);
+    }
+}
+
+#[test]
+fn many_histories() {
+    play_all(0..3000, 150);
+}
+
+#[test]
+fn long_histories() {
+    play_all(10_000..10_120, 2500);
+}

@@ -1,0 +1,144 @@
+//! Every history of up to four operations over two keys, cut after every store.
+
+use reference::book::Operation;
+use reference::rules::{AsWritten, Rules};
+use reference::{Key, SlotMap};
+
+use crate::rig::{Fault, Rig};
+
+pub const A: Key = Key { table: 0, key: 0 };
+pub const B: Key = Key {
+    table: u16::MAX,
+    key: u32::MAX,
+};
+
+/// An operation whose details depend on the store that it meets.
+#[derive(Clone, Copy, PartialEq, Eq, Debug)]
+pub enum Choice {
+    Write(Key, usize),
+    Delete(Key),
+    CleanAll,
+    CleanHead,
+}
+
+/// The choice as an operation on this store. Each written value is unlike the others.
+pub fn operation<R: Rules>(rig: &Rig<R>, choice: Choice) -> Operation {
+    match choice {
+        Choice::Write(key, bytes) => {
+            let tag = rig.events.len() as u8;
+            Operation::Write(key, (0..bytes as u8).map(|i| i.wrapping_add(tag)).collect())
+        }
+        Choice::Delete(key) => Operation::Delete(key),
+        Choice::CleanAll => Operation::Clean(rig.record().map),
+        Choice::CleanHead => Operation::Clean(SlotMap(1 << rig.record().head)),
+    }
+}
+
+/// Orders that put each slot of four first and last once.
+pub const ORDERS: [[u8; 4]; 4] = [[0, 1, 2, 3], [3, 2, 1, 0], [1, 3, 0, 2], [2, 0, 3, 1]];
+
+/// Runs one operation; before and after each store, cuts a copy and recovers it in the
+/// given orders. Hands each recovered copy on.
+pub fn cut_everywhere<R: Rules>(
+    rig: &mut Rig<R>,
+    choice: Choice,
+    orders: &[[u8; 4]],
+    mut after_cut: impl FnMut(Rig<R>) -> Result<(), (String, Fault)>,
+) -> Result<(), (String, Fault)> {
+    let operation = operation(rig, choice);
+    let mut left = match rig.start(&operation) {
+        Ok(answer) => answer.unwrap_or(0),
+        Err(fault) => return Err((rig.history(), fault)),
+    };
+    loop {
+        let mut copy = rig.clone();
+        for order in orders {
+            copy = rig.clone();
+            copy.cut();
+            copy.must_recover(order)
+                .map_err(|fault| (copy.history(), fault))?;
+        }
+        after_cut(copy)?;
+        if left == 0 {
+            return Ok(());
+        }
+        rig.step().map_err(|fault| (rig.history(), fault))?.ok();
+        rig.check_reads().map_err(|fault| (rig.history(), fault))?;
+        left -= 1;
+    }
+}
+
+struct Explorer {
+    choices: Vec<Choice>,
+    histories: u64,
+}
+
+impl Explorer {
+    /// All histories of up to `depth` further operations, with at most one cut.
+    fn explore(
+        &mut self,
+        rig: &Rig<AsWritten>,
+        depth: u32,
+        was_cut: bool,
+    ) -> Result<(), (String, Fault)> {
+        if depth == 0 {
+            return Ok(());
+        }
+        for choice in self.choices.clone() {
+            let mut next = rig.clone();
+            self.histories += 1;
+            if was_cut {
+                let operation = operation(&next, choice);
+                next.run(&operation)
+                    .and_then(|_| next.check_book())
+                    .map_err(|fault| (next.history(), fault))?;
+            } else {
+                cut_everywhere(&mut next, choice, &ORDERS, |copy| {
+                    self.explore(&copy, depth - 1, true)
+                })?;
+            }
+            self.explore(&next, depth - 1, was_cut)?;
+        }
+        Ok(())
+    }
+}
+
+fn explore_all(slot_bytes: u32, fill: u8, bytes: [usize; 2]) {
+    let area = vec![fill; 4 * slot_bytes as usize];
+    let mut rig = Rig::<AsWritten>::new(4, slot_bytes, 16, area);
+    rig.keys = vec![A, B];
+    let mut explorer = Explorer {
+        choices: vec![
+            Choice::Write(A, bytes[0]),
+            Choice::Write(B, bytes[1]),
+            Choice::Delete(A),
+            Choice::Delete(B),
+            Choice::CleanAll,
+        ],
+        histories: 0,
+    };
+    if let Err((history, fault)) = explorer.explore(&rig, 4, false) {
+        panic!("{fault} after\n{history}");
+    }
+    assert!(explorer.histories > 780);
+}
+
+#[test]
+fn small_values_over_zeros() {
+    explore_all(256, 0, [8, 8]);
+}
+
+#[test]
+fn mixed_values_over_object_kinds() {
+    explore_all(256, 1, [24, 8]);
+}
+
+#[test]
+fn large_values_over_tombstone_kinds() {
+    explore_all(256, 4, [56, 56]);
+}
+
+#[test]
+fn large_and_small_values_over_digest_kinds() {
+    explore_all(257, 5, [56, 8]);
+}
