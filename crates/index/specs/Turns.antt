@@ -11,12 +11,12 @@ use lib.ListN.{length, getD, take, drop, set, replicate, length-set, drop-of-len
 use lib.Seq.{drop-length, drop-cons}
 use borrow.Author.Fill.{fill-more}
 use borrow.Author.Tests.{ltb-true, ltb-false, leb-true}
-use Rattle.segment.specs.Choice.{pick, pick-true, pick-false, both, both-right, both-false-left}
+use Rattle.segment.specs.Choice.{pick-true, pick-false, both, both-right, both-false-left}
 use Rattle.segment.specs.Layout.{Layout, isTombstone}
 use Rattle.segment.specs.Entry.{Entry, Found, entry, end, damage, entryAt, sizeOf, keyOf, answer}
 use Rattle.segment.specs.EntryLaws.{found-fits}
 use Rattle.segment.specs.Packed.{length-part}
-use Rattle.segment.specs.ReaderLaws.{answer-end, answer-damage, answer-tombstone, answer-object}
+use Rattle.segment.specs.AnswerLaws.{answer-end, answer-damage, answer-tombstone, answer-object}
 use Rattle.segment.specs.declared.Key.{Key}
 use Rattle.segment.specs.declared.Read.{Read}
 use Rattle.segment.specs.declared.Version.{Version}
