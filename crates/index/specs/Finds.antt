@@ -1,24 +1,24 @@
 -- Under the index rule a search finds the latest entry of its key, or a free cell while there are fewer keys than cells.
 use Prim.Native.Nat.{ℕ, zero, suc, _+_, _≤_, _<_}
 use mathlib.Core.Path.{_≡_, refl, sym, _∙_, ap, subst}
-use mathlib.Core.Logic.{_⊎_, inl, inr}
+use mathlib.Core.Logic.{inl, inr}
 use mathlib.Core.Bool.{Bool, true, false}
 use mathlib.Core.List.{List, [], _∷_, List·Memᴰ·head, List·Memᴰ·tail, List·Memᴰ·not-nil}
-use mathlib.Core.Option.{Option, none, some}
+use mathlib.Core.Option.{none, some}
 use native.Mathlib.Omega.{arith}
 use lib.Dec.{ltb}
 use lib.ListN.{length, getD}
 use borrow.Author.Tests.{ltb-true, ltb-false}
 use Rattle.segment.specs.Entry.{keyOf}
 use Rattle.segment.specs.declared.Key.{Key}
-use Rattle.model.specs.Log.{Placed, placeOf, sameKey, latest, hasKey, keysOf}
+use Rattle.model.specs.Log.{Placed, placeOf, sameKey, latest, keysOf}
 use Rattle.model.specs.Index.{around, startCell, Met, IsLatest, CellGood, HasCell, IndexRule}
-use Rattle.laws.specs.Members.{clash, In, first, Once, empty, more, Within, once-length}
-use Rattle.laws.specs.Latest.{same-key, key-same, own-key, latest-some, latest-has, latest-none}
+use Rattle.laws.specs.Members.{clash, In, Once, empty, more, Within, once-length}
+use Rattle.laws.specs.Latest.{same-key, latest-some, latest-has}
 use Rattle.laws.specs.Keys.{key-listed}
 use Rattle.index.specs.Search.{probe}
 use Rattle.index.specs.Around.{around-onto, start-below}
-use Rattle.index.specs.Probe.{Pass, Reached, Passed, Probed, probed, reached-met, reached-below}
+use Rattle.index.specs.Probe.{Pass, Reached, Probed, probed, reached-met, reached-below}
 use Rattle.index.specs.declared.Found.{Found}
 use Rattle.index.specs.declared.Found.the-variants.{At, Free, Full}
 
@@ -105,7 +105,7 @@ module _ (S : ℕ) (log : List Placed) (cells : List ℕ) (rule : IndexRule S lo
 
     module _ (x : Placed) (l : latest log k ≡ some x) where
       its-key : k ≡ keyOf (x .entry)
-      its-key = same-key k (x .entry) (latest-some log k x l .its)
+      its-key = same-key k (x .entry) (latest-some log k x l .of-key)
 
       its-cell : HasCell S cells x
       its-cell = rule .found x (ap (latest log) (sym its-key) ∙ l)
@@ -117,7 +117,7 @@ module _ (S : ℕ) (log : List Placed) (cells : List ℕ) (rule : IndexRule S lo
       not-passed : Pass t cells (startCell (length cells) k) (its-met .distance) → ⊥
       not-passed p =
           clash (t (getD cells (its-cell .cell) 0))
-          (ap t (its-cell .holds) ∙ picks x (latest-some log k x l .member) ∙ latest-some log k x l .its)
+          (ap t (its-cell .holds) ∙ picks x (latest-some log k x l .member) ∙ latest-some log k x l .of-key)
           (ap (λ (i : ℕ). t (getD cells i 0)) (sym (its-met .arrives)) ∙ p .other)
 
       -- nor does the search end before it

@@ -1,7 +1,7 @@
 -- Putting the place of an entry into the cell that a search gives keeps the index rule.
 use Prim.Native.Nat.{ℕ, zero, suc, _+_, _≤_, _<_}
 use mathlib.Core.Path.{_≡_, refl, sym, _∙_, ap, subst}
-use mathlib.Core.Logic.{_⊎_, inl, inr}
+use mathlib.Core.Logic.{inl, inr}
 use mathlib.Core.Bool.{Bool, true, false}
 use mathlib.Core.List.{List, [], _∷_, List·Memᴰ·tail}
 use mathlib.Core.Option.{Option, none, some}
@@ -12,7 +12,7 @@ use lib.Seq.{getD-set-same, getD-set-other}
 use borrow.Author.Tests.{eqb-true, eqb-false}
 use Rattle.segment.specs.Entry.{keyOf}
 use Rattle.segment.specs.declared.Key.{Key}
-use Rattle.model.specs.Log.{Placed, placeOf, sameKey, latest, keysOf}
+use Rattle.model.specs.Log.{Placed, placeOf, sameKey, latest}
 use Rattle.model.specs.Index.{around, startCell, Met, IsLatest, CellGood, HasCell, IndexRule}
 use Rattle.laws.specs.Members.{clash, In, first, Same, same-sym, Added, added-same}
 use Rattle.laws.specs.Latest.{same-key, key-same, own-key, latest-some, latest-same, Apart, apart-same}
@@ -70,7 +70,7 @@ module _ (S : ℕ) (log : List Placed) (cells : List ℕ) (k : Key) where
   pub target-known : (y : Placed) → latest log k ≡ some y → (c : HasCell S cells y) → Target S log cells k (c .cell)
   unfolding Holds
   target-known y l c =
-      let e : k ≡ keyOf (y .entry) = same-key k (y .entry) (latest-some log k y l .its) in
+      let e : k ≡ keyOf (y .entry) = same-key k (y .entry) (latest-some log k y l .of-key) in
       record {
         below = c .below;
         met = subst (λ (j : Key). Met cells (startCell (length cells) j) (c .cell)) (sym e) (c .met);
@@ -112,7 +112,7 @@ module _ (S : ℕ) (log : List Placed) (cells : List ℕ) (rule : IndexRule S lo
       go (some y) l h =
           let n = latest-some log (keyOf (x .entry)) y l in
           same-key (keyOf (x .entry)) (z .entry)
-          (sym (picks z (List·Memᴰ·tail m)) ∙ ap t (sym c ∙ h) ∙ picks y (List·Memᴰ·tail (n .member)) ∙ n .its)
+          (sym (picks z (List·Memᴰ·tail m)) ∙ ap t (sym c ∙ h) ∙ picks y (List·Memᴰ·tail (n .member)) ∙ n .of-key)
 
   its-place : t (placeOf S x + 1) ≡ true
   its-place = picks x first ∙ own-key (x .entry)

@@ -1,28 +1,34 @@
 -- Rebuilding at each test of the code. Premises are the tests as the code has them, and what its callees give.
-use Prim.Native.Nat.{ℕ, _+_, _-_, _*_, _≤_, _<_}
-use mathlib.Core.Path.{_≡_, refl, sym, _∙_, ap}
+use Prim.Native.Nat.{ℕ, _+_, _-_, _*_, _^_, _≤_, _<_}
+use mathlib.Core.Path.{_≡_, refl, sym, _∙_, ap, subst}
 use mathlib.Core.Bool.{Bool, true, false}
 use mathlib.Core.List.{List, [], _∷_, _++_, append-nil}
+use native.Mathlib.Nat.{mul-le-mul}
+use native.Mathlib.Numerals.{add-one}
 use native.Mathlib.Omega.{arith}
-use lib.Dec.{ltb}
-use lib.ListN.{length, take, drop, set, replicate}
-use lib.Seq.{drop-length}
+use lib.Dec.{ltb, leb}
+use lib.ListN.{length, getD, take, drop, set, replicate, length-set, drop-of-length-le}
+use lib.Seq.{drop-length, drop-cons}
 use borrow.Author.Fill.{fill-more}
-use borrow.Author.Tests.{ltb-true, ltb-false}
-use Rattle.segment.specs.Choice.{pick}
+use borrow.Author.Tests.{ltb-true, ltb-false, leb-true}
+use Rattle.segment.specs.Choice.{pick-true, pick-false, both, both-right, both-false-left}
 use Rattle.segment.specs.Layout.{Layout, isTombstone}
 use Rattle.segment.specs.Entry.{Entry, Found, entry, end, damage, entryAt, sizeOf, keyOf, answer}
 use Rattle.segment.specs.EntryLaws.{found-fits}
 use Rattle.segment.specs.Packed.{length-part}
-use Rattle.segment.specs.ReaderLaws.{answer-end, answer-damage, answer-tombstone, answer-object}
+use Rattle.segment.specs.AnswerLaws.{answer-end, answer-damage, answer-tombstone, answer-object}
 use Rattle.segment.specs.declared.Key.{Key}
 use Rattle.segment.specs.declared.Read.{Read}
 use Rattle.segment.specs.declared.Version.{Version}
-use Rattle.model.specs.Log.{Item, segmentOf, placedIn}
+use Rattle.slot_map.specs.Bit.{named}
+use Rattle.slot_map.specs.BitLaws.{bit-above, clear-named}
+use Rattle.model.specs.Log.{Item, Placed, segmentOf, placeOf, placedIn}
 use Rattle.index.specs.Insert.{Insertion, inserted, Tally, counted, over, tallied, insertOne, insertNext, insertAll}
-use Rattle.index.specs.InsertLaws.{tally-new, tally-over, tally-newer, tally-older, tally-full, insert-over}
-use Rattle.index.specs.Build.{nextOf, entriesAt, tallyOf}
+use Rattle.index.specs.InsertLaws.{tally-new, tally-over, tally-newer, tally-older, tally-full, insert-newer, insert-older, insert-new, insert-full, insert-over}
+use Rattle.index.specs.Build.{nextOf, entriesAt, inLog, slotEntries, listedSlot, listed, tallyOf, Rebuilt, finished, built}
 use Rattle.index.specs.Entries.{entries-entry, entries-end, entries-damage}
+use Rattle.index.specs.Search.{versionAt, searchFor}
+use Rattle.index.specs.declared.Found.{Found as Searched}
 use Rattle.index.specs.declared.Inserted.{Inserted}
 use Rattle.index.specs.declared.Built.{Built}
 use Rattle.index.specs.declared.Next.{Next}
@@ -89,25 +95,55 @@ module _ (L : Layout) (area : List ℕ) (place : ℕ) (k : Key) (version : ℕ) 
   unfolding tallyOf
   one-full p = sym (tally-full after n) ∙ ap (λ (i : Inserted). tallied i after n) (sym p) ∙ one
 
--- a key more is one that still leaves the keys below the cells
-few-after : (r : Inserted) (cells : List ℕ) (n : ℕ) (after : List ℕ) (k : ℕ) → tallied r cells n ≡ counted after k → n ≤ length after → k ≤ length after
-unfolding tallied
-few-after Inserted.New cells n after k e h = go (ltb (n + 1) (length cells)) refl
+-- ---- the keys stay within the number of cells
+
+unfoldable pub Few : Tally → Type 0
+Few (counted cells n) = n ≤ length cells
+Few over = Unit {0}
+
+few-tallied : (r : Inserted) (cells : List ℕ) (n : ℕ) → n ≤ length cells → Few (tallied r cells n)
+unfolding Few tallied
+few-tallied Inserted.New cells n h = go (ltb (n + 1) (length cells)) refl
   where
-    go : (t : Bool) → ltb (n + 1) (length cells) ≡ t → k ≤ length after
-    go true b =
-        let below = ltb-true (n + 1) (length cells) b in
-        let c : counted cells (n + 1) ≡ counted after k = sym (tally-new cells n below) ∙ e in
-        let same : cells ≡ after = cc in
-        let key : n + 1 ≡ k = cc in
-        omega (arith, ap length same)
-    go false b =
-        let c : over ≡ counted after k = sym (tally-over cells n (ltb-false (n + 1) (length cells) b)) ∙ e in
-        let z : _≡_ {A = ℕ} 0 1 = cc in
-        absurd (omega arith)
-few-after Inserted.Newer cells n after k e h = let key : n ≡ k = cc in omega arith
-few-after Inserted.Older cells n after k e h = let key : n ≡ k = cc in omega arith
-few-after Inserted.Full cells n after k e h = let z : _≡_ {A = ℕ} 0 1 = cc in absurd (omega arith)
+    go : (t : Bool) → ltb (n + 1) (length cells) ≡ t → Few (tallied Inserted.New cells n)
+    go true e =
+        let below = ltb-true (n + 1) (length cells) e in
+        rw (tally-new cells n below) (omega arith)
+    go false e = rw (tally-over cells n (ltb-false (n + 1) (length cells) e)) tt
+few-tallied Inserted.Newer cells n h = h
+few-tallied Inserted.Older cells n h = h
+few-tallied Inserted.Full cells n h = tt
+
+module _ (L : Layout) (area : List ℕ) where
+  length-inserted : (cells : List ℕ) (place : ℕ) (k : Key) (version : ℕ) → length (inserted L area cells place k version .cells) ≡ length cells
+  length-inserted cells place k version = go (searchFor L area cells k) refl
+    where
+      newer : (i : ℕ) → searchFor L area cells k ≡ Searched.At i → (t : Bool) → ltb (versionAt L area (getD cells i 0 - 1)) version ≡ t →
+          length (inserted L area cells place k version .cells) ≡ length cells
+      newer i e true t =
+          ap (λ (j : Insertion). length (j .cells))
+          (insert-newer L area cells place k version i e (ltb-true (versionAt L area (getD cells i 0 - 1)) version t))
+          ∙ length-set cells i (place + 1)
+      newer i e false t =
+          ap (λ (j : Insertion). length (j .cells))
+          (insert-older L area cells place k version i e (ltb-false (versionAt L area (getD cells i 0 - 1)) version t))
+
+      go : (f : Searched) → searchFor L area cells k ≡ f → length (inserted L area cells place k version .cells) ≡ length cells
+      go (Searched.At i) e = newer i e (ltb (versionAt L area (getD cells i 0 - 1)) version) refl
+      go (Searched.Free i) e = ap (λ (j : Insertion). length (j .cells)) (insert-new L area cells place k version i e) ∙ length-set cells i (place + 1)
+      go Searched.Full e = ap (λ (j : Insertion). length (j .cells)) (insert-full L area cells place k version e)
+
+  few-one : (place : ℕ) (k : Key) (version : ℕ) (cells : List ℕ) (n : ℕ) → n ≤ length cells → Few (insertOne L area place k version cells n)
+  few-one place k version cells n h =
+      few-tallied (inserted L area cells place k version .answer) (inserted L area cells place k version .cells) n
+      (omega (arith, length-inserted cells place k version))
+
+  few-all : (S : ℕ) (xs : List Placed) (s : Tally) → Few s → Few (insertAll L area S xs s)
+  unfolding insertAll insertNext Few
+  few-all S [] s h = h
+  few-all S (x ∷ xs) (counted cells n) h =
+      few-all S xs (insertNext L area S x (counted cells n)) (few-one (placeOf S x) (keyOf (x .entry)) (x .entry .version) cells n h)
+  few-all S (x ∷ xs) over h = few-all S xs over tt
 
 -- ---- a turn over the entries of a slot: going on from here gives the whole tally
 
@@ -180,8 +216,106 @@ module _ (L : Layout) (area : List ℕ) (S i at : ℕ) (cells : List ℕ) (n : �
         slot-next =
             ap (λ (j : Built). insertAll L area S (placedIn i (entriesAt L (segmentOf area S i) (at + len))) (tallyOf j after)) (sym p) ∙ rest
 
-        pub slot-few : n ≤ length after → m ≤ length after
-        unfolding tallyOf
-        slot-few h =
-            few-after (inserted L area cells (i * S + at) k (v .0) .answer) (inserted L area cells (i * S + at) k (v .0) .cells) n after m
-            (sym one-more ∙ ap (λ (j : Built). tallyOf j after) p) h
+        pub slot-few : n ≤ length cells → m ≤ length after
+        unfolding tallyOf Few
+        slot-few h = subst Few (sym (ap (λ (j : Built). tallyOf j after) (sym p) ∙ one-more)) (few-one L area (i * S + at) k (v .0) cells n h)
+
+-- ---- whether a slot is in the log
+
+-- a map of 32 bits names no slot above 31
+pub not-in-log-high : (areaLength S map i : ℕ) → map < 2 ^ 32 → 32 ≤ i → false ≡ inLog areaLength S map i
+unfolding inLog
+not-in-log-high areaLength S map i h l =
+    sym (both-false-left (named map i) (leb (i * S + S) areaLength) (clear-named map i (bit-above map 32 i h l)))
+
+module _ (areaLength S map i : ℕ) (t : Bool) (is : t ≡ named map i) where
+  pub not-in-log : t ≡ false → false ≡ inLog areaLength S map i
+  unfolding inLog
+  not-in-log e = sym (both-false-left (named map i) (leb (i * S + S) areaLength) (sym is ∙ e))
+
+  pub in-log-by-room : t ≡ true → leb (i * S + S) areaLength ≡ inLog areaLength S map i
+  unfolding inLog both
+  in-log-by-room e = rw (sym is ∙ e)
+
+pub in-log-room : (areaLength S map i : ℕ) → inLog areaLength S map i ≡ true → i * S + S ≤ areaLength
+unfolding inLog
+in-log-room areaLength S map i e =
+    leb-true (i * S + S) areaLength (both-right (named map i) (leb (i * S + S) areaLength) e)
+
+-- a slot's place in the area is small
+pub slot-small : (i S : ℕ) → i < 256 → S ≤ 65536 → i * S + S < 4294967295
+slot-small i S h g = omega (arith, mul-le-mul {n₁ = i} {m₁ = S} {n₂ = 255} {m₂ = 65536} (omega arith) g)
+
+-- ---- a slot of the order list
+
+module _ (L : Layout) (area : List ℕ) (S map i : ℕ) (cells : List ℕ) (n : ℕ) (t : Bool) (is : t ≡ inLog (length area) S map i) where
+  pub listed-out : t ≡ false → tallyOf (Built.Keys n) cells ≡ insertAll L area S (listedSlot L area S map i) (counted cells n)
+  unfolding tallyOf insertAll
+  listed-out e = rw (pick-false (inLog (length area) S map i) (slotEntries L area S i) [] (sym is ∙ e))
+
+  pub listed-slot : t ≡ true → (s : Tally) → s ≡ insertAll L area S (slotEntries L area S i) (counted cells n) →
+      s ≡ insertAll L area S (listedSlot L area S map i) (counted cells n)
+  listed-slot e s p = p ∙ ap (λ (l : List Placed). insertAll L area S l (counted cells n)) (sym (pick-true (inLog (length area) S map i) (slotEntries L area S i) [] (sym is ∙ e)))
+
+-- ---- a turn over the order list
+
+insert-append : (L : Layout) (area : List ℕ) (S : ℕ) (a b : List Placed) (s : Tally) → insertAll L area S (a ++ b) s ≡ insertAll L area S b (insertAll L area S a s)
+unfolding insertAll
+insert-append L area S [] b s = refl
+insert-append L area S (x ∷ a) b s = insert-append L area S a b (insertNext L area S x s)
+
+module _ (L : Layout) (area : List ℕ) (S map : ℕ) (order : List ℕ) (j : ℕ) (cells : List ℕ) (n : ℕ) (whole : Tally)
+    (from : insertAll L area S (listed L area S map (drop j order)) (counted cells n) ≡ whole) where
+  pub order-end : length order ≤ j → tallyOf (Built.Keys n) cells ≡ whole
+  unfolding tallyOf insertAll listed
+  order-end h = ap (λ (l : List ℕ). insertAll L area S (listed L area S map l) (counted cells n)) (sym (drop-of-length-le order h)) ∙ from
+
+  -- b and after are what the slot at j gives
+  module _ (h : j < length order) (i : ℕ) (at : i ≡ getD order j 0) (b : Built) (after : List ℕ)
+      (slot : tallyOf b after ≡ insertAll L area S (listedSlot L area S map i) (counted cells n)) where
+    behind : i ∷ drop (j + 1) order ≡ drop j order
+    behind = rw (at, add-one j) (sym (drop-cons order j 0 h))
+
+    on : insertAll L area S (listed L area S map (drop (j + 1) order)) (tallyOf b after) ≡ whole
+    unfolding listed
+    on =
+        ap (insertAll L area S (listed L area S map (drop (j + 1) order))) slot
+        ∙ sym (insert-append L area S (listedSlot L area S map i) (listed L area S map (drop (j + 1) order)) (counted cells n))
+        ∙ ap (λ (l : List ℕ). insertAll L area S (listed L area S map l) (counted cells n)) behind
+        ∙ from
+
+    pub order-over : b ≡ Built.TooMany → tallyOf Built.TooMany after ≡ whole
+    unfolding tallyOf
+    order-over p =
+        sym (insert-over L area S (listed L area S map (drop (j + 1) order)))
+        ∙ ap (λ (q : Built). insertAll L area S (listed L area S map (drop (j + 1) order)) (tallyOf q after)) (sym p)
+        ∙ on
+
+    module _ (k : ℕ) (p : b ≡ Built.Keys k) where
+      pub order-next : insertAll L area S (listed L area S map (drop (j + 1) order)) (counted after k) ≡ whole
+      unfolding tallyOf
+      order-next = ap (λ (q : Built). insertAll L area S (listed L area S map (drop (j + 1) order)) (tallyOf q after)) (sym p) ∙ on
+
+      pub order-few : n ≤ length cells → k ≤ length after
+      unfolding Few tallyOf
+      order-few f =
+          subst Few (sym (ap (λ (q : Built). tallyOf q after) (sym p) ∙ slot)) (few-all L area S (listedSlot L area S map i) (counted cells n) f)
+
+-- ---- the whole: free cells, the slots of the list, and free cells again where there are too many keys
+
+module _ (L : Layout) (area : List ℕ) (S map : ℕ) (order : List ℕ) (m : ℕ) (free : List ℕ) (e : free ≡ replicate m 0) (b : Built) (after : List ℕ)
+    (all : tallyOf b after ≡ insertAll L area S (listed L area S map order) (counted free 0)) where
+  tally : tallyOf b after ≡ insertAll L area S (listed L area S map order) (counted (replicate m 0) 0)
+  tally = all ∙ ap (λ (l : List ℕ). insertAll L area S (listed L area S map order) (counted l 0)) e
+
+  pub built-keys : (n : ℕ) → b ≡ Built.Keys n → _≡_ {A = Rebuilt} (record { answer = Built.Keys n; cells = after }) (built L area S map order m)
+  unfolding tallyOf finished
+  built-keys n p = ap (λ (q : Built). finished m (tallyOf q after)) (sym p) ∙ ap (finished m) tally
+
+  pub built-many : b ≡ Built.TooMany → (cleared : List ℕ) → cleared ≡ replicate (length after) 0 → length after ≡ m →
+      _≡_ {A = Rebuilt} (record { answer = Built.TooMany; cells = cleared }) (built L area S map order m)
+  unfolding tallyOf finished
+  built-many p cleared c l =
+      ap (λ (d : List ℕ). record { answer = Built.TooMany; cells = d }) (c ∙ ap (λ (n : ℕ). replicate n 0) l)
+      ∙ ap (λ (q : Built). finished m (tallyOf q after)) (sym p)
+      ∙ ap (finished m) tally

@@ -1,6 +1,6 @@
 -- `index::build::index_slot` meets its contract. The invariant: going through the entries from here on gives the whole tally.
 use Prim.Native.Nat.{_+_, _-_, _≤_, _<_}
-use mathlib.Core.Path.{_≡_, refl, sym, _∙_}
+use mathlib.Core.Path.{_≡_, refl, _∙_}
 use native.Mathlib.Omega.{arith}
 use lib.ListN.{length}
 use denote.Ref.{now}
@@ -107,7 +107,7 @@ loop-again c =
     let l = k .before .before .before .loop .inv in (
       long i,
       slot-few edition1 _ _ _ _ _ _ _ (l .2) _ (k .before .before .next-entry .ensures) _ _ _ (k .key .given .1) _ _ (i .index-entry .ensures) _
-          (c .before .n .given .1) (rw (i .index-entry .kept .1 .0) (l .1)),
+          (c .before .n .given .1) (l .1),
       slot-next edition1 _ _ _ _ _ _ _ (l .2) _ (k .before .before .next-entry .ensures) _ _ _ (k .key .given .1) _ _ (i .index-entry .ensures) _
           (c .before .n .given .1),
     )
