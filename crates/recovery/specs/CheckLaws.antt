@@ -1,26 +1,32 @@
 -- The tests of recovery at each return of the code.
-use Prim.Native.Nat.{ℕ}
+use Prim.Native.Nat.{ℕ, _+_, _*_, _≤_, _<_, max}
 use mathlib.Core.Path.{_≡_, refl, sym, _∙_, ap}
 use mathlib.Core.Bool.{Bool, true, false, not}
-use mathlib.Core.List.{List, [], _∷_, _++_}
+use mathlib.Core.List.{List, [], _∷_}
 use mathlib.Core.Option.{Option, none, some}
 use native.Mathlib.Omega.{arith}
-use Rattle.segment.specs.Choice.{pick, either, either-true-left}
+use lib.ListN.{length}
+use Rattle.segment.specs.Choice.{pick, either}
+use Rattle.segment.specs.Layout.{Layout}
 use Rattle.segment.specs.declared.Digest.{Digest}
 use Rattle.segment.specs.declared.Version.{Version}
 use Rattle.record.specs.Range.{cellsGood, mapGood}
+use Rattle.record.specs.declared.Pending.the-variants.{Idle}
 use Rattle.record.specs.declared.Refusal.{Refusal}
 use Rattle.record.specs.declared.Refusal.the-variants.{Geometry, Cells, BadOrder, NoDigest, BadDigest, DamagedLog, SharedVersion}
-use Rattle.model.specs.Log.{View, Head, headOf, logOf, highest, versionShared}
+use Rattle.model.specs.Log.{View, Head, Scan, damaged, scanned, scan, endOf, segmentOf, headOf, logOf, highest, versionShared}
 use Rattle.model.specs.Causes.{Cause, when, firstCause}
-use Rattle.model.specs.Recovery.{geometryBad, orderBad, noHead, headElse, numberBad, mapBad, namesNoDigest, nextBad, digestBad, logDamaged, logSlots, logUnder, lentCauses, imageCauses}
+use Rattle.model.specs.Recovery.{geometryBad, orderBad, noHead, headElse, mapBad, digestBad, logDamaged, logSlots, logUnder, imageCauses}
 use Rattle.laws.specs.CauseLaws.{cause-first, cause-skip, cause-none}
+use Rattle.laws.specs.Scans.{scan-scans, scans-high}
+use Rattle.laws.specs.Stores.{length-segment}
 use Rattle.laws.specs.RecoverLaws.{map-bad-good}
 use Rattle.log.specs.Heads.{told, untold, untold-told}
-use Rattle.log.specs.Extents.{surveyOf}
+use Rattle.log.specs.Extents.{extentFrom, extentOf, surveyOf}
+use Rattle.log.specs.declared.Extent.{Extent}
 use Rattle.log.specs.declared.HeadFound.{HeadFound}
 use Rattle.log.specs.declared.Survey.{Survey}
-use Rattle.recovery.specs.Recovering.{lentFirst, checkedAs, imageFor, imageOf, imageUnder}
+use Rattle.recovery.specs.Recovering.{lentFirst, checkedAs, imageFor, imageOf, imageUnder, storeWith}
 use Rattle.recovery.specs.declared.Checked.{Checked}
 use Rattle.recovery.specs.declared.Image.{Image}
 
@@ -162,3 +168,65 @@ module _ (v : ℕ → View) (p : ℕ → Bool) (n : ℕ) where
           → (t ≡ false) × (top ≡ record { 0 = highest (logOf v p n) })
       go true q = let z : _≡_ {A = ℕ} 0 1 = cc in absurd (omega arith)
       go false q = (refl, cc)
+
+-- the end of a segment's entries
+pub extent-damaged : (r : Scan) → extentOf r ≡ Extent.Damaged → 0 ≡ endOf r
+unfolding extentFrom endOf
+extent-damaged damaged e = refl
+extent-damaged (scanned is k) e = let z : _≡_ {A = ℕ} 0 1 = cc in absurd (omega arith)
+
+pub extent-sound : (r : Scan) (k : ℕ) (top : Version) → extentOf r ≡ Extent.Sound k top → k ≡ endOf r
+unfolding extentFrom endOf
+extent-sound damaged k top e = let z : _≡_ {A = ℕ} 0 1 = cc in absurd (omega arith)
+extent-sound (scanned is j) k top e = cc
+
+-- ---- the record
+
+-- a segment's entries end in it
+end-inside : (L : Layout) (s : List ℕ) → endOf (scan L s) ≤ length s
+unfolding endOf
+end-inside L s = go (scan L s) refl
+  where
+    go : (r : Scan) → scan L s ≡ r → endOf r ≤ length s
+    go damaged e = omega arith
+    go (scanned is k) e = scans-high (scan-scans L s e)
+
+pub end-fits : (L : Layout) (area : List ℕ) (s slot : ℕ) → slot * s + s ≤ length area → endOf (scan L (segmentOf area s slot)) ≤ s
+end-fits L area s slot room =
+    omega (arith, end-inside L (segmentOf area s slot), length-segment area s slot room)
+
+-- the greater of two versions
+pub next-above : (a b : ℕ) → a < b → _≡_ {A = Version} (record { 0 = b }) (record { 0 = max a b })
+next-above a b h = let e : b ≡ max a b = omega arith in λ i. record { 0 = e i }
+
+pub next-kept : (a : Version) (b : ℕ) → b ≤ a .0 → a ≡ record { 0 = max (a .0) b }
+next-kept a b h = let e : a .0 ≡ max (a .0) b = omega arith in λ i. record { 0 = e i }
+
+pub record-with : (L : Layout) (n s m : ℕ) (area : List ℕ) (slot : ℕ) (d : Digest) (top : Version) (keys e : ℕ) (next : Version)
+    → e ≡ endOf (scan L (segmentOf area s slot)) → next ≡ record { 0 = max (d .next .0) (top .0 + 1) }
+    → record {
+      slots = n;
+      size = s;
+      cells = m;
+      head = slot;
+      end = e;
+      number = d .number;
+      map = d .map;
+      next = next;
+      keys = keys;
+      pending = Idle;
+    } ≡ storeWith L n s m area slot d top keys
+record-with L n s m area slot d top keys e next p q =
+    λ i.
+    record {
+      slots = n;
+      size = s;
+      cells = m;
+      head = slot;
+      end = p i;
+      number = d .number;
+      map = d .map;
+      next = q i;
+      keys = keys;
+      pending = Idle;
+    }

@@ -1,9 +1,8 @@
 -- Format as its code does it: byte 0 of every slot in turn, the digest, and the 0 behind it.
 use Prim.Native.Nat.{ℕ, _+_, _*_, _≤_, _<_}
 use mathlib.Core.Path.{_≡_, refl, sym, _∙_, ap}
-use mathlib.Core.Bool.{Bool, true, false, not}
+use mathlib.Core.Bool.{true, false, not}
 use mathlib.Core.List.{List, [], _∷_, _++_}
-use mathlib.Core.Option.{none, some}
 use native.Mathlib.Numerals.{add-one}
 use native.Mathlib.Omega.{arith}
 use lib.Dec.{eqb}
@@ -22,7 +21,6 @@ use Rattle.record.specs.declared.Refusal.the-variants.{Geometry}
 use Rattle.model.specs.Operations.{cleared, firstDigest, formatted}
 use Rattle.model.specs.Causes.{firstCause}
 use Rattle.model.specs.Recovery.{geometryBad}
-use Rattle.model.specs.Refused.{formatCauses}
 use Rattle.model.specs.Promises.{FormatPromise, formatAnswer, areaUnless}
 use Rattle.laws.specs.CauseLaws.{cause-first, cause-none}
 use Rattle.laws.specs.Stores.{slots-apart, stored-from}

@@ -1,16 +1,17 @@
 -- What is looked up on a genuine store is the object that its map has.
-use Prim.Native.Nat.{ℕ, suc, _+_, _*_, _-_, _/_, _%_, _≤_, _<_}
-use mathlib.Core.Path.{_≡_, refl, sym, _∙_, ap, subst}
+use Prim.Native.Nat.{ℕ, _+_, _*_, _-_, _/_, _%_, _≤_, _<_}
+use mathlib.Core.Path.{_≡_, refl, sym, _∙_, ap}
 use mathlib.Core.Bool.{Bool, true, false, not}
 use mathlib.Core.List.{List, [], _∷_}
 use mathlib.Core.Option.{Option, none, some}
 use native.Mathlib.Nat.{mul-add-div-right, mul-add-mod-self-right, mod-eq-of-lt, div-eq-of-lt, div-lt-iff-lt-mul, div-add-mod', add-zero}
 use native.Mathlib.Omega.{arith}
 use lib.ListN.{length, getD, take, drop, length-take}
-use borrow.Author.Tests.{not-true, not-false}
+use borrow.Author.Tests.{not-true}
 use Rattle.segment.specs.Choice.{pick, pick-true, pick-false}
 use Rattle.segment.specs.Layout.{Layout, isTombstone, entrySize}
-use Rattle.segment.specs.Entry.{Entry, Found, entry, end, damage, entryAt, sizeOf, keyOf, answer}
+use Rattle.segment.specs.Entry.{entry, entryAt, sizeOf, keyOf, answer}
+use Rattle.segment.specs.AnswerLaws.{tells-object}
 use Rattle.segment.specs.EntryLaws.{found-fits}
 use Rattle.segment.specs.declared.Key.{Key}
 use Rattle.segment.specs.declared.Read.{Read}
@@ -18,27 +19,26 @@ use Rattle.segment.specs.declared.Version.{Version}
 use Rattle.slot_map.specs.Bit.{named}
 use Rattle.record.specs.Answers.{withPending}
 use Rattle.record.specs.Range.{fitsLent}
-use Rattle.record.specs.RangeLaws.{Lent, lent}
+use Rattle.record.specs.RangeLaws.{lent}
 use Rattle.record.specs.declared.Pending.the-variants.{Idle}
 use Rattle.record.specs.declared.Store.{Store}
-use Rattle.record.specs.declared.Reading.{Reading}
 use Rattle.record.specs.declared.ReadAnswer.{ReadAnswer}
 use Rattle.record.specs.declared.Refusal.{Refusal}
 use Rattle.model.specs.Log.{Placed, placeOf, segmentOf, viewsOf, logOf, latest, objectOnly, present, keysOf, scan}
-use Rattle.model.specs.Causes.{Cause, when, firstCause}
+use Rattle.model.specs.Causes.{when, firstCause}
 use Rattle.model.specs.Operations.{logNow}
 use Rattle.model.specs.Refused.{recordBad, keyAbsent, isAbsent, readCauses}
 use Rattle.model.specs.Promises.{Genuine, ReadPromise, ValuePromise, readAnswer, presentAnswer, readLengths, valuePart, valueAnswer}
 use Rattle.laws.specs.CauseLaws.{cause-first, cause-none, cause-skip}
-use Rattle.laws.specs.Members.{In, clash}
+use Rattle.laws.specs.Members.{In}
 use Rattle.laws.specs.Latest.{latest-some}
 use Rattle.laws.specs.LogLaws.{AllScanned, log-in, scan-whole}
 use Rattle.laws.specs.Scans.{scan-scans, scans-found}
-use Rattle.laws.specs.Stores.{length-segment, slot-inside, slots-apart}
-use Rattle.laws.specs.RecoverLaws.{Recovers, recovered-case, recovered-keys, recovered-lent}
+use Rattle.laws.specs.Stores.{length-segment, slots-apart}
+use Rattle.laws.specs.RecoverLaws.{recovered-case, recovered-keys}
 use Rattle.index.specs.Search.{searchFor, cellHas}
-use Rattle.index.specs.SearchLaws.{Inside, search-inside}
-use Rattle.index.specs.Area.{place-back, area-picks}
+use Rattle.index.specs.SearchLaws.{search-inside}
+use Rattle.index.specs.Area.{area-picks}
 use Rattle.index.specs.Finds.{Picks, search-known, search-new}
 use Rattle.index.specs.BuildLaws.{log-in-area}
 use Rattle.index.specs.declared.Found.{Found as Hit}
@@ -82,21 +82,6 @@ module _ (L : Layout) (r : Store) (area cells : List ℕ) (k : Key) where
 
 -- ---- where an object is found, its entry lies in the area
 
--- what the reader's answer of an object says
-object-size : (L : Layout) (f : Found) (key : Key) (v : Version) (kind n : ℕ) → answer L f ≡ Read.Object key v kind n
-    → (x : Entry) × (f ≡ entry x) × (n ≡ sizeOf L x)
-unfolding answer pick
-object-size L (entry x) key v kind n e = go (isTombstone L (x .kind)) e
-  where
-    go : (t : Bool)
-        → pick t (Read.Tombstone (keyOf x) (record { 0 = x .version }) (sizeOf L x)) (Read.Object (keyOf x) (record { 0 = x .version }) (x .kind) (sizeOf L x))
-        ≡ Read.Object key v kind n
-        → (y : Entry) × (entry x ≡ entry y) × (n ≡ sizeOf L y)
-    go true q = let z : _≡_ {A = ℕ} 0 1 = cc in absurd (omega arith)
-    go false q = (x, refl, cc)
-object-size L end key v kind n e = let z : _≡_ {A = ℕ} 0 1 = cc in absurd (omega arith)
-object-size L damage key v kind n e = let z : _≡_ {A = ℕ} 0 1 = cc in absurd (omega arith)
-
 -- what a lookup of an object says of what stands there
 object-read : (p : ℕ) (a : Read) (q : ℕ) (v : Version) (kind n : ℕ) → lookupOf p a ≡ Lookup.Object q v kind n
     → (p ≡ q) × (key : Key) × (a ≡ Read.Object key v kind n)
@@ -119,8 +104,8 @@ module _ (L : Layout) (r : Store) (area cells : List ℕ) (k : Key) (p : ℕ) (v
   at-inside : fitsLent L r (length area) (length cells) ≡ true → (i : ℕ) → searchFor L area cells k ≡ Hit.At i → ObjectInside L area p n
   at-inside fit i f =
       let (place, key, there) = object-read (getD cells i 0 - 1) _ p v kind n (sym (looked-at L r area cells k fit i f) ∙ e) in
-      let (x, found, size) = object-size L _ key v kind n there in
-      let fits = found-fits L _ _ x found in
+      let t = tells-object L _ key v kind n there in
+      let fits = found-fits L _ _ (t .told) (t .is) in
       let room = slot-room L r area cells k fit i f in
       let long = length-segment area (r .size) ((getD cells i 0 - 1) / r .size) room in
       let split = div-add-mod' (getD cells i 0 - 1) (r .size) in

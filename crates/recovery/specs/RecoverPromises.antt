@@ -1,5 +1,5 @@
 -- What recovery's parts give together is what it promises.
-use Prim.Native.Nat.{ℕ, _+_, _-_, _^_, _<_}
+use Prim.Native.Nat.{ℕ, _-_, _<_}
 use mathlib.Core.Path.{_≡_, refl, sym, _∙_, ap, subst}
 use mathlib.Core.Bool.{Bool, true, false, not}
 use mathlib.Core.List.{List, [], _∷_, _++_}
@@ -7,7 +7,7 @@ use mathlib.Core.Option.{Option, none, some}
 use native.Mathlib.Omega.{arith}
 use lib.Dec.{eqb}
 use lib.ListN.{length, replicate, length-replicate}
-use borrow.Author.Tests.{not-false}
+use borrow.Author.Tests.{not-false, ltb-false}
 use Rattle.segment.specs.Choice.{pick, pick-true, pick-false, either-false-left, either-false-right}
 use Rattle.segment.specs.Layout.{Layout, versionLimit}
 use Rattle.segment.specs.LayoutLaws.{version-below}
@@ -16,23 +16,24 @@ use Rattle.segment.specs.declared.Digest.{Digest}
 use Rattle.segment.specs.declared.Version.{Version}
 use Rattle.slot_map.specs.Bit.{named}
 use Rattle.record.specs.Range.{mapGood, cellsGood}
-use Rattle.record.specs.RangeLaws.{MapIn, map-in, between-low, between-high}
+use Rattle.record.specs.RangeLaws.{map-in, between-low, between-high}
 use Rattle.record.specs.Refusals.{numberOfRefusal}
 use Rattle.record.specs.declared.Refusal.{Refusal}
-use Rattle.record.specs.declared.Refusal.the-variants.{TooManyKeys}
+use Rattle.record.specs.declared.Refusal.the-variants.{BadOrder, TooManyKeys}
 use Rattle.record.specs.declared.Store.{Store}
 use Rattle.record.specs.declared.Recovery.{Recovery}
 use Rattle.record.specs.declared.RecoverAnswer.{RecoverAnswer}
 use Rattle.model.specs.Log.{View, Head, Placed, segmentOf, viewsOf, headOf, logOf, keysOf, highest, versionShared}
 use Rattle.model.specs.Causes.{Cause, when, firstCause}
-use Rattle.model.specs.Recovery.{geometryBad, orderBad, noHead, headElse, numberBad, mapBad, digestBad, logDamaged, logSlots, logUnder, keysBad, storeUnder, lentCauses, imageCauses, keyCauses, recoverCauses, storeOf, recoveryFor, recovery}
+use Rattle.model.specs.Recovery.{orderBad, headElse, digestBad, logDamaged, logSlots, logUnder, keysBad, storeUnder, lentCauses, imageCauses, keyCauses, recoverCauses, storeOf, recoveryFor, recovery}
 use Rattle.model.specs.Index.{IndexRule}
+use Rattle.model.specs.Operations.{logNow}
 use Rattle.model.specs.Promises.{RecoverPromise, IndexAfter}
 use Rattle.laws.specs.CauseLaws.{cause-first, cause-none}
-use Rattle.laws.specs.Members.{In}
 use Rattle.laws.specs.Versions.{highest-below}
 use Rattle.laws.specs.LogLaws.{AllScanned, undamaged-scans}
 use Rattle.laws.specs.RecoverLaws.{NoCause, no-cause, map-bad-good}
+use Rattle.log.specs.Shape.{Shape}
 use Rattle.index.specs.Build.{Rebuilt, built}
 use Rattle.index.specs.BuildLaws.{Holds, built-rule, built-over}
 use Rattle.index.specs.declared.Built.{Built}
@@ -144,23 +145,36 @@ module _ (L : Layout) (n s : ℕ) (order area cells : List ℕ) where
         index = sym (pick-false (eqb (numberOfRefusal c) 20) (replicate m 0) cells k);
       }
 
-  pub lent-promise : (c : Refusal) → lentFirst n s m (length area) order ≡ some c → RecoverPromise L n s order area cells cells (refusedWith c)
-  lent-promise c e =
-      refused-kept c (first-left (lentCauses n s m (length area) ++ (when (orderBad n order) _ ∷ [])) _ c e)
-      (first-keeps (lentCauses n s m (length area) ++ (when (orderBad n order) _ ∷ [])) (refl, (refl, (refl, tt))) c e)
+  pub lent-promise : (c : Refusal) (r : Recovery) → lentFirst n s m (length area) order ≡ some c → r ≡ refusedWith c
+      → RecoverPromise L n s order area cells cells r
+  lent-promise c r e its =
+      subst (RecoverPromise L n s order area cells cells) (sym its)
+      (refused-kept c (first-left (lentCauses n s m (length area) ++ (when (orderBad n order) BadOrder ∷ [])) _ c e)
+      (first-keeps (lentCauses n s m (length area) ++ (when (orderBad n order) BadOrder ∷ [])) (refl, (refl, (refl, tt))) c e))
 
   module _ (passed : lentFirst n s m (length area) order ≡ none) where
     abbrev rest : List Cause
     rest = imageCauses v n (headOf v n) ++ keyCauses v n m (headOf v n)
 
     on-image : cause ≡ firstCause rest
-    on-image = first-right (lentCauses n s m (length area) ++ (when (orderBad n order) _ ∷ [])) rest passed
+    on-image = first-right (lentCauses n s m (length area) ++ (when (orderBad n order) BadOrder ∷ [])) rest passed
 
-    lent-clear : NoCause (lentCauses n s m (length area) ++ (when (orderBad n order) _ ∷ []))
-    lent-clear = no-cause (lentCauses n s m (length area) ++ (when (orderBad n order) _ ∷ [])) passed
+    lent-clear : NoCause (lentCauses n s m (length area) ++ (when (orderBad n order) BadOrder ∷ []))
+    lent-clear = no-cause (lentCauses n s m (length area) ++ (when (orderBad n order) BadOrder ∷ [])) passed
 
     pub lent-fits : Fits n s (length area)
     lent-fits = geometry-fits n s (length area) (lent-clear .0)
+
+    pub lent-shape : Shape n s area
+    lent-shape =
+        let f = lent-fits in
+        record {
+          slots-least = f .slots-low;
+          slots-most = f .slots-high;
+          size-least = f .size-low;
+          size-most = f .size-high;
+          whole = f .area-own;
+        }
 
     cells-good : cellsGood m ≡ true
     cells-good = not-false (cellsGood m) (lent-clear .1 .0)
@@ -171,9 +185,11 @@ module _ (L : Layout) (n s : ℕ) (order area cells : List ℕ) where
     pub cells-few : m < 4097
     cells-few = omega (arith, between-high 16 4096 m cells-good)
 
-    pub image-promise : (c : Refusal) → imageOf v n ≡ Image.Refused c → RecoverPromise L n s order area cells cells (refusedWith c)
+    pub image-promise : (c : Refusal) (r : Recovery) → imageOf v n ≡ Image.Refused c → r ≡ refusedWith c
+        → RecoverPromise L n s order area cells cells r
     unfolding imageFor
-    image-promise c e = go (firstCause (imageCauses v n (headOf v n))) refl e
+    image-promise c r e its =
+        subst (RecoverPromise L n s order area cells cells) (sym its) (go (firstCause (imageCauses v n (headOf v n))) refl e)
       where
         go : (o : Option Refusal) → firstCause (imageCauses v n (headOf v n)) ≡ o → imageFor v n (headElse (headOf v n)) o ≡ Image.Refused c
             → RecoverPromise L n s order area cells cells (refusedWith c)
@@ -223,10 +239,14 @@ module _ (L : Layout) (n s : ℕ) (order area cells : List ℕ) where
                 (log-stands L area s (named (d .map)) n (image-scans v n i d top image) x w) .good)),
           )
 
-      pub over-promise : (cells′ : List ℕ) → _≡_ {A = Rebuilt} (record { answer = Built.TooMany; cells = cells′ }) (built L area s (d .map) order m)
-          → RecoverPromise L n s order area cells cells′ (refusedWith TooManyKeys)
+      -- what the rebuilding answers, and the cells that it leaves
+      abbrev Rebuilds : Built → List ℕ → Type 0
+      Rebuilds a cells′ = _≡_ {A = Rebuilt} (record { answer = a; cells = cells′ }) (built L area s (d .map) order m)
+
+      pub over-promise : (a : Built) (cells′ : List ℕ) (r : Recovery) → Rebuilds a cells′ → a ≡ Built.TooMany → r ≡ refusedWith TooManyKeys
+          → RecoverPromise L n s order area cells cells′ r
       unfolding recovery recoveryFor IndexAfter
-      over-promise cells′ e = go (keysBad m log) refl
+      over-promise a cells′ r e over its = subst (RecoverPromise L n s order area cells cells′) (sym its) (go (keysBad m log) refl)
         where
           go : (t : Bool) → keysBad m log ≡ t → RecoverPromise L n s order area cells cells′ (refusedWith TooManyKeys)
           go true q =
@@ -238,7 +258,7 @@ module _ (L : Layout) (n s : ℕ) (order area cells : List ℕ) where
                 index = zeros ∙ sym (pick-true (eqb 20 20) (replicate m 0) cells refl);
               }
           go false q =
-              let says : Built.TooMany ≡ Built.Keys (length (keysOf log)) = ap (λ (r : Rebuilt). r .answer) e ∙ rebuilt q .answers in
+              let says : a ≡ Built.Keys (length (keysOf log)) = ap (λ (r : Rebuilt). r .answer) e ∙ rebuilt q .answers in
               let z : _≡_ {A = ℕ} 0 1 = cc in absurd (omega arith)
 
       -- the number of keys that a rebuilding tells
@@ -248,31 +268,41 @@ module _ (L : Layout) (n s : ℕ) (order area cells : List ℕ) where
         rule : IndexRule s log cells′
         long : length cells′ ≡ m
 
-      told : (k : ℕ) (cells′ : List ℕ) → _≡_ {A = Rebuilt} (record { answer = Built.Keys k; cells = cells′ }) (built L area s (d .map) order m) → Told k cells′
-      told k cells′ e = go (keysBad m log) refl
+      told : (a : Built) (k : ℕ) (cells′ : List ℕ) → Rebuilds a cells′ → a ≡ Built.Keys k → Told k cells′
+      told a k cells′ e counts = go (keysBad m log) refl
         where
           go : (t : Bool) → keysBad m log ≡ t → Told k cells′
           go true q =
-              let says : Built.Keys k ≡ Built.TooMany = ap (λ (r : Rebuilt). r .answer) (e ∙ overfull q) in
+              let says : a ≡ Built.TooMany = ap (λ (r : Rebuilt). r .answer) (e ∙ overfull q) in
               let z : _≡_ {A = ℕ} 0 1 = cc in absurd (omega arith)
           go false q =
               let h = rebuilt q in
-              let says : Built.Keys k ≡ Built.Keys (length (keysOf log)) = ap (λ (r : Rebuilt). r .answer) e ∙ h .answers in
+              let says : a ≡ Built.Keys (length (keysOf log)) = ap (λ (r : Rebuilt). r .answer) e ∙ h .answers in
               let its : cells′ ≡ built L area s (d .map) order m .cells = ap (λ (r : Rebuilt). r .cells) e in
               record { few = q; keys = cc; rule = subst (IndexRule s log) (sym its) (h .rule); long = ap length its ∙ h .long }
 
-      pub keys-promise : (k : ℕ) (cells′ : List ℕ) (store : Store)
-          → _≡_ {A = Rebuilt} (record { answer = Built.Keys k; cells = cells′ }) (built L area s (d .map) order m)
-          → store ≡ storeWith L n s m area i d top k
+      -- the number of keys fits
+      pub keys-few : (a : Built) (k : ℕ) (cells′ : List ℕ) → Rebuilds a cells′ → a ≡ Built.Keys k → k < 4097
+      keys-few a k cells′ e counts =
+          let t = told a k cells′ e counts in
+          omega (arith, ltb-false (m - 1) (length (keysOf log)) (t .few), cells-few)
+
+      pub keys-promise : (a : Built) (k : ℕ) (cells′ : List ℕ) (store : Store) → Rebuilds a cells′ → a ≡ Built.Keys k
+          → store ≡ storeWith L n s (length cells′) area i d top k
           → RecoverPromise L n s order area cells cells′ (record { answer = RecoverAnswer.Recovered; store = store })
       unfolding recovery recoveryFor IndexAfter
-      keys-promise k cells′ store e its =
-          let t = told k cells′ e in
-          let nothing : cause ≡ none = on-keys ∙ cause-none (when (keysBad m log) TooManyKeys) [] (t .few) refl in
+      keys-promise a k cells′ store e counts its =
+          let t = told a k cells′ e counts in
+          let nothing : cause ≡ none = on-keys ∙ cause-none (when (keysBad m log) TooManyKeys) [] (t .few) nil in
           let same : store ≡ storeUnder v n s m (record { slot = i; digest = d }) =
-          its ∙ (λ j. storeWith L n s m area i d (image .top-is j) (t .keys j)) in
+          its ∙ (λ j. storeWith L n s (t .long j) area i d (image .top-is j) (t .keys j)) in
           record {
-            answers = ?;
+            answers =
+                ap (λ (x : Store). record { answer = RecoverAnswer.Recovered; store = x }) (same ∙ ap (storeUnder v n s m) (sym (image .head)))
+                ∙ ap (λ (o : Option Refusal). recoveryFor o (storeOf L n s m area)) (sym nothing);
             same-length = t .long;
-            index = ?;
+            index = subst (λ (x : Store). IndexRule (x .size) (logNow L area x) cells′) (sym its) (t .rule);
           }
+        where
+          nil : firstCause [] ≡ none
+          nil = unfold firstCause in refl

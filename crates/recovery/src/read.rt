@@ -2,6 +2,7 @@
 use crate::Lookup;
 use index::Found;
 use index::search::search;
+use log::slots::cut;
 use record::ReadAnswer;
 use record::Reading;
 use record::Refusal;
@@ -15,17 +16,8 @@ ghost use Prim.Native.Nat.{_+_, _*_, _/_, _≤_, _<_};
 ghost use mathlib.Core.Path.{_≡_};
 ghost use lib.ListN.{length};
 ghost use Rattle.segment.specs.Layout.{edition1};
-ghost use Rattle.model.specs.Log.{segmentOf};
 ghost use Rattle.model.specs.Promises.{ReadPromise, ValuePromise};
 ghost use Rattle.recovery.specs.Lookups.{standsAt, lookupOf, lookedUp, toldBy};
-
-// A slot's part of the area.
-fn cut(s: usize, area: &[u8], slot: usize) -> &[u8]
-    requires { ⌜ slot * s + s ≤ length (now area) ⌝ }
-    ensures { λ r. ⌜ now r ≡ segmentOf (now (area .entry)) s slot ⌝ }
-{
-    &area[slot * s..slot * s + s]
-}
 
 // What stands at a place of the area, read in its slot's segment.
 fn look(s: usize, area: &[u8], place: usize) -> Lookup

@@ -1,11 +1,10 @@
 -- `recovery::read::read_value` meets its contract: the value is what the entry has behind its head.
 use Prim.Native.Nat.{ℕ, _-_, _+_}
 use mathlib.Core.Path.{_≡_, sym, _∙_, ap}
-use mathlib.Core.List.{List}
 use native.Mathlib.Omega.{arith}
 use lib.ListN.{take, drop}
 use Rattle.segment.specs.Layout.{edition1}
-use Rattle.recovery.specs.Lookups.{lookedUp, valueBy}
+use Rattle.recovery.specs.Lookups.{valueBy}
 use Rattle.recovery.specs.LookupLaws.{ObjectInside, object-inside, value-promise}
 use borrow.Author.Needs.{needs}
 use Rattle.recovery.proofs.read.read_value.Statement.{statement}

@@ -1,7 +1,7 @@
 -- `recovery::recover::slots_seen` meets its contract. The invariant: what is left of the list, added to the slots seen, gives
 -- the whole answer.
 use Prim.Native.Nat.{ℕ, _+_, _≤_, _-_}
-use mathlib.Core.Path.{_≡_, refl, sym, _∙_, ap}
+use mathlib.Core.Path.{_≡_, refl, _∙_, ap}
 use native.Mathlib.Omega.{arith}
 use lib.ListN.{length, drop}
 use borrow.Author.Needs.{needs}
