@@ -1,0 +1,5 @@
+pub mod Entries
+pub mod EntriesLaws
+pub mod Kept
+pub mod KeptLaws
+pub mod Copied
