@@ -4,4 +4,6 @@ pub mod Kept
 pub mod KeptLaws
 pub mod Outside
 pub mod KeptModel
+pub mod Begun
+pub mod CleanLaws
 pub mod Copied
