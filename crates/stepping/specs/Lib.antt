@@ -1,0 +1,3 @@
+-- The step of a pending operation, as total functions of whatever record and buffers it gets.
+pub mod Next
+pub mod NextLaws
