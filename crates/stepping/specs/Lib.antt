@@ -1,3 +1,4 @@
 -- The step of a pending operation, as total functions of whatever record and buffers it gets.
 pub mod Next
 pub mod NextLaws
+pub mod PlanLaws
