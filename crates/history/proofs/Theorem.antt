@@ -11,7 +11,7 @@ use lib.ListN.{length}
 use borrow.Author.Tests.{leb-true}
 use Rattle.word.specs.Number.{Bytes}
 use Rattle.segment.specs.Choice.{pick, both, both-left}
-use Rattle.segment.specs.Layout.{Layout, objectKind}
+use Rattle.segment.specs.Layout.{Layout, edition1, objectKind}
 use Rattle.segment.specs.Entry.{Entry}
 use Rattle.segment.specs.declared.Key.{Key}
 use Rattle.record.specs.Range.{between, cellsGood, fitsLent}
@@ -32,9 +32,10 @@ use Rattle.model.specs.Promises.{Genuine, FormatPromise, RecoverPromise, ReadPr
 use Rattle.laws.specs.CauseLaws.{cause-skip, cause-first, cause-none, cause-false}
 use Rattle.laws.specs.MapLaws.{valueAt, entryOf}
 use Rattle.laws.specs.Operated.{StoreLaws}
+use Rattle.laws.specs.StoreKept.{edition1-laws}
 use Rattle.history.specs.Book.{Event, called, cut, Kept, Book, freshBook, feed, bookAfter, bookOf, toldBy, highestTold}
 use Rattle.history.specs.Runs.{Held, World, freshWorld, Moves, start, step, read, readValue, recover, cuts, Run, stop, go}
-use Rattle.history.specs.Demand3.{LargeEnough, bookAnswer, bookValue, GivesBook, EventAgrees, StepsAgree, Holds, Demand3For}
+use Rattle.history.specs.Demand3.{LargeEnough, bookAnswer, bookValue, GivesBook, EventAgrees, StepsAgree, Holds, Demand3For, Demand3}
 use Rattle.history.proofs.Invariant.{Inv, HeldGood, baseCells, bookEntry, own-geometry}
 use Rattle.history.proofs.Starts.{start-keeps}
 use Rattle.history.proofs.Steps.{step-keeps}
@@ -212,3 +213,7 @@ module _ (L : Layout) (laws : StoreLaws L) (n s : ℕ) where
 -- Demand 3 for every layout whose store keeps the laws.
 pub demand-3-for : (L : Layout) → StoreLaws L → Demand3For L
 demand-3-for L laws n s area₀ area ab p es w r = holds L laws n s area₀ area ab p es w r
+
+-- Demand 3.
+pub demand-3 : Demand3
+demand-3 = demand-3-for edition1 edition1-laws

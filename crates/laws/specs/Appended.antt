@@ -11,14 +11,14 @@ use lib.ListN.{length}
 use Rattle.segment.specs.Layout.{Layout}
 use Rattle.segment.specs.Entry.{Entry, keyOf, sizeOf}
 use Rattle.segment.specs.declared.Digest.{Digest}
-use Rattle.slot_map.specs.Bit.{named}
+use Rattle.record.specs.RangeLaws.{map-in}
 use Rattle.record.specs.declared.Store.{Store}
-use Rattle.model.specs.Log.{View, Head, Item, Placed, scanned, itemsOf, endOf, isDamaged, placedIn, viewsOf, logOf, keysOf, highest, nextVersion}
+use Rattle.model.specs.Log.{View, Head, Item, Placed, scanned, itemsOf, endOf, isDamaged, placedIn, viewsOf, keysOf, highest, nextVersion}
 use Rattle.model.specs.Recovery.{logSlots, logUnder, storeUnder, recovered}
-use Rattle.model.specs.Operations.{countNew, appendedStore}
+use Rattle.model.specs.Operations.{logNow, countNew, appendedStore}
 use Rattle.laws.specs.HeadLaws.{top-stays}
 use Rattle.laws.specs.LogLaws.{partOf, part-picked, part-same, one-slot, OnePart, part-entered, Entered, placedAt, placed-append, entered-versions, entered-highest, entered-keys, scanned-undamaged, items-scanned, end-scanned}
-use Rattle.laws.specs.RecoverLaws.{Sound, Lent, good-names, sound-recovered, recovered-case}
+use Rattle.laws.specs.RecoverLaws.{Sound, Allowed, sound-recovered, recovered-case}
 
 -- Slot j has the item x more, and its entries now end at e; nothing else has changed.
 pub record Appends (v v′ : ℕ → View) (n j : ℕ) (x : Item) (e : ℕ) : Type 0 where
@@ -45,7 +45,7 @@ module _ (v v′ : ℕ → View) (n m : ℕ) (h : Head) (x : Item) (e : ℕ) (f 
   placed = placedAt (h .slot) x
 
   head-named : logSlots h (h .slot) ≡ true
-  head-named = good-names n (h .slot) (h .digest .map) (f .map-good)
+  head-named = map-in n (h .slot) (h .digest .map) (f .map-good) .head-named
 
   new-part : partOf v′ (logSlots h) (h .slot) ≡ partOf v (logSlots h) (h .slot) ++ placed ∷ []
   unfolding placedIn
@@ -99,28 +99,28 @@ module _ (v v′ : ℕ → View) (n m : ℕ) (h : Head) (x : Item) (e : ℕ) (f 
 module _ (L : Layout) (n s m : ℕ) (area area′ : List ℕ) (r : Store) (x : Item) (e : recovered L n s m area ≡ some r)
     (a : Appends (viewsOf L area s) (viewsOf L area′ s) n (r .head) x (r .end + sizeOf L (x .entry))) where
   pub appended-entered :
-      Entered (logOf (viewsOf L area s) (named (r .map)) n) (placedAt (r .head) x) (logOf (viewsOf L area′ s) (named (r .map)) n)
+      Entered (logNow L area r) (placedAt (r .head) x) (logNow L area′ (appendedStore L r (logNow L area r) (x .entry)))
   appended-entered =
       recovered-case L n s m area
       (λ (k : Store).
       Appends (viewsOf L area s) (viewsOf L area′ s) n (k .head) x (k .end + sizeOf L (x .entry))
-      → Entered (logOf (viewsOf L area s) (named (k .map)) n) (placedAt (k .head) x) (logOf (viewsOf L area′ s) (named (k .map)) n))
+      → Entered (logNow L area k) (placedAt (k .head) x) (logNow L area′ (appendedStore L k (logNow L area k) (x .entry))))
       (λ h l f b.
       appended-log (viewsOf L area s) (viewsOf L area′ s) n m h x (endOf (viewsOf L area s (h .slot) .scan) + sizeOf L (x .entry)) f b)
       r e a
 
   pub appended-recovered : length area′ ≡ length area
-      → Takes (r .next .0) (r .keys) m (logOf (viewsOf L area s) (named (r .map)) n) (x .entry)
-      → recovered L n s m area′ ≡ some (appendedStore L r (logOf (viewsOf L area s) (named (r .map)) n) (x .entry))
+      → Takes (r .next .0) (r .keys) m (logNow L area r) (x .entry)
+      → recovered L n s m area′ ≡ some (appendedStore L r (logNow L area r) (x .entry))
   appended-recovered same-length =
       recovered-case L n s m area
       (λ (k : Store).
       Appends (viewsOf L area s) (viewsOf L area′ s) n (k .head) x (k .end + sizeOf L (x .entry))
-      → Takes (k .next .0) (k .keys) m (logOf (viewsOf L area s) (named (k .map)) n) (x .entry)
-      → recovered L n s m area′ ≡ some (appendedStore L k (logOf (viewsOf L area s) (named (k .map)) n) (x .entry)))
+      → Takes (k .next .0) (k .keys) m (logNow L area k) (x .entry)
+      → recovered L n s m area′ ≡ some (appendedStore L k (logNow L area k) (x .entry)))
       (λ h l f b t.
       let end = endOf (viewsOf L area s (h .slot) .scan) + sizeOf L (x .entry) in
-      sound-recovered L n s m area′ h (subst (Lent n s m) (sym same-length) l)
+      sound-recovered L n s m area′ h (subst (Allowed n s m) (sym same-length) l)
       (appended-sound (viewsOf L area s) (viewsOf L area′ s) n m h x end f b t) ∙
       ap some (appended-store (viewsOf L area s) (viewsOf L area′ s) n m h x end f b t L s refl))
       r e a

@@ -14,4 +14,13 @@ pub mod HeadLaws
 pub mod LogLaws
 pub mod RecoverLaws
 pub mod Appended
+pub mod Headed
+pub mod Cleaned
 pub mod Operated
+pub mod Entering
+pub mod Planned
+pub mod EntryDone
+pub mod Fresh
+pub mod StoreKept
+pub mod Demand2
+pub mod Room

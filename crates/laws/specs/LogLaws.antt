@@ -15,7 +15,7 @@ use Rattle.segment.specs.declared.Digest.{Digest}
 use Rattle.model.specs.Log.{View, Item, Placed, Scan, damaged, scanned, itemsOf, endOf, isDamaged, placedIn, logOf, keysOf, hasVersion, versionShared, highest}
 use Rattle.model.specs.Operations.{countNew}
 use Rattle.model.specs.Recovery.{noDigest, namesNoDigest, logDamaged}
-use Rattle.laws.specs.Members.{In, Added, added-between}
+use Rattle.laws.specs.Members.{In, Within, Same, Added, added-between, those, total}
 use Rattle.laws.specs.Versions.{count, count-append, shared-fewer, shared-append, below-highest, highest-added}
 use Rattle.laws.specs.Keys.{keys-added}
 
@@ -270,6 +270,23 @@ module _ (v v′ : ℕ → View) (p p′ : ℕ → Bool) (j : ℕ) where
                 rw (h .new, f n (omega arith) (λ q. e (sym q)), append-assoc (h .before) (partOf v′ p′ j ++ h .after) (partOf v p n), append-assoc (partOf v′ p′ j) (h .after) (partOf v p n));
           }
 
+count-none : (k : ℕ) → count k [] ≡ 0
+unfolding total
+count-none k = refl
+
+pub one-part-count : (part part′ log log′ : List Placed) → OnePart part part′ log log′ → (k : ℕ)
+    → count k log′ + count k part ≡ count k log + count k part′
+one-part-count part part′ log log′ c k =
+    omega (
+      arith,
+      ap (count k) (c .old),
+      ap (count k) (c .new),
+      count-append k (c .before) (part ++ c .after),
+      count-append k (c .before) (part′ ++ c .after),
+      count-append k part (c .after),
+      count-append k part′ (c .after),
+    )
+
 -- One entry has come in.
 pub record Entered (log : List Placed) (x : Placed) (after : List Placed) : Type 0 where
   pub before : List Placed
@@ -335,3 +352,78 @@ items-scanned s e = rw e
 pub end-scanned : {is : List Item} {k : ℕ} (s : Scan) → s ≡ scanned is k → endOf s ≡ k
 unfolding endOf
 end-scanned s e = rw e
+
+-- A part put in anywhere, by members and by counts.
+module _ (part log after : List Placed) (c : OnePart [] part log after) where
+  pub part-members : Same (log ++ part) after
+  part-members = rw (c .old, c .new) (record { to = to; from = from })
+    where
+      to : Within (c .before ++ c .after ++ part) (c .before ++ (part ++ c .after))
+      to x i =
+          elim (List·Memᴰ·append-cases (c .before ++ c .after) i) [
+            | inl k ↦
+                elim (List·Memᴰ·append-cases (c .before) k) [
+                  | inl p ↦ Memᴰ·append-left (part ++ c .after) p
+                  | inr q ↦ Memᴰ·append-right (c .before) (Memᴰ·append-right part q)
+                ]
+            | inr k ↦ Memᴰ·append-right (c .before) (Memᴰ·append-left (c .after) k)
+          ]
+
+      from : Within (c .before ++ (part ++ c .after)) (c .before ++ c .after ++ part)
+      from x i =
+          elim (List·Memᴰ·append-cases (c .before) i) [
+            | inl p ↦ Memᴰ·append-left part (Memᴰ·append-left (c .after) p)
+            | inr k ↦
+                elim (List·Memᴰ·append-cases part k) [
+                  | inl p ↦ Memᴰ·append-right (c .before ++ c .after) p
+                  | inr q ↦ Memᴰ·append-left part (Memᴰ·append-right (c .before) q)
+                ]
+          ]
+
+  pub part-count : (k : ℕ) → count k after ≡ count k (log ++ part)
+  part-count k = omega (arith, one-part-count [] part log after c k, count-none k, count-append k log part)
+
+-- ---- members picked by their slot
+
+those-append : (q : Placed → Bool) (a b : List Placed) → those q (a ++ b) ≡ those q a ++ those q b
+unfolding those
+those-append q [] b = refl
+those-append q (x ∷ a) b = go (q x) (those-append q a b)
+  where
+    go : (t : Bool) → those q (a ++ b) ≡ those q a ++ those q b
+        → pick t (x ∷ those q (a ++ b)) (those q (a ++ b)) ≡ pick t (x ∷ those q a) (those q a) ++ those q b
+    go true e = unfold pick in ap (λ (l : List Placed). x ∷ l) e
+    go false e = unfold pick in e
+
+those-placed : (t : ℕ → Bool) (i : ℕ) (ys : List Item) → those (λ x. t (x .slot)) (placedIn i ys) ≡ pick (t i) (placedIn i ys) []
+unfolding those placedIn pick
+those-placed t i [] = go (t i)
+  where
+    go : (b : Bool) → _≡_ {A = List Placed} [] (pick b [] [])
+    go true = refl
+    go false = refl
+those-placed t i (y ∷ ys) = go (t i) (those-placed t i ys)
+  where
+    go : (b : Bool) → those (λ x. t (x .slot)) (placedIn i ys) ≡ pick b (placedIn i ys) []
+        → pick b (placedAt i y ∷ those (λ x. t (x .slot)) (placedIn i ys)) (those (λ x. t (x .slot)) (placedIn i ys))
+        ≡ pick b (placedAt i y ∷ placedIn i ys) []
+    go true e = ap (λ (l : List Placed). placedAt i y ∷ l) e
+    go false e = e
+
+-- the members in slots of which t holds are the log of those slots
+pub log-those : (v : ℕ → View) (p t : ℕ → Bool) (n : ℕ) → those (λ x. t (x .slot)) (logOf v p n) ≡ logOf v (λ i. both (p i) (t i)) n
+unfolding logOf those
+log-those v p t zero = refl
+log-those v p t (suc n) =
+    those-append (λ x. t (x .slot)) (logOf v p n) (partOf v p n) ∙ cc (log-those v p t n, part (p n))
+  where
+    part : (b : Bool) → those (λ x. t (x .slot)) (pick b (placedIn n (itemsOf (v n .scan))) [])
+        ≡ pick (both b (t n)) (placedIn n (itemsOf (v n .scan))) []
+    part true = unfold pick both in those-placed t n (itemsOf (v n .scan))
+    part false = unfold pick both in refl
+
+-- a log whose every slot adds nothing
+pub no-parts : (v : ℕ → View) (p : ℕ → Bool) (n : ℕ) → ((i : ℕ) → i < n → partOf v p i ≡ []) → logOf v p n ≡ []
+unfolding logOf
+no-parts v p zero h = refl
+no-parts v p (suc n) h = rw (no-parts v p n (λ i l. h i (omega arith)), h n (omega arith))

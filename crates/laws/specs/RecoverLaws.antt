@@ -1,5 +1,5 @@
 -- What an accepted recovery tells of an area, as one record of facts, and that these facts are all that it asks.
-use Prim.Native.Nat.{ℕ, _+_, _*_, _-_, _^_, _≤_, _<_}
+use Prim.Native.Nat.{ℕ, _*_, _-_, _^_, _≤_, _<_}
 use mathlib.Core.Path.{_≡_, refl, sym, ap, subst, _∙_}
 use mathlib.Core.Bool.{Bool, true, false, not}
 use mathlib.Core.List.{List, [], _∷_, _++_}
@@ -8,11 +8,12 @@ use native.Mathlib.Decide.{ℕ-discrete}
 use native.Mathlib.Omega.{arith}
 use lib.Dec.{eqb, ltb}
 use lib.ListN.{length, getD, drop}
-use borrow.Author.Tests.{ltb-true, ltb-false, eqb-true, eqb-false, not-false, lt-ltb, le-ltb, le-leb, eq-eqb, ne-eqb}
-use Rattle.segment.specs.Choice.{pick, pick-true, pick-false, both, both-left, both-right, both-true, either, either-false, either-false-left, either-false-right}
+use borrow.Author.Tests.{ltb-false, eqb-true, eqb-false, not-false, lt-ltb, le-ltb, le-leb, eq-eqb, ne-eqb}
+use Rattle.segment.specs.Choice.{pick, both, both-left, both-right, both-true, either, either-false, either-false-left, either-false-right}
 use Rattle.word.specs.Number.{Bytes}
 use Rattle.word.specs.Laws.{bytes-take, bytes-drop}
-use Rattle.segment.specs.Layout.{Layout, digestSize, versionLimit, numberLimit, goodVersion}
+use Rattle.segment.specs.Layout.{Layout, digestSize, versionLimit, numberLimit}
+use Rattle.segment.specs.LayoutLaws.{version-below}
 use Rattle.segment.specs.Entry.{Entry, entry, entryAt}
 use Rattle.segment.specs.EntryLaws.{found-accepted}
 use Rattle.segment.specs.DigestLaws.{digest-number-fits, digest-map-fits, digest-next-fits}
@@ -21,16 +22,20 @@ use Rattle.segment.specs.declared.Digest.{Digest}
 use Rattle.slot_map.specs.Bit.{named}
 use Rattle.slot_map.specs.Count.{used}
 use Rattle.record.specs.Range.{between, slotsGood, sizeGood, cellsGood, mapGood, leftGood, inRange, lengthsOwn, fitsLent}
+use Rattle.record.specs.RangeLaws.{map-in}
 use Rattle.record.specs.declared.Refusal.{Refusal}
 use Rattle.record.specs.declared.Refusal.the-variants.{BadOrder}
 use Rattle.record.specs.declared.Store.{Store}
 use Rattle.record.specs.declared.Recovery.{Recovery}
 use Rattle.record.specs.declared.RecoverAnswer.{RecoverAnswer}
-use Rattle.model.specs.Log.{View, Head, Placed, scanned, itemsOf, scan, digestIn, segmentOf, viewsOf, headOf, logOf, endOf, isDamaged, keysOf, versionShared, nextVersion}
+use Rattle.model.specs.Log.{View, Head, Placed, scanned, itemsOf, scan, digestIn, segmentOf, viewsOf, headOf, logOf, endOf, isDamaged, keysOf, versionShared, highest, nextVersion}
 use Rattle.model.specs.Causes.{Cause, when, firstCause}
 use Rattle.model.specs.Recovery.{noHead, headElse, sharing, mapBad, logSlots, logUnder, storeUnder, imageCauses, keyCauses, lentCauses, areaCauses, ifNone, storeOf, recovered, orderBad, recoveryFor, recovery, recoverCauses}
+use Rattle.model.specs.Operations.{logNow}
+use Rattle.laws.specs.CauseLaws.{cause-false, cause-rest, cause-none, cause-skip}
 use Rattle.laws.specs.Members.{clash, In}
-use Rattle.laws.specs.Versions.{highest-below}
+use Rattle.laws.specs.Latest.{Apart}
+use Rattle.laws.specs.Versions.{shared-apart, highest-below, below-highest}
 use Rattle.laws.specs.Stores.{slot-inside, length-segment}
 use Rattle.laws.specs.Scans.{scan-scans, scans-low, scans-high, scans-found}
 use Rattle.laws.specs.HeadLaws.{SameViews, digests-same, TopHead, head-is, is-top, top-head, top-alone, top-stays}
@@ -43,27 +48,19 @@ NoCause [] = Unit {0}
 NoCause (c ∷ cs) = (c .holds ≡ false) × NoCause cs
 
 pub no-cause : (cs : List Cause) → firstCause cs ≡ none → NoCause cs
-unfolding firstCause
 no-cause [] e = tt
-no-cause (c ∷ cs) e = go (c .holds) refl e (λ f. no-cause cs f)
-  where
-    go : (t : Bool) → c .holds ≡ t → pick t (some (c .refusal)) (firstCause cs) ≡ none → (firstCause cs ≡ none → NoCause cs)
-        → (c .holds ≡ false) × NoCause cs
-    go true q f r =
-        let z : _≡_ {A = ℕ} 0 1 = cc (pick-true true (some (c .refusal)) (firstCause cs) refl) in
-        absurd (omega arith)
-    go false q f r = (q, r (sym (pick-false false (some (c .refusal)) (firstCause cs) refl) ∙ f))
+no-cause (c ∷ cs) e = (cause-false c cs e, no-cause cs (cause-rest c cs e))
 
-pub cause-none : (cs : List Cause) → NoCause cs → firstCause cs ≡ none
+pub causes-none : (cs : List Cause) → NoCause cs → firstCause cs ≡ none
 unfolding firstCause
-cause-none [] f = refl
-cause-none (c ∷ cs) f = pick-false (c .holds) (some (c .refusal)) (firstCause cs) (f .0) ∙ cause-none cs (f .1)
+causes-none [] f = refl
+causes-none (c ∷ cs) f = cause-none c cs (f .0) (causes-none cs (f .1))
 
 -- a cause that does not hold might as well be left out
 pub cause-passed : (before : List Cause) (c : Cause) (after : List Cause) → c .holds ≡ false
     → firstCause (before ++ c ∷ after) ≡ firstCause (before ++ after)
 unfolding firstCause
-cause-passed [] c after e = pick-false (c .holds) (some (c .refusal)) (firstCause after) e
+cause-passed [] c after e = cause-skip c after e
 cause-passed (b ∷ bs) c after e =
     ap (λ (o : Option Refusal). pick (b .holds) (some (b .refusal)) o) (cause-passed bs c after e)
 
@@ -145,7 +142,7 @@ module _ (v : ℕ → View) (n m : ℕ) where
 -- ---- an area that recovery accepts
 
 -- The lent memory is of a length that the format allows.
-pub record Lent (n s m areaLength : ℕ) : Type 0 where
+pub record Allowed (n s m areaLength : ℕ) : Type 0 where
   pub slots-good : slotsGood n ≡ true
   pub size-good : sizeGood s ≡ true
   pub long : areaLength ≡ n * s
@@ -153,13 +150,13 @@ pub record Lent (n s m areaLength : ℕ) : Type 0 where
 
 -- Recovery of the area gives r: all that it has tested, and r itself.
 pub record Recovers (L : Layout) (n s m : ℕ) (area : List ℕ) (r : Store) : Type 0 where
-  pub lent : Lent n s m (length area)
+  pub lent : Allowed n s m (length area)
   pub head : Head
   pub head-is : headOf (viewsOf L area s) n ≡ some head
   pub sound : Sound (viewsOf L area s) n m head
   pub same : r ≡ storeUnder (viewsOf L area s) n s m head
 
-clear-lent : (n s m areaLength : ℕ) → NoCause (lentCauses n s m areaLength) → Lent n s m areaLength
+clear-lent : (n s m areaLength : ℕ) → NoCause (lentCauses n s m areaLength) → Allowed n s m areaLength
 clear-lent n s m areaLength f =
     let good = not-false _ (f .0) in
     let sizes = both-left _ _ good in
@@ -170,7 +167,7 @@ clear-lent n s m areaLength f =
       cells-good = not-false _ (f .1 .0);
     }
 
-lent-clear : (n s m areaLength : ℕ) → Lent n s m areaLength → NoCause (lentCauses n s m areaLength)
+lent-clear : (n s m areaLength : ℕ) → Allowed n s m areaLength → NoCause (lentCauses n s m areaLength)
 lent-clear n s m areaLength l = (
   ap not (both-true _ _ (both-true _ _ (l .slots-good) (l .size-good)) (eq-eqb areaLength (n * s) (l .long))),
   (ap not (l .cells-good), tt),
@@ -207,18 +204,18 @@ module _ (L : Layout) (n s m : ℕ) (area : List ℕ) where
       let image : NoCause (imageCauses v n (headOf v n) ++ keyCauses v n m (headOf v n)) =
       subst (λ (o : Option Head). NoCause (imageCauses v n o ++ keyCauses v n m o)) (sym (f .head-is))
       (sound-clear v n m (f .head) (f .sound)) in
-      let accepted = cause-none (areaCauses L n s m area) (lent .0, (lent .1 .0, image)) in
+      let accepted = causes-none (areaCauses L n s m area) (lent .0, (lent .1 .0, image)) in
       ap (λ (o : Option Refusal). ifNone o (storeOf L n s m area)) accepted ∙
       ap some (ap (λ (o : Option Head). storeUnder v n s m (headElse o)) (f .head-is) ∙ sym (f .same))
 
   -- the record by the facts alone: the head's slot and its equation follow from the rest
-  pub sound-recovered : (h : Head) → Lent n s m (length area) → Sound v n m h → recovered L n s m area ≡ some (storeUnder v n s m h)
+  pub sound-recovered : (h : Head) → Allowed n s m (length area) → Sound v n m h → recovered L n s m area ≡ some (storeUnder v n s m h)
   sound-recovered h l f =
       facts-recovered (storeUnder v n s m h)
       (record { lent = l; head = h; head-is = sound-head v n m h f; sound = f; same = refl })
 
   -- What is shown of every record under a sound head holds of a recovered one.
-  pub recovered-case : (P : Store → Type 0) → ((h : Head) → Lent n s m (length area) → Sound v n m h → P (storeUnder v n s m h))
+  pub recovered-case : (P : Store → Type 0) → ((h : Head) → Allowed n s m (length area) → Sound v n m h → P (storeUnder v n s m h))
       → (r : Store) → recovered L n s m area ≡ some r → P r
   recovered-case P t r e =
       let f = recovered-facts r e in
@@ -268,29 +265,16 @@ module _ (L : Layout) (n s m : ℕ) (area : List ℕ) where
 
 -- ---- the record is in range
 
-module _ (n head map : ℕ) where
-  pub good-below : mapGood n head map ≡ true → map < 2 ^ n
-  unfolding mapGood
-  good-below e = ltb-true map (2 ^ n) (both-left _ _ e)
-
-  pub good-names : mapGood n head map ≡ true → named map head ≡ true
-  unfolding mapGood
-  good-names e = both-left _ _ (both-right _ _ e)
-
-  pub good-free : mapGood n head map ≡ true → used n map < n
-  unfolding mapGood
-  good-free e = ltb-true (used n map) n (both-right _ _ (both-right _ _ e))
-
-  pub map-is-good : map < 2 ^ n → named map head ≡ true → used n map < n → mapGood n head map ≡ true
-  unfolding mapGood
-  map-is-good below names free = both-true _ _ (lt-ltb map (2 ^ n) below) (both-true _ _ names (lt-ltb (used n map) n free))
+pub in-map : (n head map : ℕ) → map < 2 ^ n → named map head ≡ true → used n map < n → mapGood n head map ≡ true
+unfolding mapGood
+in-map n head map below names free = both-true _ _ (lt-ltb map (2 ^ n) below) (both-true _ _ names (lt-ltb (used n map) n free))
 
 module _ (L : Layout) (v : ℕ → View) (n s m : ℕ) (h : Head) where
   -- the head's entries end in its segment, behind the digest
   abbrev pub EndsInside : Type 0
   EndsInside = (digestSize L ≤ endOf (v (h .slot) .scan)) × (endOf (v (h .slot) .scan) ≤ s)
 
-  pub under-in-range : (areaLength : ℕ) → Lent n s m areaLength → Sound v n m h → EndsInside → inRange L (storeUnder v n s m h) ≡ true
+  pub under-in-range : (areaLength : ℕ) → Allowed n s m areaLength → Sound v n m h → EndsInside → inRange L (storeUnder v n s m h) ≡ true
   unfolding inRange between leftGood
   under-in-range areaLength l f e =
       both-true _ _
@@ -302,11 +286,54 @@ module _ (L : Layout) (v : ℕ → View) (n s m : ℕ) (h : Head) where
       (ap not (ne-eqb (nextVersion (h .digest) (logUnder v n h)) 0 (λ z. omega arith)))))
       (both-true _ _ (le-leb (length (keysOf (logUnder v n h))) (m - 1) (f .keys)) refl))
 
-  pub under-fits : (areaLength : ℕ) → Lent n s m areaLength → Sound v n m h → EndsInside
+  pub under-fits : (areaLength : ℕ) → Allowed n s m areaLength → Sound v n m h → EndsInside
       → fitsLent L (storeUnder v n s m h) areaLength m ≡ true
   unfolding fitsLent lengthsOwn
   under-fits areaLength l f e =
       both-true _ _ (under-in-range areaLength l f e) (both-true _ _ (eq-eqb areaLength (n * s) (l .long)) (eq-eqb m m refl))
+
+-- ---- the log of a recovered record
+
+module _ (L : Layout) (n s m : ℕ) (area : List ℕ) (r : Store) (e : recovered L n s m area ≡ some r) where
+  pub recovered-versions : versionShared (logNow L area r) ≡ false
+  recovered-versions = recovered-case L n s m area (λ (k : Store). versionShared (logNow L area k) ≡ false) (λ h l f. f .versions) r e
+
+  pub recovered-apart : Apart (logNow L area r)
+  recovered-apart = shared-apart (logNow L area r) recovered-versions
+
+  pub recovered-keys : r .keys ≡ length (keysOf (logNow L area r))
+  recovered-keys = recovered-case L n s m area (λ (k : Store). k .keys ≡ length (keysOf (logNow L area k))) (λ h l f. refl) r e
+
+  -- the next version is above every version in the log
+  pub recovered-highest : highest (logNow L area r) < r .next .0
+  recovered-highest = recovered-case L n s m area (λ (k : Store). highest (logNow L area k) < k .next .0) (λ h l f. omega arith) r e
+
+  pub recovered-above : (x : Placed) → In x (logNow L area r) → x .entry .version < r .next .0
+  recovered-above = below-highest (logNow L area r) (r .next .0) recovered-highest
+
+-- A larger index changes nothing but the number of its cells.
+pub more-sound : (v : ℕ → View) (n m k : ℕ) (h : Head) → m ≤ k → Sound v n m h → Sound v n k h
+more-sound v n m k h l f =
+    record {
+      top = f .top;
+      numbered = f .numbered;
+      map-good = f .map-good;
+      digests = f .digests;
+      next-set = f .next-set;
+      scans = f .scans;
+      versions = f .versions;
+      keys = omega (arith, f .keys);
+    }
+
+pub recovered-more : (L : Layout) (n s m k : ℕ) (area : List ℕ) (r : Store) → recovered L n s m area ≡ some r → cellsGood k ≡ true → m ≤ k
+    → recovered L n s k area ≡ some (storeOf L n s k area)
+unfolding headElse
+recovered-more L n s m k area r e good l =
+    let f = recovered-facts L n s m area r e in
+    sound-recovered L n s k area (f .head)
+    (record { slots-good = f .lent .slots-good; size-good = f .lent .size-good; long = f .lent .long; cells-good = good })
+    (more-sound (viewsOf L area s) n m k (f .head) l (f .sound)) ∙
+    ap (λ (o : Option Head). some (storeUnder (viewsOf L area s) n s k (headElse o))) (sym (f .head-is))
 
 -- ---- what leaves the store as it was
 
@@ -338,7 +365,7 @@ module _ (v v′ : ℕ → View) (n m : ℕ) (h : Head) (f : Sound v n m h) (u :
       log-same v v′ (logSlots h) (logSlots h) n (λ i l. refl) (λ i l e. ap (λ (x : View). x .scan) (u .kept i l e))
 
   head-kept : v′ (h .slot) ≡ v (h .slot)
-  head-kept = u .kept (h .slot) (f .top .below) (good-names n (h .slot) (h .digest .map) (f .map-good))
+  head-kept = u .kept (h .slot) (f .top .below) (map-in n (h .slot) (h .digest .map) (f .map-good) .head-named)
 
   pub untouched-sound : Sound v′ n m h
   untouched-sound =
@@ -366,7 +393,7 @@ module _ (L : Layout) (n s m : ℕ) (area area′ : List ℕ) (same-length : len
   pub untouched-recovered : (r : Store) (f : Recovers L n s m area r) → Untouched (viewsOf L area s) (viewsOf L area′ s) n (f .head)
       → recovered L n s m area′ ≡ some r
   untouched-recovered r f u =
-      sound-recovered L n s m area′ (f .head) (subst (Lent n s m) (sym same-length) (f .lent))
+      sound-recovered L n s m area′ (f .head) (subst (Allowed n s m) (sym same-length) (f .lent))
       (untouched-sound (viewsOf L area s) (viewsOf L area′ s) n m (f .head) (f .sound) u) ∙
       ap some (untouched-store (viewsOf L area s) (viewsOf L area′ s) n m (f .head) (f .sound) u s ∙ sym (f .same))
 
@@ -414,11 +441,10 @@ segment-bytes area s i h = bytes-take s (drop (i * s) area) (bytes-drop (i * s) 
 
 -- an entry that is found has a version below the limit
 found-version : (L : Layout) (b : List ℕ) (at : ℕ) (x : Entry) → entryAt L b at ≡ entry x → x .version < versionLimit L
-unfolding goodVersion
-found-version L b at x e = ltb-true (x .version) (versionLimit L) (both-right _ _ (found-accepted L b at x e .good))
+found-version L b at x e = version-below L (x .version) (found-accepted L b at x e .good)
 
 module _ (L : Layout) (n s m : ℕ) (area : List ℕ) (r : Store) (e : recovered L n s m area ≡ some r) where
-  pub recovered-lent : Lent n s m (length area)
+  pub recovered-lent : Allowed n s m (length area)
   recovered-lent = recovered-facts L n s m area r e .lent
 
   pub recovered-below : r .head < n
@@ -434,7 +460,7 @@ module _ (L : Layout) (n s m : ℕ) (area : List ℕ) (r : Store) (e : recovered
       (λ (k : Store). scan L (segmentOf area s (k .head)) ≡ scanned (itemsOf (scan L (segmentOf area s (k .head)))) (k .end))
       (λ h l f.
       scan-whole (scan L (segmentOf area s (h .slot)))
-      (f .scans (h .slot) (f .top .below) (good-names n (h .slot) (h .digest .map) (f .map-good)))) r e
+      (f .scans (h .slot) (f .top .below) (map-in n (h .slot) (h .digest .map) (f .map-good) .head-named))) r e
 
   pub recovered-ends : (digestSize L ≤ r .end) × (r .end ≤ s)
   recovered-ends =

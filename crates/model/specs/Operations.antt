@@ -106,14 +106,20 @@ pub record Laid : Type 0 where
   pub pending : ℕ → Pending
   pub bytes : List ℕ
 
--- an entry, appended to the head if it fits, else in a new head behind its digest
-abbrev pub laidEntry : Layout → Store → Entry → Laid
-laidEntry L r e =
-    pick (fitsHead L r e) (record { pending = λ k. Append (sizeOf L e) k; bytes = encoded L e })
-    (record {
+-- an entry appended to the head, and one in a new head behind its digest
+abbrev pub laidAppend : Layout → Entry → Laid
+laidAppend L e = record { pending = λ k. Append (sizeOf L e) k; bytes = encoded L e }
+
+abbrev pub laidHead : Layout → Store → Entry → Laid
+laidHead L r e =
+    record {
       pending = λ k. NewHead (newSlot r) (digestSize L + sizeOf L e) k;
       bytes = encodedDigest L (newDigest r 0) ++ encoded L e;
-    })
+    }
+
+-- An entry is appended to the head if it fits, else it comes to a new head.
+abbrev pub laidEntry : Layout → Store → Entry → Laid
+laidEntry L r e = pick (fitsHead L r e) (laidAppend L e) (laidHead L r e)
 
 abbrev pub laidClean : Layout → Store → List Placed → ℕ → Laid
 laidClean L r log victims =

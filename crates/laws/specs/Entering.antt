@@ -1,0 +1,167 @@
+-- What an accepted write or delete has tested: its entry is well formed, takes the next version, finds room in the index, and fits
+-- the head or a new one.
+use Prim.Native.Nat.{ℕ, zero, suc, _+_, _-_, _^_, _≤_, _<_}
+use native.Mathlib.Omega.{arith}
+use native.Mathlib.Decide.{decLt}
+use mathlib.Core.Path.{_≡_, refl, sym, ap, _∙_, subst}
+use mathlib.Core.Bool.{Bool, true, false, not}
+use mathlib.Core.List.{List, [], _∷_}
+use mathlib.Core.Option.{Option, none, some}
+use lib.Dec.{eqb, ltb, leb}
+use lib.ListN.{length}
+use borrow.Author.Tests.{eqb-false, ltb-false, not-false}
+use Rattle.word.specs.Number.{Bytes}
+use Rattle.segment.specs.Choice.{pick, both, pick-true, pick-false}
+use Rattle.segment.specs.Layout.{Layout, edition1, valueLength, objectKind, isTombstone, entrySize, digestSize, versionLimit, numberLimit, lookup}
+use Rattle.segment.specs.LayoutLaws.{object-kind, object-no-tombstone, tombstone-length, version-good}
+use Rattle.segment.specs.Entry.{Entry, WellFormed, sizeOf, keyOf}
+use Rattle.segment.specs.declared.Key.{Key}
+use Rattle.slot_map.specs.Count.{used, free}
+use Rattle.record.specs.RangeLaws.{Lent, lent}
+use Rattle.record.specs.declared.Store.{Store}
+use Rattle.model.specs.Log.{Placed, hasKey, present, latest, objectOnly}
+use Rattle.model.specs.Recovery.{recovered}
+use Rattle.model.specs.Operations.{Operation, write, delete, clean, Typed, TypedKey, logNow, kindElse, writtenEntry, tombstoneEntry, fitsHead, countNew}
+use Rattle.model.specs.Refused.{Lengths, startCauses, writeCauses, deleteCauses, isNone, isAbsent}
+use Rattle.laws.specs.Latest.{latest-has}
+use Rattle.laws.specs.RecoverLaws.{NoCause, no-cause, recovered-fits, recovered-next, recovered-number}
+use Rattle.laws.specs.Appended.{Takes}
+use Rattle.laws.specs.Operated.{Accepted}
+
+-- A layout of which every entry fits a fresh segment of the smallest size, and whose versions take a byte at least.
+pub record Roomy (L : Layout) : Type 0 where
+  pub wide : 0 < L .width
+  pub room : (k n : ℕ) → valueLength L k ≡ some n → digestSize L + entrySize L n ≤ 256
+
+-- What is known of the entry of an accepted write or delete.
+pub record Entering (L : Layout) (before : List ℕ) (idle : Store) (e : Entry) : Type 0 where
+  pub formed : WellFormed L e
+  pub takes : Takes (idle .next .0) (idle .keys) (idle .cells) (logNow L before idle) e
+  pub two-free : fitsHead L idle e ≡ false → used (idle .slots) (idle .map) + 2 ≤ idle .slots
+  pub number-left : fitsHead L idle e ≡ false → idle .number .0 < numberLimit
+
+-- ---- the record of an accepted operation
+
+module _ (L : Layout) (before : List ℕ) (idle : Store) (o : Operation) (a : Accepted L before idle o) where
+  pub idle-lent : Lent L idle (length before) (idle .cells)
+  idle-lent = lent L idle (length before) (idle .cells) (recovered-fits L (idle .slots) (idle .size) (idle .cells) before idle (a .recovers))
+
+  pub idle-next : idle .next .0 ≤ versionLimit L
+  idle-next = recovered-next L (idle .slots) (idle .size) (idle .cells) before idle (a .recovers) (a .area-bytes)
+
+  pub idle-number : idle .number .0 ≤ numberLimit
+  idle-number = recovered-number L (idle .slots) (idle .size) (idle .cells) before idle (a .recovers) (a .area-bytes)
+
+-- ---- tests taken apart
+
+both-split : (a b : Bool) → both a b ≡ false → a ≡ true → b ≡ false
+unfolding both
+both-split true b e t = e
+both-split false b e t = cc
+
+not-true-of : (t : Bool) → t ≡ false → not t ≡ true
+not-true-of t e = ap not e
+
+number-below : (x : ℕ) → x ≤ numberLimit → eqb x numberLimit ≡ false → x < numberLimit
+number-below x h e = omega (arith, eqb-false x numberLimit e)
+
+free-two : (n used : ℕ) → used ≤ n → ltb (n - used) 2 ≡ false → used + 2 ≤ n
+free-two n used h e = omega (arith, ltb-false (n - used) 2 e)
+
+some-kind : (o : Option ℕ) → isNone o ≡ false → o ≡ some (kindElse o)
+unfolding isNone kindElse
+some-kind none e = cc
+some-kind (some k) e = refl
+
+-- a new key finds room where the keys are not full
+new-room : (has : Bool) (keys m : ℕ) → keys ≤ m - 1 → both (not has) (eqb keys (m - 1)) ≡ false → keys + pick has 0 1 ≤ m - 1
+unfolding pick both
+new-room true keys m h e = omega arith
+new-room false keys m h e = omega (arith, eqb-false keys (m - 1) e)
+
+pick-room : (keys m : ℕ) → keys ≤ m - 1 → keys + pick true 0 1 ≤ m - 1
+unfolding pick
+pick-room keys m h = omega arith
+
+-- a present key has an entry
+present-has : (L : Layout) (log : List Placed) (k : Key) → isAbsent (present L log k) ≡ false → hasKey log k ≡ true
+unfolding present objectOnly isAbsent
+present-has L log k e = go (latest log k) refl e
+  where
+    go : (x : Option Placed) → latest log k ≡ x → isAbsent (objectOnly L x) ≡ false → hasKey log k ≡ true
+    go none p q = cc
+    go (some x) p q = latest-has log k x p
+
+-- ---- write and delete
+
+module _ (L : Layout) (before : List ℕ) (idle : Store) (k : Key) where
+  abbrev log : List Placed
+  log = logNow L before idle
+
+  pub write-enters : (value : List ℕ) → Accepted L before idle (write k value) → Entering L before idle (writtenEntry L idle k value)
+  unfolding startCauses countNew
+  write-enters value a =
+      record {
+        formed =
+            record {
+              kind-known = object-kind L (length value) (kindElse (objectKind L (length value))) kind;
+              table-fits = a .typed .0 .0;
+              key-fits = a .typed .0 .1;
+              version-good = version-good L (idle .next .0) (facts .next-some) (omega (arith, idle-next L before idle (write k value) a, eqb-false (idle .next .0) (versionLimit L) (tests .1 .1 .1 .1 .0)));
+              value-bytes = a .typed .1;
+            };
+        takes = record { version = refl; room = new-room (hasKey log k) (idle .keys) (idle .cells) (facts .keys-high) (tests .1 .1 .1 .1 .1 .0) };
+        two-free = λ f. free-two (idle .slots) (used (idle .slots) (idle .map)) (omega (arith, facts .some-free)) (both-split _ _ (tests .1 .1 .1 .1 .1 .1 .0) (not-true-of _ f));
+        number-left = λ f. number-below (idle .number .0) (idle-number L before idle (write k value) a) (both-split _ _ (tests .1 .1 .1 .1 .1 .1 .1 .0) (not-true-of _ f));
+      }
+    where
+      tests : NoCause (writeCauses L idle log (a .lengths) k value)
+      tests = no-cause (startCauses L idle log (a .lengths) (write k value)) (a .no-cause)
+
+      facts : Lent L idle (length before) (idle .cells)
+      facts = idle-lent L before idle (write k value) a
+
+      kind : objectKind L (length value) ≡ some (kindElse (objectKind L (length value)))
+      kind = some-kind (objectKind L (length value)) (tests .1 .1 .1 .0)
+
+  pub delete-enters : Accepted L before idle (delete k) → Entering L before idle (tombstoneEntry L idle k)
+  unfolding startCauses countNew
+  delete-enters a =
+      record {
+        formed =
+            record {
+              kind-known = tombstone-length L;
+              table-fits = a .typed .0;
+              key-fits = a .typed .1;
+              version-good =
+                  version-good L (idle .next .0) (facts .next-some)
+                  (omega (arith, idle-next L before idle (delete k) a, eqb-false (idle .next .0) (versionLimit L) (tests .1 .1 .1 .1 .0)));
+              value-bytes = λ i. omega arith;
+            };
+        takes =
+            record {
+              version = refl;
+              room = rw (present-has L log k (tests .1 .1 .1 .0)) (pick-room (idle .keys) (idle .cells) (facts .keys-high));
+            };
+        two-free =
+            λ f.
+            free-two (idle .slots) (used (idle .slots) (idle .map)) (omega (arith, facts .some-free))
+            (both-split _ _ (tests .1 .1 .1 .1 .1 .0) (not-true-of _ f));
+        number-left =
+            λ f.
+            number-below (idle .number .0) (idle-number L before idle (delete k) a)
+            (both-split _ _ (tests .1 .1 .1 .1 .1 .1 .0) (not-true-of _ f));
+      }
+    where
+      tests : NoCause (deleteCauses L idle log (a .lengths) k)
+      tests = no-cause (startCauses L idle log (a .lengths) (delete k)) (a .no-cause)
+
+      facts : Lent L idle (length before) (idle .cells)
+      facts = idle-lent L before idle (delete k) a
+
+  -- what is written is an object
+  pub write-object : (value : List ℕ) → Accepted L before idle (write k value) → isTombstone L (writtenEntry L idle k value .kind) ≡ false
+  unfolding startCauses
+  write-object value a =
+      object-no-tombstone L (length value) (kindElse (objectKind L (length value)))
+      (some-kind (objectKind L (length value)) (no-cause (startCauses L idle log (a .lengths) (write k value)) (a .no-cause) .1 .1 .1 .0))

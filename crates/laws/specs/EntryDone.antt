@@ -1,0 +1,151 @@
+-- A finished write or delete: what recovery gives, and what reading by the rule of versions gives of every key.
+use Prim.Native.Nat.{ℕ, zero, suc, _+_, _-_, _*_, _^_, _≤_, _<_, max}
+use native.Mathlib.Omega.{arith}
+use mathlib.Core.Path.{_≡_, refl, sym, ap, _∙_, subst, subst⁻¹}
+use mathlib.Core.Bool.{Bool, true, false, not}
+use mathlib.Core.List.{List, [], _∷_, _++_, List·Memᴰ}
+use mathlib.Core.Option.{Option, none, some}
+use lib.Dec.{leb}
+use lib.ListN.{length}
+use borrow.Author.Tests.{leb-true}
+use Rattle.word.specs.Number.{Bytes}
+use Rattle.segment.specs.Choice.{pick}
+use Rattle.segment.specs.Layout.{Layout, digestSize, isTombstone, versionLimit, numberLimit, objectKind}
+use Rattle.segment.specs.LayoutLaws.{object-no-tombstone, version-fits}
+use Rattle.segment.specs.Entry.{Entry, WellFormed, encoded, sizeOf}
+use Rattle.segment.specs.EntryLaws.{length-encoded}
+use Rattle.segment.specs.Digest.{encodedDigest}
+use Rattle.segment.specs.declared.Digest.{Digest}
+use Rattle.segment.specs.declared.Key.{Key}
+use Rattle.slot_map.specs.Bit.{named}
+use Rattle.slot_map.specs.BitLaws.{add-below}
+use Rattle.slot_map.specs.NextLaws.{next-clear}
+use Rattle.slot_map.specs.Count.{used, free}
+use Rattle.record.specs.RangeLaws.{Lent, lent}
+use Rattle.record.specs.declared.Store.{Store}
+use Rattle.model.specs.Log.{View, Item, Placed, scan, scanned, itemsOf, segmentOf, viewsOf, logOf, highest, versionShared, sameKey}
+use Rattle.model.specs.Recovery.{recovered}
+use Rattle.model.specs.Operations.{Operation, logNow, fitsHead, newSlot, newDigest, allEncoded, laidAppend, laidHead, laidEntry, commit, planOf, stored, appendedStore, headedStore, entryStore}
+use Rattle.laws.specs.Versions.{below-highest}
+use Rattle.laws.specs.MapLaws.{valueAt, gives, Above, value-added}
+use Rattle.laws.specs.Stores.{length-stored, slot-inside}
+use Rattle.laws.specs.Scans.{itemAt, encoded-one}
+use Rattle.laws.specs.AppendBytes.{append-other, append-digest, append-scan}
+use Rattle.laws.specs.NewHeadBytes.{headPlan, formed-one, new-head-other, new-head-view}
+use Rattle.laws.specs.LogLaws.{Entered, entered-added}
+use Rattle.laws.specs.RecoverLaws.{recovered-fits, recovered-scan, recovered-highest, recovered-apart}
+use Rattle.laws.specs.Appended.{Appends, appended-entered, appended-recovered}
+use Rattle.laws.specs.Headed.{none-within, Heads, headed-entered, headed-recovered}
+use Rattle.laws.specs.Entering.{Roomy, Entering}
+use Rattle.laws.specs.Planned.{new-below, new-map-fits, new-next-fits}
+
+-- ---- the entry in its place
+
+module _ (L : Layout) (roomy : Roomy L) (area : List ℕ) (r : Store) (x : Entry) (e : recovered L (r .slots) (r .size) (r .cells) area ≡ some r)
+    (bytes : Bytes area) (f : Entering L area r x)
+  where
+    facts : Lent L r (length area) (r .cells)
+    facts = lent L r (length area) (r .cells) (recovered-fits L (r .slots) (r .size) (r .cells) area r e)
+
+    -- what is to be shown of the area and the record after the last store
+    abbrev Done : List ℕ → Store → Type 0
+    Done area′ r′ =
+        (recovered L (r .slots) (r .size) (r .cells) area′ ≡ some r′)
+        × ((j : Key) → valueAt L (logNow L area′ r′) j ≡ pick (sameKey j x) (gives L x) (valueAt L (logNow L area r) j))
+
+    above : (slot offset : ℕ) → Above (record { slot = slot; offset = offset; entry = x }) (logNow L area r)
+    above slot offset =
+        below-highest (logNow L area r) (x .version) (subst⁻¹ (λ (v : ℕ). highest (logNow L area r) < v) (f .takes .version) (recovered-highest L (r .slots) (r .size) (r .cells) area r e))
+
+    -- at the end of the head
+    appended : r .end + sizeOf L x ≤ r .size → Done (stored area (commit (r .size) (r .head) (r .end) (encoded L x))) (appendedStore L r (logNow L area r) x)
+    appended fits = (
+      appended-recovered L (r .slots) (r .size) (r .cells) area after r (itemAt (r .end) x) e views (length-stored area plan) (f .takes),
+      value-added (logNow L area r) (record { slot = r .head; offset = r .end; entry = x }) (logNow L after (appendedStore L r (logNow L area r) x))
+          (entered-added (logNow L area r) (record { slot = r .head; offset = r .end; entry = x }) (logNow L after (appendedStore L r (logNow L area r) x))
+          (appended-entered L (r .slots) (r .size) (r .cells) area after r (itemAt (r .end) x) e views)) (above (r .head) (r .end)) L
+          (recovered-apart L (r .slots) (r .size) (r .cells) area r e),
+    )
+      where
+        plan : List (ℕ × ℕ)
+        plan = commit (r .size) (r .head) (r .end) (encoded L x)
+
+        after : List ℕ
+        after = stored area plan
+
+        items : List Item
+        items = itemsOf (scan L (segmentOf area (r .size) (r .head)))
+
+        views : Appends (viewsOf L area (r .size)) (viewsOf L after (r .size)) (r .slots) (r .head) (itemAt (r .end) x) (r .end + sizeOf L x)
+        views =
+            record {
+              others =
+                  λ i l o.
+                  append-other L (r .slots) (r .size) (r .head) area items (r .end) x (facts .area-own) (facts .head-below)
+                  (recovered-scan L (r .slots) (r .size) (r .cells) area r e) (f .formed) fits i o;
+              digest =
+                  append-digest L (r .slots) (r .size) (r .head) area items (r .end) x (facts .area-own) (facts .head-below)
+                  (recovered-scan L (r .slots) (r .size) (r .cells) area r e) (f .formed) fits;
+              scan =
+                  append-scan L (r .slots) (r .size) (r .head) area items (r .end) x (facts .area-own) (facts .head-below)
+                  (recovered-scan L (r .slots) (r .size) (r .cells) area r e) (f .formed) fits;
+            }
+
+    -- in a new head
+    headed :
+        fitsHead L r x ≡ false →
+        Done (stored area (headPlan L (r .size) (newSlot r) (newDigest r 0) (x ∷ []))) (headedStore L r (logNow L area r) x)
+    headed no-fit = (
+      headed-recovered L (r .slots) (r .size) (r .cells) area after r x e views (length-stored area plan) (omega (arith, f .two-free no-fit)) (f .takes),
+      value-added (logNow L area r) (record { slot = newSlot r; offset = digestSize L; entry = x }) (logNow L after (headedStore L r (logNow L area r) x))
+          (entered-added (logNow L area r) (record { slot = newSlot r; offset = digestSize L; entry = x }) (logNow L after (headedStore L r (logNow L area r) x))
+          (headed-entered L (r .slots) (r .size) (r .cells) area after r x e views)) (above (newSlot r) (digestSize L)) L (recovered-apart L (r .slots) (r .size) (r .cells) area r e),
+    )
+      where
+        plan : List (ℕ × ℕ)
+        plan = headPlan L (r .size) (newSlot r) (newDigest r 0) (x ∷ [])
+
+        after : List ℕ
+        after = stored area plan
+
+        fits : digestSize L + length (allEncoded L (x ∷ [])) ≤ r .size
+        fits =
+            omega (
+              arith,
+              ap length (encoded-one L x),
+              length-encoded L x,
+              roomy .room (x .kind) (length (x .value)) (f .formed .kind-known),
+              facts .size-low,
+            )
+
+        views : Heads L (viewsOf L area (r .size)) (viewsOf L after (r .size)) (r .slots) (newSlot r) (newDigest r 0) (x ∷ [])
+        views =
+            record {
+              others = λ i l o. new-head-other L (r .size) (newSlot r) area (newDigest r 0) (x ∷ []) fits i o;
+              own =
+                  new-head-view L (newDigest r 0) (x ∷ []) (omega (arith, f .number-left no-fit))
+                  (new-map-fits L area r e 0 (none-within (r .map))) (new-next-fits L area r e bytes) (formed-one L x (f .formed)) (r .slots)
+                  (r .size) (newSlot r) area (facts .area-own) (new-below L area r e) fits;
+            }
+
+    -- Whichever it is: recovery gives the record of 01's formulas, and the map is the old one with the key set or gone.
+    pub entry-done :
+        (recovered L (r .slots) (r .size) (r .cells) (stored area (planOf r (laidEntry L r x .pending 0) (laidEntry L r x .bytes))) ≡
+        some (entryStore L r (logNow L area r) x))
+        × ((j : Key) →
+        valueAt L (logNow L (stored area (planOf r (laidEntry L r x .pending 0) (laidEntry L r x .bytes))) (entryStore L r (logNow L area r) x)) j ≡
+        pick (sameKey j x) (gives L x) (valueAt L (logNow L area r) j))
+    unfolding pick planOf
+    entry-done = go (fitsHead L r x) refl
+      where
+        goal : Bool → Type 0
+        goal t = Done (stored area (planOf r (pick t (laidAppend L x) (laidHead L r x) .pending 0) (pick t (laidAppend L x) (laidHead L r x) .bytes))) (pick t (appendedStore L r (logNow L area r) x) (headedStore L r (logNow L area r) x))
+
+        go : (t : Bool) → fitsHead L r x ≡ t → goal t
+        go true p = appended (leb-true (r .end + sizeOf L x) (r .size) p)
+        go false p =
+            subst
+            (λ (b : List ℕ).
+            Done (stored area ((newSlot r * r .size, 0) ∷ commit (r .size) (newSlot r) 0 (encodedDigest L (newDigest r 0) ++ b)))
+            (headedStore L r (logNow L area r) x))
+            (encoded-one L x) (headed p)

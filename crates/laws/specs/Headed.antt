@@ -1,0 +1,244 @@
+-- A new head: the slot that it takes has the highest digest number, and the log is what its map leaves of the old one, and its own
+-- entries. With one entry and no victims this is a write or a delete that did not fit the old head.
+use Prim.Native.Nat.{ℕ, _+_, _-_, _^_, _≤_, _<_}
+use mathlib.Core.Path.{_≡_, refl, sym, ap, subst, _∙_}
+use mathlib.Core.Bool.{Bool, true, false, not}
+use mathlib.Core.Logic.{_⊎_, inl, inr}
+use mathlib.Core.List.{List, [], _∷_}
+use mathlib.Core.Option.{some}
+use native.Mathlib.Decide.{ℕ-discrete}
+use native.Mathlib.Omega.{arith}
+use lib.Dec.{eqb}
+use lib.ListN.{length}
+use Rattle.segment.specs.Choice.{both, both-left, both-false-left}
+use Rattle.segment.specs.Layout.{Layout, digestSize}
+use Rattle.segment.specs.Entry.{Entry}
+use Rattle.segment.specs.EntryLaws.{length-encoded}
+use Rattle.segment.specs.declared.Digest.{Digest}
+use Rattle.slot_map.specs.Bit.{bit, named, within}
+use Rattle.slot_map.specs.BitLaws.{bit-cases, bit-of-zero, bit-add-same, bit-add-other, bit-sub, within-of-le, set-named, clear-named, add-below}
+use Rattle.slot_map.specs.Count.{used}
+use Rattle.slot_map.specs.CountLaws.{clear-sub, used-renewed}
+use Rattle.slot_map.specs.NextLaws.{next-below, next-clear}
+use Rattle.record.specs.RangeLaws.{map-in}
+use Rattle.record.specs.declared.Store.{Store}
+use Rattle.model.specs.Log.{View, Head, Placed, scanned, endOf, isDamaged, placedIn, viewsOf, logOf, keysOf, versionShared, highest, nextVersion}
+use Rattle.model.specs.Recovery.{logSlots, logUnder, storeUnder, recovered}
+use Rattle.model.specs.Operations.{logNow, newSlot, newDigest, outsideSlots, allEncoded, placedFrom, headedStore}
+use Rattle.laws.specs.Scans.{itemsFrom, placed-items, encoded-one}
+use Rattle.laws.specs.HeadLaws.{top-new-head}
+use Rattle.laws.specs.LogLaws.{partOf, part-picked, part-passed, part-same, log-same, one-slot, OnePart, part-entered, Entered, entered-versions, entered-highest, entered-keys, scanned-undamaged, items-scanned, end-scanned}
+use Rattle.laws.specs.RecoverLaws.{Sound, Allowed, in-map, sound-recovered, recovered-case}
+use Rattle.laws.specs.Appended.{Takes}
+
+-- ---- the map of a new head
+
+-- It names the new slot, and of the others those that it named and that are no victims.
+module _ (map victims j : ℕ) (sub : within victims map ≡ true) (clear : bit map j ≡ 0) where
+  pub new-named : named (map - victims + 2 ^ j) j ≡ true
+  new-named = set-named (map - victims + 2 ^ j) j (bit-add-same (map - victims) j (clear-sub map victims j sub clear))
+
+  pub new-others : (i : ℕ) → (i ≡ j → ⊥) → named (map - victims + 2 ^ j) i ≡ outsideSlots map victims i
+  unfolding both
+  new-others i o =
+      ap (λ (b : ℕ). eqb b 1)
+      (bit-add-other (map - victims) j i (clear-sub map victims j sub clear) (λ q. o (sym q)) ∙ bit-sub map victims i sub) ∙
+      go (bit-cases map i) (bit-cases victims i)
+    where
+      go : (bit map i ≡ 0) ⊎ (bit map i ≡ 1) → (bit victims i ≡ 0) ⊎ (bit victims i ≡ 1)
+          → eqb (bit map i - bit victims i) 1 ≡ outsideSlots map victims i
+      go (inl p) (inl q) = rw (p, q)
+      go (inl p) (inr q) = rw (p, q)
+      go (inr p) (inl q) = rw (p, q)
+      go (inr p) (inr q) = rw (p, q)
+
+  pub slot-outside : outsideSlots map victims j ≡ false
+  slot-outside = both-false-left (named map j) (not (named victims j)) (clear-named map j clear)
+
+-- without victims it names all that it named
+pub none-within : (map : ℕ) → within 0 map ≡ true
+none-within map = within-of-le 0 map (λ i. omega (arith, bit-of-zero i))
+
+pub none-outside : (map i : ℕ) → outsideSlots map 0 i ≡ named map i
+unfolding both
+none-outside map i = rw (clear-named 0 i (bit-of-zero i)) (go (named map i))
+  where
+    go : (t : Bool) → both t true ≡ t
+    go true = refl
+    go false = refl
+
+-- ---- a new head, on views
+
+-- Slot j has this digest, and behind it these entries; no other slot has changed.
+pub record Heads (L : Layout) (v v′ : ℕ → View) (n j : ℕ) (d : Digest) (es : List Entry) : Type 0 where
+  pub others : (i : ℕ) → i < n → (i ≡ j → ⊥) → v′ i ≡ v i
+  pub own : v′ j ≡ record { digest = some d; scan = scanned (itemsFrom L (digestSize L) es) (digestSize L + length (allEncoded L es)) }
+
+module _ (L : Layout) (v v′ : ℕ → View) (n s m : ℕ) (h : Head) (victims : ℕ) (es : List Entry) (f : Sound v n m h)
+    (sub : within victims (h .digest .map) ≡ true)
+    (c : Heads L v v′ n (newSlot (storeUnder v n s m h)) (newDigest (storeUnder v n s m h) victims) es) where
+  -- the old record, the new slot and the new head
+  abbrev r : Store
+  r = storeUnder v n s m h
+
+  abbrev j : ℕ
+  j = newSlot (storeUnder v n s m h)
+
+  abbrev g : Head
+  g = record { slot = newSlot (storeUnder v n s m h); digest = newDigest (storeUnder v n s m h) victims }
+
+  pub slot-below : j < n
+  slot-below = next-below n (h .digest .map) (h .slot) (f .top .below) (map-in n (h .slot) (h .digest .map) (f .map-good) .some-free)
+
+  pub slot-clear : bit (h .digest .map) j ≡ 0
+  slot-clear = next-clear n (h .digest .map) (h .slot) (f .top .below) (map-in n (h .slot) (h .digest .map) (f .map-good) .some-free)
+
+  own-digest : v′ j .digest ≡ some (newDigest r victims)
+  own-digest = ap (λ (w : View). w .digest) (c .own)
+
+  own-scan : v′ j .scan ≡ scanned (itemsFrom L (digestSize L) es) (digestSize L + length (allEncoded L es))
+  own-scan = ap (λ (w : View). w .scan) (c .own)
+
+  -- a log slot of the new head that is not its own is one of the old head's
+  old-slot : (i : ℕ) → (i ≡ j → ⊥) → logSlots g i ≡ true → logSlots h i ≡ true
+  old-slot i o q =
+      both-left (named (h .digest .map) i) (not (named victims i)) (sym (new-others (h .digest .map) victims j sub slot-clear i o) ∙ q)
+
+  -- What the map leaves of the old log, with the new head's entries among it.
+  pub new-log : OnePart [] (placedFrom L j (digestSize L) es) (logOf v (outsideSlots (h .digest .map) victims) n) (logUnder v′ n g)
+  new-log =
+      subst
+      (λ (l : List Placed).
+      OnePart l (placedFrom L j (digestSize L) es) (logOf v (outsideSlots (h .digest .map) victims) n) (logUnder v′ n g)) old-part
+      (subst
+      (λ (l : List Placed).
+      OnePart (partOf v (outsideSlots (h .digest .map) victims) j) l (logOf v (outsideSlots (h .digest .map) victims) n) (logUnder v′ n g)) new-part
+      (one-slot v v′ (outsideSlots (h .digest .map) victims) (logSlots g) j n slot-below
+      (λ i l o.
+      part-same v v′ (outsideSlots (h .digest .map) victims) (logSlots g) i (new-others (h .digest .map) victims j sub slot-clear i o)
+      (λ q. ap (λ (w : View). w .scan) (c .others i l o)))))
+    where
+      old-part : partOf v (outsideSlots (h .digest .map) victims) j ≡ []
+      old-part = part-passed v (outsideSlots (h .digest .map) victims) j (slot-outside (h .digest .map) victims j sub slot-clear)
+
+      new-part : partOf v′ (logSlots g) j ≡ placedFrom L j (digestSize L) es
+      new-part =
+          part-picked v′ (logSlots g) j (new-named (h .digest .map) victims j sub slot-clear) ∙
+          ap (placedIn j) (items-scanned (v′ j .scan) own-scan) ∙ placed-items L j (digestSize L) es
+
+  pub new-sound : used n (newDigest r victims .map) < n → versionShared (logUnder v′ n g) ≡ false → length (keysOf (logUnder v′ n g)) ≤ m - 1
+      → Sound v′ n m g
+  new-sound room versions keys =
+      record {
+        top =
+            top-new-head v n h v′ j (newDigest r victims) (f .top) slot-below
+            (λ i l o. ap (λ (w : View). w .digest) (c .others i l o)) own-digest (omega arith);
+        numbered = λ z. omega arith;
+        map-good =
+            in-map n j (newDigest r victims .map)
+            (add-below n (h .digest .map - victims) j
+            (omega (arith, map-in n (h .slot) (h .digest .map) (f .map-good) .below)) slot-below
+            (clear-sub (h .digest .map) victims j sub slot-clear))
+            (new-named (h .digest .map) victims j sub slot-clear) room;
+        digests = λ i l q. digested i l q (ℕ-discrete i j);
+        next-set = λ z. omega arith;
+        scans = λ i l q. whole i l q (ℕ-discrete i j);
+        versions = versions;
+        keys = keys;
+      }
+    where
+      digested : (i : ℕ) → i < n → logSlots g i ≡ true → Dec (i ≡ j) → (d : Digest) × (v′ i .digest ≡ some d)
+      digested i l q (yes o) = (newDigest r victims, ap (λ (k : ℕ). v′ k .digest) o ∙ own-digest)
+      digested i l q (no o) =
+          let d = f .digests i l (old-slot i o q) in
+          (d .0, ap (λ (w : View). w .digest) (c .others i l o) ∙ d .1)
+
+      whole : (i : ℕ) → i < n → logSlots g i ≡ true → Dec (i ≡ j) → isDamaged (v′ i .scan) ≡ false
+      whole i l q (yes o) = ap (λ (k : ℕ). isDamaged (v′ k .scan)) o ∙ scanned-undamaged (v′ j .scan) own-scan
+      whole i l q (no o) = ap (λ (w : View). isDamaged (w .scan)) (c .others i l o) ∙ f .scans i l (old-slot i o q)
+
+  pub new-end : endOf (v′ j .scan) ≡ digestSize L + length (allEncoded L es)
+  new-end = end-scanned (v′ j .scan) own-scan
+
+-- ---- one entry in a new head, on views
+
+module _ (L : Layout) (v v′ : ℕ → View) (n s m : ℕ) (h : Head) (x : Entry) (f : Sound v n m h)
+    (c : Heads L v v′ n (newSlot (storeUnder v n s m h)) (newDigest (storeUnder v n s m h) 0) (x ∷ [])) where
+  -- the old log, the new head, its log, and the entry in its place
+  abbrev old : List Placed
+  old = logUnder v n h
+
+  abbrev headed : Head
+  headed = record { slot = newSlot (storeUnder v n s m h); digest = newDigest (storeUnder v n s m h) 0 }
+
+  abbrev after : List Placed
+  after = logUnder v′ n headed
+
+  abbrev placed : Placed
+  placed = record { slot = newSlot (storeUnder v n s m h); offset = digestSize L; entry = x }
+
+  pub headed-log : Entered old placed after
+  unfolding placedFrom
+  headed-log =
+      part-entered [] placed old after
+      (subst (λ (l : List Placed). OnePart [] (placed ∷ []) l after)
+      (log-same v v (logSlots h) (outsideSlots (h .digest .map) 0) n (λ i l. none-outside (h .digest .map) i) (λ i l q. refl))
+      (new-log L v v′ n s m h 0 (x ∷ []) f (none-within (h .digest .map)) c))
+
+  module _ (t : Takes (nextVersion (h .digest) old) (length (keysOf old)) m old x) where
+    above : highest old < x .version
+    above = omega (arith, t .version)
+
+    pub headed-sound : used n (h .digest .map) + 2 ≤ n → Sound v′ n m headed
+    headed-sound room =
+        new-sound L v v′ n s m h 0 (x ∷ []) f (none-within (h .digest .map)) c
+        (omega (
+          arith,
+          used-renewed n (h .digest .map) 0 (newSlot (storeUnder v n s m h)) (none-within (h .digest .map))
+              (slot-below L v v′ n s m h 0 (x ∷ []) f (none-within (h .digest .map)) c)
+              (slot-clear L v v′ n s m h 0 (x ∷ []) f (none-within (h .digest .map)) c),
+        ))
+        (entered-versions old placed after headed-log above (f .versions))
+        (omega (arith, entered-keys old placed after headed-log, t .room))
+
+    pub headed-next : nextVersion (newDigest (storeUnder v n s m h) 0) after ≡ nextVersion (h .digest) old + 1
+    headed-next = omega (arith, entered-highest old placed after headed-log above, t .version)
+
+    pub headed-store : storeUnder v′ n s m headed ≡ headedStore L (storeUnder v n s m h) old x
+    headed-store =
+        rw (
+          new-end L v v′ n s m h 0 (x ∷ []) f (none-within (h .digest .map)) c,
+          encoded-one L x,
+          length-encoded L x,
+          headed-next,
+          entered-keys old placed after headed-log,
+        )
+
+-- ---- one entry in a new head, on areas
+
+module _ (L : Layout) (n s m : ℕ) (area area′ : List ℕ) (r : Store) (x : Entry) (e : recovered L n s m area ≡ some r)
+    (c : Heads L (viewsOf L area s) (viewsOf L area′ s) n (newSlot r) (newDigest r 0) (x ∷ [])) where
+  pub headed-entered :
+      Entered (logNow L area r) (record { slot = newSlot r; offset = digestSize L; entry = x })
+      (logNow L area′ (headedStore L r (logNow L area r) x))
+  headed-entered =
+      recovered-case L n s m area
+      (λ (k : Store).
+      Heads L (viewsOf L area s) (viewsOf L area′ s) n (newSlot k) (newDigest k 0) (x ∷ [])
+      → Entered (logNow L area k) (record { slot = newSlot k; offset = digestSize L; entry = x })
+      (logNow L area′ (headedStore L k (logNow L area k) x)))
+      (λ h l f. headed-log L (viewsOf L area s) (viewsOf L area′ s) n s m h x f) r e c
+
+  pub headed-recovered : length area′ ≡ length area → used n (r .map) + 2 ≤ n
+      → Takes (r .next .0) (r .keys) m (logNow L area r) x
+      → recovered L n s m area′ ≡ some (headedStore L r (logNow L area r) x)
+  headed-recovered same-length =
+      recovered-case L n s m area
+      (λ (k : Store).
+      Heads L (viewsOf L area s) (viewsOf L area′ s) n (newSlot k) (newDigest k 0) (x ∷ []) → used n (k .map) + 2 ≤ n
+      → Takes (k .next .0) (k .keys) m (logNow L area k) x
+      → recovered L n s m area′ ≡ some (headedStore L k (logNow L area k) x))
+      (λ h l f d room t.
+      sound-recovered L n s m area′ (headed L (viewsOf L area s) (viewsOf L area′ s) n s m h x f d)
+      (subst (Allowed n s m) (sym same-length) l) (headed-sound L (viewsOf L area s) (viewsOf L area′ s) n s m h x f d t room) ∙
+      ap some (headed-store L (viewsOf L area s) (viewsOf L area′ s) n s m h x f d t)) r e c

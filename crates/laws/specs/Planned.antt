@@ -1,0 +1,192 @@
+-- The plan of an accepted operation is one of two: an entry committed at the head's end, or a new head. From that alone follows
+-- what every proper prefix of its stores leaves.
+use Prim.Native.Nat.{ℕ, zero, suc, _+_, _-_, _*_, _^_, _≤_, _<_}
+use native.Mathlib.Omega.{arith}
+use native.Mathlib.Decide.{decLt}
+use mathlib.Core.Path.{_≡_, refl, sym, ap, _∙_, subst, subst⁻¹}
+use mathlib.Core.Logic.{_⊎_, inl, inr}
+use mathlib.Core.Bool.{Bool, true, false, not}
+use mathlib.Core.List.{List, [], _∷_, _++_, List·Memᴰ}
+use mathlib.Core.Option.{Option, none, some}
+use lib.Dec.{ltb, leb}
+use lib.ListN.{length, take}
+use lib.Pow.{pow-mono}
+use borrow.Author.Tests.{leb-true, ltb-false}
+use Rattle.word.specs.Number.{Bytes}
+use Rattle.word.specs.Laws.{bytes-take, bytes-drop}
+use Rattle.segment.specs.Choice.{pick}
+use Rattle.segment.specs.Layout.{Layout, digestSize, entrySize}
+use Rattle.segment.specs.Entry.{Entry, WellFormed, encoded, sizeOf}
+use Rattle.segment.specs.EntryLaws.{length-encoded}
+use Rattle.segment.specs.Digest.{encodedDigest}
+use Rattle.segment.specs.declared.Digest.{Digest}
+use Rattle.slot_map.specs.Bit.{named, within}
+use Rattle.slot_map.specs.BitLaws.{clear-named, add-below}
+use Rattle.slot_map.specs.CountLaws.{clear-sub}
+use Rattle.slot_map.specs.NextLaws.{next-below, next-clear}
+use Rattle.record.specs.RangeLaws.{Lent, lent}
+use Rattle.record.specs.declared.Store.{Store}
+use Rattle.model.specs.Log.{View, Placed, scan, scanned, itemsOf, segmentOf, viewsOf, logOf}
+use Rattle.model.specs.Recovery.{recovered}
+use Rattle.model.specs.Operations.{Operation, write, delete, clean, logNow, writtenEntry, tombstoneEntry, fitsHead, newSlot, newDigest, isKept, kept, allEncoded, Laid, laidAppend, laidHead, laidEntry, laid, commit, planOf, planFor, stored}
+use Rattle.model.specs.Refused.{startCauses, cleanCauses}
+use Rattle.laws.specs.Members.{In, those, those-in, entry-of, entriesOf}
+use Rattle.laws.specs.MapLaws.{kept-those}
+use Rattle.laws.specs.Stores.{length-commit-within, length-commit-full, length-stored, stored-none, slot-inside, length-segment}
+use Rattle.laws.specs.Scans.{encoded-one, scan-scans, scans-stands}
+use Rattle.laws.specs.AppendBytes.{append-prefix, append-prefix-bytes}
+use Rattle.laws.specs.NewHeadBytes.{headBytes, headPlan, length-headBytes, formed-one, new-head-prefix, new-head-other-prefix, new-head-prefix-bytes}
+use Rattle.laws.specs.LogLaws.{log-same, log-in, scan-whole}
+use Rattle.laws.specs.RecoverLaws.{NoCause, no-cause, recovered-case, recovered-facts, recovered-lent, recovered-fits, recovered-next, recovered-scan, views-recovered, cut-recovered, cut-log}
+use Rattle.laws.specs.Operated.{Accepted, planAt}
+use Rattle.laws.specs.Entering.{Roomy, Entering, idle-lent, write-enters, delete-enters}
+
+-- Which plan it is, with what is known of its bytes.
+pub data Planned (L : Layout) (r : Store) : List ℕ → List (ℕ × ℕ) → Type 0 where
+  appends : (x : Entry) → WellFormed L x → r .end + sizeOf L x ≤ r .size → Planned L r (encoded L x) (commit (r .size) (r .head) (r .end) (encoded L x))
+  heads :
+      (d : Digest) (es : List Entry) → ((x : Entry) → List·Memᴰ x es → WellFormed L x) → digestSize L + length (allEncoded L es) ≤ r .size →
+      Planned L r (headBytes L d es) (headPlan L (r .size) (newSlot r) d es)
+
+-- ---- which of the two
+
+module _ (L : Layout) (roomy : Roomy L) (before : List ℕ) (idle : Store) where
+  planned-entry :
+      (e : Entry) → Entering L before idle e → 256 ≤ idle .size →
+      Planned L idle (laidEntry L idle e .bytes) (planOf idle (laidEntry L idle e .pending 0) (laidEntry L idle e .bytes))
+  unfolding pick planOf
+  planned-entry e f big = go (fitsHead L idle e) refl
+    where
+      shape : Laid → Type 0
+      shape l = Planned L idle (l .bytes) (planOf idle (l .pending 0) (l .bytes))
+
+      go : (t : Bool) → fitsHead L idle e ≡ t → shape (pick t (laidAppend L e) (laidHead L idle e))
+      go true p = appends e (f .formed) (leb-true (idle .end + sizeOf L e) (idle .size) p)
+      go false p =
+          subst (λ (b : List ℕ). Planned L idle (encodedDigest L (newDigest idle 0) ++ b) ((newSlot idle * idle .size, 0) ∷ commit (idle .size) (newSlot idle) 0 (encodedDigest L (newDigest idle 0) ++ b)))
+          (encoded-one L e)
+          (heads (newDigest idle 0) (e ∷ []) (formed-one L e (f .formed))
+          (omega (arith, ap length (encoded-one L e), length-encoded L e, roomy .room (e .kind) (length (e .value)) (f .formed .kind-known))))
+
+-- every entry of a recovered log of bytes is well formed
+pub log-formed :
+    (L : Layout) (n s m : ℕ) (area : List ℕ) (r : Store) → Bytes area → recovered L n s m area ≡ some r → (x : Placed) →
+    In x (logOf (viewsOf L area s) (named (r .map)) n) → WellFormed L (x .entry)
+log-formed L n s m area r bytes e x =
+    recovered-case L n s m area
+    (λ (k : Store). In x (logOf (viewsOf L area s) (named (k .map)) n) → WellFormed L (x .entry))
+    (λ h l f i.
+    let at = log-in (viewsOf L area s) (named (h .digest .map)) n x i in
+    scans-stands (bytes-take s _ (bytes-drop (x .slot * s) area bytes))
+    (scan-scans L (segmentOf area s (x .slot)) (scan-whole (scan L (segmentOf area s (x .slot))) (f .scans (x .slot) (at .below) (at .picked))))
+    (at .item) .formed)
+    r e
+
+pub kept-in : (L : Layout) (victims : ℕ) (log : List Placed) (e : Entry) → List·Memᴰ e (kept L victims log) → (x : Placed) × In x log × x .entry ≡ e
+kept-in L victims log e i =
+    let y = entry-of (those (isKept L victims log) log) e (subst (List·Memᴰ e) (kept-those L victims log log) i) in
+    (y .0, those-in (isKept L victims log) log (y .0) (y .1) .0, y .2)
+
+module _ (L : Layout) (roomy : Roomy L) (before : List ℕ) (idle : Store) where
+  -- The plan of an accepted operation.
+  pub planned : (o : Operation) → Accepted L before idle o → Planned L idle (laid L idle (logNow L before idle) o .bytes) (planAt L before idle o)
+  unfolding laid planOf startCauses
+  planned (write k value) a =
+      planned-entry L roomy before idle (writtenEntry L idle k value) (write-enters L before idle k value a)
+      (idle-lent L before idle (write k value) a .size-low)
+  planned (delete k) a =
+      planned-entry L roomy before idle (tombstoneEntry L idle k) (delete-enters L before idle k a)
+      (idle-lent L before idle (delete k) a .size-low)
+  planned (clean victims) a =
+      heads (newDigest idle victims) (kept L victims (logNow L before idle)) formed
+      (ltb-false (idle .size) (digestSize L + length (allEncoded L (kept L victims (logNow L before idle)))) (tests .1 .1 .1 .1 .0))
+    where
+      tests : NoCause (cleanCauses L idle (logNow L before idle) (a .lengths) victims)
+      tests = no-cause (startCauses L idle (logNow L before idle) (a .lengths) (clean victims)) (a .no-cause)
+
+      formed : (x : Entry) → List·Memᴰ x (kept L victims (logNow L before idle)) → WellFormed L x
+      formed x i =
+          let y = kept-in L victims (logNow L before idle) x i in
+          subst (WellFormed L) (y .2)
+          (log-formed L (idle .slots) (idle .size) (idle .cells) before idle (a .area-bytes) (a .recovers) (y .0) (y .1))
+
+-- ---- what it leaves
+
+module _ (L : Layout) (area : List ℕ) (r : Store) (e : recovered L (r .slots) (r .size) (r .cells) area ≡ some r) where
+  facts : Lent L r (length area) (r .cells)
+  facts = lent L r (length area) (r .cells) (recovered-fits L (r .slots) (r .size) (r .cells) area r e)
+
+  -- the slot of a new head is one of the store's, and free
+  pub new-below : newSlot r < r .slots
+  new-below = next-below (r .slots) (r .map) (r .head) (facts .head-below) (facts .some-free)
+
+  pub new-free : named (r .map) (newSlot r) ≡ false
+  new-free = clear-named (r .map) (newSlot r) (next-clear (r .slots) (r .map) (r .head) (facts .head-below) (facts .some-free))
+
+  -- the digest of a new head fits its bytes
+  pub new-map-fits : (victims : ℕ) → within victims (r .map) ≡ true → newDigest r victims .map < 256 ^ 4
+  new-map-fits victims sub =
+      omega (
+        arith,
+        add-below (r .slots) (r .map - victims) (newSlot r) (omega (arith, facts .map-below)) new-below
+            (clear-sub (r .map) victims (newSlot r) sub (next-clear (r .slots) (r .map) (r .head) (facts .head-below) (facts .some-free))),
+        pow-mono (facts .slots-high),
+      )
+
+  pub new-next-fits : Bytes area → r .next .0 < 256 ^ L .width
+  new-next-fits bytes = omega (arith, facts .next-some, recovered-next L (r .slots) (r .size) (r .cells) area r e bytes)
+
+  -- what is to be shown of an area that a prefix leaves
+  abbrev Stays : List ℕ → Type 0
+  Stays area′ =
+      (recovered L (r .slots) (r .size) (r .cells) area′ ≡ some r)
+      × (logOf (viewsOf L area′ (r .size)) (named (r .map)) (r .slots) ≡ logOf (viewsOf L area (r .size)) (named (r .map)) (r .slots))
+
+  same-stays : (area′ : List ℕ) → length area′ ≡ length area → ((i : ℕ) → viewsOf L area′ (r .size) i ≡ viewsOf L area (r .size) i) → Stays area′
+  same-stays area′ long same = (
+    views-recovered L (r .slots) (r .size) (r .cells) area area′ long (λ i l. same i) ∙ e,
+    log-same (viewsOf L area (r .size)) (viewsOf L area′ (r .size)) (named (r .map)) (named (r .map)) (r .slots) (λ i l. refl)
+        (λ i l p. ap (λ (w : View). w .scan) (same i)),
+  )
+
+  -- After every proper prefix of the stores recovery gives the old record, and the log is the old one.
+  pub prefix-stays : (bytes : List ℕ) (plan : List (ℕ × ℕ)) → Planned L r bytes plan → (k : ℕ) → k < length plan → Stays (stored area (take k plan))
+  unfolding stored
+  prefix-stays bytes plan (appends x f fits) k h =
+      same-stays (stored area (take k plan)) (length-stored area (take k plan))
+      (append-prefix L (r .slots) (r .size) (r .head) area (itemsOf (scan L (segmentOf area (r .size) (r .head)))) (r .end) x (facts .area-own)
+      (facts .head-below) (recovered-scan L (r .slots) (r .size) (r .cells) area r e) f fits k h)
+  prefix-stays bytes plan (heads d es f fits) k h = go k h
+    where
+      others :
+          (j i : ℕ) → (i ≡ newSlot r → ⊥) →
+          viewsOf L (stored area (take j (headPlan L (r .size) (newSlot r) d es))) (r .size) i ≡ viewsOf L area (r .size) i
+      others j i q = new-head-other-prefix L (r .size) (newSlot r) area d es fits j i q
+
+      go : (j : ℕ) → j < length (headPlan L (r .size) (newSlot r) d es) → Stays (stored area (take j (headPlan L (r .size) (newSlot r) d es)))
+      go zero l = same-stays (stored area []) refl (λ i. refl)
+      go (suc j) l = (
+        cut-recovered L (r .slots) (r .size) (r .cells) area (stored area (take (suc j) (headPlan L (r .size) (newSlot r) d es)))
+            (length-stored area (take (suc j) (headPlan L (r .size) (newSlot r) d es))) r (newSlot r) new-free (λ i q o. others (suc j) i o) e
+            (new-head-prefix L (r .size) (newSlot r) area d es fits (suc j) (omega arith) l),
+        cut-log L (r .slots) (r .size) (r .cells) area (stored area (take (suc j) (headPlan L (r .size) (newSlot r) d es)))
+            (length-stored area (take (suc j) (headPlan L (r .size) (newSlot r) d es))) r (newSlot r) new-free (λ i q o. others (suc j) i o),
+      )
+
+  -- The area stays one of bytes.
+  pub prefix-bytes : (bytes : List ℕ) (plan : List (ℕ × ℕ)) → Planned L r bytes plan → Bytes area → (k : ℕ) → Bytes (stored area (take k plan))
+  prefix-bytes bytes plan (appends x f fits) h k = append-prefix-bytes L (r .size) (r .head) (r .end) area x f h k
+  prefix-bytes bytes plan (heads d es f fits) h k = new-head-prefix-bytes L (r .size) (newSlot r) area d es f h k
+
+  -- It has a store at least, and its bytes fit a segment.
+  pub plan-stores : (bytes : List ℕ) (plan : List (ℕ × ℕ)) → Planned L r bytes plan → 0 < length plan
+  plan-stores bytes plan (appends x f fits) = go (decLt (r .end + length (encoded L x)) (r .size))
+    where
+      go : Dec (r .end + length (encoded L x) < r .size) → 0 < length (commit (r .size) (r .head) (r .end) (encoded L x))
+      go (yes h) = omega (arith, length-commit-within (r .size) (r .head) (r .end) (encoded L x) (omega arith) h)
+      go (no h) = omega (arith, length-commit-full (r .size) (r .head) (r .end) (encoded L x) (omega arith) (omega arith))
+  plan-stores bytes plan (heads d es f fits) = omega arith
+
+  pub plan-fits : (bytes : List ℕ) (plan : List (ℕ × ℕ)) → Planned L r bytes plan → length bytes ≤ r .size
+  plan-fits bytes plan (appends x f fits) = omega (arith, length-encoded L x, facts .end-low)
+  plan-fits bytes plan (heads d es f fits) = omega (arith, length-headBytes L d es)

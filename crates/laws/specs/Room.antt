@@ -1,0 +1,111 @@
+-- Room: one victim always fits a new head, a new head leaves a slot free, and a cleaning never leaves fewer free than before.
+use Prim.Native.Nat.{ℕ, zero, suc, _+_, _-_, _^_, _≤_, _<_}
+use native.Mathlib.Nat.{sub-zero}
+use native.Mathlib.Omega.{arith}
+use native.Mathlib.Decide.{ℕ-discrete}
+use mathlib.Core.Path.{_≡_, refl, sym, ap, _∙_}
+use mathlib.Core.Bool.{Bool, true, false}
+use mathlib.Core.List.{List, [], _∷_, _++_, append-nil}
+use mathlib.Core.Option.{Option, none, some}
+use lib.Dec.{eqb, ltb}
+use lib.ListN.{length}
+use borrow.Author.Tests.{le-ltb, eq-eqb, ne-eqb, eqb-true}
+use Rattle.segment.specs.Choice.{both, both-true, both-false-right, both-right}
+use Rattle.segment.specs.Layout.{Layout, digestSize}
+use Rattle.slot_map.specs.Bit.{bit, named, within}
+use Rattle.slot_map.specs.BitLaws.{bit-pow-other, named-true, set-below, within-pow}
+use Rattle.slot_map.specs.NextLaws.{next-clear}
+use Rattle.slot_map.specs.Count.{used, free}
+use Rattle.slot_map.specs.CountLaws.{renewed-le, used-add}
+use Rattle.record.specs.RangeLaws.{Lent, lent}
+use Rattle.record.specs.declared.Store.{Store}
+use Rattle.model.specs.Log.{View, Item, Placed, scan, scanned, itemsOf, endOf, isDamaged, segmentOf, viewsOf, logOf, placedIn}
+use Rattle.model.specs.Recovery.{recovered}
+use Rattle.model.specs.Operations.{logNow, newSlot, newDigest, kept, allEncoded}
+use Rattle.model.specs.Refused.{keptTooLong}
+use Rattle.laws.specs.Members.{entriesOf, those}
+use Rattle.laws.specs.MapLaws.{inSlot, kept-size-one}
+use Rattle.laws.specs.Stores.{slot-inside, length-segment}
+use Rattle.laws.specs.Scans.{itemEntries, Scans, scan-scans, scans-total, scans-high}
+use Rattle.laws.specs.LogLaws.{partOf, part-picked, part-passed, no-parts, log-those, scan-whole}
+use Rattle.laws.specs.RecoverLaws.{recovered-case, recovered-fits}
+use Rattle.laws.specs.Planned.{new-below}
+
+-- ---- the part of a log that one slot holds
+
+entries-in : (i : ℕ) (is : List Item) → entriesOf (placedIn i is) ≡ itemEntries is
+unfolding placedIn
+entries-in i [] = refl
+entries-in i (x ∷ xs) = ap (λ l. x .entry ∷ l) (entries-in i xs)
+
+one-picked :
+    (v : ℕ → View) (p : ℕ → Bool) (i n : ℕ) → i < n → p i ≡ true → ((j : ℕ) → (j ≡ i → ⊥) → p j ≡ false) →
+    logOf v p n ≡ placedIn i (itemsOf (v i .scan))
+unfolding logOf
+one-picked v p i zero l q o = absurd (omega arith)
+one-picked v p i (suc n) l q o = go (ℕ-discrete i n) (λ h. one-picked v p i n h q o)
+  where
+    go : Dec (i ≡ n) → (i < n → logOf v p n ≡ placedIn i (itemsOf (v i .scan))) → logOf v p n ++ partOf v p n ≡ placedIn i (itemsOf (v i .scan))
+    go (yes e) ih =
+        ap (λ (l : List Placed). l ++ partOf v p n) (no-parts v p n (λ j h. part-passed v p j (o j (λ z. omega arith)))) ∙
+        ap (partOf v p) (sym e) ∙ part-picked v p i q
+    go (no e) ih =
+        ap (λ (l : List Placed). logOf v p n ++ l) (part-passed v p n (o n (λ z. e (sym z)))) ∙ append-nil (logOf v p n) ∙ ih (omega arith)
+
+module _ (L : Layout) (area : List ℕ) (r : Store) (e : recovered L (r .slots) (r .size) (r .cells) area ≡ some r) where
+  facts : Lent L r (length area) (r .cells)
+  facts = lent L r (length area) (r .cells) (recovered-fits L (r .slots) (r .size) (r .cells) area r e)
+
+  -- what a log slot holds fits behind a digest
+  slot-fits : (i : ℕ) → i < r .slots → named (r .map) i ≡ true → digestSize L + length (allEncoded L (entriesOf (inSlot i (logNow L area r)))) ≤ r .size
+  slot-fits i l q =
+      rw held (omega (arith, scans-total scans, scans-high scans, length-segment area (r .size) i (slot-inside area (r .slots) (r .size) i (facts .area-own) l)))
+    where
+      whole : scan L (segmentOf area (r .size) i) ≡ scanned (itemsOf (scan L (segmentOf area (r .size) i))) (endOf (scan L (segmentOf area (r .size) i)))
+      whole =
+          scan-whole (scan L (segmentOf area (r .size) i))
+          (recovered-case L (r .slots) (r .size) (r .cells) area
+          (λ (k : Store). named (k .map) i ≡ true → isDamaged (scan L (segmentOf area (r .size) i)) ≡ false) (λ h a f p. f .scans i l p) r e q)
+
+      scans : Scans L (segmentOf area (r .size) i) (digestSize L) (itemsOf (scan L (segmentOf area (r .size) i))) (endOf (scan L (segmentOf area (r .size) i)))
+      scans = scan-scans L (segmentOf area (r .size) i) whole
+
+      held : entriesOf (inSlot i (logNow L area r)) ≡ itemEntries (itemsOf (scan L (segmentOf area (r .size) i)))
+      held =
+          ap entriesOf
+          (log-those (viewsOf L area (r .size)) (named (r .map)) (λ j. eqb j i) (r .slots) ∙
+          one-picked (viewsOf L area (r .size)) (λ j. both (named (r .map) j) (eqb j i)) i (r .slots) l
+          (both-true _ _ q (eq-eqb i i refl)) (λ j o. both-false-right _ _ (ne-eqb j i o))) ∙
+          entries-in i (itemsOf (scan L (segmentOf area (r .size) i)))
+
+  -- One victim always fits: 14 never holds for a single victim.
+  pub one-victim-fits : (i : ℕ) → named (r .map) i ≡ true → keptTooLong L r (logNow L area r) (2 ^ i) ≡ false
+  one-victim-fits i q =
+      le-ltb (r .size) (digestSize L + length (allEncoded L (kept L (2 ^ i) (logNow L area r))))
+      (omega (arith, kept-size-one L (2 ^ i) i (logNow L area r) only, slot-fits i (set-below (r .slots) (r .map) i (facts .map-below) (named-true (r .map) i q)) q))
+    where
+      only : (j : ℕ) → named (2 ^ i) j ≡ true → j ≡ i
+      only j p = go (ℕ-discrete j i)
+        where
+          go : Dec (j ≡ i) → j ≡ i
+          go (yes h) = h
+          go (no h) = absurd (omega (arith, named-true (2 ^ i) j p, bit-pow-other i j (λ z. h (sym z))))
+
+  -- A new head for an entry, which asks for two free slots, leaves one.
+  pub head-leaves-one : used (r .slots) (r .map) + 2 ≤ r .slots → used (r .slots) (newDigest r 0 .map) < r .slots
+  head-leaves-one h =
+      omega (
+        arith,
+        ap (λ (x : ℕ). used (r .slots) (x + 2 ^ newSlot r)) (sub-zero (r .map)),
+        used-add (r .slots) (r .map) (newSlot r) (new-below L area r e)
+            (next-clear (r .slots) (r .map) (r .head) (facts .head-below) (facts .some-free)),
+      )
+
+  -- A cleaning never leaves fewer slots free.
+  pub clean-leaves : (victims : ℕ) → within victims (r .map) ≡ true → 0 < victims → free (r .slots) (r .map) ≤ free (r .slots) (newDigest r victims .map)
+  clean-leaves victims sub some-victim =
+      omega (
+        arith,
+        renewed-le (r .slots) (r .map) victims (newSlot r) sub (facts .map-below) some-victim (new-below L area r e)
+            (next-clear (r .slots) (r .map) (r .head) (facts .head-below) (facts .some-free)),
+      )

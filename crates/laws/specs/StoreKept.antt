@@ -1,0 +1,259 @@
+-- All the laws that the promise about cuts needs, for every layout of which each entry fits a fresh segment.
+use Prim.Native.Nat.{ℕ, zero, suc, _+_, _-_, _*_, _^_, _≤_, _<_, max}
+use native.Mathlib.Nat.{add-assoc}
+use native.Mathlib.Omega.{arith}
+use mathlib.Core.Path.{_≡_, refl, sym, ap, _∙_, subst, subst⁻¹}
+use mathlib.Core.Bool.{Bool, true, false, not}
+use mathlib.Core.List.{List, [], _∷_, _++_, List·Memᴰ}
+use mathlib.Core.Option.{Option, none, some}
+use lib.Dec.{eqb, ltb, leb, lit<, lit≤}
+use lib.ListN.{length, take, drop}
+use lib.Seq.{take-length}
+use borrow.Author.Tests.{eq-eqb, ltb-false, eqb-false, eqb-true}
+use Rattle.word.specs.Number.{Bytes}
+use Rattle.segment.specs.Choice.{pick, both, either, pick-true, pick-false, either-false-left, either-false-right}
+use Rattle.segment.specs.Packed.{field-at, length-part}
+use Rattle.segment.specs.Layout.{Layout, edition1, lookup, valueLength, digestSize, entrySize, isTombstone, versionLimit, numberLimit, objectKind}
+use Rattle.segment.specs.LayoutLaws.{object-no-tombstone}
+use Rattle.segment.specs.Entry.{Entry, WellFormed, encoded, decoded, sizeOf, entryAt, entry}
+use Rattle.segment.specs.EntryLaws as Found
+use Rattle.segment.specs.EntryLaws.{found-accepted}
+use Rattle.segment.specs.declared.Digest.{Digest}
+use Rattle.segment.specs.declared.Key.{Key}
+use Rattle.slot_map.specs.Bit.{named, within}
+use Rattle.record.specs.Range.{cellsGood}
+use Rattle.record.specs.RangeLaws.{Lent, lent}
+use Rattle.record.specs.declared.Store.{Store}
+use Rattle.model.specs.Log.{View, Item, Placed, placeOf, scan, scanned, itemsOf, segmentOf, viewsOf, logOf, present, latest, objectOnly, sameKey}
+use Rattle.model.specs.Recovery.{recovered, storeOf, geometryBad}
+use Rattle.model.specs.Operations.{Operation, write, delete, clean, logNow, kindElse, writtenEntry, tombstoneEntry, newSlot, newDigest, kept, allEncoded, placedFrom, laid, planOf, stored, cleanedStore, finishedStore, formatted}
+use Rattle.model.specs.Promises.{valuePart}
+use Rattle.model.specs.Refused.{startCauses, writeCauses, cleanCauses, isNone}
+use Rattle.laws.specs.Members.{In}
+use Rattle.laws.specs.Latest.{latest-some}
+use Rattle.laws.specs.MapLaws.{valueAt, gives, log-clean}
+use Rattle.laws.specs.Stores.{length-stored, slot-inside, length-segment}
+use Rattle.laws.specs.Scans.{scan-scans, scans-found}
+use Rattle.laws.specs.NewHeadBytes.{headPlan, new-head-other, new-head-view}
+use Rattle.laws.specs.FormatBytes.{bytes-formatted}
+use Rattle.laws.specs.Fresh.{format-recovers, format-log}
+use Rattle.laws.specs.LogLaws.{log-in, scan-whole}
+use Rattle.laws.specs.RecoverLaws.{NoCause, no-cause, recovered-case, recovered-fits, recovered-apart, recovered-above, recovered-more}
+use Rattle.laws.specs.Headed.{Heads}
+use Rattle.laws.specs.Cleaned.{cleaned-cleaned, cleaned-recovered}
+use Rattle.laws.specs.Operated.{Accepted, planAt, mapAfter, StoreLaws}
+use Rattle.laws.specs.Entering.{Roomy, write-object, idle-lent, idle-number, write-enters, delete-enters}
+use Rattle.laws.specs.Planned.{log-formed, kept-in, planned, new-below, new-map-fits, new-next-fits, prefix-stays, prefix-bytes, plan-stores, plan-fits}
+use Rattle.laws.specs.EntryDone.{entry-done}
+
+-- ---- a finished cleaning
+
+module _ (L : Layout) (before : List ℕ) (idle : Store) (victims : ℕ) (a : Accepted L before idle (clean victims)) where
+  facts : Lent L idle (length before) (idle .cells)
+  facts = idle-lent L before idle (clean victims) a
+
+  tests : NoCause (cleanCauses L idle (logNow L before idle) (a .lengths) victims)
+  unfolding startCauses
+  tests = no-cause (startCauses L idle (logNow L before idle) (a .lengths) (clean victims)) (a .no-cause)
+
+  sub : within victims (idle .map) ≡ true
+  sub = not-of (either-false-right _ _ (tests .1 .1 .1 .0))
+    where
+      not-of : {t : Bool} → not t ≡ false → t ≡ true
+      not-of {t} e = go t e
+        where
+          go : (t : Bool) → not t ≡ false → t ≡ true
+          go true p = refl
+          go false p = cc
+
+  some-victim : 0 < victims
+  some-victim = omega (arith, eqb-false victims 0 (either-false-left _ _ (tests .1 .1 .1 .0)))
+
+  room : digestSize L + length (allEncoded L (kept L victims (logNow L before idle))) ≤ idle .size
+  room = ltb-false (idle .size) (digestSize L + length (allEncoded L (kept L victims (logNow L before idle)))) (tests .1 .1 .1 .1 .0)
+
+  number-left : idle .number .0 + 1 < 256 ^ 4
+  number-left = omega (arith, idle-number L before idle (clean victims) a, eqb-false (idle .number .0) numberLimit (tests .1 .1 .1 .1 .1 .0))
+
+  abbrev clean-plan : List (ℕ × ℕ)
+  clean-plan = headPlan L (idle .size) (newSlot idle) (newDigest idle victims) (kept L victims (logNow L before idle))
+
+  formed : (x : Entry) → List·Memᴰ x (kept L victims (logNow L before idle)) → WellFormed L x
+  formed x i =
+      let y = kept-in L victims (logNow L before idle) x i in
+      subst (WellFormed L) (y .2)
+      (log-formed L (idle .slots) (idle .size) (idle .cells) before idle (a .area-bytes) (a .recovers) (y .0) (y .1))
+
+  views :
+      Heads L (viewsOf L before (idle .size)) (viewsOf L (stored before clean-plan) (idle .size)) (idle .slots) (newSlot idle)
+      (newDigest idle victims) (kept L victims (logNow L before idle))
+  views =
+      record {
+        others =
+            λ i l o.
+            new-head-other L (idle .size) (newSlot idle) before (newDigest idle victims) (kept L victims (logNow L before idle)) room i o;
+        own =
+            new-head-view L (newDigest idle victims) (kept L victims (logNow L before idle)) number-left
+            (new-map-fits L before idle (a .recovers) victims sub) (new-next-fits L before idle (a .recovers) (a .area-bytes)) formed
+            (idle .slots) (idle .size) (newSlot idle) before (facts .area-own) (new-below L before idle (a .recovers)) room;
+      }
+
+  pub clean-done :
+      (recovered L (idle .slots) (idle .size) (idle .cells) (stored before clean-plan) ≡ some (cleanedStore L before idle victims))
+      × ((j : Key) →
+      valueAt L (logNow L (stored before clean-plan) (cleanedStore L before idle victims)) j ≡ valueAt L (logNow L before idle) j)
+  clean-done = (
+    cleaned-recovered L (idle .slots) (idle .size) (idle .cells) before (stored before clean-plan) idle victims (a .recovers) sub views
+        (length-stored before clean-plan) some-victim,
+    log-clean L victims (logNow L before idle)
+        (placedFrom L (newSlot idle) (digestSize L) (kept L victims (logNow L before idle)))
+        (logNow L (stored before clean-plan) (cleanedStore L before idle victims))
+        (cleaned-cleaned L (idle .slots) (idle .size) (idle .cells) before (stored before clean-plan) idle victims (a .recovers) sub views)
+        (recovered-apart L (idle .slots) (idle .size) (idle .cells) before idle (a .recovers)),
+  )
+
+-- ---- the three operations
+
+gives-object : (L : Layout) (e : Entry) → isTombstone L (e .kind) ≡ false → gives L e ≡ some e
+unfolding gives
+gives-object L e t = pick-false (isTombstone L (e .kind)) none (some e) t
+
+gives-tombstone : (L : Layout) (e : Entry) → isTombstone L (e .kind) ≡ true → gives L e ≡ none
+unfolding gives
+gives-tombstone L e t = pick-true (isTombstone L (e .kind)) none (some e) t
+
+module _ (L : Layout) (roomy : Roomy L) (before : List ℕ) (idle : Store) where
+  abbrev Finishes : Operation → Type 0
+  Finishes o =
+      (recovered L (idle .slots) (idle .size) (idle .cells) (stored before (planAt L before idle o)) ≡ some (finishedStore L before idle o))
+      × ((j : Key) →
+      valueAt L (logNow L (stored before (planAt L before idle o)) (finishedStore L before idle o)) j ≡
+      mapAfter L idle o (valueAt L (logNow L before idle)) j)
+
+  pub finishes : (o : Operation) → Accepted L before idle o → Finishes o
+  unfolding laid finishedStore mapAfter planOf
+  finishes (write k value) a =
+      let x = writtenEntry L idle k value in
+      let f = write-enters L before idle k value a in
+      let done = entry-done L roomy before idle x (a .recovers) (a .area-bytes) f in (
+        done .0,
+        λ j.
+            done .1 j ∙
+            ap (λ (y : Option Entry). pick (sameKey j x) y (valueAt L (logNow L before idle) j)) (gives-object L x (write-object L before idle k value a)),
+      )
+  finishes (delete k) a =
+      let x = tombstoneEntry L idle k in
+      let f = delete-enters L before idle k a in
+      let done = entry-done L roomy before idle x (a .recovers) (a .area-bytes) f in (
+        done .0,
+        λ j.
+            done .1 j ∙
+            ap (λ (y : Option Entry). pick (sameKey j x) y (valueAt L (logNow L before idle) j))
+            (gives-tombstone L x (eq-eqb (L .tombstoneKind) (L .tombstoneKind) refl)),
+      )
+  finishes (clean victims) a = clean-done L before idle victims a
+
+-- ---- reading a recovered log
+
+-- a present entry is one of the log
+present-in : (L : Layout) (log : List Placed) (k : Key) (x : Placed) → present L log k ≡ some x → In x log
+unfolding present objectOnly pick
+present-in L log k x e = go (latest log k) refl e
+  where
+    go : (y : Option Placed) → latest log k ≡ y → objectOnly L y ≡ some x → In x log
+    go none p q = let z : _≡_ {A = ℕ} 0 1 = cc in absurd (omega arith)
+    go (some y) p q = by-kind (isTombstone L (y .entry .kind)) q
+      where
+        by-kind : (t : Bool) → pick t none (some y) ≡ some x → In x log
+        by-kind true r = let z : _≡_ {A = ℕ} 0 1 = cc in absurd (omega arith)
+        by-kind false r = subst (λ (w : Placed). In w log) (same r) (latest-some log k y p .member)
+          where
+            same : _≡_ {A = Option Placed} (some y) (some x) → y ≡ x
+            same c = cc
+
+-- an entry of the log stands in its segment
+log-found :
+    (L : Layout) (n s m : ℕ) (area : List ℕ) (r : Store) → recovered L n s m area ≡ some r → (x : Placed) → In x (logNow L area r) →
+    (x .slot < n) × (entryAt L (segmentOf area s (x .slot)) (x .offset) ≡ entry (x .entry))
+log-found L n s m area r e x =
+    recovered-case L n s m area
+    (λ (k : Store). In x (logNow L area k) → (x .slot < n) × (entryAt L (segmentOf area s (x .slot)) (x .offset) ≡ entry (x .entry)))
+    (λ h l f i.
+    let at = log-in (viewsOf L area s) (named (h .digest .map)) n x i in (
+      at .below,
+      scans-found (scan-scans L (segmentOf area s (x .slot)) (scan-whole (scan L (segmentOf area s (x .slot))) (f .scans (x .slot) (at .below) (at .picked))))
+          (at .item),
+    ))
+    r e
+
+-- the value of an entry that stands in a segment is a part of the area
+value-there :
+    (L : Layout) (area : List ℕ) (s : ℕ) (x : Placed) → length (segmentOf area s (x .slot)) ≡ s →
+    entryAt L (segmentOf area s (x .slot)) (x .offset) ≡ entry (x .entry) → valuePart L s area (some x) ≡ x .entry .value
+unfolding valuePart
+value-there L area s x long e =
+    ap (λ (p : ℕ). take (length (x .entry .value)) (drop p area)) place ∙
+    sym (field-at (length (x .entry .value)) (x .offset + (7 + L .width)) s (x .slot * s) area (omega (arith, there .fits, long))) ∙
+    sym
+    (field-at (length (x .entry .value)) (7 + L .width) (sizeOf L (x .entry)) (x .offset) (segmentOf area s (x .slot)) (omega arith)) ∙
+    ap (take (length (x .entry .value))) value ∙ take-length (x .entry .value)
+  where
+    there : Found.Accepted L (segmentOf area s (x .slot)) (x .offset) (x .entry)
+    there = found-accepted L (segmentOf area s (x .slot)) (x .offset) (x .entry) e
+
+    value : drop (7 + L .width) (take (sizeOf L (x .entry)) (drop (x .offset) (segmentOf area s (x .slot)))) ≡ x .entry .value
+    value = ap (λ (y : Entry). y .value) (there .same)
+
+    place : placeOf s x + entrySize L 0 ≡ x .slot * s + (x .offset + (7 + L .width))
+    place = omega arith
+
+-- ---- together
+
+pub store-laws : (L : Layout) → Roomy L → StoreLaws L
+store-laws L roomy =
+    record {
+      prefix-recovers = λ before idle o a k h. prefix-stays L before idle (a .recovers) _ _ (planned L roomy before idle o a) k h .0;
+      prefix-log = λ before idle o a k h. prefix-stays L before idle (a .recovers) _ _ (planned L roomy before idle o a) k h .1;
+      plan-bytes = λ before idle o a k. prefix-bytes L before idle (a .recovers) _ _ (planned L roomy before idle o a) (a .area-bytes) k;
+      finish-recovers = λ before idle o a. finishes L roomy before idle o a .0;
+      finish-map = λ before idle o a. finishes L roomy before idle o a .1;
+      some-stores = λ before idle o a. plan-stores L before idle (a .recovers) _ _ (planned L roomy before idle o a);
+      bytes-fit = λ before idle o a. plan-fits L before idle (a .recovers) _ _ (planned L roomy before idle o a);
+      own-lengths = λ n s m area r ab e. recovered-fits L n s m area r e;
+      more-cells = λ n s m k area e good l. recovered-more L n s m k area (storeOf L n s m area) e good l;
+      version-below =
+          λ area r e k x p.
+          recovered-above L (r .slots) (r .size) (r .cells) area r e x (present-in L (logNow L area r) k x p);
+      value-part =
+          λ area r ab e k x p.
+          let found = log-found L (r .slots) (r .size) (r .cells) area r e x (present-in L (logNow L area r) k x p) in
+          value-there L area (r .size) x
+          (length-segment area (r .size) (x .slot)
+          (slot-inside area (r .slots) (r .size) (x .slot) (lent L r (length area) (r .cells) (recovered-fits L (r .slots) (r .size) (r .cells) area r e) .area-own) (found .0)))
+          (found .1);
+      format-bytes = λ n s area ab. bytes-formatted L n s area ab;
+      format-recovers = λ n s m area g c. format-recovers L roomy n s area g m c;
+      format-log = λ n s m area g. format-log L roomy n s area g m;
+    }
+
+-- ---- the first edition
+
+-- its longest entry, 67 bytes, fits behind a digest in the smallest segment
+pub edition1-roomy : Roomy edition1
+unfolding edition1 valueLength lookup pick
+edition1-roomy = record { wide = lit< tt; room = λ k n e. go (eqb k 4) (eqb k 1) (eqb k 2) (eqb k 3) n e }
+  where
+    short : (a n : ℕ) → _≡_ {A = Option ℕ} (some a) (some n) → a ≤ 56 → 13 + (11 + n) ≤ 256
+    short a n e h = let same : a ≡ n = cc in omega arith
+
+    go :
+        (t o w h : Bool) (n : ℕ) → pick t (some 0) (pick o (some 8) (pick w (some 24) (pick h (some 56) none))) ≡ some n →
+        digestSize edition1 + entrySize edition1 n ≤ 256
+    go true o w h n e = short 0 n e (lit≤ tt)
+    go false true w h n e = short 8 n e (lit≤ tt)
+    go false false true h n e = short 24 n e (lit≤ tt)
+    go false false false true n e = short 56 n e (lit≤ tt)
+    go false false false false n e = let z : _≡_ {A = ℕ} 0 1 = cc in absurd (omega arith)
+
+pub edition1-laws : StoreLaws edition1
+edition1-laws = store-laws edition1 edition1-roomy
