@@ -10,7 +10,7 @@ use borrow.Author.Fill.{fill-more}
 use Rattle.segment.specs.Choice.{pick}
 use Rattle.segment.specs.Layout.{Layout, isTombstone}
 use Rattle.segment.specs.Entry.{Entry, Found, entry, end, damage, answer}
-use Rattle.segment.specs.ReaderLaws.{answer-end, answer-damage, answer-tombstone, answer-object}
+use Rattle.segment.specs.AnswerLaws.{answer-end, answer-damage, answer-tombstone, answer-object}
 use Rattle.segment.specs.declared.Key.{Key}
 use Rattle.segment.specs.declared.Read.{Read}
 use Rattle.index.specs.Insert.{Insertion, inserted, Tally, counted, over, tallied, insertOne}

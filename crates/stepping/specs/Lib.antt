@@ -2,3 +2,5 @@
 pub mod Next
 pub mod NextLaws
 pub mod PlanLaws
+pub mod Finish
+pub mod FinishLaws
