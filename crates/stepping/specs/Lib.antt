@@ -4,3 +4,4 @@ pub mod NextLaws
 pub mod PlanLaws
 pub mod Finish
 pub mod FinishLaws
+pub mod EntryLaws
