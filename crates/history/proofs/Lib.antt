@@ -6,3 +6,4 @@ pub mod Steps
 pub mod Readings
 pub mod Recoveries
 pub mod Theorem
+pub mod Corollaries

@@ -37,13 +37,16 @@ entriesAt L s at = entriesFrom L s (suc (length s)) at
 unfoldable pub inLog : ℕ → ℕ → ℕ → ℕ → Bool
 inLog areaLength S map i = both (named map i) (leb (i * S + S) areaLength)
 
--- the entries of one slot, and of the slots of a list in their order
+-- the entries of one slot, none where it is not in the log, and those of the slots of a list in their order
 abbrev pub slotEntries : Layout → List ℕ → ℕ → ℕ → List Placed
 slotEntries L area S i = placedIn i (entriesAt L (segmentOf area S i) (digestSize L))
 
+abbrev pub listedSlot : Layout → List ℕ → ℕ → ℕ → ℕ → List Placed
+listedSlot L area S map i = pick (inLog (length area) S map i) (slotEntries L area S i) []
+
 unfoldable pub listed : Layout → List ℕ → ℕ → ℕ → List ℕ → List Placed
 listed L area S map [] = []
-listed L area S map (i ∷ order) = pick (inLog (length area) S map i) (slotEntries L area S i) [] ++ listed L area S map order
+listed L area S map (i ∷ order) = listedSlot L area S map i ++ listed L area S map order
 
 -- the tally that an answer stands for, with the cells
 unfoldable pub tallyOf : Built → List ℕ → Tally

@@ -15,7 +15,7 @@ ghost use lib.ListN.{length, replicate};
 ghost use Rattle.segment.specs.Layout.{edition1};
 ghost use Rattle.segment.specs.Entry.{entryAt};
 ghost use Rattle.index.specs.Insert.{counted, insertOne, insertAll};
-ghost use Rattle.index.specs.Build.{nextOf, inLog, slotEntries, tallyOf, built};
+ghost use Rattle.index.specs.Build.{nextOf, inLog, slotEntries, listedSlot, listed, tallyOf, Rebuilt, built};
 
 // Every cell free.
 fn clear(cells: &mut [u32])
@@ -83,5 +83,124 @@ fn index_entry(
         Inserted::Newer => Built::Keys(keys),
         Inserted::Older => Built::Keys(keys),
         Inserted::Full => Built::TooMany,
+    }
+}
+
+// The entries of one slot, whose segment is cut from the area at slot × size.
+fn index_slot(area: &[u8], cells: &mut [u32], slot: usize, size: usize, keys: usize) -> Built
+    requires { ⌜
+        (slot * size + size ≤ length (now area))
+        × (slot * size + size < 4294967295)
+        × (keys ≤ length (now cells))
+        ⌝ }
+    ensures { λ r.
+        ⌜
+        tallyOf r (now (cells .exit))
+        ≡ insertAll edition1 (now (area .entry)) size (slotEntries edition1 (now (area .entry)) size slot) (counted (now (cells .entry)) keys)
+        ⌝ }
+{
+    let start = slot * size;
+    let end = start + size;
+    let s = &area[start..end];
+    let mut at = DIGEST_SIZE;
+    let mut keys = keys;
+    loop {
+        let Next::Entry {
+            key,
+            version,
+            length,
+        } = next_entry(s, at)
+        else {
+            return Built::Keys(keys);
+        };
+        let Built::Keys(n) = index_entry(area, cells, start + at, key, version, keys) else {
+            return Built::TooMany;
+        };
+        keys = n;
+        at += length;
+    }
+}
+
+// A byte as a slot.
+fn slot_of(b: u8) -> usize
+    ensures { λ r. ⌜ (r ≡ b) × (r < 256) ⌝ }
+{
+    b as usize
+}
+
+// Whether the map names the slot and the slot's segment lies within the area.
+fn in_log(length: usize, size: usize, map: u32, slot: usize) -> bool
+    requires { ⌜ (slot < 256) × (size ≤ 65536) ⌝ }
+    ensures { λ r. ⌜ r ≡ inLog length size map slot ⌝ }
+{
+    if 32 <= slot {
+        return false;
+    }
+    if !has_slot(map, slot as u32) {
+        return false;
+    }
+    slot * size + size <= length
+}
+
+// The entries of one slot of the order list, if it is in the log.
+fn index_listed(
+    area: &[u8],
+    cells: &mut [u32],
+    slot: usize,
+    size: usize,
+    map: u32,
+    keys: usize,
+) -> Built
+    requires { ⌜ (slot < 256) × (size ≤ 65536) × (keys ≤ length (now cells)) ⌝ }
+    ensures { λ r.
+        ⌜
+        tallyOf r (now (cells .exit))
+        ≡ insertAll edition1 (now (area .entry)) size (listedSlot edition1 (now (area .entry)) size map slot) (counted (now (cells .entry)) keys)
+        ⌝ }
+{
+    if !in_log(area.len(), size, map, slot) {
+        return Built::Keys(keys);
+    }
+    index_slot(area, cells, slot, size, keys)
+}
+
+// The entries of the slots of the order list, one slot after the other, into cells that are free.
+fn index_order(area: &[u8], cells: &mut [u32], order: &[u8], size: usize, map: u32) -> Built
+    requires { ⌜ size ≤ 65536 ⌝ }
+    ensures { λ r.
+        ⌜
+        tallyOf r (now (cells .exit))
+        ≡ insertAll edition1 (now (area .entry)) size (listed edition1 (now (area .entry)) size map (now (order .entry))) (counted (now (cells .entry)) 0)
+        ⌝ }
+{
+    let mut keys = 0;
+    let mut j = 0;
+    while j < order.len() {
+        let slot = slot_of(order[j]);
+        let Built::Keys(n) = index_listed(area, cells, slot, size, map, keys) else {
+            return Built::TooMany;
+        };
+        keys = n;
+        j += 1;
+    }
+    Built::Keys(keys)
+}
+
+// The index of the log: the slots of the map in the order of the list. With too many keys every cell is left 0.
+pub fn build(area: &[u8], cells: &mut [u32], order: &[u8], size: usize, map: u32) -> Built
+    requires { ⌜ size ≤ 65536 ⌝ }
+    ensures { λ r.
+        ⌜
+        _≡_ {A = Rebuilt} (record { answer = r; cells = now (cells .exit) })
+        (built edition1 (now (area .entry)) size map (now (order .entry)) (length (now (cells .entry))))
+        ⌝ }
+{
+    clear(cells);
+    match index_order(area, cells, order, size, map) {
+        Built::Keys(n) => Built::Keys(n),
+        Built::TooMany => {
+            clear(cells);
+            Built::TooMany
+        }
     }
 }

@@ -1,20 +1,18 @@
 -- What the range-and-length test says, as plain facts, and the test in the parts in which the code makes it.
-use Prim.Native.Nat.{ℕ, _+_, _*_, _-_, _/_, _^_, _≤_, _<_}
+use Prim.Native.Nat.{ℕ, _+_, _*_, _-_, _^_, _≤_, _<_}
 use mathlib.Core.Path.{_≡_, refl, sym, _∙_}
 use mathlib.Core.Bool.{Bool, true, false, not}
 use native.Mathlib.Omega.{arith}
 use native.Mathlib.Nat.{lt-of-not-le, add-sub-of-le}
 use lib.Dec.{eqb, ltb, leb}
-use lib.Pow.{pow-pos}
-use borrow.Author.Tests.{ltb-true, leb-true, eqb-true, eqb-false, not-true, not-false, lt-ltb, le-ltb, le-leb, eq-eqb, ne-eqb}
-use Rattle.segment.specs.Choice.{both, both-left, both-right, both-true, both-false-left, both-false-right}
+use borrow.Author.Tests.{ltb-true, leb-true, eqb-true, eqb-false, not-true, not-false, lt-ltb, le-leb, eq-eqb, ne-eqb}
+use Rattle.segment.specs.Choice.{both, both-left, both-right, both-true}
 use Rattle.segment.specs.Layout.{Layout, digestSize}
-use Rattle.slot_map.specs.Bit.{named}
-use Rattle.slot_map.specs.BitLaws.{bit-above, named-true, clear-named}
+use Rattle.slot_map.specs.Bit.{named, namesBelow}
+use Rattle.slot_map.specs.BitLaws.{bit-above, below-true, named-true, clear-named}
 use Rattle.slot_map.specs.Count.{used}
 use Rattle.slot_map.specs.CountLaws.{used-wide}
-use Rattle.slot_map.specs.Words.{slot-mask}
-use Rattle.record.specs.Answers.{storesLeft, blank}
+use Rattle.record.specs.Answers.{storesLeft, withPending, blank}
 use Rattle.record.specs.Range.{between, slotsGood, sizeGood, cellsGood, mapGood, leftGood, inRange, lengthsOwn, fitsLent}
 use Rattle.record.specs.declared.Pending.{Pending}
 use Rattle.record.specs.declared.Pending.the-variants.{Idle, Append, NewHead, Clean}
@@ -113,27 +111,12 @@ map-in n head map e =
       some-free = ltb-true (used n map) n (both-right _ _ (both-right _ _ e));
     }
 
--- the test as the code makes it: `0xffff_ffff >> (32 - n)` is the map of all n slots
-module _ (n head map : ℕ) (fits : n ≤ 32) where
-  below-pow : map ≤ 4294967295 / 2 ^ (32 - n) → map < 2 ^ n
-  below-pow h = omega (arith, slot-mask 32 n fits, pow-pos n)
+-- the code looks at the head's bit only where the head is one of the n slots, and counts the ones of all 32
+pub past-slots : (n head map : ℕ) → namesBelow n map ≡ true → n ≤ head → named map head ≡ false
+past-slots n head map e past = clear-named map head (bit-above map n head (below-true n map e) past)
 
-  pub map-high : 4294967295 / 2 ^ (32 - n) < map → mapGood n head map ≡ false
-  unfolding mapGood
-  map-high h = both-false-left _ _ (le-ltb map (2 ^ n) (omega (arith, slot-mask 32 n fits, pow-pos n)))
-
-  pub map-no-slot : map ≤ 4294967295 / 2 ^ (32 - n) → n ≤ head → mapGood n head map ≡ false
-  unfolding mapGood
-  map-no-slot h past =
-      both-false-right _ _ (both-false-left _ _ (clear-named map head (bit-above map n head (below-pow h) past)))
-
-  pub map-lacks : named map head ≡ false → mapGood n head map ≡ false
-  unfolding mapGood
-  map-lacks e = both-false-right _ _ (both-false-left _ _ e)
-
-  pub map-count : map ≤ 4294967295 / 2 ^ (32 - n) → named map head ≡ true → mapGood n head map ≡ ltb (used 32 map) n
-  unfolding mapGood both
-  map-count h e = rw (lt-ltb map (2 ^ n) (below-pow h), e, ← used-wide n (32 - n) map (below-pow h), add-sub-of-le fits)
+pub used-all : (n map : ℕ) → n ≤ 32 → namesBelow n map ≡ true → used 32 map ≡ used n map
+used-all n map fits e = rw (← add-sub-of-le fits) (used-wide n (32 - n) map (below-true n map e))
 
 -- ---- the test of a record in the code's parts: limits, map, counters, stores left
 
@@ -268,6 +251,32 @@ fits-lent L r a i h =
       eq-eqb a (r .slots * r .size) (h .area-own),
       eq-eqb i (r .cells) (h .index-own),
     )
+
+-- another pending operation with a right number of stores left keeps all that
+pub lent-pending : {L : Layout} {r : Store} {a i : ℕ} (p : Pending) → Lent L r a i → ((p ≡ Idle → ⊥) → 0 < storesLeft p)
+    → storesLeft p ≤ r .size + 1 → Lent L (withPending r p) a i
+lent-pending p h some most =
+    record {
+      slots-low = h .slots-low;
+      slots-high = h .slots-high;
+      size-low = h .size-low;
+      size-high = h .size-high;
+      cells-low = h .cells-low;
+      cells-high = h .cells-high;
+      map-below = h .map-below;
+      head-below = h .head-below;
+      head-named = h .head-named;
+      some-free = h .some-free;
+      end-low = h .end-low;
+      end-high = h .end-high;
+      number-some = h .number-some;
+      next-some = h .next-some;
+      keys-high = h .keys-high;
+      left-some = some;
+      left-high = most;
+      area-own = h .area-own;
+      index-own = h .index-own;
+    }
 
 -- ---- the blank record is out of range, whatever is lent
 

@@ -42,7 +42,7 @@ pub fn map_good(slots: u32, head: u32, map: u32) -> bool
     requires { ⌜ (1 ≤ slots) × (slots ≤ 32) ⌝ }
     ensures { λ r. ⌜ r ≡ mapGood slots head map ⌝ }
 {
-    if 0xffff_ffff >> (32 - slots) < map {
+    if !slot_map::names_below(slots, map) {
         return false;
     }
     if slots <= head {
