@@ -16,7 +16,7 @@ use Rattle.segment.specs.Layout.{Layout, isTombstone}
 use Rattle.segment.specs.Entry.{Entry, Found, entry, end, damage, entryAt, sizeOf, keyOf, answer}
 use Rattle.segment.specs.EntryLaws.{found-fits}
 use Rattle.segment.specs.Packed.{length-part}
-use Rattle.segment.specs.ReaderLaws.{answer-end, answer-damage, answer-tombstone, answer-object}
+use Rattle.segment.specs.AnswerLaws.{answer-end, answer-damage, answer-tombstone, answer-object}
 use Rattle.segment.specs.declared.Key.{Key}
 use Rattle.segment.specs.declared.Read.{Read}
 use Rattle.segment.specs.declared.Version.{Version}

@@ -1,6 +1,6 @@
 -- 01, "Operations, store by store": the record and the index after a step's store, as total functions of the area after it.
-use Prim.Native.Nat.{ℕ, _+_, _*_, _-_}
-use mathlib.Core.List.{List}
+use Prim.Native.Nat.{ℕ, zero, suc, _+_, _*_, _-_}
+use mathlib.Core.List.{List, [], _∷_}
 use lib.Dec.{eqb, ltb, leb}
 use lib.ListN.{length, take}
 use Rattle.segment.specs.Choice.{pick, either}
@@ -16,6 +16,7 @@ use Rattle.record.specs.declared.StepAnswer.{StepAnswer}
 use Rattle.record.specs.declared.Store.{Store}
 use Rattle.index.specs.Search.{tableAt, keyAt}
 use Rattle.index.specs.Insert.{inserted}
+use Rattle.index.specs.Build.{Rebuilt, built}
 use Rattle.index.specs.declared.Built.{Built}
 use Rattle.index.specs.declared.Inserted.{Inserted}
 
@@ -119,3 +120,55 @@ unfoldable pub finishHead : Layout → Store → List ℕ → List ℕ → ℕ �
 finishHead L r area cells slot n =
     pick (either (eqb (r .next .0) (versionLimit L)) (eqb (r .number .0) numberLimit)) (unfit r cells)
     (finishEntry L r (headDone r slot n (withBit (r .map) slot) (r .next .0 + 1)) area cells (slot * r .size + digestSize L))
+
+-- ---- the last step of a cleaning
+
+-- the slots below f more than a, from a on
+unfoldable pub upFrom : ℕ → ℕ → List ℕ
+upFrom a zero = []
+upFrom a (suc f) = a ∷ upFrom (a + 1) f
+
+-- the slots of a store, ascending
+abbrev pub ascending : ℕ → List ℕ
+ascending n = take n (upFrom 0 32)
+
+-- The index is rebuilt under the new map.
+abbrev pub rebuilt : Layout → Store → List ℕ → List ℕ → ℕ → Rebuilt
+rebuilt L r area cells map = built L area (r .size) map (ascending (r .slots)) (length cells)
+
+abbrev pub cleanMap : Store → ℕ → ℕ → ℕ
+cleanMap r slot victims = withBit (less (r .map) victims) slot
+
+unfoldable pub finishClean : Layout → Store → List ℕ → List ℕ → ℕ → ℕ → ℕ → After
+finishClean L r area cells slot victims n =
+    pick (eqb (r .number .0) numberLimit) (unfit r cells)
+    (record {
+      stepped =
+          toldBy r (headDone r slot n (cleanMap r slot victims) (r .next .0)) 0 (rebuilt L r area cells (cleanMap r slot victims) .answer);
+      cells = rebuilt L r area cells (cleanMap r slot victims) .cells;
+    })
+
+-- ---- what comes after the store of a step
+
+-- one store less
+unfoldable pub oneLess : Pending → Pending
+oneLess Idle = Idle
+oneLess (Append n k) = Append n (k - 1)
+oneLess (NewHead i n k) = NewHead i n (k - 1)
+oneLess (Clean i v n k) = Clean i v n (k - 1)
+
+unfoldable pub finishWith : Layout → Store → List ℕ → List ℕ → Pending → After
+finishWith L r area cells Idle = unfit r cells
+finishWith L r area cells (Append n k) = finishAppend L r area cells n
+finishWith L r area cells (NewHead i n k) = finishHead L r area cells i n
+finishWith L r area cells (Clean i v n k) = finishClean L r area cells i v n
+
+-- With stores left, they are one less and the index stays; else the operation is finished.
+unfoldable pub advanced : Layout → Store → List ℕ → List ℕ → After
+advanced L r area cells =
+    pick (ltb 1 (storesLeft (r .pending)))
+    (record {
+      stepped = record { answer = StepAnswer.Left (storesLeft (r .pending) - 1); store = withPending r (oneLess (r .pending)) };
+      cells = cells;
+    })
+    (finishWith L r area cells (r .pending))

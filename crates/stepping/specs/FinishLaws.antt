@@ -1,6 +1,6 @@
 -- The last step at each test of the code.
 use Prim.Native.Nat.{ℕ, _+_, _*_, _-_, _≤_, _<_}
-use mathlib.Core.Path.{_≡_, refl, sym, _∙_, ap}
+use mathlib.Core.Path.{_≡_, refl, sym, _∙_, ap, subst}
 use mathlib.Core.Bool.{Bool, true, false}
 use mathlib.Core.List.{List}
 use native.Mathlib.Nat.{mul-le-mul}
@@ -12,16 +12,20 @@ use Rattle.segment.specs.Choice.{pick-true, pick-false, either-false, either-tr
 use Rattle.segment.specs.Layout.{Layout, entrySize, digestSize, versionLimit, numberLimit}
 use Rattle.segment.specs.declared.Key.{Key}
 use Rattle.segment.specs.declared.Version.{Version}
-use Rattle.slot_map.specs.Bit.{withBit}
+use Rattle.slot_map.specs.Bit.{withBit, less}
+use Rattle.record.specs.Answers.{withPending, storesLeft}
+use Rattle.record.specs.declared.Pending.{Pending}
+use Rattle.record.specs.declared.Pending.the-variants.{Idle, Append, NewHead, Clean}
 use Rattle.record.specs.declared.Refusal.{Refusal}
 use Rattle.record.specs.declared.Stepped.{Stepped}
 use Rattle.record.specs.declared.StepAnswer.{StepAnswer}
 use Rattle.record.specs.declared.Store.{Store}
 use Rattle.index.specs.Search.{tableAt, keyAt}
 use Rattle.index.specs.Insert.{Insertion, inserted}
+use Rattle.index.specs.Build.{Rebuilt, built}
 use Rattle.index.specs.declared.Built.{Built}
 use Rattle.index.specs.declared.Inserted.{Inserted}
-use Rattle.stepping.specs.Finish.{After, refusedWith, unfit, withKeys, appendDone, headDone, keyIn, keysAfter, toldBy, entryIn, finishEntry, finishAppend, finishHead}
+use Rattle.stepping.specs.Finish.{After, refusedWith, unfit, withKeys, appendDone, headDone, keyIn, keysAfter, toldBy, entryIn, finishEntry, finishAppend, finishHead, cleanMap, ascending, rebuilt, finishClean, oneLess, finishWith, advanced}
 
 -- ---- the keys after an insertion
 
@@ -144,3 +148,109 @@ module _ (L : Layout) (r : Store) (area cells : List ℕ) (n : ℕ) where
         ∙ sym
         (pick-false _ _ _
         (either-false (eqb (r .next .0) (versionLimit L)) (eqb (r .number .0) numberLimit) (ne-eqb (r .next .0) (versionLimit L) h) (ne-eqb (r .number .0) numberLimit l)))
+
+-- ---- a cleaning
+
+module _ (L : Layout) (r : Store) (area cells : List ℕ) (slot victims n : ℕ) where
+  pub clean-spent :
+      r .number .0 ≡ numberLimit → {x : Stepped} → x ≡ refusedWith r Refusal.BadRecord →
+      record { stepped = x; cells = cells } ≡ finishClean L r area cells slot victims n
+  unfolding finishClean
+  clean-spent h e =
+      ap (λ (s : Stepped). record { stepped = s; cells = cells }) e
+      ∙ sym (pick-true (eqb (r .number .0) numberLimit) _ _ (eq-eqb (r .number .0) numberLimit h))
+
+  pub clean-goes :
+      (r .number .0 ≡ numberLimit → ⊥) → {w m : ℕ} → w ≡ less (r .map) victims → m ≡ withBit w slot → {d : Store} →
+      d ≡ headDone r slot n m (r .next .0) → {b : Built} {cells′ : List ℕ} →
+      _≡_ {A = Rebuilt} (record { answer = b; cells = cells′ }) (rebuilt L r area cells m) → {x : Stepped} → x ≡ toldBy r d 0 b →
+      record { stepped = x; cells = cells′ } ≡ finishClean L r area cells slot victims n
+  unfolding finishClean
+  clean-goes h {w} {m} ew em {d} ed {b} {cells′} eb ex =
+      ap (λ (s : Stepped). record { stepped = s; cells = cells′ }) (ex ∙ ap (λ (s : Store). toldBy r s 0 b) ed)
+      ∙ ap (λ (a : Rebuilt). record { stepped = toldBy r (headDone r slot n m (r .next .0)) 0 (a .answer); cells = a .cells }) eb
+      ∙ ap
+      (λ (j : ℕ).
+      record {
+        stepped = toldBy r (headDone r slot n j (r .next .0)) 0 (rebuilt L r area cells j .answer);
+        cells = rebuilt L r area cells j .cells;
+      })
+      (em ∙ ap (λ (j : ℕ). withBit j slot) ew)
+      ∙ sym (pick-false (eqb (r .number .0) numberLimit) _ _ (ne-eqb (r .number .0) numberLimit h))
+
+-- ---- after the store
+
+-- the stores left, by the kind of the operation
+pub left-is : {p q : Pending} → p ≡ q → 0 < storesLeft p → 0 < storesLeft q
+left-is e h = subst (λ (x : Pending). 0 < storesLeft x) e h
+
+module _ {p : Pending} where
+  pub less-idle : p ≡ Idle → Idle ≡ oneLess p
+  unfolding oneLess
+  less-idle e = rw e
+
+  pub less-append : {n k : ℕ} → p ≡ Append n k → Append n (k - 1) ≡ oneLess p
+  unfolding oneLess
+  less-append e = rw e
+
+  pub less-head : {i n k : ℕ} → p ≡ NewHead i n k → NewHead i n (k - 1) ≡ oneLess p
+  unfolding oneLess
+  less-head e = rw e
+
+  pub less-clean : {i v n k : ℕ} → p ≡ Clean i v n k → Clean i v n (k - 1) ≡ oneLess p
+  unfolding oneLess
+  less-clean e = rw e
+
+-- The pending operation's slot is one of 32, and its bytes fit the segment.
+unfoldable pub PendingIn : Store → Pending → Type 0
+PendingIn r Idle = 0 ≤ 0
+PendingIn r (Append n k) = (r .head < 32) × (r .end + n ≤ r .size)
+PendingIn r (NewHead i n k) = (i < 32) × (n ≤ r .size)
+PendingIn r (Clean i v n k) = (i < 32) × (n ≤ r .size)
+
+module _ (r : Store) where
+  pub in-append : {n k : ℕ} → r .pending ≡ Append n k → PendingIn r (r .pending) → (r .head < 32) × (r .end + n ≤ r .size)
+  unfolding PendingIn
+  in-append e h = subst (PendingIn r) e h
+
+  pub in-head : {i n k : ℕ} → r .pending ≡ NewHead i n k → PendingIn r (r .pending) → (i < 32) × (n ≤ r .size)
+  unfolding PendingIn
+  in-head e h = subst (PendingIn r) e h
+
+  pub in-clean : {i v n k : ℕ} → r .pending ≡ Clean i v n k → PendingIn r (r .pending) → (i < 32) × (n ≤ r .size)
+  unfolding PendingIn
+  in-clean e h = subst (PendingIn r) e h
+
+module _ (L : Layout) (r : Store) (area cells : List ℕ) where
+  pub with-idle :
+      r .pending ≡ Idle → {x : Stepped} → x ≡ refusedWith r Refusal.BadRecord →
+      record { stepped = x; cells = cells } ≡ finishWith L r area cells (r .pending)
+  unfolding finishWith
+  with-idle e h = ap (λ (s : Stepped). record { stepped = s; cells = cells }) h ∙ sym (ap (finishWith L r area cells) e)
+
+  pub with-append : {n k : ℕ} → r .pending ≡ Append n k → {a : After} → a ≡ finishAppend L r area cells n → a ≡ finishWith L r area cells (r .pending)
+  unfolding finishWith
+  with-append e h = h ∙ sym (ap (finishWith L r area cells) e)
+
+  pub with-head : {i n k : ℕ} → r .pending ≡ NewHead i n k → {a : After} → a ≡ finishHead L r area cells i n → a ≡ finishWith L r area cells (r .pending)
+  unfolding finishWith
+  with-head e h = h ∙ sym (ap (finishWith L r area cells) e)
+
+  pub with-clean : {i v n k : ℕ} → r .pending ≡ Clean i v n k → {a : After} → a ≡ finishClean L r area cells i v n → a ≡ finishWith L r area cells (r .pending)
+  unfolding finishWith
+  with-clean e h = h ∙ sym (ap (finishWith L r area cells) e)
+
+module _ (L : Layout) (r : Store) (area cells : List ℕ) where
+  pub advance-left :
+      {k : ℕ} → k ≡ storesLeft (r .pending) → 1 < k → {q : Pending} → q ≡ oneLess (r .pending) → {s : Store} → s ≡ withPending r q →
+      record { stepped = record { answer = StepAnswer.Left (k - 1); store = s }; cells = cells } ≡ advanced L r area cells
+  unfolding advanced
+  advance-left {k} ek h {q} eq {s} es =
+      ap (λ (t : Store). record { stepped = record { answer = StepAnswer.Left (k - 1); store = t }; cells = cells }) (es ∙ ap (withPending r) eq)
+      ∙ ap (λ (j : ℕ). record { stepped = record { answer = StepAnswer.Left (j - 1); store = withPending r (oneLess (r .pending)) }; cells = cells }) ek
+      ∙ sym (pick-true (ltb 1 (storesLeft (r .pending))) _ _ (lt-ltb 1 (storesLeft (r .pending)) (omega arith)))
+
+  pub advance-last :
+      {k : ℕ} → k ≡ storesLeft (r .pending) → k ≤ 1 → {a : After} → a ≡ finishWith L r area cells (r .pending) → a ≡ advanced L r area cells
+  unfolding advanced
+  advance-last ek h e = e ∙ sym (pick-false (ltb 1 (storesLeft (r .pending))) _ _ (le-ltb 1 (storesLeft (r .pending)) (omega arith)))
