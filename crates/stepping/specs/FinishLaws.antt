@@ -25,6 +25,7 @@ use Rattle.index.specs.Insert.{Insertion, inserted}
 use Rattle.index.specs.Build.{Rebuilt, built}
 use Rattle.index.specs.declared.Built.{Built}
 use Rattle.index.specs.declared.Inserted.{Inserted}
+use Rattle.stepping.specs.Next.{PendingIn}
 use Rattle.stepping.specs.Finish.{After, refusedWith, unfit, withKeys, appendDone, headDone, keyIn, keysAfter, toldBy, entryIn, finishEntry, finishAppend, finishHead, cleanMap, ascending, rebuilt, finishClean, oneLess, finishWith, advanced}
 
 -- ---- the keys after an insertion
@@ -200,13 +201,6 @@ module _ {p : Pending} where
   pub less-clean : {i v n k : ℕ} → p ≡ Clean i v n k → Clean i v n (k - 1) ≡ oneLess p
   unfolding oneLess
   less-clean e = rw e
-
--- The pending operation's slot is one of 32, and its bytes fit the segment.
-unfoldable pub PendingIn : Store → Pending → Type 0
-PendingIn r Idle = 0 ≤ 0
-PendingIn r (Append n k) = (r .head < 32) × (r .end + n ≤ r .size)
-PendingIn r (NewHead i n k) = (i < 32) × (n ≤ r .size)
-PendingIn r (Clean i v n k) = (i < 32) × (n ≤ r .size)
 
 module _ (r : Store) where
   pub in-append : {n k : ℕ} → r .pending ≡ Append n k → PendingIn r (r .pending) → (r .head < 32) × (r .end + n ≤ r .size)

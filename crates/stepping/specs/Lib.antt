@@ -5,3 +5,6 @@ pub mod PlanLaws
 pub mod Finish
 pub mod FinishLaws
 pub mod EntryLaws
+pub mod CleanLaws
+pub mod ExactLaws
+pub mod StepLaws

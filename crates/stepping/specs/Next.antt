@@ -1,5 +1,5 @@
 -- 01, "Operations, store by store": place and byte of the next store, from the record, the work buffer and the area's length.
-use Prim.Native.Nat.{ℕ, _+_, _*_, _-_}
+use Prim.Native.Nat.{ℕ, _+_, _*_, _-_, _≤_, _<_}
 use mathlib.Core.Bool.{Bool}
 use mathlib.Core.List.{List}
 use lib.Dec.{eqb, ltb, leb}
@@ -49,3 +49,10 @@ pendingNext areaLength work r (Clean i v n k) = slotNext areaLength work (r .siz
 
 abbrev pub nextStore : ℕ → List ℕ → Store → NextStore
 nextStore areaLength work r = pendingNext areaLength work r (r .pending)
+
+-- The pending operation's slot is one of 32, and its bytes fit the segment.
+unfoldable pub PendingIn : Store → Pending → Type 0
+PendingIn r Idle = 0 ≤ 0
+PendingIn r (Append n k) = (r .head < 32) × (r .end + n ≤ r .size)
+PendingIn r (NewHead i n k) = (i < 32) × (n ≤ r .size)
+PendingIn r (Clean i v n k) = (i < 32) × (n ≤ r .size)

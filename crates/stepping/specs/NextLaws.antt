@@ -3,7 +3,8 @@ use Prim.Native.Nat.{ℕ, _+_, _*_, _-_, _≤_, _<_}
 use mathlib.Core.Path.{_≡_, refl, sym, _∙_, ap}
 use mathlib.Core.Bool.{Bool, true, false, not}
 use mathlib.Core.List.{List}
-use native.Mathlib.Nat.{mul-le-mul}
+use native.Mathlib.Decide.{ℕ-discrete, decLt}
+use native.Mathlib.Nat.{mul-le-mul, mul-le-mul-right}
 use native.Mathlib.Omega.{arith}
 use lib.Dec.{eqb, ltb, leb}
 use lib.ListN.{length, getD}
@@ -12,7 +13,7 @@ use Rattle.segment.specs.Choice.{pick, pick-true, pick-false, both, both-left, 
 use Rattle.record.specs.declared.Pending.{Pending}
 use Rattle.record.specs.declared.Pending.the-variants.{Idle, Append, NewHead, Clean}
 use Rattle.record.specs.declared.Store.{Store}
-use Rattle.stepping.specs.Next.{commitStores, commitStore, fitsSlot, fitsLeft, slotStore, slotNext, pendingNext, nextStore}
+use Rattle.stepping.specs.Next.{commitStores, commitStore, fitsSlot, fitsLeft, slotStore, slotNext, pendingNext, nextStore, PendingIn}
 use Rattle.stepping.specs.declared.NextStore.{NextStore}
 use Rattle.stepping.specs.declared.NextStore.the-variants.{At, Bad}
 
@@ -174,3 +175,93 @@ module _ (areaLength : ℕ) (work : List ℕ) (r : Store) where
       x ≡ nextStore areaLength work r
   unfolding pendingNext
   next-clean e h = rw e h
+
+-- ---- what is known where there is a next store
+
+module _ (base S offset n : ℕ) (work : List ℕ) (j p b : ℕ) (some-byte : 0 < n) (room : offset + n ≤ S) (h : j < commitStores S offset n)
+    (e : commitStore base S offset n work j ≡ At p b)
+  where
+    same-place : (x y : ℕ) → _≡_ {A = NextStore} (At x y) (At p b) → x ≡ p
+    same-place x y q = cc
+
+    commit-inside : p < base + S
+    commit-inside = go (ℕ-discrete (j + 1) (commitStores S offset n)) (decLt (j + 1) n)
+      where
+        go : Dec (j + 1 ≡ commitStores S offset n) → Dec (j + 1 < n) → p < base + S
+        go (yes q) d =
+            let s = same-place (base + offset) (getD work 0 0) (store-last base S offset n work j refl q ∙ e) in
+            omega arith
+        go (no q) (yes d) =
+            let s = same-place (base + offset + 1 + j) (getD work (j + 1) 0) (store-byte base S offset n work j refl q d ∙ e) in
+            omega arith
+        go (no q) (no d) =
+            let s = same-place (base + offset + n) 0 (store-end base S offset n work j refl q (omega arith) ∙ e) in
+            ended (decLt (offset + n) S) s
+          where
+            ended : Dec (offset + n < S) → base + offset + n ≡ p → p < base + S
+            ended (yes w) s = omega arith
+            ended (no w) s = absurd (q (omega (arith, stores-full S offset n (omega arith))))
+
+module _ (areaLength : ℕ) (work : List ℕ) (S slot offset n first k p b : ℕ) (e : slotNext areaLength work S slot offset n first k ≡ At p b) where
+  never : _≡_ {A = NextStore} Bad (At p b) → ⊥
+  never q = let z : _≡_ {A = ℕ} 0 1 = cc in omega arith
+
+  pub slot-at : Fit areaLength (length work) S slot offset n × (p < areaLength)
+  unfolding slotNext fitsLeft slotStore
+  slot-at = go (both (fitsSlot areaLength (length work) S slot offset n) (both (ltb 0 k) (leb k (commitStores S offset n + first)))) refl
+    where
+      placed : Fit areaLength (length work) S slot offset n → 0 < k → k ≤ commitStores S offset n + first
+          → slotStore (slot * S) S offset n work first (commitStores S offset n + first - k) ≡ At p b → p < areaLength
+      placed f some most q = by (decLt (commitStores S offset n + first - k) first)
+        where
+          by : Dec (commitStores S offset n + first - k < first) → p < areaLength
+          by (yes d) =
+              let s : At (slot * S) 0 ≡ At p b =
+              sym (pick-true (ltb (commitStores S offset n + first - k) first) _ _ (lt-ltb (commitStores S offset n + first - k) first d)) ∙ q in
+              let same : slot * S ≡ p = cc in
+              omega (arith, f .some, f .room, f .inside)
+          by (no d) =
+              let s : commitStore (slot * S) S offset n work (commitStores S offset n + first - k - first) ≡ At p b =
+              sym (pick-false (ltb (commitStores S offset n + first - k) first) _ _ (le-ltb (commitStores S offset n + first - k) first (omega arith))) ∙ q in
+              omega (
+                arith,
+                commit-inside (slot * S) S offset n work (commitStores S offset n + first - k - first) p b (f .some) (f .room) (omega arith) s,
+                f .inside,
+              )
+
+      go : (t : Bool) → both (fitsSlot areaLength (length work) S slot offset n) (both (ltb 0 k) (leb k (commitStores S offset n + first))) ≡ t
+          → Fit areaLength (length work) S slot offset n × (p < areaLength)
+      go true t =
+          let f = slot-facts areaLength (length work) S slot offset n (both-left _ _ t) in (
+            f,
+            placed f (ltb-true 0 k (both-left _ _ (both-right _ _ t)))
+                (leb-true k (commitStores S offset n + first) (both-right _ _ (both-right _ _ t))) (sym (pick-true _ _ _ t) ∙ e),
+          )
+      go false t = absurd (never (sym (pick-false _ _ _ t) ∙ e))
+
+-- A slot whose segment lies in the area is one of the store's.
+pub slot-below : (slots S slot : ℕ) → 0 < S → slot * S + S ≤ slots * S → slot < slots
+slot-below slots S slot some h = go (decLt slot slots)
+  where
+    go : Dec (slot < slots) → slot < slots
+    go (yes l) = l
+    go (no l) =
+        let over : slots ≤ slot = omega arith in
+        absurd (omega (arith, mul-le-mul-right S over))
+
+module _ (areaLength : ℕ) (work : List ℕ) (r : Store) (p b : ℕ) (slots : r .slots ≤ 32) (head : r .head < r .slots) (long : areaLength ≡ r .slots * r .size) where
+  small : (i o n : ℕ) → Fit areaLength (length work) (r .size) i o n → i < 32
+  small i o n f = omega (arith, slot-below (r .slots) (r .size) i (omega (arith, f .some, f .room)) (omega (arith, f .inside)))
+
+  pub next-inside : (q : Pending) → pendingNext areaLength work r q ≡ At p b → PendingIn r q × (p < areaLength)
+  unfolding pendingNext PendingIn
+  next-inside Idle e = let z : _≡_ {A = ℕ} 0 1 = cc in absurd (omega arith)
+  next-inside (Append n k) e =
+      let f = slot-at areaLength work (r .size) (r .head) (r .end) n 0 k p b e in
+      ((omega arith, f .0 .room), f .1)
+  next-inside (NewHead i n k) e =
+      let f = slot-at areaLength work (r .size) i 0 n 1 k p b e in
+      ((small i 0 n (f .0), omega (arith, f .0 .room)), f .1)
+  next-inside (Clean i v n k) e =
+      let f = slot-at areaLength work (r .size) i 0 n 1 k p b e in
+      ((small i 0 n (f .0), omega (arith, f .0 .room)), f .1)

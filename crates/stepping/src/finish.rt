@@ -28,7 +28,7 @@ ghost use Rattle.index.specs.Build.{Rebuilt, built};
 ghost use Rattle.segment.specs.Layout.{edition1};
 ghost use Rattle.stepping.specs.Finish.{refusedWith, withKeys, appendDone, headDone, keysAfter, toldBy, finishEntry, finishAppend, finishHead, finishClean, oneLess, finishWith, advanced};
 ghost use Rattle.record.specs.Answers.{storesLeft};
-ghost use Rattle.stepping.specs.FinishLaws.{PendingIn};
+ghost use Rattle.stepping.specs.Next.{PendingIn};
 
 // The record goes back as it was.
 pub fn refused(store: Store, cause: Refusal) -> Stepped
