@@ -105,7 +105,7 @@ module _ (S : ℕ) (log : List Placed) (cells : List ℕ) (rule : IndexRule S lo
 
     module _ (x : Placed) (l : latest log k ≡ some x) where
       its-key : k ≡ keyOf (x .entry)
-      its-key = same-key k (x .entry) (latest-some log k x l .its)
+      its-key = same-key k (x .entry) (latest-some log k x l .of-key)
 
       its-cell : HasCell S cells x
       its-cell = rule .found x (ap (latest log) (sym its-key) ∙ l)
@@ -117,7 +117,7 @@ module _ (S : ℕ) (log : List Placed) (cells : List ℕ) (rule : IndexRule S lo
       not-passed : Pass t cells (startCell (length cells) k) (its-met .distance) → ⊥
       not-passed p =
           clash (t (getD cells (its-cell .cell) 0))
-          (ap t (its-cell .holds) ∙ picks x (latest-some log k x l .member) ∙ latest-some log k x l .its)
+          (ap t (its-cell .holds) ∙ picks x (latest-some log k x l .member) ∙ latest-some log k x l .of-key)
           (ap (λ (i : ℕ). t (getD cells i 0)) (sym (its-met .arrives)) ∙ p .other)
 
       -- nor does the search end before it

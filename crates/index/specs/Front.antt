@@ -35,7 +35,7 @@ module _ (log : List Placed) (x : Placed) where
       go (some y) e =
           let n = latest-some log (keyOf (x .entry)) y e in
           pick-false (ltb (x .entry .version) (y .entry .version)) (some y) (some x)
-          (le-ltb (x .entry .version) (y .entry .version) (h y (n .member) (n .its)))
+          (le-ltb (x .entry .version) (y .entry .version) (h y (n .member) (n .of-key)))
 
   -- a newer entry of its key is there
   pub latest-behind :

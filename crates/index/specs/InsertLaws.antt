@@ -153,7 +153,7 @@ module _ (L : Layout) (area : List ℕ) (S m : ℕ) (log : List Placed) (x : Pla
             (record {
               rule =
                   put-newest S log cells (ix .rule) x (cellHas L area (keyOf (x .entry))) picks-all (c .cell)
-                  (target-known S log cells (keyOf (x .entry)) y l c) (λ z i s. omega (arith, newest .above z i s));
+                  (target-known S log cells (keyOf (x .entry)) y l c) (λ z i s. omega (arith, newest .none-above z i s));
               keys = same-keys;
               few = ix .few;
               long = length-set cells (c .cell) (placeOf S x + 1) ∙ ix .long;

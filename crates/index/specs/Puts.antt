@@ -70,7 +70,7 @@ module _ (S : ℕ) (log : List Placed) (cells : List ℕ) (k : Key) where
   pub target-known : (y : Placed) → latest log k ≡ some y → (c : HasCell S cells y) → Target S log cells k (c .cell)
   unfolding Holds
   target-known y l c =
-      let e : k ≡ keyOf (y .entry) = same-key k (y .entry) (latest-some log k y l .its) in
+      let e : k ≡ keyOf (y .entry) = same-key k (y .entry) (latest-some log k y l .of-key) in
       record {
         below = c .below;
         met = subst (λ (j : Key). Met cells (startCell (length cells) j) (c .cell)) (sym e) (c .met);
@@ -112,7 +112,7 @@ module _ (S : ℕ) (log : List Placed) (cells : List ℕ) (rule : IndexRule S lo
       go (some y) l h =
           let n = latest-some log (keyOf (x .entry)) y l in
           same-key (keyOf (x .entry)) (z .entry)
-          (sym (picks z (List·Memᴰ·tail m)) ∙ ap t (sym c ∙ h) ∙ picks y (List·Memᴰ·tail (n .member)) ∙ n .its)
+          (sym (picks z (List·Memᴰ·tail m)) ∙ ap t (sym c ∙ h) ∙ picks y (List·Memᴰ·tail (n .member)) ∙ n .of-key)
 
   its-place : t (placeOf S x + 1) ≡ true
   its-place = picks x first ∙ own-key (x .entry)
