@@ -1,0 +1,12 @@
+// The starts of a write and of a delete: what they check, and what they lay out in the work buffer.
+use record::Refusal;
+
+pub mod causes;
+pub mod lay;
+pub mod start;
+
+// Whether a call goes on, or the cause for which it is refused.
+pub enum Check {
+    Passed,
+    Refused(Refusal),
+}
