@@ -2,3 +2,4 @@
 -- says of the log.
 pub mod Tests
 pub mod TestLaws
+pub mod Laying
