@@ -3,3 +3,5 @@
 pub mod Tests
 pub mod TestLaws
 pub mod Laying
+pub mod Known
+pub mod StartLaws

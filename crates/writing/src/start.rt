@@ -1,1 +1,36 @@
-// start
+// The starts of a write and of a delete (01, "Operations, store by store"). The area and the index are only read.
+use crate::Check;
+use crate::causes::check_write;
+use crate::lay::lay_entry;
+use record::Start;
+use record::StartAnswer;
+use record::Store;
+use segment::Key;
+use segment::layout::object_kind;
+ghost use Rattle.segment.specs.Layout.{edition1};
+ghost use Rattle.model.specs.Operations.{write};
+ghost use Rattle.model.specs.Promises.{StartPromise};
+
+// A value is to come under a key.
+pub fn write(
+    store: Store,
+    area: &[u8],
+    index: &[u32],
+    work: &mut [u8],
+    key: Key,
+    value: &[u8],
+) -> Start
+    ensures { λ r.
+        ⌜
+        StartPromise edition1 (write key (now (value .entry))) store (now (area .entry)) (now (index .entry)) (now (work .entry))
+        (now (work .exit)) r
+        ⌝ }
+{
+    match check_write(store, area, index, work.len(), key, value.len()) {
+        Check::Refused(c) => Start {
+            answer: StartAnswer::Refused(c),
+            store,
+        },
+        Check::Passed => lay_entry(store, work, object_kind(value.len()), key, value),
+    }
+}
