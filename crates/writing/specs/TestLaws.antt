@@ -5,11 +5,13 @@ use mathlib.Core.Bool.{Bool, true, false, not}
 use mathlib.Core.List.{List, [], _∷_, _++_}
 use mathlib.Core.Option.{Option, none, some}
 use lib.Dec.{eqb, ltb, leb}
+use lib.ListN.{getD}
 use borrow.Author.Tests.{lt-ltb, le-ltb, eq-eqb, ne-eqb, not-false, ltb-false}
 use Rattle.segment.specs.Choice.{both, pick, both-true, both-false-left, both-false-right}
 use Rattle.segment.specs.Layout.{Layout, objectKind, entrySize, digestSize, versionLimit, numberLimit}
 use Rattle.segment.specs.LayoutLaws.{object-kind}
-use Rattle.segment.specs.Kinds.{orZero, no-kind, has-kind}
+use Rattle.segment.specs.Kinds.{orZero, kindSize, no-kind, has-kind}
+use Rattle.segment.specs.declared.Key.{Key}
 use Rattle.slot_map.specs.Count.{free}
 use Rattle.record.specs.Range.{fitsLent}
 use Rattle.record.specs.RangeLaws.{Lent, lent}
@@ -21,10 +23,13 @@ use Rattle.model.specs.Refused.{Lengths, isPending, isNone}
 use Rattle.laws.specs.CauseLaws.{cause-first, cause-skip}
 use Rattle.laws.specs.RecoverLaws.{NoCause, no-cause}
 use Rattle.laws.specs.Entering.{Roomy}
+use Rattle.index.specs.Search.{searchFor}
 use Rattle.index.specs.declared.Found.{Found}
 use Rattle.index.specs.declared.Found.the-variants.{At, Free, Full}
 use Rattle.writing.specs.declared.Check.{Check}
-use Rattle.writing.specs.Tests.{checked, isAt, isFull, lentTests, valueTests, keyTests, roomTests, writeTests}
+use Rattle.writing.specs.declared.Presence.{Presence}
+use Rattle.writing.specs.declared.Presence.the-variants.{Object, Absent, Bad}
+use Rattle.writing.specs.Tests.{checked, isAt, isFull, lentTests, valueTests, keyTests, roomTests, writeTests, kindPresence, presenceAt, presenceFor, isMissing, isBad, presentTests, deleteTests}
 
 -- ---- one test after the other
 
@@ -188,7 +193,7 @@ module _ (L : Layout) (r : Store) (found : Found) (l : Lengths) (n : ℕ) where
 
   pub write-lent : (c : Refusal) → Check.Refused c ≡ checked (firstCause (lentTests L r l)) → WriteIs (Check.Refused c)
   unfolding writeTests
-  write-lent c e = part-refused (lentTests L r l) (valueTests L r n ++ (keyTests r found ++ roomTests r (entrySize L n))) c e
+  write-lent c e = part-refused (lentTests L r l) ((valueTests L r n ++ keyTests r found) ++ roomTests r (entrySize L n)) c e
 
   module _ (lent : Check.Passed ≡ checked (firstCause (lentTests L r l))) where
     pub write-value : (k : ℕ) → k ≡ orZero (objectKind L n) → k ≡ 0 → WriteIs (Check.Refused ValueLength)
@@ -218,3 +223,69 @@ module _ (L : Layout) (r : Store) (found : Found) (l : Lengths) (n : ℕ) where
             part-passed (lentTests L r l) _ lent
             (skipped _ _ (kind-some L n k e some-kind)
             (skipped _ _ (ne-eqb (r .next .0) (versionLimit L) left) (part-passed (keyTests r found) (roomTests r (entrySize L n)) h g)))
+
+-- ---- what the index says of a key's object
+
+module _ (L : Layout) (kind : ℕ) where
+  pub kind-tombstone : kind ≡ L .tombstoneKind → Absent ≡ kindPresence L kind
+  unfolding kindPresence pick
+  kind-tombstone e = rw (eq-eqb kind (L .tombstoneKind) e)
+
+  module _ (other : kind ≡ L .tombstoneKind → ⊥) (n : ℕ) (e : n ≡ kindSize L kind) where
+    pub kind-bad : n ≡ 0 → Bad ≡ kindPresence L kind
+    unfolding kindPresence pick
+    kind-bad z = rw (ne-eqb kind (L .tombstoneKind) other, eq-eqb (kindSize L kind) 0 (sym e ∙ z))
+
+    pub kind-object : (n ≡ 0 → ⊥) → Object ≡ kindPresence L kind
+    unfolding kindPresence pick
+    kind-object z = rw (ne-eqb kind (L .tombstoneKind) other, ne-eqb (kindSize L kind) 0 (λ d. z (e ∙ d)))
+
+module _ (L : Layout) (area cells : List ℕ) (k : Key) where
+  pub presence-full : Full ≡ searchFor L area cells k → Bad ≡ presenceFor L area cells k
+  unfolding presenceAt
+  presence-full e = ap (presenceAt L area cells) e
+
+  module _ (i : ℕ) where
+    pub presence-free : Free i ≡ searchFor L area cells k → Absent ≡ presenceFor L area cells k
+    unfolding presenceAt
+    presence-free e = ap (presenceAt L area cells) e
+
+    pub presence-at :
+        {p : Presence} → At i ≡ searchFor L area cells k → p ≡ kindPresence L (getD area (getD cells i 0 - 1) 0) →
+        p ≡ presenceFor L area cells k
+    unfolding presenceAt
+    presence-at e h = h ∙ ap (presenceAt L area cells) e
+
+-- ---- a delete: p is what the code finds for the key
+
+module _ (L : Layout) (r : Store) (p : Presence) (l : Lengths) where
+  abbrev DeleteIs : Check → Type 0
+  DeleteIs a = a ≡ checked (firstCause (deleteTests L r p l))
+
+  pub delete-lent : (c : Refusal) → Check.Refused c ≡ checked (firstCause (lentTests L r l)) → DeleteIs (Check.Refused c)
+  unfolding deleteTests
+  delete-lent c e = part-refused (lentTests L r l) (presentTests L r p ++ roomTests r (entrySize L 0)) c e
+
+  module _ (lent : Check.Passed ≡ checked (firstCause (lentTests L r l))) where
+    pub delete-bad : Bad ≡ p → DeleteIs (Check.Refused BadRecord)
+    unfolding deleteTests presentTests isBad
+    delete-bad e = part-passed (lentTests L r l) _ lent (refused _ _ (ap isBad (sym e)))
+
+    pub delete-absent : Absent ≡ p → DeleteIs (Check.Refused Refusal.Absent)
+    unfolding deleteTests presentTests isBad isMissing
+    delete-absent e =
+        part-passed (lentTests L r l) _ lent (skipped _ _ (ap isBad (sym e)) (refused _ _ (ap isMissing (sym e))))
+
+    module _ (e : Object ≡ p) where
+      pub delete-spent : r .next .0 ≡ versionLimit L → DeleteIs (Check.Refused VersionsSpent)
+      unfolding deleteTests presentTests isBad isMissing
+      delete-spent h =
+          part-passed (lentTests L r l) _ lent
+          (skipped _ _ (ap isBad (sym e)) (skipped _ _ (ap isMissing (sym e)) (refused _ _ (eq-eqb (r .next .0) (versionLimit L) h))))
+
+      pub delete-room :
+          {a : Check} → (r .next .0 ≡ versionLimit L → ⊥) → a ≡ checked (firstCause (roomTests r (entrySize L 0))) → DeleteIs a
+      unfolding deleteTests presentTests isBad isMissing
+      delete-room left g =
+          part-passed (lentTests L r l) _ lent
+          (skipped _ _ (ap isBad (sym e)) (skipped _ _ (ap isMissing (sym e)) (skipped _ _ (ne-eqb (r .next .0) (versionLimit L) left) g)))

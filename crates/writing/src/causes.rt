@@ -1,5 +1,7 @@
 // The tests of a start, in the order of 01, "Refused calls".
 use crate::Check;
+use crate::Presence;
+use crate::find::find;
 use index::Found;
 use index::search::search;
 use record::Pending;
@@ -19,7 +21,7 @@ ghost use Rattle.segment.specs.Layout.{edition1};
 ghost use Rattle.model.specs.Causes.{firstCause};
 ghost use Rattle.model.specs.Refused.{isPending};
 ghost use Rattle.index.specs.Search.{searchFor};
-ghost use Rattle.writing.specs.Tests.{checked, lentTests, roomTests, keyTests, writeTests};
+ghost use Rattle.writing.specs.Tests.{checked, lentTests, roomTests, keyTests, writeTests, presenceFor, deleteTests};
 
 // Whether an operation is pending.
 fn is_pending(pending: Pending) -> bool
@@ -134,5 +136,31 @@ pub fn check_write(
                 Check::Passed => check_room(store, HEAD_SIZE + value),
             }
         }
+    }
+}
+
+// Delete: 4, 3, 5, 8, 9, 12, 10.
+pub fn check_delete(store: Store, area: &[u8], index: &[u32], work: usize, key: Key) -> Check
+    ensures { λ r.
+        ⌜
+        r ≡ checked
+        (firstCause
+        (deleteTests edition1 store (presenceFor edition1 (now (area .entry)) (now (index .entry)) key)
+        (record { area = length (now (area .entry)); index = length (now (index .entry)); work = work })))
+        ⌝ }
+{
+    match check_lent(store, area.len(), index.len(), work) {
+        Check::Refused(c) => Check::Refused(c),
+        Check::Passed => match find(area, index, key) {
+            Presence::Bad => Check::Refused(Refusal::BadRecord),
+            Presence::Absent => Check::Refused(Refusal::Absent),
+            Presence::Object => {
+                let next = store.next;
+                if next.0 == VERSION_LIMIT {
+                    return Check::Refused(Refusal::VersionsSpent);
+                }
+                check_room(store, HEAD_SIZE)
+            }
+        },
     }
 }

@@ -2,6 +2,7 @@
 use record::Refusal;
 
 pub mod causes;
+pub mod find;
 pub mod lay;
 pub mod start;
 
@@ -9,4 +10,11 @@ pub mod start;
 pub enum Check {
     Passed,
     Refused(Refusal),
+}
+
+// What the index says of a key: it has an object, it has none, or what was met is nothing that these rules allow.
+pub enum Presence {
+    Object,
+    Absent,
+    Bad,
 }
