@@ -9,8 +9,8 @@ use lib.ListN.{length}
 use lib.Seq.{length-sets}
 use borrow.Author.Tests.{eqb-false, ltb-false, not-false}
 use Rattle.segment.specs.Choice.{both}
-use Rattle.segment.specs.Layout.{Layout, objectKind, entrySize, numberLimit}
-use Rattle.segment.specs.LayoutLaws.{object-kind}
+use Rattle.segment.specs.Layout.{Layout, objectKind, entrySize, digestSize, numberLimit}
+use Rattle.segment.specs.LayoutLaws.{object-kind, tombstone-length}
 use Rattle.segment.specs.Entry.{Entry}
 use Rattle.segment.specs.Kinds.{orZero}
 use Rattle.segment.specs.Written.{entryOf}
@@ -18,25 +18,26 @@ use Rattle.segment.specs.declared.Key.{Key}
 use Rattle.record.specs.Range.{fitsLent}
 use Rattle.record.specs.RangeLaws.{Lent, lent}
 use Rattle.record.specs.declared.Refusal.{Refusal}
-use Rattle.record.specs.declared.Refusal.the-variants.{BadRecord, KeysFull}
+use Rattle.record.specs.declared.Refusal.the-variants.{BadRecord, Absent, VersionsSpent, KeysFull}
 use Rattle.record.specs.declared.Start.{Start}
 use Rattle.record.specs.declared.StartAnswer.{StartAnswer}
 use Rattle.record.specs.declared.Store.{Store}
-use Rattle.model.specs.Log.{Placed, hasKey}
+use Rattle.model.specs.Log.{Placed}
 use Rattle.model.specs.Causes.{Cause, when, firstCause}
-use Rattle.model.specs.Operations.{Operation, write, delete, clean, logNow, kindElse, writtenEntry, fitsHead, laid, laidEntry}
-use Rattle.model.specs.Refused.{Lengths, recordBad, startCauses, isNone}
+use Rattle.model.specs.Operations.{Operation, write, delete, clean, logNow, kindElse, writtenEntry, tombstoneEntry, Laid, laid, laidEntry}
+use Rattle.model.specs.Refused.{Lengths, recordBad, versionsSpent, startCauses, isNone}
 use Rattle.model.specs.Promises.{Genuine, Begun, begun, lentLengths, StartPromise}
-use Rattle.laws.specs.CauseLaws.{cause-first}
-use Rattle.laws.specs.RecoverLaws.{NoCause, no-cause, cause-passed}
+use Rattle.laws.specs.CauseLaws.{cause-first, none-left, none-right}
+use Rattle.laws.specs.RecoverLaws.{no-cause, cause-passed}
 use Rattle.laws.specs.Entering.{Roomy}
 use Rattle.index.specs.Search.{searchFor}
 use Rattle.index.specs.declared.Found.{Found}
 use Rattle.writing.specs.declared.Check.{Check}
-use Rattle.writing.specs.Tests.{checked, isAt, isFull, lentTests, valueTests, keyTests, roomTests, writeTests}
+use Rattle.writing.specs.declared.Presence.{Presence}
+use Rattle.writing.specs.Tests.{checked, isAt, isFull, lentTests, valueTests, keyTests, roomTests, writeTests, presenceFor, isMissing, isBad, presentTests, deleteTests}
 use Rattle.writing.specs.TestLaws.{checked-some, checked-none}
 use Rattle.writing.specs.Laying.{laidBegun, Ready, NumberLeft}
-use Rattle.writing.specs.Known.{Known, genuine-known}
+use Rattle.writing.specs.Known.{genuine-known, genuine-presents}
 
 -- ---- any start
 
@@ -63,19 +64,85 @@ start-bad L r log l (write k value) h = cause-first _ _ h
 start-bad L r log l (delete k) h = cause-first _ _ h
 start-bad L r log l (clean victims) h = cause-first _ _ h
 
--- The promise of a start whose first cause is c: the tests of 4 come first, and on a genuine store c is what 01 says.
-module _ (L : Layout) (o : Operation) (r : Store) (area cells work work′ : List ℕ) (a : Start) (c : Option Refusal) where
-  pub start-promise :
-      LogFree L r o →
-      (recordBad L r (lentLengths area cells work) ≡ true → c ≡ some BadRecord) →
-      (Genuine L area r cells → c ≡ firstCause (startCauses L r (logNow L area r) (lentLengths area cells work) o)) →
-      record { start = a; work = work′ } ≡ begun L r [] o work c → StartPromise L o r area cells work work′ a
-  start-promise free bad same e =
-      record {
-        same-length = ap (λ (b : Begun). length (b .work)) e ∙ begun-length L r [] o work c;
-        unfit = λ h. e ∙ ap (begun L r [] o work) (bad h);
-        exact = λ g. e ∙ begun-free L r o free (logNow L area r) work c ∙ ap (begun L r (logNow L area r) o work) (same g);
-      }
+-- A start whose tests are 4, 3 and 5, some of its own, and 12 and 10 for an entry with a value of n bytes.
+module _ (L : Layout) (o : Operation) (r : Store) (area cells work : List ℕ) (own : List Cause) (n : ℕ) where
+  abbrev lengths : Lengths
+  lengths = lentLengths area cells work
+
+  abbrev tests : List Cause
+  tests = lentTests L r lengths ++ (own ++ roomTests r (entrySize L n))
+
+  tests-bad : recordBad L r lengths ≡ true → firstCause tests ≡ some BadRecord
+  unfolding lentTests
+  tests-bad h = cause-first _ _ h
+
+  -- on a genuine store and a record in range they are 01's
+  abbrev Agrees : Type 0
+  Agrees =
+      Genuine L area r cells → Lent L r (length area) (length cells) →
+      firstCause tests ≡ firstCause (startCauses L r (logNow L area r) lengths o)
+
+  module _ (free : LogFree L r o) (agrees : Agrees) where
+    same : Genuine L area r cells → firstCause tests ≡ firstCause (startCauses L r (logNow L area r) lengths o)
+    same g = go (recordBad L r lengths) refl
+      where
+        go : (t : Bool) → recordBad L r lengths ≡ t → firstCause tests ≡ firstCause (startCauses L r (logNow L area r) lengths o)
+        go true e = tests-bad e ∙ sym (start-bad L r (logNow L area r) lengths o e)
+        go false e = agrees g (lent L r (length area) (length cells) (not-false (fitsLent L r (length area) (length cells)) e))
+
+    start-promise :
+        (work′ : List ℕ) (a : Start) → record { start = a; work = work′ } ≡ begun L r [] o work (firstCause tests) →
+        StartPromise L o r area cells work work′ a
+    start-promise work′ a e =
+        record {
+          same-length = ap (λ (b : Begun). length (b .work)) e ∙ begun-length L r [] o work (firstCause tests);
+          unfit = λ h. e ∙ ap (begun L r [] o work) (tests-bad h);
+          exact =
+              λ g.
+              e ∙ begun-free L r o free (logNow L area r) work (firstCause tests) ∙ ap (begun L r (logNow L area r) o work) (same g);
+        }
+
+    -- refused: nothing changes
+    start-refused :
+        (c : Refusal) → Check.Refused c ≡ checked (firstCause tests) →
+        StartPromise L o r area cells work work (record { answer = StartAnswer.Refused c; store = r })
+    unfolding begun
+    start-refused c e =
+        start-promise work (record { answer = StartAnswer.Refused c; store = r })
+        (sym (ap (begun L r [] o work) (checked-some (firstCause tests) c e)))
+
+    -- accepted: the entry is laid down
+    start-laid :
+        (e : Entry) → laid L r [] o ≡ laidEntry L r e → Check.Passed ≡ checked (firstCause tests) → (work′ : List ℕ) (a : Start) →
+        record { start = a; work = work′ } ≡ laidBegun r (laidEntry L r e) work → StartPromise L o r area cells work work′ a
+    unfolding begun laidBegun
+    start-laid e same-laid passed work′ a h =
+        start-promise work′ a
+        (h ∙ ap (λ (x : Laid). laidBegun r x work) (sym same-laid)
+        ∙ sym (ap (begun L r [] o work) (checked-none (firstCause tests) passed)))
+
+  -- what the code may rely on once all tests are passed
+  module _ (passed : Check.Passed ≡ checked (firstCause tests)) where
+    none-holds : firstCause tests ≡ none
+    none-holds = checked-none (firstCause tests) passed
+
+    start-ready : digestSize L + entrySize L n ≤ 256 → Ready L r n (length work)
+    unfolding lentTests
+    start-ready room =
+        let first = no-cause (lentTests L r lengths) (none-left (lentTests L r lengths) (own ++ roomTests r (entrySize L n)) none-holds) in
+        record {
+          areaLength = length area;
+          indexLength = length cells;
+          lent = lent L r (length area) (length cells) (not-false (fitsLent L r (length area) (length cells)) (first .0));
+          long = ltb-false (length work) (r .size) (first .1 .0);
+          room = room;
+        }
+
+    start-number : leb (r .end + entrySize L n) (r .size) ≡ false → NumberLeft r
+    unfolding roomTests both
+    start-number f =
+        let last = no-cause (roomTests r (entrySize L n)) (none-right own (roomTests r (entrySize L n)) (none-right (lentTests L r lengths) (own ++ roomTests r (entrySize L n)) none-holds)) in
+        eqb-false (r .number .0) numberLimit (rw f at (last .1 .0))
 
 -- ---- a write
 
@@ -84,89 +151,109 @@ unfolding orZero kindElse
 or-else none = refl
 or-else (some n) = refl
 
+some-kind : (o : Option ℕ) → isNone o ≡ false → o ≡ some (orZero o)
+unfolding isNone orZero
+some-kind none p = cc
+some-kind (some n) p = refl
+
 module _ (L : Layout) (r : Store) (area cells work : List ℕ) (k : Key) (value : List ℕ) where
-  abbrev lengths : Lengths
-  lengths = lentLengths area cells work
+  abbrev found : Found
+  found = searchFor L area cells k
 
-  abbrev writes : Found → Option Refusal
-  writes found = firstCause (writeTests L r found lengths (length value))
+  abbrev ofWrite : List Cause
+  ofWrite = valueTests L r (length value) ++ keyTests r found
 
-  write-bad : (found : Found) → recordBad L r lengths ≡ true → writes found ≡ some BadRecord
-  unfolding writeTests lentTests
-  write-bad found h = cause-first _ _ h
-
-  -- with a good record the tests of the code are 01's
-  write-known : (log : List Placed) (found : Found) → Known log k found → writes found ≡ firstCause (startCauses L r log lengths (write k value))
-  unfolding writeTests lentTests valueTests keyTests roomTests startCauses
-  write-known log found w =
-      cause-passed (lentTests L r lengths ++ valueTests L r (length value)) (when (isFull found) BadRecord)
-      (when (both (not (isAt found)) (eqb (r .keys) (r .cells - 1))) KeysFull ∷ roomTests r (entrySize L (length value))) (w .some-cell)
-      ∙ ap (λ (b : Bool).
-      firstCause (lentTests L r lengths ++ valueTests L r (length value) ++
-      (when (both (not b) (eqb (r .keys) (r .cells - 1))) KeysFull ∷ roomTests r (entrySize L (length value))))) (w .has)
-
-  write-same : Genuine L area r cells → writes (searchFor L area cells k) ≡ firstCause (startCauses L r (logNow L area r) lengths (write k value))
-  write-same g = go (recordBad L r lengths) refl
-    where
-      go : (t : Bool) → recordBad L r lengths ≡ t → writes (searchFor L area cells k) ≡ firstCause (startCauses L r (logNow L area r) lengths (write k value))
-      go true e = write-bad (searchFor L area cells k) e ∙ sym (start-bad L r (logNow L area r) lengths (write k value) e)
-      go false e =
-          write-known (logNow L area r) (searchFor L area cells k)
-          (genuine-known L area r cells g (lent L r (length area) (length cells) (not-false (fitsLent L r (length area) (length cells)) e)) k)
+  abbrev writes : Check
+  writes = checked (firstCause (writeTests L r found (lentLengths area cells work) (length value)))
 
   write-free : LogFree L r (write k value)
   unfolding laid
   write-free log = refl
 
-  pub write-promise :
-      (work′ : List ℕ) (a : Start) → record { start = a; work = work′ } ≡ begun L r [] (write k value) work (writes (searchFor L area cells k)) →
-      StartPromise L (write k value) r area cells work work′ a
-  write-promise work′ a e =
-      start-promise L (write k value) r area cells work work′ a (writes (searchFor L area cells k)) write-free
-      (write-bad (searchFor L area cells k)) write-same e
+  write-agrees : Agrees L (write k value) r area cells work ofWrite (length value)
+  unfolding lentTests valueTests keyTests roomTests startCauses
+  write-agrees g h =
+      let w = genuine-known L area r cells g h k in
+      let front = lentTests L r (lentLengths area cells work) ++ valueTests L r (length value) in
+      cause-passed front (when (isFull found) BadRecord)
+      (when (both (not (isAt found)) (eqb (r .keys) (r .cells - 1))) KeysFull ∷ roomTests r (entrySize L (length value))) (w .some-cell)
+      ∙ ap (λ (b : Bool).
+      firstCause (front ++ (when (both (not b) (eqb (r .keys) (r .cells - 1))) KeysFull ∷ roomTests r (entrySize L (length value))))) (w .has)
 
-  -- refused
   pub write-refused :
-      (c : Refusal) → Check.Refused c ≡ checked (writes (searchFor L area cells k)) →
+      (c : Refusal) → Check.Refused c ≡ writes →
       StartPromise L (write k value) r area cells work work (record { answer = StartAnswer.Refused c; store = r })
-  unfolding begun
-  write-refused c e =
-      write-promise work (record { answer = StartAnswer.Refused c; store = r })
-      (sym (ap (begun L r [] (write k value) work) (checked-some (writes (searchFor L area cells k)) c e)))
+  unfolding writeTests
+  write-refused c e = start-refused L (write k value) r area cells work ofWrite (length value) write-free write-agrees c e
 
-  -- accepted: what the code may rely on, and what it lays down
-  module _ (e : Check.Passed ≡ checked (writes (searchFor L area cells k))) where
-    tests : NoCause (writeTests L r (searchFor L area cells k) lengths (length value))
-    tests = no-cause (writeTests L r (searchFor L area cells k) lengths (length value)) (checked-none (writes (searchFor L area cells k)) e)
-
-    some-kind : (o : Option ℕ) → isNone o ≡ false → o ≡ some (orZero o)
-    unfolding isNone orZero
-    some-kind none p = cc
-    some-kind (some n) p = refl
+  module _ (passed : Check.Passed ≡ writes) where
+    write-room : Roomy L → digestSize L + entrySize L (length value) ≤ 256
+    unfolding writeTests lentTests valueTests
+    write-room roomy =
+        let t = no-cause (writeTests L r found (lentLengths area cells work) (length value)) (checked-none _ passed) in
+        roomy .room (orZero (objectKind L (length value))) (length value)
+        (object-kind L (length value) (orZero (objectKind L (length value))) (some-kind (objectKind L (length value)) (t .1 .1 .1 .0)))
 
     pub write-ready : Roomy L → Ready L r (length value) (length work)
-    unfolding writeTests lentTests valueTests keyTests roomTests
-    write-ready roomy =
-        record {
-          areaLength = length area;
-          indexLength = length cells;
-          lent = lent L r (length area) (length cells) (not-false (fitsLent L r (length area) (length cells)) (tests .0));
-          long = ltb-false (length work) (r .size) (tests .1 .0);
-          room =
-              roomy .room (orZero (objectKind L (length value))) (length value)
-              (object-kind L (length value) (orZero (objectKind L (length value))) (some-kind (objectKind L (length value)) (tests .1 .1 .1 .0)));
-        }
+    unfolding writeTests
+    write-ready roomy = start-ready L (write k value) r area cells work ofWrite (length value) passed (write-room roomy)
 
     pub write-number : leb (r .end + entrySize L (length value)) (r .size) ≡ false → NumberLeft r
-    unfolding writeTests lentTests valueTests keyTests roomTests both
-    write-number f = eqb-false (r .number .0) numberLimit (rw f at (tests .1 .1 .1 .1 .1 .1 .1 .1 .0))
+    unfolding writeTests
+    write-number f = start-number L (write k value) r area cells work ofWrite (length value) passed f
 
     pub write-laid :
         (work′ : List ℕ) (a : Start) (kind : ℕ) → kind ≡ orZero (objectKind L (length value)) →
         record { start = a; work = work′ } ≡ laidBegun r (laidEntry L r (entryOf kind k (r .next) value)) work →
         StartPromise L (write k value) r area cells work work′ a
-    unfolding begun laid laidBegun
+    unfolding writeTests laid
     write-laid work′ a kind q h =
-        write-promise work′ a
-        (h ∙ ap (λ (n : ℕ). laidBegun r (laidEntry L r (entryOf n k (r .next) value)) work) (q ∙ or-else (objectKind L (length value)))
-        ∙ sym (ap (begun L r [] (write k value) work) (checked-none (writes (searchFor L area cells k)) e)))
+        start-laid L (write k value) r area cells work ofWrite (length value) write-free write-agrees
+        (writtenEntry L r k value) refl passed work′ a
+        (h ∙ ap (λ (m : ℕ). laidBegun r (laidEntry L r (entryOf m k (r .next) value)) work) (q ∙ or-else (objectKind L (length value))))
+
+-- ---- a delete
+
+module _ (L : Layout) (r : Store) (area cells work : List ℕ) (k : Key) where
+  abbrev seen : Presence
+  seen = presenceFor L area cells k
+
+  abbrev deletes : Check
+  deletes = checked (firstCause (deleteTests L r seen (lentLengths area cells work)))
+
+  delete-free : LogFree L r (delete k)
+  unfolding laid
+  delete-free log = refl
+
+  delete-agrees : Agrees L (delete k) r area cells work (presentTests L r seen) 0
+  unfolding lentTests presentTests roomTests startCauses
+  delete-agrees g h =
+      let w = genuine-presents L area r cells g h k in
+      let front = lentTests L r (lentLengths area cells work) in
+      cause-passed front (when (isBad seen) BadRecord)
+      (when (isMissing seen) Absent ∷ when (versionsSpent L r) VersionsSpent ∷ roomTests r (entrySize L 0)) (w .good)
+      ∙ ap (λ (b : Bool). firstCause (front ++ (when b Absent ∷ when (versionsSpent L r) VersionsSpent ∷ roomTests r (entrySize L 0)))) (w .missing)
+
+  pub delete-refused :
+      (c : Refusal) → Check.Refused c ≡ deletes →
+      StartPromise L (delete k) r area cells work work (record { answer = StartAnswer.Refused c; store = r })
+  unfolding deleteTests
+  delete-refused c e = start-refused L (delete k) r area cells work (presentTests L r seen) 0 delete-free delete-agrees c e
+
+  module _ (passed : Check.Passed ≡ deletes) where
+    pub delete-ready : Roomy L → Ready L r 0 (length work)
+    unfolding deleteTests
+    delete-ready roomy =
+        start-ready L (delete k) r area cells work (presentTests L r seen) 0 passed (roomy .room (L .tombstoneKind) 0 (tombstone-length L))
+
+    pub delete-number : leb (r .end + entrySize L 0) (r .size) ≡ false → NumberLeft r
+    unfolding deleteTests
+    delete-number f = start-number L (delete k) r area cells work (presentTests L r seen) 0 passed f
+
+    pub delete-laid :
+        (work′ : List ℕ) (a : Start) →
+        record { start = a; work = work′ } ≡ laidBegun r (laidEntry L r (entryOf (L .tombstoneKind) k (r .next) [])) work →
+        StartPromise L (delete k) r area cells work work′ a
+    unfolding deleteTests laid
+    delete-laid work′ a h =
+        start-laid L (delete k) r area cells work (presentTests L r seen) 0 delete-free delete-agrees (tombstoneEntry L r k) refl passed work′ a h
