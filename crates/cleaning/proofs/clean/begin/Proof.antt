@@ -8,13 +8,6 @@ use Rattle.segment.specs.Layout.{edition1}
 use Rattle.cleaning.specs.CleanLaws.{begun-filled}
 use Rattle.cleaning.proofs.clean.begin.Statement.{statement}
 use Rattle.cleaning.proofs.clean.begin.Tie as tie
-use Rattle.cleaning.proofs.clean.begin.Reads as reads
-use Rattle.cleaning.proofs.clean.begin.Lts as lts
-use Rattle.cleaning.proofs.clean.new_digest.Reads as new-digest-reads
-use Rattle.cleaning.proofs.clean.started.Reads as started-reads
-use Rattle.cleaning.proofs.copy.copy_kept.Reads as copy-kept-reads
-use Rattle.segment.proofs.writer.write_digest.Reads as write-digest-reads
-use Rattle.slot_map.proofs.next_free.Reads as next-free-reads
 
 next-free-requires : tie.Need-next-free-requires
 next-free-requires c κs = search needs

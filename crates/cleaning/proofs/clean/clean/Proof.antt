@@ -24,15 +24,6 @@ use Rattle.cleaning.specs.declared.Split.{Split}
 use Rattle.cleaning.specs.CleanLaws.{bad-record, short-work, busy, bad-victims, kept-long, no-number, no-cause, causeHere, refused-promise, begun-promise, ready, split-shape}
 use Rattle.cleaning.proofs.clean.clean.Statement.{statement}
 use Rattle.cleaning.proofs.clean.clean.Tie as tie
-use Rattle.cleaning.proofs.clean.clean.Reads as reads
-use Rattle.cleaning.proofs.clean.clean.Lts as lts
-use Rattle.cleaning.proofs.clean.begin.Reads as begin-reads
-use Rattle.cleaning.proofs.clean.is_pending.Reads as is-pending-reads
-use Rattle.cleaning.proofs.clean.refused.Reads as refused-reads
-use Rattle.cleaning.proofs.clean.split_of.Reads as split-of-reads
-use Rattle.cleaning.proofs.clean.victims_bad.Reads as victims-bad-reads
-use Rattle.cleaning.proofs.kept.measure.Reads as measure-reads
-use Rattle.record.proofs.range.fits_lent.Reads as fits-lent-reads
 
 -- the lent lengths, and what is kept
 abbrev lens : tie.Start → Lengths

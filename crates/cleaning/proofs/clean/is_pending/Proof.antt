@@ -9,8 +9,6 @@ use Rattle.record.proofs.Pending.{the-type}
 use Rattle.cleaning.specs.CleanLaws.{idle-not, other-pending}
 use Rattle.cleaning.proofs.clean.is_pending.Statement.{statement}
 use Rattle.cleaning.proofs.clean.is_pending.Tie as tie
-use Rattle.cleaning.proofs.clean.is_pending.Reads as reads
-use Rattle.cleaning.proofs.clean.is_pending.Lts as lts
 
 enum-told : tie.Need-enum-told
 enum-told c = search needs

@@ -5,10 +5,6 @@ use borrow.Author.Needs.{needs}
 use Rattle.cleaning.specs.CleanLaws.{slot-in, digest-new}
 use Rattle.cleaning.proofs.clean.new_digest.Statement.{statement}
 use Rattle.cleaning.proofs.clean.new_digest.Tie as tie
-use Rattle.cleaning.proofs.clean.new_digest.Reads as reads
-use Rattle.cleaning.proofs.clean.new_digest.Lts as lts
-use Rattle.slot_map.proofs.with_slot.Reads as with-slot-reads
-use Rattle.slot_map.proofs.without_slots.Reads as without-slots-reads
 
 add-t6 : tie.Need-add-t6
 add-t6 c = search needs

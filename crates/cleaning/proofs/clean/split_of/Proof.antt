@@ -5,9 +5,6 @@ use borrow.Author.Needs.{needs}
 use Rattle.cleaning.specs.declared.Split.{Split}
 use Rattle.cleaning.proofs.clean.split_of.Statement.{statement}
 use Rattle.cleaning.proofs.clean.split_of.Tie as tie
-use Rattle.cleaning.proofs.clean.split_of.Reads as reads
-use Rattle.cleaning.proofs.clean.split_of.Lts as lts
-use Rattle.slot_map.proofs.without_slots.Reads as without-slots-reads
 
 cast-t3 : tie.Need-cast-t3
 cast-t3 c = search needs

@@ -7,10 +7,6 @@ use Rattle.record.specs.declared.Pending.the-variants.{Clean}
 use Rattle.record.specs.declared.StartAnswer.{StartAnswer}
 use Rattle.cleaning.proofs.clean.started.Statement.{statement}
 use Rattle.cleaning.proofs.clean.started.Tie as tie
-use Rattle.cleaning.proofs.clean.started.Reads as reads
-use Rattle.cleaning.proofs.clean.started.Lts as lts
-use Rattle.cleaning.proofs.clean.stores_of.Reads as stores-of-reads
-use Rattle.record.proofs.with_pending.Reads as with-pending-reads
 
 stores-of-requires : tie.Need-stores-of-requires
 stores-of-requires c κs = search needs

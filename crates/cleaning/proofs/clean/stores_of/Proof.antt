@@ -3,8 +3,6 @@ use borrow.Author.Needs.{needs}
 use Rattle.cleaning.specs.Begun.{stores-within, stores-full}
 use Rattle.cleaning.proofs.clean.stores_of.Statement.{statement}
 use Rattle.cleaning.proofs.clean.stores_of.Tie as tie
-use Rattle.cleaning.proofs.clean.stores_of.Reads as reads
-use Rattle.cleaning.proofs.clean.stores_of.Lts as lts
 
 add-result : tie.Need-add-result
 add-result c = search needs

@@ -3,9 +3,6 @@ use borrow.Author.Needs.{needs}
 use Rattle.cleaning.specs.CleanLaws.{no-victims, some-victims}
 use Rattle.cleaning.proofs.clean.victims_bad.Statement.{statement}
 use Rattle.cleaning.proofs.clean.victims_bad.Tie as tie
-use Rattle.cleaning.proofs.clean.victims_bad.Reads as reads
-use Rattle.cleaning.proofs.clean.victims_bad.Lts as lts
-use Rattle.slot_map.proofs.is_within.Reads as is-within-reads
 
 returns : tie.Need-returns
 returns c = no-victims (c .before .args .store) _ (c .if1 .taken)

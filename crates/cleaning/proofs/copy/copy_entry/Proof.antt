@@ -11,10 +11,6 @@ use Rattle.cleaning.specs.Copied.{copied-none, copied-part, part-room}
 use Rattle.cleaning.specs.Kept.{keptEntry}
 use Rattle.cleaning.proofs.copy.copy_entry.Statement.{statement}
 use Rattle.cleaning.proofs.copy.copy_entry.Tie as tie
-use Rattle.cleaning.proofs.copy.copy_entry.Reads as reads
-use Rattle.cleaning.proofs.copy.copy_entry.Lts as lts
-use Rattle.cleaning.proofs.kept.is_kept.Reads as is-kept-reads
-use Rattle.segment.proofs.writer.copy_into.Reads as copy-into-reads
 
 is-kept-requires : tie.Need-is-kept-requires
 is-kept-requires c κs = search needs

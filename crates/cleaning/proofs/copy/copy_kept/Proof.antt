@@ -11,9 +11,6 @@ use Rattle.cleaning.specs.KeptLaws.{below-none, below-more, below-room}
 use Rattle.cleaning.specs.Copied.{Copied, copied-none, copied-as, copied-then, copied-long}
 use Rattle.cleaning.proofs.copy.copy_kept.Statement.{statement}
 use Rattle.cleaning.proofs.copy.copy_kept.Tie as tie
-use Rattle.cleaning.proofs.copy.copy_kept.Reads as reads
-use Rattle.cleaning.proofs.copy.copy_kept.Lts as lts
-use Rattle.cleaning.proofs.copy.copy_victim.Reads as copy-victim-reads
 
 abbrev Inv-loop : tie.InvT-loop
 Inv-loop area cells split work₀ from to₀ i₀ work to i = (i ≤ split .slots) × Copied (keptBelow edition1 area cells split i) work₀ from work to

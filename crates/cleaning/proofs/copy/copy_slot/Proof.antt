@@ -12,11 +12,6 @@ use Rattle.cleaning.specs.KeptLaws.{keptFrom, from-whole, from-stop, fro
 use Rattle.cleaning.specs.Copied.{Copying, copying-start, copying-room, copying-next, copying-end}
 use Rattle.cleaning.proofs.copy.copy_slot.Statement.{statement}
 use Rattle.cleaning.proofs.copy.copy_slot.Tie as tie
-use Rattle.cleaning.proofs.copy.copy_slot.Reads as reads
-use Rattle.cleaning.proofs.copy.copy_slot.Lts as lts
-use Rattle.cleaning.proofs.copy.copy_entry.Reads as copy-entry-reads
-use Rattle.cleaning.proofs.entries.cut.Reads as cut-reads
-use Rattle.cleaning.proofs.entries.next.Reads as next-reads
 
 abbrev Inv-loop : tie.InvT-loop
 Inv-loop area cells split slot work₀ from size s at₀ to₀ work at to = Copying (keptSlot edition1 area cells split slot) work₀ from (keptFrom edition1 area cells split slot s at) work to

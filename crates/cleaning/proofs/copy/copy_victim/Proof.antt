@@ -10,10 +10,6 @@ use Rattle.cleaning.specs.KeptLaws.{part-victim, part-other}
 use Rattle.cleaning.specs.Copied.{copied-none, copied-as}
 use Rattle.cleaning.proofs.copy.copy_victim.Statement.{statement}
 use Rattle.cleaning.proofs.copy.copy_victim.Tie as tie
-use Rattle.cleaning.proofs.copy.copy_victim.Reads as reads
-use Rattle.cleaning.proofs.copy.copy_victim.Lts as lts
-use Rattle.cleaning.proofs.copy.copy_slot.Reads as copy-slot-reads
-use Rattle.cleaning.proofs.entries.is_named.Reads as is-named-reads
 
 is-named-requires : tie.Need-is-named-requires
 is-named-requires c κs = search needs

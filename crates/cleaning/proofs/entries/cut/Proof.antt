@@ -6,8 +6,6 @@ use lib.ListN.{take, drop}
 use borrow.Author.Needs.{needs}
 use Rattle.cleaning.proofs.entries.cut.Statement.{statement}
 use Rattle.cleaning.proofs.entries.cut.Tie as tie
-use Rattle.cleaning.proofs.entries.cut.Reads as reads
-use Rattle.cleaning.proofs.entries.cut.Lts as lts
 
 mul-result : tie.Need-mul-result
 mul-result c = search needs

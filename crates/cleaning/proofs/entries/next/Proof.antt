@@ -6,9 +6,6 @@ use Rattle.segment.specs.AnswerLaws.{tells-object, tells-tombstone}
 use Rattle.cleaning.specs.EntriesLaws.{next-entry, next-end, next-damage}
 use Rattle.cleaning.proofs.entries.next.Statement.{statement}
 use Rattle.cleaning.proofs.entries.next.Tie as tie
-use Rattle.cleaning.proofs.entries.next.Reads as reads
-use Rattle.cleaning.proofs.entries.next.Lts as lts
-use Rattle.segment.proofs.reader.read.Reads as read-reads
 
 read-requires : tie.Need-read-requires
 read-requires c κs = search needs

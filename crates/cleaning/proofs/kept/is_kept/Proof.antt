@@ -6,10 +6,6 @@ use borrow.Author.Tests.{not-true, not-false}
 use Rattle.cleaning.specs.KeptLaws.{kept-older, kept-object, kept-tombstone}
 use Rattle.cleaning.proofs.kept.is_kept.Statement.{statement}
 use Rattle.cleaning.proofs.kept.is_kept.Tie as tie
-use Rattle.cleaning.proofs.kept.is_kept.Reads as reads
-use Rattle.cleaning.proofs.kept.is_kept.Lts as lts
-use Rattle.cleaning.proofs.kept.is_latest.Reads as is-latest-reads
-use Rattle.cleaning.proofs.outside.object_outside.Reads as object-outside-reads
 
 is-latest-requires : tie.Need-is-latest-requires
 is-latest-requires c κs = search needs

@@ -10,9 +10,6 @@ use Rattle.index.specs.SearchLaws.{search-inside}
 use Rattle.cleaning.specs.KeptLaws.{latest-cell, latest-free, latest-full}
 use Rattle.cleaning.proofs.kept.is_latest.Statement.{statement}
 use Rattle.cleaning.proofs.kept.is_latest.Tie as tie
-use Rattle.cleaning.proofs.kept.is_latest.Reads as reads
-use Rattle.cleaning.proofs.kept.is_latest.Lts as lts
-use Rattle.index.proofs.search.search.Reads as search-reads
 
 search-requires : tie.Need-search-requires
 search-requires c κs = search needs

@@ -5,9 +5,6 @@ use Rattle.segment.specs.Layout.{edition1}
 use Rattle.cleaning.specs.KeptLaws.{length-kept, length-dropped}
 use Rattle.cleaning.proofs.kept.kept_length.Statement.{statement}
 use Rattle.cleaning.proofs.kept.kept_length.Tie as tie
-use Rattle.cleaning.proofs.kept.kept_length.Reads as reads
-use Rattle.cleaning.proofs.kept.kept_length.Lts as lts
-use Rattle.cleaning.proofs.kept.is_kept.Reads as is-kept-reads
 
 is-kept-requires : tie.Need-is-kept-requires
 is-kept-requires c κs = search needs

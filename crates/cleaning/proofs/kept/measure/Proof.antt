@@ -10,9 +10,6 @@ use Rattle.cleaning.specs.Kept.{keptBelow}
 use Rattle.cleaning.specs.KeptLaws.{below-none, below-length}
 use Rattle.cleaning.proofs.kept.measure.Statement.{statement}
 use Rattle.cleaning.proofs.kept.measure.Tie as tie
-use Rattle.cleaning.proofs.kept.measure.Reads as reads
-use Rattle.cleaning.proofs.kept.measure.Lts as lts
-use Rattle.cleaning.proofs.kept.measure_victim.Reads as measure-victim-reads
 
 abbrev Inv-loop : tie.InvT-loop
 Inv-loop area cells split total₀ i₀ total i = (i ≤ split .slots) × (total ≡ length (keptBelow edition1 area cells split i)) × (total ≤ 2048 * i)

@@ -12,11 +12,6 @@ use Rattle.cleaning.specs.EntriesLaws.{Meets, meets, stops, slot-lies, s
 use Rattle.cleaning.specs.KeptLaws.{keptFrom, measured-whole, entry-short, measured-stop, measured-entry}
 use Rattle.cleaning.proofs.kept.measure_slot.Statement.{statement}
 use Rattle.cleaning.proofs.kept.measure_slot.Tie as tie
-use Rattle.cleaning.proofs.kept.measure_slot.Reads as reads
-use Rattle.cleaning.proofs.kept.measure_slot.Lts as lts
-use Rattle.cleaning.proofs.entries.cut.Reads as cut-reads
-use Rattle.cleaning.proofs.entries.next.Reads as next-reads
-use Rattle.cleaning.proofs.kept.kept_length.Reads as kept-length-reads
 
 abbrev Inv-loop : tie.InvT-loop
 Inv-loop area cells split slot size s at₀ total₀ at total =

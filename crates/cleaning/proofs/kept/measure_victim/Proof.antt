@@ -8,10 +8,6 @@ use borrow.Author.Tests.{not-true, not-false}
 use Rattle.cleaning.specs.KeptLaws.{part-victim, part-other}
 use Rattle.cleaning.proofs.kept.measure_victim.Statement.{statement}
 use Rattle.cleaning.proofs.kept.measure_victim.Tie as tie
-use Rattle.cleaning.proofs.kept.measure_victim.Reads as reads
-use Rattle.cleaning.proofs.kept.measure_victim.Lts as lts
-use Rattle.cleaning.proofs.entries.is_named.Reads as is-named-reads
-use Rattle.cleaning.proofs.kept.measure_slot.Reads as measure-slot-reads
 
 is-named-requires : tie.Need-is-named-requires
 is-named-requires c κs = search needs

@@ -10,10 +10,6 @@ use Rattle.cleaning.specs.Entries.{objectIn}
 use Rattle.cleaning.specs.EntriesLaws.{Meets, meets, stops, object-none, object-found, object-next}
 use Rattle.cleaning.proofs.outside.holds_object.Statement.{statement}
 use Rattle.cleaning.proofs.outside.holds_object.Tie as tie
-use Rattle.cleaning.proofs.outside.holds_object.Reads as reads
-use Rattle.cleaning.proofs.outside.holds_object.Lts as lts
-use Rattle.cleaning.proofs.entries.next.Reads as next-reads
-use Rattle.cleaning.proofs.outside.is_object.Reads as is-object-reads
 
 abbrev Inv-loop : tie.InvT-loop
 Inv-loop s key at₀ at = objectIn edition1 key (entriesAt edition1 s at) ≡ objectIn edition1 key (entriesAt edition1 s (digestSize edition1))

@@ -3,8 +3,6 @@ use borrow.Author.Needs.{needs}
 use Rattle.cleaning.specs.EntriesLaws.{object-tombstone, object-table, object-key}
 use Rattle.cleaning.proofs.outside.is_object.Statement.{statement}
 use Rattle.cleaning.proofs.outside.is_object.Tie as tie
-use Rattle.cleaning.proofs.outside.is_object.Reads as reads
-use Rattle.cleaning.proofs.outside.is_object.Lts as lts
 
 returns : tie.Need-returns
 returns c = object-tombstone _ _ (c .if1 .taken)

@@ -10,9 +10,6 @@ use Rattle.cleaning.specs.Entries.{slotHolds, objectBelow}
 use Rattle.cleaning.specs.EntriesLaws.{any-found, any-more, any-none}
 use Rattle.cleaning.proofs.outside.object_outside.Statement.{statement}
 use Rattle.cleaning.proofs.outside.object_outside.Tie as tie
-use Rattle.cleaning.proofs.outside.object_outside.Reads as reads
-use Rattle.cleaning.proofs.outside.object_outside.Lts as lts
-use Rattle.cleaning.proofs.outside.slot_holds.Reads as slot-holds-reads
 
 abbrev Inv-loop : tie.InvT-loop
 Inv-loop area split key i₀ i = (i ≤ split .slots) × (anyBelow (slotHolds edition1 area split key) i ≡ false)

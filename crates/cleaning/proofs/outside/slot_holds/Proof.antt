@@ -11,11 +11,6 @@ use Rattle.cleaning.specs.Entries.{objectIn}
 use Rattle.cleaning.specs.EntriesLaws.{slot-lies, both-goes}
 use Rattle.cleaning.proofs.outside.slot_holds.Statement.{statement}
 use Rattle.cleaning.proofs.outside.slot_holds.Tie as tie
-use Rattle.cleaning.proofs.outside.slot_holds.Reads as reads
-use Rattle.cleaning.proofs.outside.slot_holds.Lts as lts
-use Rattle.cleaning.proofs.entries.cut.Reads as cut-reads
-use Rattle.cleaning.proofs.entries.is_named.Reads as is-named-reads
-use Rattle.cleaning.proofs.outside.holds_object.Reads as holds-object-reads
 
 is-named-requires : tie.Need-is-named-requires
 is-named-requires c κs = search needs
