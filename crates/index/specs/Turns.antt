@@ -312,10 +312,12 @@ module _ (L : Layout) (area : List ℕ) (S map : ℕ) (order : List ℕ) (m : �
   unfolding tallyOf finished
   built-keys n p = ap (λ (q : Built). finished m (tallyOf q after)) (sym p) ∙ ap (finished m) tally
 
-  pub built-many : b ≡ Built.TooMany → (cleared : List ℕ) → cleared ≡ replicate (length after) 0 → length after ≡ m →
-      _≡_ {A = Rebuilt} (record { answer = Built.TooMany; cells = cleared }) (built L area S map order m)
+  -- r and cleared are what giving up leaves
+  pub built-many :
+      b ≡ Built.TooMany → (r : Built) (cleared : List ℕ) → (r ≡ Built.TooMany) × (cleared ≡ replicate (length after) 0) → length after ≡ m →
+      _≡_ {A = Rebuilt} (record { answer = r; cells = cleared }) (built L area S map order m)
   unfolding tallyOf finished
-  built-many p cleared c l =
-      ap (λ (d : List ℕ). record { answer = Built.TooMany; cells = d }) (c ∙ ap (λ (n : ℕ). replicate n 0) l)
+  built-many p r cleared (er, ec) l =
+      (λ j. record { answer = er j; cells = (ec ∙ ap (λ (n : ℕ). replicate n 0) l) j })
       ∙ ap (λ (q : Built). finished m (tallyOf q after)) (sym p)
       ∙ ap (finished m) tally

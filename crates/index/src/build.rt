@@ -186,6 +186,14 @@ fn index_order(area: &[u8], cells: &mut [u32], order: &[u8], size: usize, map: u
     Built::Keys(keys)
 }
 
+// Too many keys: no cell is left filled.
+fn give_up(index: &mut [u32]) -> Built
+    ensures { λ r. ⌜ (r ≡ Built.TooMany) × (now (index .exit) ≡ replicate (length (now (index .entry))) 0) ⌝ }
+{
+    clear(index);
+    Built::TooMany
+}
+
 // The index of the log: the slots of the map in the order of the list. With too many keys every cell is left 0.
 pub fn build(area: &[u8], cells: &mut [u32], order: &[u8], size: usize, map: u32) -> Built
     requires { ⌜ size ≤ 65536 ⌝ }
@@ -198,9 +206,6 @@ pub fn build(area: &[u8], cells: &mut [u32], order: &[u8], size: usize, map: u32
     clear(cells);
     match index_order(area, cells, order, size, map) {
         Built::Keys(n) => Built::Keys(n),
-        Built::TooMany => {
-            clear(cells);
-            Built::TooMany
-        }
+        Built::TooMany => give_up(cells),
     }
 }

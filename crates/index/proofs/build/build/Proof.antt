@@ -18,8 +18,8 @@ enum-known-n c = search needs
 enum-told : tie.Need-enum-told
 enum-told c = search needs
 
-clear-requires-2 : tie.Need-clear-requires-2
-clear-requires-2 c κs = search needs
+give-up-requires : tie.Need-give-up-requires
+give-up-requires c κs = search needs
 
 same-length : tie.Need-same-length
 same-length c = search needs
@@ -34,10 +34,10 @@ same-length-2 c = search needs
 
 returns-2 : tie.Need-returns-2
 returns-2 c =
-    let t = c .before .before .before .before in
-    let x = t .before .before .before .before in
+    let g = c .before .before in
+    let x = g .before .before .before .before .before .before in
     let f = x .before .before .before .before in
-    built-many edition1 _ _ _ _ _ _ (f .clear .ensures) _ _ (x .index-order .ensures) (t .enum-told .given .1) _ (c .before .before .clear2 .ensures)
+    built-many edition1 _ _ _ _ _ _ (f .clear .ensures) _ _ (x .index-order .ensures) (g .before .before .enum-told .given .1) _ _ (g .give-up .ensures)
     (x .index-order .kept .1 .0 ∙ f .clear .kept .0)
 
 pub build-spec : {M : Type 1} → statement M
@@ -48,7 +48,7 @@ build-spec =
     index-order-requires
     enum-known-n
     enum-told
-    clear-requires-2
+    give-up-requires
     same-length
     returns
     same-length-2
