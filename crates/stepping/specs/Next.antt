@@ -20,7 +20,7 @@ commitStores S offset n = n + pick (ltb (offset + n) S) 1 0
 unfoldable pub commitStore : ℕ → ℕ → ℕ → ℕ → List ℕ → ℕ → NextStore
 commitStore base S offset n work j =
     pick (eqb (j + 1) (commitStores S offset n)) (At (base + offset) (getD work 0 0))
-    (pick (ltb (j + 1) n) (At (base + offset + 1 + j) (getD work (j + 1) 0)) (At (base + offset + n) 0))
+    (pick (ltb (j + 1) n) (At (base + offset + (j + 1)) (getD work (j + 1) 0)) (At (base + offset + n) 0))
 
 -- The bytes are some, all in the work buffer, and fit the slot, which lies in the area.
 unfoldable pub fitsSlot : ℕ → ℕ → ℕ → ℕ → ℕ → ℕ → Bool

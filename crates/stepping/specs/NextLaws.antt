@@ -43,13 +43,13 @@ module _ (base S offset n : ℕ) (work : List ℕ) (j : ℕ) {m : ℕ} (total : 
 
   module _ (more : j + 1 ≡ m → ⊥) where
     passed : commitStore base S offset n work j
-        ≡ pick (ltb (j + 1) n) (At (base + offset + 1 + j) (getD work (j + 1) 0)) (At (base + offset + n) 0)
+        ≡ pick (ltb (j + 1) n) (At (base + offset + (j + 1)) (getD work (j + 1) 0)) (At (base + offset + n) 0)
     unfolding commitStore
     passed =
         pick-false (eqb (j + 1) (commitStores S offset n)) _ _
         (ne-eqb (j + 1) (commitStores S offset n) (λ e. more (e ∙ sym total)))
 
-    pub store-byte : j + 1 < n → At (base + offset + 1 + j) (getD work (j + 1) 0) ≡ commitStore base S offset n work j
+    pub store-byte : j + 1 < n → At (base + offset + (j + 1)) (getD work (j + 1) 0) ≡ commitStore base S offset n work j
     store-byte h = sym (passed ∙ pick-true (ltb (j + 1) n) _ _ (lt-ltb (j + 1) n h))
 
     pub store-end : n ≤ j + 1 → At (base + offset + n) 0 ≡ commitStore base S offset n work j
@@ -192,7 +192,7 @@ module _ (base S offset n : ℕ) (work : List ℕ) (j p b : ℕ) (some-byte : 0 
             let s = same-place (base + offset) (getD work 0 0) (store-last base S offset n work j refl q ∙ e) in
             omega arith
         go (no q) (yes d) =
-            let s = same-place (base + offset + 1 + j) (getD work (j + 1) 0) (store-byte base S offset n work j refl q d ∙ e) in
+            let s = same-place (base + offset + (j + 1)) (getD work (j + 1) 0) (store-byte base S offset n work j refl q d ∙ e) in
             omega arith
         go (no q) (no d) =
             let s = same-place (base + offset + n) 0 (store-end base S offset n work j refl q (omega arith) ∙ e) in

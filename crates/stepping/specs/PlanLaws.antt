@@ -65,8 +65,10 @@ module _ (S i o : ℕ) (bytes : List ℕ) (some-byte : 0 < length bytes) where
             ∙ ap atOf (sym (commit-last S i o bytes some-byte j (e ∙ sym commit-stores)))
         go (no n) true q =
             let l = ltb-true (j + 1) (length bytes) q in
+            let place : i * S + o + (j + 1) ≡ i * S + o + 1 + j = omega arith in
             sym (store-byte (i * S) S o (length bytes) work j refl n l)
-            ∙ ap (At (i * S + o + 1 + j)) (same-byte (j + 1) l)
+            ∙ ap (At (i * S + o + (j + 1))) (same-byte (j + 1) l)
+            ∙ ap (λ (p : ℕ). At p (getD bytes (j + 1) 0)) place
             ∙ ap atOf (sym (commit-byte S i o bytes some-byte j l))
         go (no n) false q = ended (ltb (o + length bytes) S) refl
           where

@@ -33,16 +33,18 @@ fn commit_store(
     requires { ⌜ (base + size ≤ length (now area)) × (offset + count ≤ size) × (0 < count) × (count ≤ length (now work)) × (done < commitStores size offset count) ⌝ }
     ensures { λ r. ⌜ r ≡ commitStore base size offset count (now (work .entry)) done ⌝ }
 {
-    if done + 1 == commit_stores(size, offset, count) {
+    let from = done + 1;
+    if from == commit_stores(size, offset, count) {
         return NextStore::At {
             place: base + offset,
             byte: work[0],
         };
     }
-    if done + 1 < count {
+    if from < count {
+        let place = base + offset + from;
         return NextStore::At {
-            place: base + offset + 1 + done,
-            byte: work[done + 1],
+            place,
+            byte: work[from],
         };
     }
     NextStore::At {
