@@ -1,5 +1,5 @@
 -- What a start of a cleaning answers and leaves, by the bytes that it keeps; and that this is the promise of a start.
-use Prim.Native.Nat.{ℕ, suc, _+_, _*_, _-_, _^_, _≤_, _<_}
+use Prim.Native.Nat.{ℕ, suc, _+_, _-_, _≤_, _<_}
 use mathlib.Core.Path.{_≡_, refl, sym, _∙_, ap}
 use mathlib.Core.Bool.{Bool, true, false, not}
 use mathlib.Core.Option.{Option, none, some}
@@ -8,13 +8,13 @@ use native.Mathlib.Omega.{arith}
 use lib.Dec.{eqb, ltb}
 use lib.ListN.{length, length-append}
 use lib.Seq.{sets, length-sets}
-use borrow.Author.Tests.{lt-ltb, le-ltb, ltb-true, ltb-false, eq-eqb, ne-eqb, not-false}
+use borrow.Author.Tests.{lt-ltb, le-ltb, ltb-true, ltb-false, not-false}
 use Rattle.word.specs.Number.{Bytes}
-use Rattle.segment.specs.Choice.{pick, pick-true, pick-false, either, either-false-right}
+use Rattle.segment.specs.Choice.{pick, pick-true, pick-false, either-false-right}
 use Rattle.segment.specs.Layout.{Layout, digestSize, numberLimit}
 use Rattle.segment.specs.Digest.{encodedDigest}
 use Rattle.segment.specs.DigestLaws.{length-encodedDigest}
-use Rattle.slot_map.specs.Bit.{named, within}
+use Rattle.slot_map.specs.Bit.{within}
 use Rattle.slot_map.specs.Count.{used}
 use Rattle.record.specs.Answers.{withPending}
 use Rattle.record.specs.declared.Pending.the-variants.{Clean}
@@ -25,10 +25,10 @@ use Rattle.record.specs.declared.StartAnswer.{StartAnswer}
 use Rattle.record.specs.declared.Store.{Store}
 use Rattle.model.specs.Log.{Placed}
 use Rattle.model.specs.Causes.{Cause, when, firstCause}
-use Rattle.model.specs.Operations.{Operation, clean, logNow, newSlot, newDigest, kept, allEncoded, Laid, laid, laidClean, commit, planOf}
+use Rattle.model.specs.Operations.{clean, logNow, newSlot, newDigest, kept, allEncoded, laid, commit, planOf}
 use Rattle.model.specs.Refused.{Lengths, recordBad, workShort, isPending, victimsBad, numbersSpent, startCauses}
 use Rattle.model.specs.Promises.{Begun, begun, Genuine, lentLengths, StartPromise}
-use Rattle.laws.specs.CauseLaws.{cause-first, cause-skip}
+use Rattle.laws.specs.CauseLaws.{cause-first}
 use Rattle.laws.specs.Stores.{length-commit-within, length-commit-full}
 use Rattle.cleaning.specs.Entries.{Shape}
 use Rattle.cleaning.specs.Kept.{keptBytes}

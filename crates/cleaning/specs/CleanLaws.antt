@@ -4,7 +4,7 @@ use Prim.Native.Nat.{ℕ, _+_, _≤_, _<_}
 use mathlib.Core.Path.{_≡_, refl, sym, _∙_, ap, subst}
 use mathlib.Core.Bool.{Bool, true, false, not}
 use mathlib.Core.Option.{Option, none, some}
-use mathlib.Core.List.{List, [], _∷_, _++_}
+use mathlib.Core.List.{List, _++_}
 use native.Mathlib.Nat.{zero-add}
 use native.Mathlib.Omega.{arith}
 use lib.Dec.{eqb, ltb}
@@ -13,25 +13,25 @@ use lib.Seq.{sets}
 use borrow.Author.Tests.{lt-ltb, le-ltb, eq-eqb, ne-eqb, not-false}
 use Rattle.word.specs.Number.{Bytes}
 use Rattle.word.specs.Laws.{sets-append}
-use Rattle.segment.specs.Choice.{either-true-left, either-false-right}
+use Rattle.segment.specs.Choice.{either, either-true-left, either-false-right}
 use Rattle.segment.specs.Layout.{Layout, digestSize, numberLimit}
 use Rattle.segment.specs.Digest.{encodedDigest}
 use Rattle.segment.specs.DigestLaws.{length-encodedDigest}
 use Rattle.segment.specs.declared.Digest.{Digest}
-use Rattle.slot_map.specs.Bit.{bit, within, withBit, less}
+use Rattle.slot_map.specs.Bit.{within, withBit, less}
 use Rattle.slot_map.specs.CountLaws.{with-less}
 use Rattle.slot_map.specs.NextLaws.{next-below, next-clear}
-use Rattle.record.specs.RangeLaws.{Lent, lent}
+use Rattle.record.specs.RangeLaws.{lent}
 use Rattle.record.specs.declared.Pending.{Pending}
 use Rattle.record.specs.declared.Pending.the-variants.{Idle, Append, NewHead, Clean}
 use Rattle.record.specs.declared.Refusal.{Refusal}
 use Rattle.record.specs.declared.Refusal.the-variants.{BadRecord, WorkShort, Busy, BadVictims, KeptTooLong, NumbersSpent}
 use Rattle.record.specs.declared.Start.{Start}
 use Rattle.record.specs.declared.Store.{Store}
-use Rattle.model.specs.Causes.{Cause, firstCause}
+use Rattle.model.specs.Causes.{firstCause}
 use Rattle.model.specs.Operations.{clean, newSlot, newDigest}
-use Rattle.model.specs.Refused.{Lengths, recordBad, workShort, isPending, victimsBad, numbersSpent}
-use Rattle.model.specs.Promises.{Begun, lentLengths, StartPromise}
+use Rattle.model.specs.Refused.{Lengths, recordBad, workShort, isPending, victimsBad}
+use Rattle.model.specs.Promises.{lentLengths, StartPromise}
 use Rattle.laws.specs.CauseLaws.{cause-first, cause-skip}
 use Rattle.laws.specs.RecoverLaws.{causes-none}
 use Rattle.cleaning.specs.Entries.{Shape}
@@ -59,7 +59,7 @@ module _ (r : Store) (victims : ℕ) where
   no-victims e = sym (either-true-left (eqb victims 0) _ (eq-eqb victims 0 e))
 
   pub some-victims : (victims ≡ 0 → ⊥) → (t : Bool) → t ≡ within victims (r .map) → not t ≡ victimsBad r victims
-  unfolding Rattle.segment.specs.Choice.either
+  unfolding either
   some-victims n t e = rw (ne-eqb victims 0 n, e)
 
   -- the new head's slot and its digest

@@ -1,23 +1,17 @@
 -- The entries of the slots as a cleaning meets them, as total functions of any area: damage ends a segment.
-use Prim.Native.Nat.{ℕ, _+_, _*_, _≤_, _<_}
-use mathlib.Core.Path.{_≡_, refl, sym, _∙_, ap}
-use mathlib.Core.Bool.{Bool, true, false, not}
+use Prim.Native.Nat.{ℕ, _*_, _≤_}
+use mathlib.Core.Path.{_≡_}
+use mathlib.Core.Bool.{Bool, false, not}
 use mathlib.Core.List.{List, [], _∷_}
-use native.Mathlib.Omega.{arith}
 use lib.Dec.{eqb}
 use lib.ListN.{length}
 use Rattle.segment.specs.Choice.{both, either}
 use Rattle.segment.specs.Layout.{Layout, isTombstone, digestSize}
-use Rattle.segment.specs.Entry.{Entry, Found, entry, end, damage, entryAt, sizeOf, keyOf, answer}
-use Rattle.segment.specs.EntryLaws.{found-fits}
-use Rattle.segment.specs.AnswerLaws.{Tells, tells-end, tells-damage}
+use Rattle.segment.specs.Entry.{Entry, Found, entry, end, damage, sizeOf, keyOf}
 use Rattle.segment.specs.declared.Key.{Key}
-use Rattle.segment.specs.declared.Version.{Version}
-use Rattle.segment.specs.declared.Read.the-variants as R
 use Rattle.slot_map.specs.Bit.{named}
-use Rattle.model.specs.Log.{Item, segmentOf, sameKey}
+use Rattle.model.specs.Log.{Item, segmentOf}
 use Rattle.laws.specs.LogLaws.{anyBelow}
-use Rattle.laws.specs.Stores.{slot-inside, length-segment}
 use Rattle.index.specs.Build.{entriesAt}
 use Rattle.cleaning.specs.declared.Split.{Split}
 use Rattle.cleaning.specs.declared.Header.{Header}

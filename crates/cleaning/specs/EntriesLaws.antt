@@ -9,15 +9,15 @@ use native.Mathlib.Omega.{arith}
 use lib.Dec.{eqb}
 use lib.ListN.{length}
 use borrow.Author.Tests.{eq-eqb, ne-eqb}
-use Rattle.segment.specs.Choice.{both, both-false-left, both-false-right, either-false, either-true-left}
-use Rattle.segment.specs.Layout.{Layout, digestSize, edition1}
+use Rattle.segment.specs.Choice.{both, both-false-left, both-false-right, either, either-false, either-true-left}
+use Rattle.segment.specs.Layout.{Layout}
 use Rattle.segment.specs.Entry.{Entry, Found, entry, end, damage, entryAt, sizeOf, answer}
 use Rattle.segment.specs.EntryLaws.{found-fits}
 use Rattle.segment.specs.AnswerLaws.{Tells, tells-end, tells-damage}
 use Rattle.segment.specs.declared.Key.{Key}
 use Rattle.segment.specs.declared.Version.{Version}
 use Rattle.segment.specs.declared.Read.the-variants as R
-use Rattle.model.specs.Log.{Item, segmentOf}
+use Rattle.model.specs.Log.{segmentOf}
 use Rattle.laws.specs.Members.{clash}
 use Rattle.laws.specs.LogLaws.{anyBelow, below-none}
 use Rattle.laws.specs.Scans.{itemAt}
@@ -137,7 +137,7 @@ module _ (L : Layout) (k : Key) (s : List ℕ) (at : ℕ) (whole : Bool) (from :
         ∙ from
 
     pub object-next : isObject k h ≡ false → objectIn L k (entriesAt L s (at + h .length)) ≡ whole
-    unfolding objectIn Rattle.segment.specs.Choice.either
+    unfolding objectIn either
     object-next e =
         let passed : isObject k (headerOf L (m .met)) ≡ false = ap (isObject k) (m .its) ∙ e in
         sym (ap (objectIn L k) (entries-meets L s at m) ∙ rw passed) ∙ from

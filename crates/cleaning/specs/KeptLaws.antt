@@ -1,24 +1,23 @@
 -- What is kept, at each test of the code.
 use Prim.Native.Nat.{ℕ, zero, suc, _+_, _*_, _≤_, _<_}
 use mathlib.Core.Path.{_≡_, refl, sym, _∙_, ap}
-use mathlib.Core.Bool.{Bool, true, false, not}
-use mathlib.Core.List.{List, [], _∷_, _++_}
+use mathlib.Core.Bool.{Bool, true, false}
+use mathlib.Core.List.{List, [], _++_}
 use native.Mathlib.Decide.{ℕ-discrete}
 use native.Mathlib.Numerals.{add-one}
 use native.Mathlib.Omega.{arith}
 use lib.Dec.{eqb}
 use lib.ListN.{length, getD, take, drop, length-append, length-take}
-use Rattle.segment.specs.Choice.{pick, pick-true, pick-false, both, both-false-left, either}
+use Rattle.segment.specs.Choice.{pick-true, pick-false, both, both-false-left, either}
 use Rattle.segment.specs.Layout.{Layout, digestSize}
 use Rattle.segment.specs.Packed.{length-part}
 use Rattle.segment.specs.declared.Key.{Key}
 use Rattle.slot_map.specs.Bit.{named}
-use Rattle.model.specs.Log.{Item, Placed, segmentOf, placedIn}
+use Rattle.model.specs.Log.{Item, segmentOf, placedIn}
 use Rattle.index.specs.Build.{entriesAt}
 use Rattle.index.specs.Search.{searchFor}
 use Rattle.index.specs.declared.Found.{Found}
-use Rattle.laws.specs.Scans.{itemAt}
-use Rattle.cleaning.specs.Entries.{headerOf, slotItems, objectBelow}
+use Rattle.cleaning.specs.Entries.{objectBelow}
 use Rattle.cleaning.specs.EntriesLaws.{Meets, entries-meets}
 use Rattle.cleaning.specs.Kept.{cellIs, latestAt, keptAt, keptTest, keptEntry, gathered, keptSlot, keptPart, keptBelow}
 use Rattle.cleaning.specs.declared.Split.{Split}

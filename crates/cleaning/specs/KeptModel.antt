@@ -1,28 +1,28 @@
 -- On a genuine store the bytes that the code gathers are those of the entries that the model keeps.
 use Prim.Native.Nat.{ℕ, zero, suc, _+_, _*_, _≤_, _<_}
 use mathlib.Core.Path.{_≡_, refl, sym, _∙_, ap, subst}
-use mathlib.Core.Bool.{Bool, true, false, not}
+use mathlib.Core.Bool.{Bool, true, false}
 use mathlib.Core.Option.{Option, none, some}
-use mathlib.Core.List.{List, [], _∷_, _++_, append-assoc, List·Memᴰ·head, List·Memᴰ·tail, List·Memᴰ·not-nil}
+use mathlib.Core.List.{List, [], _∷_, _++_, append-assoc, List·Memᴰ·tail, List·Memᴰ·not-nil}
 use native.Mathlib.Decide.{ℕ-discrete}
 use native.Mathlib.Omega.{arith}
 use lib.Dec.{eqb, ltb}
-use lib.ListN.{length, getD, take, drop}
+use lib.ListN.{length, take, drop}
 use borrow.Author.Tests.{eq-eqb, ne-eqb, eqb-true, eqb-false, ltb-true, ltb-false}
 use Rattle.word.specs.Number.{Bytes}
 use Rattle.word.specs.Laws.{bytes-take, bytes-drop}
-use Rattle.segment.specs.Choice.{pick, pick-true, pick-false, both, either}
-use Rattle.segment.specs.Layout.{Layout, isTombstone, digestSize}
+use Rattle.segment.specs.Choice.{pick-true, pick-false, both}
+use Rattle.segment.specs.Layout.{Layout}
 use Rattle.segment.specs.Packed.{field-at}
 use Rattle.segment.specs.Entry.{Entry, entry, entryAt, encoded, sizeOf, keyOf}
 use Rattle.segment.specs.EntryLaws.{found-fits, found-stands}
-use Rattle.slot_map.specs.Bit.{bit, named, within, less}
+use Rattle.slot_map.specs.Bit.{named, within, less}
 use Rattle.slot_map.specs.BitLaws.{bit-le, within-le, named-true, set-named}
 use Rattle.record.specs.Answers.{withPending}
 use Rattle.record.specs.declared.Pending.the-variants.{Idle}
 use Rattle.record.specs.declared.Store.{Store}
-use Rattle.model.specs.Log.{View, Item, Placed, placeOf, segmentOf, viewsOf, scan, itemsOf, placedIn, logOf, latest}
-use Rattle.model.specs.Operations.{logNow, isVersion, isHighest, objectOutside, isKept, keptOf, kept, allEncoded}
+use Rattle.model.specs.Log.{View, Placed, placeOf, segmentOf, viewsOf, scan, itemsOf, placedIn, logOf, latest}
+use Rattle.model.specs.Operations.{logNow, isVersion, isHighest, isKept, keptOf, kept, allEncoded}
 use Rattle.model.specs.Promises.{Genuine}
 use Rattle.laws.specs.Members.{clash, In, first, Within}
 use Rattle.laws.specs.Latest.{Apart, own-key, latest-some, latest-none}
@@ -30,12 +30,12 @@ use Rattle.laws.specs.LogLaws.{AllScanned, partOf, part-picked, part-passed, it
 use Rattle.laws.specs.Scans.{scan-scans, scans-found}
 use Rattle.laws.specs.Stores.{slots-apart, slot-inside, length-segment}
 use Rattle.laws.specs.RecoverLaws.{recovered-case, recovered-apart, recovered-lent}
-use Rattle.index.specs.Search.{searchFor, cellHas}
+use Rattle.index.specs.Search.{cellHas}
 use Rattle.index.specs.Finds.{search-known}
 use Rattle.index.specs.Area.{AllIn, area-picks}
 use Rattle.index.specs.BuildLaws.{log-in-area}
-use Rattle.cleaning.specs.Entries.{headerOf, slotItems, objectBelow}
-use Rattle.cleaning.specs.Kept.{cellIs, latestAt, keptAt, keptTest, keptEntry, gathered, keptSlot, keptPart, keptBelow, keptBytes}
+use Rattle.cleaning.specs.Entries.{headerOf, slotItems}
+use Rattle.cleaning.specs.Kept.{cellIs, latestAt, keptAt, keptTest, keptEntry, gathered, keptPart, keptBelow, keptBytes}
 use Rattle.cleaning.specs.KeptLaws.{part-victim, part-other}
 use Rattle.cleaning.specs.Outside.{slot-items, object-same}
 use Rattle.cleaning.specs.declared.Split.{Split}

@@ -1,14 +1,12 @@
 -- The test for an object outside the victims, as the code goes through the slots, is the model's on an undamaged log.
-use Prim.Native.Nat.{ℕ, zero, suc, _-_, _<_}
+use Prim.Native.Nat.{ℕ, _-_, _<_}
 use mathlib.Core.Path.{_≡_, refl, sym, _∙_, ap, subst}
 use mathlib.Core.Bool.{Bool, true, false, not}
 use mathlib.Core.Logic.{_⊎_, inl, inr}
 use mathlib.Core.List.{List, [], _∷_, List·Memᴰ·head, List·Memᴰ·tail}
-use native.Mathlib.Omega.{arith}
 use lib.Dec.{eqb}
-use borrow.Author.Tests.{eq-eqb, ne-eqb}
-use Rattle.segment.specs.Choice.{both, both-left, both-right, both-true, both-false-left, both-false-right, either, either-false, either-false-left, either-false-right}
-use Rattle.segment.specs.Layout.{Layout, isTombstone, digestSize}
+use Rattle.segment.specs.Choice.{both, both-left, both-right, both-true, both-false-left, both-false-right, either-false, either-false-left, either-false-right}
+use Rattle.segment.specs.Layout.{Layout, isTombstone}
 use Rattle.segment.specs.declared.Key.{Key}
 use Rattle.slot_map.specs.Bit.{bit, named, less}
 use Rattle.slot_map.specs.BitLaws.{bit-cases, bit-less}

@@ -12,7 +12,6 @@ ghost use mathlib.Core.Path.{_≡_};
 ghost use Rattle.segment.specs.Layout.{edition1, digestSize};
 ghost use Rattle.segment.specs.Choice.{both};
 ghost use Rattle.slot_map.specs.Bit.{named};
-ghost use Rattle.model.specs.Log.{segmentOf};
 ghost use Rattle.index.specs.Build.{entriesAt};
 ghost use Rattle.cleaning.specs.Entries.{Shape, isObject, objectIn, slotItems, objectBelow};
 

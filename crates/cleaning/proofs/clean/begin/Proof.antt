@@ -1,8 +1,5 @@
 -- `cleaning::clean::begin` meets its contract.
-use mathlib.Core.Path.{_≡_, refl, sym, _∙_, ap}
 use native.Mathlib.Omega.{arith}
-use lib.ListN.{length}
-use denote.Ref.{now}
 use borrow.Author.Needs.{needs}
 use Rattle.segment.specs.Layout.{edition1}
 use Rattle.cleaning.specs.CleanLaws.{begun-filled}

@@ -1,5 +1,5 @@
 -- `cleaning::clean::clean` meets its contract: the facts of each test that is passed, then a law for each return.
-use Prim.Native.Nat.{ℕ, _+_, _≤_, _<_}
+use Prim.Native.Nat.{ℕ, _+_, _≤_}
 use mathlib.Core.Path.{_≡_, refl, sym, _∙_, ap}
 use native.Mathlib.Omega.{arith}
 use mathlib.Core.Bool.{false, not}

@@ -1,6 +1,6 @@
 -- `cleaning::clean::is_pending` meets its contract.
 use Prim.Native.Nat.{ℕ}
-use mathlib.Core.Path.{_≡_, refl, sym, _∙_, ap}
+use mathlib.Core.Path.{_≡_, ap}
 use native.Mathlib.Omega.{arith}
 use mathlib.Core.Logic.{_⊎_, ⊎-elim}
 use borrow.Author.Needs.{needs}

@@ -1,5 +1,4 @@
 -- `cleaning::clean::new_digest` meets its contract.
-use mathlib.Core.Path.{_≡_, refl, sym, _∙_, ap}
 use native.Mathlib.Omega.{arith}
 use borrow.Author.Needs.{needs}
 use Rattle.cleaning.specs.CleanLaws.{slot-in, digest-new}

@@ -1,8 +1,7 @@
 -- `cleaning::clean::split_of` meets its contract.
 use Prim.Native.Nat.{ℕ}
-use mathlib.Core.Path.{_≡_, refl, sym, _∙_, ap}
+use mathlib.Core.Path.{ap}
 use borrow.Author.Needs.{needs}
-use Rattle.cleaning.specs.declared.Split.{Split}
 use Rattle.cleaning.proofs.clean.split_of.Statement.{statement}
 use Rattle.cleaning.proofs.clean.split_of.Tie as tie
 

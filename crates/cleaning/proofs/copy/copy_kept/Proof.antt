@@ -1,10 +1,9 @@
 -- `cleaning::copy::copy_kept` meets its contract. The invariant: what is kept of the slots so far is copied.
-use Prim.Native.Nat.{_+_, _-_, _≤_}
-use mathlib.Core.Path.{_≡_, refl, sym, _∙_, ap}
+use Prim.Native.Nat.{_-_, _≤_}
+use mathlib.Core.Path.{_≡_, sym, ap}
 use native.Mathlib.Omega.{arith}
 use lib.ListN.{length}
 use denote.Ref.{now}
-use borrow.Author.Needs.{needs}
 use Rattle.segment.specs.Layout.{edition1}
 use Rattle.cleaning.specs.Kept.{keptBelow}
 use Rattle.cleaning.specs.KeptLaws.{below-none, below-more, below-room}

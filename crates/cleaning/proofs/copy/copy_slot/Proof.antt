@@ -1,11 +1,11 @@
 -- `cleaning::copy::copy_slot` meets its contract. The invariant: with what is kept from here on, the copy is that of the slot.
-use Prim.Native.Nat.{_+_, _*_, _-_, _≤_, _<_}
-use mathlib.Core.Path.{_≡_, refl, sym, _∙_, ap}
+use Prim.Native.Nat.{_+_, _*_, _-_, _<_}
+use mathlib.Core.Path.{_≡_}
 use native.Mathlib.Omega.{arith}
 use lib.ListN.{length}
 use denote.Ref.{now}
 use borrow.Author.Needs.{needs}
-use Rattle.segment.specs.Layout.{edition1, digestSize}
+use Rattle.segment.specs.Layout.{edition1}
 use Rattle.cleaning.specs.Kept.{keptSlot, keptEntry}
 use Rattle.cleaning.specs.EntriesLaws.{Meets, meets, stops, slot-lies, slot-long, entry-lies, place-short}
 use Rattle.cleaning.specs.KeptLaws.{keptFrom, from-whole, from-stop, from-entry}

@@ -1,5 +1,5 @@
 -- `cleaning::entries::next` meets its contract: a law for each arm.
-use mathlib.Core.Path.{_≡_, refl, sym, _∙_, ap}
+use mathlib.Core.Path.{sym, _∙_}
 use borrow.Author.Needs.{needs}
 use Rattle.segment.specs.Layout.{edition1}
 use Rattle.segment.specs.AnswerLaws.{tells-object, tells-tombstone}

@@ -1,5 +1,5 @@
 -- `cleaning::kept::is_kept` meets its contract: a law for each return.
-use mathlib.Core.Path.{_≡_, refl, sym, _∙_, ap}
+use mathlib.Core.Path.{sym, _∙_}
 use borrow.Author.Needs.{needs}
 use Rattle.segment.specs.Layout.{edition1}
 use borrow.Author.Tests.{not-true, not-false}

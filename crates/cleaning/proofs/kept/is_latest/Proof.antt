@@ -1,5 +1,5 @@
 -- `cleaning::kept::is_latest` meets its contract: a law for each arm.
-use mathlib.Core.Path.{_≡_, refl, sym, _∙_, ap}
+use mathlib.Core.Path.{_≡_, sym, _∙_}
 use native.Mathlib.Omega.{arith}
 use borrow.Author.Needs.{needs, scaled-fits}
 use denote.Ref.{now}

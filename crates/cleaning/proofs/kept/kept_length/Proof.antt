@@ -1,5 +1,5 @@
 -- `cleaning::kept::kept_length` meets its contract.
-use mathlib.Core.Path.{_≡_, refl, sym, _∙_, ap}
+use mathlib.Core.Path.{sym, _∙_}
 use borrow.Author.Needs.{needs}
 use Rattle.segment.specs.Layout.{edition1}
 use Rattle.cleaning.specs.KeptLaws.{length-kept, length-dropped}

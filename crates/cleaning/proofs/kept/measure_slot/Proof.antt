@@ -1,13 +1,12 @@
 -- `cleaning::kept::measure_slot` meets its contract. The invariant: with the length of what is kept from here on, the total is that of the slot.
 use Prim.Native.Nat.{_+_, _*_, _-_, _≤_, _<_}
-use mathlib.Core.Path.{_≡_, refl, sym, _∙_, ap}
+use mathlib.Core.Path.{_≡_}
 use native.Mathlib.Omega.{arith}
 use lib.ListN.{length}
 use denote.Ref.{now}
 use borrow.Author.Needs.{needs}
-use Rattle.segment.specs.Layout.{edition1, digestSize}
-use Rattle.model.specs.Log.{segmentOf}
-use Rattle.cleaning.specs.Kept.{keptSlot, keptEntry}
+use Rattle.segment.specs.Layout.{edition1}
+use Rattle.cleaning.specs.Kept.{keptSlot}
 use Rattle.cleaning.specs.EntriesLaws.{Meets, meets, stops, slot-lies, slot-long, entry-lies, place-short}
 use Rattle.cleaning.specs.KeptLaws.{keptFrom, measured-whole, entry-short, measured-stop, measured-entry}
 use Rattle.cleaning.proofs.kept.measure_slot.Statement.{statement}

@@ -1,5 +1,4 @@
 -- `cleaning::outside::is_object` meets its contract: a law for each return.
-use borrow.Author.Needs.{needs}
 use Rattle.cleaning.specs.EntriesLaws.{object-tombstone, object-table, object-key}
 use Rattle.cleaning.proofs.outside.is_object.Statement.{statement}
 use Rattle.cleaning.proofs.outside.is_object.Tie as tie

@@ -1,12 +1,11 @@
 -- `cleaning::outside::object_outside` meets its contract. The invariant: no slot so far holds such an object.
 use Prim.Native.Nat.{_-_, _≤_}
-use mathlib.Core.Path.{_≡_, refl, sym, _∙_, ap}
+use mathlib.Core.Path.{_≡_, refl, sym, _∙_}
 use native.Mathlib.Omega.{arith}
 use mathlib.Core.Bool.{false}
-use borrow.Author.Needs.{needs}
 use Rattle.segment.specs.Layout.{edition1}
 use Rattle.laws.specs.LogLaws.{anyBelow}
-use Rattle.cleaning.specs.Entries.{slotHolds, objectBelow}
+use Rattle.cleaning.specs.Entries.{slotHolds}
 use Rattle.cleaning.specs.EntriesLaws.{any-found, any-more, any-none}
 use Rattle.cleaning.proofs.outside.object_outside.Statement.{statement}
 use Rattle.cleaning.proofs.outside.object_outside.Tie as tie

@@ -1,11 +1,11 @@
 -- `cleaning::outside::slot_holds` meets its contract.
-use mathlib.Core.Path.{_≡_, refl, sym, _∙_, ap}
+use mathlib.Core.Path.{sym, _∙_, ap}
 use Prim.Native.Nat.{ℕ}
 use mathlib.Core.List.{List}
 use borrow.Author.Needs.{needs}
 use Rattle.segment.specs.Layout.{edition1, digestSize}
 use borrow.Author.Tests.{not-true, not-false}
-use Rattle.segment.specs.Choice.{both, both-false-left}
+use Rattle.segment.specs.Choice.{both-false-left}
 use Rattle.index.specs.Build.{entriesAt}
 use Rattle.cleaning.specs.Entries.{objectIn}
 use Rattle.cleaning.specs.EntriesLaws.{slot-lies, both-goes}
