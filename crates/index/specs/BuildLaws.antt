@@ -2,13 +2,13 @@
 use Prim.Native.Nat.{ℕ, zero, suc, _+_, _*_, _-_, _^_, _≤_, _<_, min}
 use mathlib.Core.Path.{_≡_, refl, sym, _∙_, ap, subst}
 use mathlib.Core.Logic.{_⊎_, inl, inr}
-use mathlib.Core.Bool.{Bool, true, false, not}
-use mathlib.Core.List.{List, [], _∷_, _++_, List·Memᴰ·head, List·Memᴰ·tail, List·Memᴰ·not-nil}
+use mathlib.Core.Bool.{Bool, true, false}
+use mathlib.Core.List.{List, [], _∷_, List·Memᴰ·head, List·Memᴰ·tail, List·Memᴰ·not-nil}
 use mathlib.Core.List.{List·Memᴰ·append-cases, Memᴰ·append-left, Memᴰ·append-right}
 use native.Mathlib.Decide.{ℕ-discrete}
 use native.Mathlib.Nat.{add-assoc, mul-le-mul-right, suc-mul}
 use native.Mathlib.Omega.{arith}
-use lib.Dec.{eqb, leb, ltb}
+use lib.Dec.{eqb, leb}
 use lib.ListN.{length, take, drop, replicate, length-take, length-drop}
 use borrow.Author.Tests.{le-leb, eqb-true, ltb-true, ltb-false, not-false}
 use Rattle.word.specs.Number.{numberOf}
@@ -19,19 +19,18 @@ use Rattle.segment.specs.Entry.{Entry, entry, entryAt, sizeOf}
 use Rattle.segment.specs.EntryLaws.{decodedAt, decoded-at, found-fits, found-accepted}
 use Rattle.slot_map.specs.Bit.{named}
 use Rattle.slot_map.specs.BitLaws.{named-true, set-below}
-use Rattle.model.specs.Log.{Item, Placed, segmentOf, placeOf, viewsOf, scan, itemsOf, endOf, isDamaged, placedIn, logOf, keysOf, versionShared}
+use Rattle.model.specs.Log.{Item, Placed, segmentOf, viewsOf, scan, itemsOf, logOf, keysOf, versionShared}
 use Rattle.model.specs.Recovery.{lists, listsBelow, orderBad, keysBad}
 use Rattle.model.specs.Index.{IndexRule}
-use Rattle.laws.specs.Members.{In, first, Within, Same}
+use Rattle.laws.specs.Members.{In, Within, Same}
 use Rattle.laws.specs.Versions.{shared-apart}
-use Rattle.laws.specs.LogLaws.{AllScanned, InLog, itemOf, placed-mem, mem-placed, in-log, log-in}
+use Rattle.laws.specs.LogLaws.{AllScanned, itemOf, placed-mem, mem-placed, in-log, log-in, scan-whole}
 use Rattle.laws.specs.Scans.{scan-scans, scans-found}
-use Rattle.index.specs.Search.{tableAt, keyAt, versionAt}
 use Rattle.index.specs.Area.{InArea, AllIn}
 use Rattle.index.specs.Insert.{Tally, counted, over, insertAll}
-use Rattle.index.specs.InsertLaws.{Indexed, Tells, tells-log}
+use Rattle.index.specs.InsertLaws.{Tells, tells-log}
 use Rattle.index.specs.Build.{entriesAt, inLog, slotEntries, listed, Rebuilt, finished, built}
-use Rattle.index.specs.Entries.{scan-whole, entries-scan}
+use Rattle.index.specs.Entries.{entries-scan}
 use Rattle.index.specs.declared.Built.{Built}
 
 -- ---- an entry that is found in a slot stands in the area

@@ -1,22 +1,17 @@
 -- The entries of a segment as the code goes through them, and that they are those of the scan.
 use Prim.Native.Nat.{ℕ, zero, suc, _+_, _<_}
 use mathlib.Core.Path.{_≡_, refl, sym, _∙_, ap}
-use mathlib.Core.Bool.{Bool, true, false}
+use mathlib.Core.Bool.{false}
 use mathlib.Core.List.{List, [], _∷_}
 use native.Mathlib.Omega.{arith}
 use lib.ListN.{length}
 use Rattle.segment.specs.Layout.{Layout, digestSize}
 use Rattle.segment.specs.Entry.{Entry, Found, entry, end, damage, entryAt, sizeOf}
 use Rattle.segment.specs.EntryLaws.{past-end}
-use Rattle.model.specs.Log.{Item, Scan, damaged, scanned, scan, itemsOf, endOf, isDamaged}
+use Rattle.model.specs.Log.{Item, scan, itemsOf, isDamaged}
+use Rattle.laws.specs.LogLaws.{scan-whole}
 use Rattle.laws.specs.Scans.{Scans, done, more, itemAt, scan-scans}
 use Rattle.index.specs.Build.{entriesFrom, entriesAt}
-
--- TEMP until laws has it
-pub scan-whole : (s : Scan) → isDamaged s ≡ false → s ≡ scanned (itemsOf s) (endOf s)
-unfolding isDamaged itemsOf endOf
-scan-whole damaged e = let z : _≡_ {A = ℕ} 0 1 = cc in absurd (omega arith)
-scan-whole (scanned is k) e = refl
 
 module _ (L : Layout) (s : List ℕ) where
   -- ---- with fuel

@@ -1,24 +1,24 @@
 -- Under the index rule a search finds the latest entry of its key, or a free cell while there are fewer keys than cells.
 use Prim.Native.Nat.{ℕ, zero, suc, _+_, _≤_, _<_}
 use mathlib.Core.Path.{_≡_, refl, sym, _∙_, ap, subst}
-use mathlib.Core.Logic.{_⊎_, inl, inr}
+use mathlib.Core.Logic.{inl, inr}
 use mathlib.Core.Bool.{Bool, true, false}
 use mathlib.Core.List.{List, [], _∷_, List·Memᴰ·head, List·Memᴰ·tail, List·Memᴰ·not-nil}
-use mathlib.Core.Option.{Option, none, some}
+use mathlib.Core.Option.{none, some}
 use native.Mathlib.Omega.{arith}
 use lib.Dec.{ltb}
 use lib.ListN.{length, getD}
 use borrow.Author.Tests.{ltb-true, ltb-false}
 use Rattle.segment.specs.Entry.{keyOf}
 use Rattle.segment.specs.declared.Key.{Key}
-use Rattle.model.specs.Log.{Placed, placeOf, sameKey, latest, hasKey, keysOf}
+use Rattle.model.specs.Log.{Placed, placeOf, sameKey, latest, keysOf}
 use Rattle.model.specs.Index.{around, startCell, Met, IsLatest, CellGood, HasCell, IndexRule}
-use Rattle.laws.specs.Members.{clash, In, first, Once, empty, more, Within, once-length}
-use Rattle.laws.specs.Latest.{same-key, key-same, own-key, latest-some, latest-has, latest-none}
+use Rattle.laws.specs.Members.{clash, In, Once, empty, more, Within, once-length}
+use Rattle.laws.specs.Latest.{same-key, latest-some, latest-has}
 use Rattle.laws.specs.Keys.{key-listed}
 use Rattle.index.specs.Search.{probe}
 use Rattle.index.specs.Around.{around-onto, start-below}
-use Rattle.index.specs.Probe.{Pass, Reached, Passed, Probed, probed, reached-met, reached-below}
+use Rattle.index.specs.Probe.{Pass, Reached, Probed, probed, reached-met, reached-below}
 use Rattle.index.specs.declared.Found.{Found}
 use Rattle.index.specs.declared.Found.the-variants.{At, Free, Full}
 

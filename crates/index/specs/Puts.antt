@@ -1,7 +1,7 @@
 -- Putting the place of an entry into the cell that a search gives keeps the index rule.
 use Prim.Native.Nat.{ℕ, zero, suc, _+_, _≤_, _<_}
 use mathlib.Core.Path.{_≡_, refl, sym, _∙_, ap, subst}
-use mathlib.Core.Logic.{_⊎_, inl, inr}
+use mathlib.Core.Logic.{inl, inr}
 use mathlib.Core.Bool.{Bool, true, false}
 use mathlib.Core.List.{List, [], _∷_, List·Memᴰ·tail}
 use mathlib.Core.Option.{Option, none, some}
@@ -12,7 +12,7 @@ use lib.Seq.{getD-set-same, getD-set-other}
 use borrow.Author.Tests.{eqb-true, eqb-false}
 use Rattle.segment.specs.Entry.{keyOf}
 use Rattle.segment.specs.declared.Key.{Key}
-use Rattle.model.specs.Log.{Placed, placeOf, sameKey, latest, keysOf}
+use Rattle.model.specs.Log.{Placed, placeOf, sameKey, latest}
 use Rattle.model.specs.Index.{around, startCell, Met, IsLatest, CellGood, HasCell, IndexRule}
 use Rattle.laws.specs.Members.{clash, In, first, Same, same-sym, Added, added-same}
 use Rattle.laws.specs.Latest.{same-key, key-same, own-key, latest-some, latest-same, Apart, apart-same}

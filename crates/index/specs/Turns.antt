@@ -11,7 +11,7 @@ use lib.ListN.{length, getD, take, drop, set, replicate, length-set, drop-of-len
 use lib.Seq.{drop-length, drop-cons}
 use borrow.Author.Fill.{fill-more}
 use borrow.Author.Tests.{ltb-true, ltb-false, leb-true}
-use Rattle.segment.specs.Choice.{pick, pick-true, pick-false, both, both-right, both-false-left}
+use Rattle.segment.specs.Choice.{pick-true, pick-false, both, both-right, both-false-left}
 use Rattle.segment.specs.Layout.{Layout, isTombstone}
 use Rattle.segment.specs.Entry.{Entry, Found, entry, end, damage, entryAt, sizeOf, keyOf, answer}
 use Rattle.segment.specs.EntryLaws.{found-fits}
@@ -144,12 +144,6 @@ module _ (L : Layout) (area : List ℕ) where
   few-all S (x ∷ xs) (counted cells n) h =
       few-all S xs (insertNext L area S x (counted cells n)) (few-one (placeOf S x) (keyOf (x .entry)) (x .entry .version) cells n h)
   few-all S (x ∷ xs) over h = few-all S xs over tt
-
-  pub few-keys : (S : ℕ) (xs : List Placed) (cells : List ℕ) (n : ℕ) (b : Built) (after : List ℕ) (m : ℕ) →
-      tallyOf b after ≡ insertAll L area S xs (counted cells n) → b ≡ Built.Keys m → n ≤ length cells → m ≤ length after
-  unfolding Few tallyOf
-  few-keys S xs cells n b after m e p h =
-      subst Few (sym (ap (λ (j : Built). tallyOf j after) (sym p) ∙ e)) (few-all S xs (counted cells n) h)
 
 -- ---- a turn over the entries of a slot: going on from here gives the whole tally
 
@@ -297,9 +291,15 @@ module _ (L : Layout) (area : List ℕ) (S map : ℕ) (order : List ℕ) (j : �
         ∙ ap (λ (q : Built). insertAll L area S (listed L area S map (drop (j + 1) order)) (tallyOf q after)) (sym p)
         ∙ on
 
-    pub order-next : (k : ℕ) → b ≡ Built.Keys k → insertAll L area S (listed L area S map (drop (j + 1) order)) (counted after k) ≡ whole
-    unfolding tallyOf
-    order-next k p = ap (λ (q : Built). insertAll L area S (listed L area S map (drop (j + 1) order)) (tallyOf q after)) (sym p) ∙ on
+    module _ (k : ℕ) (p : b ≡ Built.Keys k) where
+      pub order-next : insertAll L area S (listed L area S map (drop (j + 1) order)) (counted after k) ≡ whole
+      unfolding tallyOf
+      order-next = ap (λ (q : Built). insertAll L area S (listed L area S map (drop (j + 1) order)) (tallyOf q after)) (sym p) ∙ on
+
+      pub order-few : n ≤ length cells → k ≤ length after
+      unfolding Few tallyOf
+      order-few f =
+          subst Few (sym (ap (λ (q : Built). tallyOf q after) (sym p) ∙ slot)) (few-all L area S (listedSlot L area S map i) (counted cells n) f)
 
 -- ---- the whole: free cells, the slots of the list, and free cells again where there are too many keys
 

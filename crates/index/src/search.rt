@@ -5,9 +5,8 @@ use segment::layout::HEAD_SIZE;
 use word::fnv::key_hash;
 use word::number::read16;
 use word::number::read32;
-ghost use Prim.Native.Nat.{_+_, _-_, _≤_, _<_};
+ghost use Prim.Native.Nat.{_+_, _%_, _<_};
 ghost use mathlib.Core.Path.{_≡_};
-ghost use lib.ListN.{length};
 ghost use Rattle.segment.specs.Layout.{edition1};
 ghost use Rattle.model.specs.Index.{around};
 ghost use Rattle.index.specs.Search.{cellHas, searchFor};
@@ -27,6 +26,14 @@ fn cell_has(area: &[u8], key: Key, cell: u32) -> bool
     key.key == read32(area, place + 3)
 }
 
+// The first of m cells to look at.
+fn first_cell(hash: u32, m: usize) -> usize
+    requires { ⌜ 0 < m ⌝ }
+    ensures { λ r. ⌜ r ≡ hash % m ⌝ }
+{
+    hash as usize % m
+}
+
 // The next of m cells, going round.
 fn next_cell(at: usize, m: usize) -> usize
     requires { ⌜ at < m ⌝ }
@@ -43,7 +50,7 @@ pub fn search(area: &[u8], cells: &[u32], key: Key) -> Found
     if m == 0 {
         return Found::Full;
     }
-    let mut at = key_hash(key.table, key.key) as usize % m;
+    let mut at = first_cell(key_hash(key.table, key.key), m);
     let mut left = m;
     while 0 < left {
         let cell = cells[at];

@@ -2,12 +2,13 @@
 use Prim.Native.Nat.{_-_, _≤_}
 use mathlib.Core.Path.{_≡_, refl, _∙_}
 use native.Mathlib.Omega.{arith}
+use denote.Ref.{now}
 use lib.ListN.{length, drop}
 use borrow.Author.Needs.{needs}
 use Rattle.segment.specs.Layout.{edition1}
 use Rattle.index.specs.Insert.{counted, insertAll}
 use Rattle.index.specs.Build.{listed}
-use Rattle.index.specs.Turns.{order-end, order-over, order-next, few-keys}
+use Rattle.index.specs.Turns.{order-end, order-over, order-next, order-few}
 use Rattle.index.proofs.build.index_order.Statement.{statement}
 use Rattle.index.proofs.build.index_order.Tie as tie
 
@@ -21,6 +22,11 @@ Inv-loop area cells₀ order size map keys₀ j₀ cells keys j =
 
 abbrev μ-loop : tie.MeasureT-loop
 μ-loop area cells₀ order size map keys₀ j₀ cells keys j = length order - j
+
+-- the cells stay as many
+long : (c : tie.After-index-listed Inv-loop μ-loop) →
+    length (c .index-listed .last .1 .0) ≡ length (now (c .before .before .before .before .before .before .before .before .before .args .cells))
+long c = c .index-listed .kept .1 .0 ∙ c .before .before .before .before .before .loop .inv .1
 
 loop-holds : tie.Need-loop-holds Inv-loop μ-loop
 loop-holds c = (search needs, refl, search needs, refl)
@@ -43,9 +49,7 @@ enum-told : tie.Need-enum-told Inv-loop μ-loop
 enum-told c = search needs
 
 same-length : tie.Need-same-length Inv-loop μ-loop
-same-length c =
-    let x = c .before .before .before .before in
-    x .index-listed .kept .1 .0 ∙ x .before .before .before .before .before .loop .inv .1
+same-length c = long (c .before .before .before .before)
 
 returns : tie.Need-returns Inv-loop μ-loop
 returns c =
@@ -63,12 +67,12 @@ loop-less c = search needs
 loop-again : tie.Need-loop-again Inv-loop μ-loop
 loop-again c =
     let x = c .before .before .before .before .before in
-    let l = x .before .before .before .before in
-    let inv = l .before .loop .inv in (
+    let l = x .before .before .before .before in (
       omega arith,
-      x .index-listed .kept .1 .0 ∙ inv .1,
-      few-keys edition1 _ _ _ _ _ _ _ _ (x .index-listed .ensures) (c .before .n .given .1) (inv .2),
-      order-next edition1 _ _ _ _ _ _ _ _ (inv .3) (l .loop-test .taken) _ (x .before .before .slot-of .ensures .0) _ _
+      long x,
+      order-few edition1 _ _ _ _ _ _ _ _ (l .before .loop .inv .3) (l .loop-test .taken) _ (x .before .before .slot-of .ensures .0) _ _
+          (x .index-listed .ensures) _ (c .before .n .given .1) (l .before .loop .inv .2),
+      order-next edition1 _ _ _ _ _ _ _ _ (l .before .loop .inv .3) (l .loop-test .taken) _ (x .before .before .slot-of .ensures .0) _ _
           (x .index-listed .ensures) _ (c .before .n .given .1),
     )
 

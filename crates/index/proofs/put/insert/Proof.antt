@@ -8,7 +8,6 @@ use native.Mathlib.Omega.{arith}
 use Rattle.segment.specs.Layout.{edition1}
 use Rattle.index.specs.declared.Found.{Found}
 use Rattle.index.specs.Search.{searchFor}
-use Rattle.index.specs.Insert.{Insertion}
 use Rattle.index.specs.SearchLaws.{Inside, search-inside, search-free}
 use Rattle.index.specs.InsertLaws.{insert-newer, insert-older, insert-new, insert-full}
 use borrow.Author.Needs.{needs, scaled-fits}

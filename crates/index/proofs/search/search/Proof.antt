@@ -25,14 +25,11 @@ returns c = turn-full _ _ _ _ _ refl (omega arith)
 key-hash-requires : tie.Need-key-hash-requires Inv-loop μ-loop
 key-hash-requires c κs = search needs
 
-cast-at : tie.Need-cast-at Inv-loop μ-loop
-cast-at c = search needs
-
-rem-at : tie.Need-rem-at Inv-loop μ-loop
-rem-at c = search needs
+first-cell-requires : tie.Need-first-cell-requires Inv-loop μ-loop
+first-cell-requires c κs = search needs
 
 loop-holds : tie.Need-loop-holds Inv-loop μ-loop
-loop-holds c = (mod-lt _ (omega arith), omega arith, rw (c .key-hash .ensures))
+loop-holds c = (rw (c .first-cell .ensures) (mod-lt _ (omega arith)), omega arith, rw (c .first-cell .ensures, c .before .key-hash .ensures))
 
 mul-cell : tie.Need-mul-cell Inv-loop μ-loop
 mul-cell c = search needs
@@ -82,8 +79,7 @@ search-spec =
     μ-loop
     returns
     key-hash-requires
-    cast-at
-    rem-at
+    first-cell-requires
     loop-holds
     mul-cell
     shared-slice-read-cell
