@@ -1,0 +1,29 @@
+// The store: the seven calls, and the value of a read. This is what a user looks at; the promise of each call is its contract,
+// a relation of the crate model that holds for every input.
+
+// Makes an area of N slots of S bytes a fresh store. Outside the promise about cuts. Refused with 1, it changes nothing.
+pub use recovery::format::format;
+
+// Gives the record of the store in an area, whatever the order in which the slots are read, and builds the index. Refused with
+// 1, 2 or 15 to 20; the index stays, but at 20 it is all 0.
+pub use recovery::recover::recover;
+
+// The version and kind of a key, by its highest version in the log. Refused with 4 or 8. Allowed during an operation.
+pub use recovery::read::read;
+
+// The value of a key, as a part of the area; the empty part at its start where read refuses.
+pub use recovery::read::read_value;
+
+// Starts a write: checks, fills the work buffer, and answers the number of stores to come. Nothing is stored in the area.
+// Refused with 4, 3, 5, 7, 9, 11, 12 or 10, it changes nothing.
+pub use writing::start::write;
+
+// Starts a delete, likewise. Refused with 4, 3, 5, 8, 9, 12 or 10.
+pub use writing::start::delete;
+
+// Starts a cleaning of a slot map of victims, likewise. Refused with 4, 3, 5, 13, 14 or 10.
+pub use cleaning::clean::clean;
+
+// Makes the next store of the pending operation, one byte, and answers the stores left; the last one makes the operation count,
+// tells its version, and brings record and index up to date. Refused with 4, 3 or 6, it changes nothing.
+pub use stepping::step;
