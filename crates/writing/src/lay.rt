@@ -43,8 +43,9 @@ pub fn new_digest(store: Store, victims: u32, slot: u32) -> Digest
 {
     let number = store.number;
     let next = store.next;
+    let raised = number.0 + 1;
     Digest {
-        number: DigestNumber(number.0 + 1),
+        number: DigestNumber(raised),
         map: with_slot(without_slots(store.map, victims), slot),
         next,
     }
