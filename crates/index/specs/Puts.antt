@@ -57,18 +57,18 @@ set-met cells i v start j nv m =
 
 -- ---- the cell for an entry of a key: it holds the latest entry of the key, or is free where there is none
 
-unfoldable pub Holds : ℕ → ℕ → Option Placed → Type 0
-Holds S c none = c ≡ 0
-Holds S c (some y) = c ≡ placeOf S y + 1
+unfoldable pub CellOf : ℕ → ℕ → Option Placed → Type 0
+CellOf S c none = c ≡ 0
+CellOf S c (some y) = c ≡ placeOf S y + 1
 
 pub record Target (S : ℕ) (log : List Placed) (cells : List ℕ) (k : Key) (i : ℕ) : Type 0 where
   pub below : i < length cells
   pub met : Met cells (startCell (length cells) k) i
-  pub holds : Holds S (getD cells i 0) (latest log k)
+  pub holds : CellOf S (getD cells i 0) (latest log k)
 
 module _ (S : ℕ) (log : List Placed) (cells : List ℕ) (k : Key) where
   pub target-known : (y : Placed) → latest log k ≡ some y → (c : HasCell S cells y) → Target S log cells k (c .cell)
-  unfolding Holds
+  unfolding CellOf
   target-known y l c =
       let e : k ≡ keyOf (y .entry) = same-key k (y .entry) (latest-some log k y l .of-key) in
       record {
@@ -78,7 +78,7 @@ module _ (S : ℕ) (log : List Placed) (cells : List ℕ) (k : Key) where
       }
 
   pub target-new : latest log k ≡ none → (c : FreeCell cells k) → Target S log cells k (c .cell)
-  unfolding Holds
+  unfolding CellOf
   target-new l c = record { below = c .below; met = c .met; holds = rw l (c .free) }
 
 -- ---- the core: x becomes the latest entry of its key, and the other keys stay
@@ -87,9 +87,9 @@ module _ (S : ℕ) (log : List Placed) (cells : List ℕ) (rule : IndexRule S lo
     (picks : Picks t S (x ∷ log) (keyOf (x .entry))) (i : ℕ) (target : Target S log cells (keyOf (x .entry)) i) where
   -- only the target holds the latest entry of the key so far
   only : (j : ℕ) → j < length cells → (y : Placed) → latest log (keyOf (x .entry)) ≡ some y → getD cells j 0 ≡ placeOf S y + 1 → j ≡ i
-  unfolding Holds
+  unfolding CellOf
   only j h y l c =
-      let here : Holds S (getD cells i 0) (some y) = rw l at (target .holds) in
+      let here : CellOf S (getD cells i 0) (some y) = rw l at (target .holds) in
       rule .once j i h (target .below) (λ z. omega arith) (c ∙ sym here)
 
   -- and so only it can hold the place of x, or of an entry of the same key
@@ -104,10 +104,10 @@ module _ (S : ℕ) (log : List Placed) (cells : List ℕ) (rule : IndexRule S lo
 
   -- what the target holds so far has the key
   its-holder : (z : Placed) → In z log → getD cells i 0 ≡ placeOf S z + 1 → keyOf (x .entry) ≡ keyOf (z .entry)
-  unfolding Holds
+  unfolding CellOf
   its-holder z m c = go (latest log (keyOf (x .entry))) refl (target .holds)
     where
-      go : (o : Option Placed) → latest log (keyOf (x .entry)) ≡ o → Holds S (getD cells i 0) o → keyOf (x .entry) ≡ keyOf (z .entry)
+      go : (o : Option Placed) → latest log (keyOf (x .entry)) ≡ o → CellOf S (getD cells i 0) o → keyOf (x .entry) ≡ keyOf (z .entry)
       go none l h = absurd (omega arith)
       go (some y) l h =
           let n = latest-some log (keyOf (x .entry)) y l in
