@@ -1,0 +1,37 @@
+-- What ties the entries of a log to the bytes of an area: an entry's fields stand at its place.
+use Prim.Native.Nat.{ℕ, _+_, _-_, _≤_}
+use mathlib.Core.Path.{_≡_, refl, sym, _∙_, ap}
+use mathlib.Core.List.{List}
+use native.Mathlib.Omega.{arith}
+use lib.Dec.{eqb, leb}
+use lib.ListN.{length}
+use borrow.Author.Tests.{le-leb}
+use Rattle.segment.specs.Choice.{both}
+use Rattle.segment.specs.Layout.{Layout, entrySize}
+use Rattle.segment.specs.declared.Key.{Key}
+use Rattle.model.specs.Log.{Placed, placeOf, sameKey}
+use Rattle.laws.specs.Members.{In}
+use Rattle.index.specs.Search.{tableAt, keyAt, versionAt, hasKeyAt, cellHas}
+use Rattle.index.specs.Finds.{Picks}
+
+pub record InArea (L : Layout) (area : List ℕ) (S : ℕ) (x : Placed) : Type 0 where
+  pub fits : placeOf S x + entrySize L 0 ≤ length area
+  pub table-there : tableAt area (placeOf S x) ≡ x .entry .table
+  pub key-there : keyAt area (placeOf S x) ≡ x .entry .key
+  pub version-there : versionAt L area (placeOf S x) ≡ x .entry .version
+
+abbrev pub AllIn : Layout → List ℕ → ℕ → List Placed → Type 0
+AllIn L area S log = (x : Placed) → In x log → InArea L area S x
+
+-- what a cell holds, less 1, is the place
+pub place-back : (p : ℕ) → p + 1 - 1 ≡ p
+place-back p = omega arith
+
+module _ (L : Layout) (area : List ℕ) (S : ℕ) where
+  pub in-area-key : (k : Key) (x : Placed) → InArea L area S x → hasKeyAt L area k (placeOf S x) ≡ sameKey k (x .entry)
+  unfolding hasKeyAt sameKey both
+  in-area-key k x a =
+      rw (le-leb (placeOf S x + entrySize L 0) (length area) (a .fits), a .table-there, a .key-there)
+
+  pub area-picks : (log : List Placed) (k : Key) → AllIn L area S log → Picks (cellHas L area k) S log k
+  area-picks log k a x m = rw (place-back (placeOf S x)) (in-area-key k x (a x m))
