@@ -1,0 +1,50 @@
+// What is written of an operation.
+use segment::Key;
+
+// A name and a number after it.
+pub fn field(name: &[u8], n: u32) {
+    io::write_all(1, name);
+    io::print_decimal(1, n as u64);
+}
+
+pub fn text(name: &[u8]) {
+    io::write_all(1, name);
+}
+
+// The name of an operation and its key.
+pub fn operation(name: &[u8], key: Key) {
+    io::write_all(1, name);
+    field(b" ", key.table as u32);
+    field(b" ", key.key);
+}
+
+fn byte(b: u8) {
+    io::write_all(1, b" ");
+    io::print_hex(1, b as u64, 2);
+}
+
+// The first bytes of a buffer, to the end of the line.
+pub fn bytes(name: &[u8], buffer: &[u8], count: usize) {
+    io::write_all(1, name);
+    let mut i = 0;
+    while i < buffer.len() {
+        if i < count {
+            byte(buffer[i]);
+        }
+        i += 1;
+    }
+    io::write_all(1, b"\n");
+}
+
+// How the cuts of an operation went: `bad` is the number of stores before the first one that differs, 0 where none does.
+pub fn verdict(stores: u32, version: u32, bad: u32) {
+    field(b": ", stores);
+    field(b" stores, version ", version);
+    if bad == 0 {
+        field(b", ", stores);
+        text(b" cuts as the book says\n");
+        return;
+    }
+    field(b", after store ", bad);
+    text(b" not as the book says\n");
+}
