@@ -117,7 +117,8 @@ impl Record {
             &mut bytes,
         );
         let start = place as usize;
-        area.get(start..start + bytes as usize).unwrap_or(&area[..0])
+        area.get(start..start + bytes as usize)
+            .unwrap_or(&area[..0])
     }
 
     /// Starts to write a value under a key. Answers the number of stores to come.
@@ -207,14 +208,7 @@ impl Record {
         work: &[u8],
     ) -> Result<Progress, Refusal> {
         let (mut left, mut version) = (0, 0);
-        let answer = slices::step(
-            &mut self.words,
-            area,
-            index,
-            work,
-            &mut left,
-            &mut version,
-        );
+        let answer = slices::step(&mut self.words, area, index, work, &mut left, &mut version);
         Refusal::unless_accepted(answer)?;
         Ok(match left {
             0 => Progress::Done {
