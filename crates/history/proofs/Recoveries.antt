@@ -25,47 +25,20 @@ use Rattle.model.specs.Recovery.{recovered, storeOf, ifNone, areaCauses, recove
 use Rattle.model.specs.Index.{IndexRule}
 use Rattle.model.specs.Operations.{logNow}
 use Rattle.model.specs.Promises.{RecoverPromise, IndexAfter}
-use Rattle.laws.specs.CauseLaws.{none-left, none-right, none-both, cause-none, cause-rest, refusal-number}
+use Rattle.laws.specs.CauseLaws.{refusal-number}
+use Rattle.laws.specs.RecoverLaws.{recovery-recovered}
 use Rattle.laws.specs.Operated.{StoreLaws}
 use Rattle.history.specs.Book.{recovers, Event, called, cut, accepted, Book, feed, feedCall, withoutPending, toldBy}
 use Rattle.history.specs.Runs.{Held, World, recoveredWorld}
 use Rattle.history.proofs.Invariant.{Inv, Agrees, Holding, HeldGood, Phase, calm, rebuilt}
 
--- ---- the causes with and without an order list
-
-module _ (L : Layout) (n s m : ℕ) (order area : List ℕ) where
-  abbrev rest : List Cause
-  rest = imageCauses (viewsOf L area s) n (headOf (viewsOf L area s) n) ++ keyCauses (viewsOf L area s) n m (headOf (viewsOf L area s) n)
-
-  -- where recovery is accepted, the area recovers to its record
-  pub accepted-recovers : firstCause (recoverCauses L n s m order area) ≡ none → recovered L n s m area ≡ some (storeOf L n s m area)
-  unfolding recovered ifNone
-  accepted-recovers e = ap (λ (c : Option Refusal). ifNone c (storeOf L n s m area)) none-there
-    where
-      lent : firstCause (lentCauses n s m (length area)) ≡ none
-      lent = none-left (lentCauses n s m (length area)) ((when (orderBad n order) BadOrder ∷ []) ++ rest) e
-
-      others : firstCause rest ≡ none
-      others = cause-rest (when (orderBad n order) BadOrder) rest (none-right (lentCauses n s m (length area)) ((when (orderBad n order) BadOrder ∷ []) ++ rest) e)
-
-      none-there : firstCause (areaCauses L n s m area) ≡ none
-      none-there = none-both (lentCauses n s m (length area)) rest lent others
-
-  -- and the other way round, in any order that is one
-  pub recovers-accepted :
-      recovered L n s m area ≡ some (storeOf L n s m area) → orderBad n order ≡ false → firstCause (recoverCauses L n s m order area) ≡ none
-  unfolding recovered ifNone
-  recovers-accepted e good =
-      none-both (lentCauses n s m (length area)) ((when (orderBad n order) BadOrder ∷ []) ++ rest)
-      (none-left (lentCauses n s m (length area)) rest none-there)
-      (cause-none (when (orderBad n order) BadOrder) rest good (none-right (lentCauses n s m (length area)) rest none-there))
-    where
-      from : (c : Option Refusal) → ifNone c (storeOf L n s m area) ≡ some (storeOf L n s m area) → c ≡ none
-      from none p = refl
-      from (some c) p = cc
-
-      none-there : firstCause (areaCauses L n s m area) ≡ none
-      none-there = from (firstCause (areaCauses L n s m area)) e
+-- where recovery is accepted, the area recovers to its record
+pub accepted-recovers :
+    (L : Layout) (n s m : ℕ) (order area : List ℕ) → firstCause (recoverCauses L n s m order area) ≡ none →
+    recovered L n s m area ≡ some (storeOf L n s m area)
+unfolding recovery recoveryFor
+accepted-recovers L n s m order area e =
+    recovery-recovered L n s m area order (storeOf L n s m area) (ap (λ (c : Option Refusal). recoveryFor c (storeOf L n s m area)) e)
 
 module _ (L : Layout) (n s : ℕ) where
   -- what is to be shown of a recovery that answers r and leaves these cells

@@ -32,6 +32,7 @@ use Rattle.model.specs.Promises.{Genuine, FormatPromise, RecoverPromise, ReadPr
 use Rattle.laws.specs.CauseLaws.{cause-skip, cause-first, cause-none, cause-false}
 use Rattle.laws.specs.MapLaws.{valueAt, entryOf}
 use Rattle.laws.specs.Operated.{StoreLaws}
+use Rattle.laws.specs.RecoverLaws.{recovered-recovery}
 use Rattle.laws.specs.StoreKept.{edition1-laws}
 use Rattle.history.specs.Book.{Event, called, cut, Kept, Book, freshBook, feed, bookAfter, bookOf, toldBy, highestTold}
 use Rattle.history.specs.Runs.{Held, World, freshWorld, Moves, start, step, read, readValue, recover, cuts, Run, stop, go}
@@ -40,7 +41,10 @@ use Rattle.history.proofs.Invariant.{Inv, HeldGood, baseCells, bookEntr
 use Rattle.history.proofs.Starts.{start-keeps}
 use Rattle.history.proofs.Steps.{step-keeps}
 use Rattle.history.proofs.Readings.{read-keeps, value-keeps}
-use Rattle.history.proofs.Recoveries.{recovers-accepted, recover-keeps, cut-keeps}
+use Rattle.history.proofs.Recoveries.{recover-keeps, cut-keeps}
+
+some-same : {u v : Entry} → _≡_ {A = Option Entry} (some u) (some v) → u ≡ v
+some-same q = cc
 
 module _ (L : Layout) (laws : StoreLaws L) (n s : ℕ) where
   -- ---- one event
@@ -90,9 +94,6 @@ module _ (L : Layout) (laws : StoreLaws L) (n s : ℕ) where
   present-answer k none (some y) e = cc
   present-answer k (some p) none e = cc
   present-answer k (some p) (some y) e = ap (λ (z : Entry). ReadAnswer.Present (record { 0 = z .version }) (z .kind)) (some-same e)
-    where
-      some-same : {u v : Entry} → _≡_ {A = Option Entry} (some u) (some v) → u ≡ v
-      some-same q = cc
 
   present-value :
       (area : List ℕ) (size : ℕ) (k : Key) (p : Option Placed) (x : Option Kept) → entryOf p ≡ bookEntry L k x →
@@ -103,9 +104,6 @@ module _ (L : Layout) (laws : StoreLaws L) (n s : ℕ) where
   present-value area size k none (some y) e part = cc
   present-value area size k (some p) none e part = cc
   present-value area size k (some p) (some y) e part = part p refl ∙ ap (λ (z : Entry). z .value) (some-same e)
-    where
-      some-same : {u v : Entry} → _≡_ {A = Option Entry} (some u) (some v) → u ≡ v
-      some-same q = cc
 
   module _ (area cells′ : List ℕ) (m : ℕ) (r : Store) (ab : Bytes area) (e : recovered L n s m area ≡ some r) (long : length cells′ ≡ m) (k : Key)
       (x : Option Kept) (same : valueAt L (logNow L area r) k ≡ bookEntry L k x)
@@ -144,9 +142,7 @@ module _ (L : Layout) (laws : StoreLaws L) (n s : ℕ) where
       recovers = enough w b t (length cells) inv large
 
       answered : r ≡ recoveryFor none store
-      answered =
-          p .answers ∙
-          ap (λ (c : Option Refusal). recoveryFor c store) (recovers-accepted L n s (length cells) order (w .area) recovers good)
+      answered = p .answers ∙ recovered-recovery L n s (length cells) (w .area) order store good recovers
 
       rule : IndexAfter L (w .area) cells cells′ (recoveryFor none store) (recoveryFor none store .answer)
       rule = subst (λ (x : Recovery). IndexAfter L (w .area) cells cells′ x (x .answer)) answered (p .index)

@@ -9,7 +9,7 @@ use mathlib.Core.Option.{Option, none, some}
 use lib.Dec.{eqb, leb, lit<}
 use lib.Pow.{pow-mono}
 use lib.ListN.{length}
-use borrow.Author.Tests.{leb-true, eqb-true}
+use borrow.Author.Tests.{eqb-true, not-false}
 use Rattle.segment.specs.Choice.{pick, both, both-left, both-right}
 use Rattle.segment.specs.Layout.{Layout, digestSize}
 use Rattle.segment.specs.LayoutLaws.{tombstone-length}
@@ -95,11 +95,7 @@ module _ (v : ℕ → View) (n e : ℕ) (some-slots : 4 ≤ n) (own : v 0 ≡ re
 
 module _ (L : Layout) (roomy : Roomy L) (n s : ℕ) (area : List ℕ) (geometry : geometryBad n s (length area) ≡ false) where
   good : both (both (slotsGood n) (sizeGood s)) (eqb (length area) (n * s)) ≡ true
-  good = not-of (both (both (slotsGood n) (sizeGood s)) (eqb (length area) (n * s))) geometry
-    where
-      not-of : (t : Bool) → not t ≡ false → t ≡ true
-      not-of true p = refl
-      not-of false p = cc
+  good = not-false (both (both (slotsGood n) (sizeGood s)) (eqb (length area) (n * s))) geometry
 
   some-slots : 4 ≤ n
   some-slots = between-low 4 32 n (both-left _ _ (both-left _ _ good))

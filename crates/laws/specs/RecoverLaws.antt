@@ -78,7 +78,7 @@ pub record Sound (v : ℕ → View) (n m : ℕ) (h : Head) : Type 0 where
   pub keys : length (keysOf (logUnder v n h)) ≤ m - 1
 
 -- a map is bad exactly if it is not good
-map-bad-good : (n : ℕ) (h : Head) → mapBad n h ≡ not (mapGood n (h .slot) (h .digest .map))
+pub map-bad-good : (n : ℕ) (h : Head) → mapBad n h ≡ not (mapGood n (h .slot) (h .digest .map))
 unfolding mapGood both either
 map-bad-good n h = go (ltb (h .digest .map) (2 ^ n)) (named (h .digest .map) (h .slot)) (ltb (used n (h .digest .map)) n)
   where

@@ -36,20 +36,20 @@ pub data Scans (L : Layout) (s : List ℕ) : ℕ → List Item → ℕ → Type 
   more : {at e : ℕ} {is : List Item} (x : Entry) → entryAt L s at ≡ entry x → Scans L s (at + sizeOf L x) is e → Scans L s at (itemAt at x ∷ is) e
 
 module _ (L : Layout) (s : List ℕ) (f at : ℕ) where
-  scan-entry : (x : Entry) → entryAt L s at ≡ entry x → scanFrom L s (suc f) at ≡ itemFirst (itemAt at x) (scanFrom L s f (at + sizeOf L x))
+  pub scan-entry : (x : Entry) → entryAt L s at ≡ entry x → scanFrom L s (suc f) at ≡ itemFirst (itemAt at x) (scanFrom L s f (at + sizeOf L x))
   unfolding scanFrom
   scan-entry x p = rw (p, scanFrom)
 
-  scan-end : entryAt L s at ≡ end → scanFrom L s (suc f) at ≡ scanned [] at
+  pub scan-end : entryAt L s at ≡ end → scanFrom L s (suc f) at ≡ scanned [] at
   unfolding scanFrom
   scan-end p = rw (p, scanFrom)
 
-  scan-damage : entryAt L s at ≡ damage → scanFrom L s (suc f) at ≡ damaged
+  pub scan-damage : entryAt L s at ≡ damage → scanFrom L s (suc f) at ≡ damaged
   unfolding scanFrom
   scan-damage p = rw (p, scanFrom)
 
 -- a scan that begins with an item goes on behind it
-item-first : {i : Item} {is : List Item} {e : ℕ} (r : Scan) → itemFirst i r ≡ scanned is e → (js : List Item) × (r ≡ scanned js e) × (i ∷ js ≡ is)
+pub item-first : {i : Item} {is : List Item} {e : ℕ} (r : Scan) → itemFirst i r ≡ scanned is e → (js : List Item) × (r ≡ scanned js e) × (i ∷ js ≡ is)
 unfolding itemFirst
 item-first damaged p = let z : _≡_ {A = ℕ} 0 1 = cc in absurd (omega arith)
 item-first (scanned js k) p = (js, cc, cc)

@@ -9,7 +9,7 @@ use mathlib.Core.Option.{Option, none, some}
 use lib.Dec.{eqb, ltb, leb, lit<, lit≤}
 use lib.ListN.{length, take, drop}
 use lib.Seq.{take-length}
-use borrow.Author.Tests.{eq-eqb, ltb-false, eqb-false, eqb-true}
+use borrow.Author.Tests.{not-false, eq-eqb, ltb-false, eqb-false, eqb-true}
 use Rattle.word.specs.Number.{Bytes}
 use Rattle.segment.specs.Choice.{pick, both, either, pick-true, pick-false, either-false-left, either-false-right}
 use Rattle.segment.specs.Packed.{field-at, length-part}
@@ -57,14 +57,7 @@ module _ (L : Layout) (before : List ℕ) (idle : Store) (victims : ℕ) (a : Ac
   tests = no-cause (startCauses L idle (logNow L before idle) (a .lengths) (clean victims)) (a .no-cause)
 
   sub : within victims (idle .map) ≡ true
-  sub = not-of (either-false-right _ _ (tests .1 .1 .1 .0))
-    where
-      not-of : {t : Bool} → not t ≡ false → t ≡ true
-      not-of {t} e = go t e
-        where
-          go : (t : Bool) → not t ≡ false → t ≡ true
-          go true p = refl
-          go false p = cc
+  sub = not-false (within victims (idle .map)) (either-false-right _ _ (tests .1 .1 .1 .0))
 
   some-victim : 0 < victims
   some-victim = omega (arith, eqb-false victims 0 (either-false-left _ _ (tests .1 .1 .1 .0)))

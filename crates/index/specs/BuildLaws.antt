@@ -1,0 +1,205 @@
+-- Rebuilding the index of an undamaged log gives the index rule and the number of keys, or finds too many, whatever the order.
+use Prim.Native.Nat.{ℕ, zero, suc, _+_, _*_, _-_, _^_, _≤_, _<_, min}
+use mathlib.Core.Path.{_≡_, refl, sym, _∙_, ap, subst}
+use mathlib.Core.Logic.{_⊎_, inl, inr}
+use mathlib.Core.Bool.{Bool, true, false}
+use mathlib.Core.List.{List, [], _∷_, List·Memᴰ·head, List·Memᴰ·tail, List·Memᴰ·not-nil}
+use mathlib.Core.List.{List·Memᴰ·append-cases, Memᴰ·append-left, Memᴰ·append-right}
+use native.Mathlib.Decide.{ℕ-discrete}
+use native.Mathlib.Nat.{add-assoc, mul-le-mul-right, suc-mul}
+use native.Mathlib.Omega.{arith}
+use lib.Dec.{eqb, leb}
+use lib.ListN.{length, take, drop, replicate, length-take, length-drop}
+use borrow.Author.Tests.{le-leb, eqb-true, ltb-true, ltb-false, not-false}
+use Rattle.word.specs.Number.{numberOf}
+use Rattle.segment.specs.Choice.{pick, pick-true, pick-false, both, both-left, both-right, both-true, either}
+use Rattle.segment.specs.Layout.{Layout, entrySize, digestSize}
+use Rattle.segment.specs.Packed.{field-at}
+use Rattle.segment.specs.Entry.{Entry, entry, entryAt, sizeOf}
+use Rattle.segment.specs.EntryLaws.{decodedAt, decoded-at, found-fits, found-accepted}
+use Rattle.slot_map.specs.Bit.{named}
+use Rattle.slot_map.specs.BitLaws.{named-true, set-below}
+use Rattle.model.specs.Log.{Item, Placed, segmentOf, viewsOf, scan, itemsOf, logOf, keysOf, versionShared}
+use Rattle.model.specs.Recovery.{lists, listsBelow, orderBad, keysBad}
+use Rattle.model.specs.Index.{IndexRule}
+use Rattle.laws.specs.Members.{In, Within, Same}
+use Rattle.laws.specs.Versions.{shared-apart}
+use Rattle.laws.specs.LogLaws.{AllScanned, itemOf, placed-mem, mem-placed, in-log, log-in, scan-whole}
+use Rattle.laws.specs.Scans.{scan-scans, scans-found}
+use Rattle.index.specs.Area.{InArea, AllIn}
+use Rattle.index.specs.Insert.{Tally, counted, over, insertAll}
+use Rattle.index.specs.InsertLaws.{Tells, tells-log}
+use Rattle.index.specs.Build.{entriesAt, inLog, slotEntries, listed, Rebuilt, finished, built}
+use Rattle.index.specs.Entries.{entries-scan}
+use Rattle.index.specs.declared.Built.{Built}
+
+-- ---- an entry that is found in a slot stands in the area
+
+module _ (L : Layout) (area : List ℕ) (S i at : ℕ) (e : Entry) (found : entryAt L (segmentOf area S i) at ≡ entry e) where
+  inside : at + sizeOf L e ≤ min S (length area - i * S)
+  inside = simp (length-take, length-drop) at (found-fits L (segmentOf area S i) at e found)
+
+  fields : decodedAt L (segmentOf area S i) at (length (e .value)) ≡ e
+  fields = sym (decoded-at L (segmentOf area S i) at (length (e .value))) ∙ found-accepted L (segmentOf area S i) at e found .same
+
+  -- a field, read in the segment and in the area
+  field : (w k : ℕ) → k + w ≤ entrySize L 0 → numberOf (take w (drop (i * S + at + k) area)) ≡ numberOf (take w (drop (at + k) (segmentOf area S i)))
+  field w k h =
+      ap numberOf
+      (ap (λ (p : ℕ). take w (drop p area)) (add-assoc (i * S) at k) ∙ sym (field-at w (at + k) S (i * S) area (omega (arith, inside))))
+
+  pub found-in-area : InArea L area S (record { slot = i; offset = at; entry = e })
+  found-in-area =
+      record {
+        fits = omega (arith, inside);
+        table-there = field 2 1 (omega arith) ∙ ap (λ (x : Entry). x .table) fields;
+        key-there = field 4 3 (omega arith) ∙ ap (λ (x : Entry). x .key) fields;
+        version-there = field (L .width) 7 (omega arith) ∙ ap (λ (x : Entry). x .version) fields;
+      }
+
+-- ---- members of an order list
+
+listed-in : (order : List ℕ) (i : ℕ) → lists order i ≡ true → In i order
+unfolding lists either
+listed-in [] i e = let z : _≡_ {A = ℕ} 0 1 = cc in absurd (omega arith)
+listed-in (x ∷ order) i e = go (eqb x i) refl e (λ d. listed-in order i d)
+  where
+    go : (t : Bool) → eqb x i ≡ t → either t (lists order i) ≡ true → (lists order i ≡ true → In i order) → In i (x ∷ order)
+    go true p d ih = List·Memᴰ·head (sym (eqb-true x i p))
+    go false p d ih = List·Memᴰ·tail (ih d)
+
+below-listed : (order : List ℕ) (n : ℕ) → listsBelow order n ≡ true → (i : ℕ) → i < n → lists order i ≡ true
+unfolding listsBelow
+below-listed order zero e i h = absurd (omega arith)
+below-listed order (suc n) e i h = go (ℕ-discrete i n) (λ l. below-listed order n (both-left (listsBelow order n) (lists order n) e) i l)
+  where
+    go : Dec (i ≡ n) → (i < n → lists order i ≡ true) → lists order i ≡ true
+    go (yes p) ih = ap (lists order) p ∙ both-right (listsBelow order n) (lists order n) e
+    go (no p) ih = ih (omega arith)
+
+pub order-lists : (n : ℕ) (order : List ℕ) → orderBad n order ≡ false → (i : ℕ) → i < n → In i order
+order-lists n order e i h =
+    listed-in order i
+    (below-listed order n (both-right (eqb (length order) n) (listsBelow order n) (not-false (both (eqb (length order) n) (listsBelow order n)) e)) i h)
+
+-- ---- the entries of the slots of an order list are those of the log
+
+module _ (L : Layout) (area : List ℕ) (S map : ℕ) where
+  -- from a slot of the list, and to one
+  listed-from : (order : List ℕ) (x : Placed) → In x (listed L area S map order) → (i : ℕ) × (inLog (length area) S map i ≡ true) × In x (slotEntries L area S i)
+  unfolding listed
+  listed-from [] x m = absurd (List·Memᴰ·not-nil m)
+  listed-from (i ∷ order) x m =
+      go (inLog (length area) S map i) refl (List·Memᴰ·append-cases (pick (inLog (length area) S map i) (slotEntries L area S i) []) m) (λ r. listed-from order x r)
+    where
+      go : (t : Bool) → inLog (length area) S map i ≡ t → In x (pick (inLog (length area) S map i) (slotEntries L area S i) []) ⊎ In x (listed L area S map order) →
+          (In x (listed L area S map order) → (j : ℕ) × (inLog (length area) S map j ≡ true) × In x (slotEntries L area S j)) →
+          (j : ℕ) × (inLog (length area) S map j ≡ true) × In x (slotEntries L area S j)
+      go true e (inl p) ih = (i, e, rw (pick-true (inLog (length area) S map i) (slotEntries L area S i) [] e) at p)
+      go false e (inl p) ih = absurd (List·Memᴰ·not-nil (rw (pick-false (inLog (length area) S map i) (slotEntries L area S i) [] e) at p))
+      go t e (inr r) ih = ih r
+
+  listed-to : (order : List ℕ) (i : ℕ) → In i order → inLog (length area) S map i ≡ true → (x : Placed) → In x (slotEntries L area S i) → In x (listed L area S map order)
+  unfolding listed
+  listed-to (j ∷ order) i (List·Memᴰ·head q) e x m =
+      Memᴰ·append-left (listed L area S map order)
+      (subst (λ (k : ℕ). In x (pick (inLog (length area) S map k) (slotEntries L area S k) [])) q
+      (rw (pick-true (inLog (length area) S map i) (slotEntries L area S i) [] e) m))
+  listed-to (j ∷ order) i (List·Memᴰ·tail r) e x m =
+      Memᴰ·append-right (pick (inLog (length area) S map j) (slotEntries L area S j) []) (listed-to order i r e x m)
+
+  -- n slots of S bytes, and a map of slots below n whose segments are undamaged
+  module _ (n : ℕ) (long : length area ≡ n * S) (below : map < 2 ^ n) (scans : AllScanned (viewsOf L area S) (named map) n) where
+    slot-below : (i : ℕ) → named map i ≡ true → i < n
+    slot-below i e = set-below n map i below (named-true map i e)
+
+    in-log-named : (i : ℕ) → inLog (length area) S map i ≡ true → named map i ≡ true
+    unfolding inLog
+    in-log-named i e = both-left (named map i) (leb (i * S + S) (length area)) e
+
+    named-in-log : (i : ℕ) → named map i ≡ true → inLog (length area) S map i ≡ true
+    unfolding inLog
+    named-in-log i e =
+        both-true (named map i) (leb (i * S + S) (length area)) e
+        (le-leb (i * S + S) (length area) (omega (arith, mul-le-mul-right S (slot-below i e), suc-mul i S)))
+
+    slot-scan : (i : ℕ) → named map i ≡ true → entriesAt L (segmentOf area S i) (digestSize L) ≡ itemsOf (scan L (segmentOf area S i))
+    slot-scan i e = entries-scan L (segmentOf area S i) (scans i (slot-below i e) e)
+
+    pub listed-log : (order : List ℕ) → orderBad n order ≡ false → Same (listed L area S map order) (logOf (viewsOf L area S) (named map) n)
+    listed-log order ob = record { to = to; from = from }
+      where
+        to : Within (listed L area S map order) (logOf (viewsOf L area S) (named map) n)
+        to x m = go (listed-from order x m)
+          where
+            go : (i : ℕ) × (inLog (length area) S map i ≡ true) × In x (slotEntries L area S i) → In x (logOf (viewsOf L area S) (named map) n)
+            go (i, e, p) =
+                let q = in-log-named i e in
+                let w = mem-placed i x (entriesAt L (segmentOf area S i) (digestSize L)) p in
+                in-log (viewsOf L area S) (named map) n x
+                (record {
+                  below = omega (arith, w .0, slot-below i q);
+                  picked = ap (named map) (w .0) ∙ q;
+                  item =
+                      subst (λ (j : ℕ). In (itemOf x) (itemsOf (scan L (segmentOf area S j)))) (sym (w .0))
+                      (subst (λ (is : List Item). In (itemOf x) is) (slot-scan i q) (w .1));
+                })
+
+        from : Within (logOf (viewsOf L area S) (named map) n) (listed L area S map order)
+        from x m =
+            let w = log-in (viewsOf L area S) (named map) n x m in
+            listed-to order (x .slot) (order-lists n order ob (x .slot) (w .below)) (named-in-log (x .slot) (w .picked)) x
+            (placed-mem (x .slot) (subst (λ (is : List Item). In (itemOf x) is) (sym (slot-scan (x .slot) (w .picked))) (w .item)))
+
+-- ---- the entries of an undamaged log stand in the area
+
+pub log-in-area :
+    (L : Layout) (area : List ℕ) (S : ℕ) (p : ℕ → Bool) (n : ℕ) → AllScanned (viewsOf L area S) p n →
+    AllIn L area S (logOf (viewsOf L area S) p n)
+log-in-area L area S p n scans x m =
+    let w = log-in (viewsOf L area S) p n x m in
+    let s : List ℕ = segmentOf area S (x .slot) in
+    found-in-area L area S (x .slot) (x .offset) (x .entry)
+    (scans-found (scan-scans L s (scan-whole (scan L s) (scans (x .slot) (w .below) (w .picked)))) (w .item))
+
+-- ---- the index of an undamaged log whose versions differ
+
+-- The number of a log's keys is told, and the cells keep the rule for it.
+pub record Holds (S m : ℕ) (log : List Placed) (r : Rebuilt) : Type 0 where
+  pub answers : r .answer ≡ Built.Keys (length (keysOf log))
+  pub rule : IndexRule S log (r .cells)
+  pub long : length (r .cells) ≡ m
+
+abbrev logIn : Layout → List ℕ → ℕ → ℕ → ℕ → List Placed
+logIn L area S map n = logOf (viewsOf L area S) (named map) n
+
+module _ (L : Layout) (area : List ℕ) (S map n m : ℕ) (order : List ℕ) (long : length area ≡ n * S) (below : map < 2 ^ n)
+    (scans : AllScanned (viewsOf L area S) (named map) n) (versions : versionShared (logIn L area S map n) ≡ false)
+    (order-good : orderBad n order ≡ false) (some-cell : 0 < m) where
+  abbrev tally : Tally
+  tally = insertAll L area S (listed L area S map order) (counted (replicate m 0) 0)
+
+  told : Tells S m (logIn L area S map n) tally
+  told =
+      tells-log L area S m (listed L area S map order) (logIn L area S map n) some-cell
+      (listed-log L area S map n long below scans order order-good) (log-in-area L area S (named map) n scans)
+      (shared-apart (logIn L area S map n) versions)
+
+  -- at most M - 1 keys
+  pub built-rule : keysBad m (logIn L area S map n) ≡ false → Holds S m (logIn L area S map n) (built L area S map order m)
+  unfolding Tells finished
+  built-rule few = go tally refl told
+    where
+      go : (s : Tally) → tally ≡ s → Tells S m (logIn L area S map n) s → Holds S m (logIn L area S map n) (finished m tally)
+      go (counted cells k) e w = rw e (record { answers = ap Built.Keys (w .keys); rule = w .rule; long = w .long })
+      go over e w = absurd (omega (arith, ltb-false (m - 1) (length (keysOf (logIn L area S map n))) few))
+
+  -- more: the cells are all 0
+  pub built-over : keysBad m (logIn L area S map n) ≡ true → built L area S map order m ≡ record { answer = Built.TooMany; cells = replicate m 0 }
+  unfolding Tells finished
+  built-over many = go tally refl told
+    where
+      go : (s : Tally) → tally ≡ s → Tells S m (logIn L area S map n) s → finished m tally ≡ record { answer = Built.TooMany; cells = replicate m 0 }
+      go (counted cells k) e w =
+          absurd (omega (arith, w .keys, w .few, ltb-true (m - 1) (length (keysOf (logIn L area S map n))) many))
+      go over e w = ap (finished m) e

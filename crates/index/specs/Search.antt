@@ -1,0 +1,43 @@
+-- 01, "Index": the search for a key, as a total function of any area and any cells.
+use Prim.Native.Nat.{ℕ, zero, suc, _+_, _-_}
+use mathlib.Core.Bool.{Bool}
+use mathlib.Core.List.{List}
+use lib.Dec.{eqb, leb}
+use lib.ListN.{length, getD, take, drop}
+use Rattle.word.specs.Number.{numberOf}
+use Rattle.segment.specs.Choice.{pick, both}
+use Rattle.segment.specs.Layout.{Layout, entrySize}
+use Rattle.segment.specs.declared.Key.{Key}
+use Rattle.model.specs.Index.{around, startCell}
+use Rattle.index.specs.declared.Found.{Found}
+use Rattle.index.specs.declared.Found.the-variants.{At, Free, Full}
+
+-- At most f cells from one on, going up round the end, to the first that is 0 or that the test picks by what it holds.
+unfoldable pub probe : (ℕ → Bool) → List ℕ → ℕ → ℕ → Found
+probe t cells zero at = Full
+probe t cells (suc f) at =
+    let rest = probe t cells f (around (length cells) (at + 1)) in
+    pick (eqb (getD cells at 0) 0) (Free at) (pick (t (getD cells at 0)) (At at) rest)
+
+-- ---- the fields of an entry at a place of the area
+
+abbrev pub tableAt : List ℕ → ℕ → ℕ
+tableAt area p = numberOf (take 2 (drop (p + 1) area))
+
+abbrev pub keyAt : List ℕ → ℕ → ℕ
+keyAt area p = numberOf (take 4 (drop (p + 3) area))
+
+abbrev pub versionAt : Layout → List ℕ → ℕ → ℕ
+versionAt L area p = numberOf (take (L .width) (drop (p + 7) area))
+
+-- whether the entry at a place has that key; a place where no entry fits has none
+unfoldable pub hasKeyAt : Layout → List ℕ → Key → ℕ → Bool
+hasKeyAt L area k p =
+    both (leb (p + entrySize L 0) (length area)) (both (eqb (k .table) (tableAt area p)) (eqb (k .key) (keyAt area p)))
+
+-- A cell that is not 0 stands for the place below it.
+abbrev pub cellHas : Layout → List ℕ → Key → ℕ → Bool
+cellHas L area k c = hasKeyAt L area k (c - 1)
+
+abbrev pub searchFor : Layout → List ℕ → List ℕ → Key → Found
+searchFor L area cells k = probe (cellHas L area k) cells (length cells) (startCell (length cells) k)

@@ -1,0 +1,108 @@
+-- The search at each test of the code. Premises are the tests as the code has them, and what its callees give.
+use Prim.Native.Nat.{ℕ, _+_, _-_, _≤_, _<_}
+use mathlib.Core.Path.{_≡_, sym, _∙_, ap}
+use mathlib.Core.Bool.{Bool, true, false}
+use mathlib.Core.List.{List}
+use mathlib.Core.Logic.{_⊎_, inl, inr}
+use native.Mathlib.Nat.{eq-zero-or-pos}
+use native.Mathlib.Omega.{arith}
+use lib.Dec.{eqb, leb}
+use lib.ListN.{length, getD}
+use borrow.Author.Tests.{le-leb, lt-leb, leb-true, eq-eqb, ne-eqb}
+use Rattle.segment.specs.Choice.{both, both-left, both-false-left, both-false-right}
+use Rattle.segment.specs.Layout.{Layout, entrySize}
+use Rattle.segment.specs.declared.Key.{Key}
+use Rattle.model.specs.Index.{around, startCell}
+use Rattle.index.specs.Around.{around-below, around-over, start-below}
+use Rattle.index.specs.Search.{tableAt, keyAt, hasKeyAt, cellHas, probe, searchFor}
+use Rattle.index.specs.Probe.{probe-none, probe-free, probe-at, probe-next, Probed, probed, reached-below}
+use Rattle.index.specs.declared.Found.{Found}
+
+-- ---- whether the entry at a place has a key
+
+module _ (L : Layout) (area : List ℕ) (k : Key) (p : ℕ) where
+  pub key-no-room : length area < p + entrySize L 0 → false ≡ hasKeyAt L area k p
+  unfolding hasKeyAt
+  key-no-room h = sym (both-false-left (leb (p + entrySize L 0) (length area)) _ (lt-leb (p + entrySize L 0) (length area) h))
+
+  pub key-other-table : (t : ℕ) → t ≡ tableAt area p → (k .table ≡ t → ⊥) → false ≡ hasKeyAt L area k p
+  unfolding hasKeyAt
+  key-other-table t e n =
+      sym
+      (both-false-right (leb (p + entrySize L 0) (length area)) _
+      (both-false-left (eqb (k .table) (tableAt area p)) _ (ne-eqb (k .table) (tableAt area p) (λ q. n (q ∙ sym e)))))
+
+  pub key-by-key :
+      p + entrySize L 0 ≤ length area → (t : ℕ) → t ≡ tableAt area p → k .table ≡ t → (j : ℕ) → j ≡ keyAt area p →
+      eqb (k .key) j ≡ hasKeyAt L area k p
+  unfolding hasKeyAt both
+  key-by-key h t et q j ej =
+      rw (le-leb (p + entrySize L 0) (length area) h, eq-eqb (k .table) (tableAt area p) (q ∙ et), ej)
+
+-- ---- the next cell
+
+module _ (m at : ℕ) where
+  pub next-first : at + 1 ≡ m → 0 ≡ around m (at + 1)
+  next-first e = sym (around-over m (at + 1) (omega arith) ∙ omega arith)
+
+  pub next-higher : at < m → (at + 1 ≡ m → ⊥) → at + 1 ≡ around m (at + 1)
+  next-higher h n = sym (around-below m (at + 1) (omega arith))
+
+-- ---- a turn of the search: the whole answer is the answer from here
+
+module _ (t : ℕ → Bool) (cells : List ℕ) (whole : Found) (left at : ℕ) (from : probe t cells left at ≡ whole) where
+  pub turn-full : left ≤ 0 → Found.Full ≡ whole
+  turn-full h = sym (probe-none t cells at) ∙ ap (λ (n : ℕ). probe t cells n at) (omega arith) ∙ from
+
+  module _ (some-left : 0 < left) where
+    pub turn-free : getD cells at 0 ≡ 0 → Found.Free at ≡ whole
+    turn-free z = sym (probe-free t cells left (left - 1) at (omega arith) z) ∙ from
+
+    pub turn-at : (getD cells at 0 ≡ 0 → ⊥) → t (getD cells at 0) ≡ true → Found.At at ≡ whole
+    turn-at n e = sym (probe-at t cells left (left - 1) at (omega arith) n e) ∙ from
+
+    pub turn-next :
+        (getD cells at 0 ≡ 0 → ⊥) → t (getD cells at 0) ≡ false → (next : ℕ) → next ≡ around (length cells) (at + 1) →
+        probe t cells (left - 1) next ≡ whole
+    turn-next n e next is = ap (probe t cells (left - 1)) is ∙ sym (probe-next t cells left (left - 1) at (omega arith) n e) ∙ from
+
+-- ---- what an answer says for any area and any cells
+
+-- The cell is there, is not 0, and an entry fits at its place.
+pub record Inside (L : Layout) (area cells : List ℕ) (i : ℕ) : Type 0 where
+  pub below : i < length cells
+  pub taken : 0 < getD cells i 0
+  pub fits : getD cells i 0 - 1 + entrySize L 0 ≤ length area
+
+module _ (L : Layout) (area cells : List ℕ) (k : Key) (i : ℕ) where
+  -- an answer that is not full came from some cell
+  some-cell : (a : Found) → searchFor L area cells k ≡ a → (Found.Full ≡ a → ⊥) → 0 < length cells
+  some-cell a e n = go (eq-zero-or-pos (length cells))
+    where
+      go : (length cells ≡ 0) ⊎ (0 < length cells) → 0 < length cells
+      go (inl z) =
+          absurd (n (sym (probe-none (cellHas L area k) cells (startCell (length cells) k)) ∙ ap (λ (f : ℕ). probe (cellHas L area k) cells f (startCell (length cells) k)) (sym z) ∙ e))
+      go (inr h) = h
+
+  pub search-inside : searchFor L area cells k ≡ Found.At i → Inside L area cells i
+  unfolding Probed hasKeyAt
+  search-inside e =
+      let h = some-cell (Found.At i) e (λ q. let z : _≡_ {A = ℕ} 0 1 = cc in omega arith) in
+      let s = start-below (length cells) k h in
+      let w : Probed (cellHas L area k) cells (startCell (length cells) k) (Found.At i) = rw e at (probed (cellHas L area k) cells (startCell (length cells) k) s) in
+      record {
+        below = reached-below (cellHas L area k) cells (startCell (length cells) k) i s (w .0);
+        taken = nonzero (w .1);
+        fits = leb-true (getD cells i 0 - 1 + entrySize L 0) (length area) (both-left (leb (getD cells i 0 - 1 + entrySize L 0) (length area)) _ (w .2));
+      }
+    where
+      nonzero : (getD cells i 0 ≡ 0 → ⊥) → 0 < getD cells i 0
+      nonzero n = omega arith
+
+  pub search-free : searchFor L area cells k ≡ Found.Free i → i < length cells
+  unfolding Probed
+  search-free e =
+      let h = some-cell (Found.Free i) e (λ q. let z : _≡_ {A = ℕ} 0 1 = cc in omega arith) in
+      let s = start-below (length cells) k h in
+      let w : Probed (cellHas L area k) cells (startCell (length cells) k) (Found.Free i) = rw e at (probed (cellHas L area k) cells (startCell (length cells) k) s) in
+      reached-below (cellHas L area k) cells (startCell (length cells) k) i s (w .0)

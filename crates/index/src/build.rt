@@ -1,0 +1,206 @@
+// The index rebuilt from the entries of the log, slot by slot in the order of a list.
+use crate::Built;
+use crate::Inserted;
+use crate::Next;
+use crate::put::insert;
+use segment::Key;
+use segment::Read;
+use segment::Version;
+use segment::layout::DIGEST_SIZE;
+use segment::reader::read;
+use slot_map::has_slot;
+ghost use Prim.Native.Nat.{_+_, _*_, _≤_, _<_};
+ghost use mathlib.Core.Path.{_≡_};
+ghost use lib.ListN.{length, replicate};
+ghost use Rattle.segment.specs.Layout.{edition1};
+ghost use Rattle.segment.specs.Entry.{entryAt};
+ghost use Rattle.index.specs.Insert.{counted, insertOne, insertAll};
+ghost use Rattle.index.specs.Build.{nextOf, inLog, slotEntries, listedSlot, listed, tallyOf, Rebuilt, built};
+
+// Every cell free.
+fn clear(cells: &mut [u32])
+    ensures { λ _. ⌜ now (cells .exit) ≡ replicate (length (now (cells .entry))) 0 ⌝ }
+{
+    let mut i = 0;
+    while i < cells.len() {
+        cells[i] = 0;
+        i += 1;
+    }
+}
+
+// The entry at an offset of a segment, if the segment goes on.
+fn next_entry(s: &[u8], at: usize) -> Next
+    ensures { λ r. ⌜ r ≡ nextOf edition1 (entryAt edition1 (now (s .entry)) at) ⌝ }
+{
+    match read(s, at) {
+        Read::Object {
+            key,
+            version,
+            kind: _,
+            length,
+        } => Next::Entry {
+            key,
+            version,
+            length,
+        },
+        Read::Tombstone {
+            key,
+            version,
+            length,
+        } => Next::Entry {
+            key,
+            version,
+            length,
+        },
+        Read::End => Next::Stop,
+        Read::Damage => Next::Stop,
+    }
+}
+
+// One entry more, with the number of keys so far.
+fn index_entry(
+    area: &[u8],
+    cells: &mut [u32],
+    place: usize,
+    key: Key,
+    version: Version,
+    keys: usize,
+) -> Built
+    requires { ⌜ (place < 4294967295) × (keys ≤ length (now cells)) ⌝ }
+    ensures { λ r.
+        ⌜
+        tallyOf r (now (cells .exit))
+        ≡ insertOne edition1 (now (area .entry)) place key (version .0) (now (cells .entry)) keys
+        ⌝ }
+{
+    match insert(area, cells, place, key, version) {
+        Inserted::New => {
+            if keys + 1 < cells.len() {
+                return Built::Keys(keys + 1);
+            }
+            Built::TooMany
+        }
+        Inserted::Newer => Built::Keys(keys),
+        Inserted::Older => Built::Keys(keys),
+        Inserted::Full => Built::TooMany,
+    }
+}
+
+// The entries of one slot, whose segment is cut from the area at slot × size.
+fn index_slot(area: &[u8], cells: &mut [u32], slot: usize, size: usize, keys: usize) -> Built
+    requires { ⌜
+        (slot * size + size ≤ length (now area))
+        × (slot * size + size < 4294967295)
+        × (keys ≤ length (now cells))
+        ⌝ }
+    ensures { λ r.
+        ⌜
+        tallyOf r (now (cells .exit))
+        ≡ insertAll edition1 (now (area .entry)) size (slotEntries edition1 (now (area .entry)) size slot) (counted (now (cells .entry)) keys)
+        ⌝ }
+{
+    let start = slot * size;
+    let end = start + size;
+    let s = &area[start..end];
+    let mut at = DIGEST_SIZE;
+    let mut keys = keys;
+    loop {
+        let Next::Entry {
+            key,
+            version,
+            length,
+        } = next_entry(s, at)
+        else {
+            return Built::Keys(keys);
+        };
+        let Built::Keys(n) = index_entry(area, cells, start + at, key, version, keys) else {
+            return Built::TooMany;
+        };
+        keys = n;
+        at += length;
+    }
+}
+
+// A byte as a slot.
+fn slot_of(b: u8) -> usize
+    ensures { λ r. ⌜ (r ≡ b) × (r < 256) ⌝ }
+{
+    b as usize
+}
+
+// Whether the map names the slot and the slot's segment lies within the area.
+fn in_log(length: usize, size: usize, map: u32, slot: usize) -> bool
+    requires { ⌜ (slot < 256) × (size ≤ 65536) ⌝ }
+    ensures { λ r. ⌜ r ≡ inLog length size map slot ⌝ }
+{
+    if 32 <= slot {
+        return false;
+    }
+    if !has_slot(map, slot as u32) {
+        return false;
+    }
+    slot * size + size <= length
+}
+
+// The entries of one slot of the order list, if it is in the log.
+fn index_listed(
+    area: &[u8],
+    cells: &mut [u32],
+    slot: usize,
+    size: usize,
+    map: u32,
+    keys: usize,
+) -> Built
+    requires { ⌜ (slot < 256) × (size ≤ 65536) × (keys ≤ length (now cells)) ⌝ }
+    ensures { λ r.
+        ⌜
+        tallyOf r (now (cells .exit))
+        ≡ insertAll edition1 (now (area .entry)) size (listedSlot edition1 (now (area .entry)) size map slot) (counted (now (cells .entry)) keys)
+        ⌝ }
+{
+    if !in_log(area.len(), size, map, slot) {
+        return Built::Keys(keys);
+    }
+    index_slot(area, cells, slot, size, keys)
+}
+
+// The entries of the slots of the order list, one slot after the other, into cells that are free.
+fn index_order(area: &[u8], cells: &mut [u32], order: &[u8], size: usize, map: u32) -> Built
+    requires { ⌜ size ≤ 65536 ⌝ }
+    ensures { λ r.
+        ⌜
+        tallyOf r (now (cells .exit))
+        ≡ insertAll edition1 (now (area .entry)) size (listed edition1 (now (area .entry)) size map (now (order .entry))) (counted (now (cells .entry)) 0)
+        ⌝ }
+{
+    let mut keys = 0;
+    let mut j = 0;
+    while j < order.len() {
+        let slot = slot_of(order[j]);
+        let Built::Keys(n) = index_listed(area, cells, slot, size, map, keys) else {
+            return Built::TooMany;
+        };
+        keys = n;
+        j += 1;
+    }
+    Built::Keys(keys)
+}
+
+// The index of the log: the slots of the map in the order of the list. With too many keys every cell is left 0.
+pub fn build(area: &[u8], cells: &mut [u32], order: &[u8], size: usize, map: u32) -> Built
+    requires { ⌜ size ≤ 65536 ⌝ }
+    ensures { λ r.
+        ⌜
+        _≡_ {A = Rebuilt} (record { answer = r; cells = now (cells .exit) })
+        (built edition1 (now (area .entry)) size map (now (order .entry)) (length (now (cells .entry))))
+        ⌝ }
+{
+    clear(cells);
+    match index_order(area, cells, order, size, map) {
+        Built::Keys(n) => Built::Keys(n),
+        Built::TooMany => {
+            clear(cells);
+            Built::TooMany
+        }
+    }
+}

@@ -1,0 +1,46 @@
+// An entry put into the index.
+use crate::Found;
+use crate::Inserted;
+use crate::search::search;
+use segment::Key;
+use segment::Version;
+use word::number::read32;
+ghost use Prim.Native.Nat.{_+_, _<_};
+ghost use mathlib.Core.Path.{_≡_};
+ghost use lib.ListN.{length, set};
+ghost use Rattle.segment.specs.Layout.{edition1};
+ghost use Rattle.index.specs.Insert.{inserted};
+
+// The place of an entry goes into a cell.
+pub fn put(cells: &mut [u32], cell: usize, place: usize)
+    requires { ⌜ (cell < length (now cells)) × (place < 4294967295) ⌝ }
+    ensures { λ _. ⌜ now (cells .exit) ≡ set (now (cells .entry)) cell (place + 1) ⌝ }
+{
+    cells[cell] = (place + 1) as u32;
+}
+
+// An entry of a key goes into the index, unless a newer one is there.
+pub fn insert(area: &[u8], cells: &mut [u32], place: usize, key: Key, version: Version) -> Inserted
+    requires { ⌜ place < 4294967295 ⌝ }
+    ensures { λ r.
+        ⌜
+        record { answer = r; cells = now (cells .exit) }
+        ≡ inserted edition1 (now (area .entry)) (now (cells .entry)) place key (version .0)
+        ⌝ }
+{
+    match search(area, cells, key) {
+        Found::Full => Inserted::Full,
+        Found::Free(i) => {
+            put(cells, i, place);
+            Inserted::New
+        }
+        Found::At(i) => {
+            let old = (cells[i] - 1) as usize;
+            if read32(area, old + 7) < version.0 {
+                put(cells, i, place);
+                return Inserted::Newer;
+            }
+            Inserted::Older
+        }
+    }
+}

@@ -1,0 +1,59 @@
+// The search for a key: from the cell of its hash up and round the end, to the cell that holds it or to the first free one.
+use crate::Found;
+use segment::Key;
+use segment::layout::HEAD_SIZE;
+use word::fnv::key_hash;
+use word::number::read16;
+use word::number::read32;
+ghost use Prim.Native.Nat.{_+_, _<_};
+ghost use mathlib.Core.Path.{_≡_};
+ghost use Rattle.segment.specs.Layout.{edition1};
+ghost use Rattle.model.specs.Index.{around};
+ghost use Rattle.index.specs.Search.{cellHas, searchFor};
+
+// Whether the entry at a cell's place has that key. A place at which no entry fits has none.
+fn cell_has(area: &[u8], key: Key, cell: u32) -> bool
+    requires { ⌜ 0 < cell ⌝ }
+    ensures { λ r. ⌜ r ≡ cellHas edition1 (now (area .entry)) key cell ⌝ }
+{
+    let place = (cell - 1) as usize;
+    if area.len() < place + HEAD_SIZE {
+        return false;
+    }
+    if key.table != read16(area, place + 1) {
+        return false;
+    }
+    key.key == read32(area, place + 3)
+}
+
+// The next of m cells, going round.
+fn next_cell(at: usize, m: usize) -> usize
+    requires { ⌜ at < m ⌝ }
+    ensures { λ r. ⌜ r ≡ around m (at + 1) ⌝ }
+{
+    if at + 1 == m { 0 } else { at + 1 }
+}
+
+// Where a key's cell is, or where it would be.
+pub fn search(area: &[u8], cells: &[u32], key: Key) -> Found
+    ensures { λ r. ⌜ r ≡ searchFor edition1 (now (area .entry)) (now (cells .entry)) key ⌝ }
+{
+    let m = cells.len();
+    if m == 0 {
+        return Found::Full;
+    }
+    let mut at = key_hash(key.table, key.key) as usize % m;
+    let mut left = m;
+    while 0 < left {
+        let cell = cells[at];
+        if cell == 0 {
+            return Found::Free(at);
+        }
+        if cell_has(area, key, cell) {
+            return Found::At(at);
+        }
+        at = next_cell(at, m);
+        left -= 1;
+    }
+    Found::Full
+}

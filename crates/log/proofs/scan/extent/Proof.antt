@@ -1,0 +1,74 @@
+-- `log::scan::extent` meets its contract. The invariant: the scan from here on, after the highest version so far, gives the whole answer.
+use Prim.Native.Nat.{_-_}
+use mathlib.Core.Path.{_≡_, ap}
+use native.Mathlib.Omega.{arith}
+use lib.ListN.{length}
+use borrow.Author.Needs.{needs}
+use Rattle.segment.specs.Layout.{edition1}
+use Rattle.model.specs.Log.{scan}
+use Rattle.log.specs.Extents.{extentFrom, extentOf, restOf, rest-whole, Meets, meets, meets-end, meets-damage, extent-turn, extent-end, extent-damage}
+use Rattle.log.proofs.scan.extent.Statement.{statement}
+use Rattle.log.proofs.scan.extent.Tie as tie
+
+abbrev Inv-loop : tie.InvT-loop
+Inv-loop part at₀ highest₀ at highest = extentFrom highest (restOf edition1 part at) ≡ extentOf (scan edition1 part)
+
+abbrev μ-loop : tie.MeasureT-loop
+μ-loop part at₀ highest₀ at highest = length part - at
+
+loop-holds : tie.Need-loop-holds Inv-loop μ-loop
+unfolding edition1
+loop-holds c = ap (extentFrom 0) (rest-whole edition1 _)
+
+next-requires : tie.Need-next-requires Inv-loop μ-loop
+next-requires c κs = search needs
+
+enum-known-version : tie.Need-enum-known-version Inv-loop μ-loop
+enum-known-version c = search needs
+
+higher-requires : tie.Need-higher-requires Inv-loop μ-loop
+higher-requires c κs = search needs
+
+-- the entry that the turn passes
+met : (c : tie.After-higher Inv-loop μ-loop)
+    → Meets edition1 (c .before .before .before .before .before .before .before .args .part .now) (c .before .before .before .before .before .loop .at) (c .before .before .version .given .0 .0 .0) (c .before .before .version .given .0 .1 .0)
+met c = meets edition1 _ _ _ (c .before .before .before .before .next .ensures) _ _ (c .before .before .version .given .1)
+
+add-at : tie.Need-add-at Inv-loop μ-loop
+add-at c = omega (arith, met c)
+
+loop-less : tie.Need-loop-less Inv-loop μ-loop
+loop-less c = omega (arith, met c)
+
+loop-again : tie.Need-loop-again Inv-loop μ-loop
+loop-again c = extent-turn edition1 _ _ _ _ (c .before .before .before .before .before .loop .inv) (met c) _ (c .higher .ensures)
+
+enum-told : tie.Need-enum-told Inv-loop μ-loop
+enum-told c = search needs
+
+returns : tie.Need-returns Inv-loop μ-loop
+returns c = extent-end edition1 _ _ _ _ (c .before .before .before .loop .inv) (meets-end edition1 _ _ _ (c .before .before .next .ensures) (c .enum-told .given .1))
+
+enum-told-2 : tie.Need-enum-told-2 Inv-loop μ-loop
+enum-told-2 c = search needs
+
+returns-2 : tie.Need-returns-2 Inv-loop μ-loop
+returns-2 c = extent-damage edition1 _ _ _ _ (c .before .before .before .loop .inv) (meets-damage edition1 _ _ _ (c .before .before .next .ensures) (c .enum-told2 .given .1))
+
+pub extent-spec : {M : Type 1} → statement M
+extent-spec =
+    tie.close
+    (tie.spec
+    Inv-loop
+    μ-loop
+    loop-holds
+    next-requires
+    enum-known-version
+    higher-requires
+    add-at
+    loop-less
+    loop-again
+    enum-told
+    returns
+    enum-told-2
+    returns-2)

@@ -1,0 +1,6 @@
+-- What the code of this crate is proved against, beside the model's definitions.
+pub mod Shape
+pub mod Heads
+pub mod Extents
+pub mod Counts
+pub mod Filter

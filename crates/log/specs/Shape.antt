@@ -1,0 +1,30 @@
+-- The sizes of an area, as recovery has tested them (cause 1), and where its slots lie.
+use Prim.Native.Nat.{ℕ, _+_, _*_, _≤_, _<_}
+use mathlib.Core.Path.{_≡_}
+use mathlib.Core.List.{List}
+use native.Mathlib.Omega.{arith}
+use lib.ListN.{length}
+use Rattle.segment.specs.Layout.{edition1, digestSize}
+use Rattle.model.specs.Log.{segmentOf}
+use Rattle.laws.specs.Stores.{slot-inside, length-segment}
+
+pub record Shape (n s : ℕ) (area : List ℕ) : Type 0 where
+  pub slots-least : 4 ≤ n
+  pub slots-most : n ≤ 32
+  pub size-least : 256 ≤ s
+  pub size-most : s ≤ 2048
+  pub whole : length area ≡ n * s
+
+module _ {n s : ℕ} {area : List ℕ} (shape : Shape n s area) (i : ℕ) (below : i < n) where
+  -- a slot below n lies in the area
+  pub inside : i * s + s ≤ length area
+  inside = slot-inside area n s i (shape .whole) below
+
+  -- and has room for a digest
+  pub digest-inside : (part : List ℕ) → part ≡ segmentOf area s i → digestSize edition1 ≤ length part
+  unfolding edition1
+  digest-inside part e = rw e (omega (arith, length-segment area s i inside, shape .size-least))
+
+  -- and is at most 2,048 bytes long
+  pub part-short : (part : List ℕ) → part ≡ segmentOf area s i → length part ≤ 2048
+  part-short part e = rw e (omega (arith, length-segment area s i inside, shape .size-most))

@@ -1,0 +1,34 @@
+// What recovery reads of an area before it builds the index: the head, the scan of the log's slots, and versions that two
+// entries share. The helpers take N and S as `usize`; their caller has tested both and the area's length (cause 1).
+use segment::Digest;
+use segment::Version;
+
+pub mod head;
+pub mod scan;
+pub mod slots;
+pub mod versions;
+
+// The head's slot and digest, or that no slot has a digest.
+pub enum HeadFound {
+    Nothing,
+    At { slot: usize, digest: Digest },
+}
+
+// What a scan needs of an entry: how far the next one is, and the version.
+pub enum Next {
+    Entry { version: Version, length: usize },
+    End,
+    Damage,
+}
+
+// A segment's entries: damaged, or where they end and their highest version, 0 where there are none.
+pub enum Extent {
+    Damaged,
+    Sound { end: usize, highest: Version },
+}
+
+// The log of a map: damaged, or its highest version, 0 where it is empty.
+pub enum Survey {
+    Damaged,
+    Sound { highest: Version },
+}

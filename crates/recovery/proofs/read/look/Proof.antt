@@ -1,0 +1,74 @@
+-- `recovery::read::look` meets its contract: an arm for each answer of the reader.
+use Prim.Native.Nat.{ℕ, _%_}
+use mathlib.Core.Path.{_≡_, sym, _∙_, ap}
+use mathlib.Core.List.{List}
+use Rattle.segment.specs.Layout.{edition1}
+use Rattle.segment.specs.Entry.{entryAt, answer}
+use Rattle.recovery.specs.Lookups.{standsAt, lookupOf}
+use borrow.Author.Needs.{needs}
+use Rattle.recovery.proofs.read.look.Statement.{statement}
+use Rattle.recovery.proofs.read.look.Tie as tie
+
+-- what the reader says
+stands : (c : tie.After-read)
+    → let a = c .before .before .before .args in c .read .result ≡ standsAt edition1 (a .s) (a .area .now) (a .place)
+stands c =
+    let a = c .before .before .before .args in
+    c .read .ensures ∙ ap (λ (l : List ℕ). answer edition1 (entryAt edition1 l (a .place % a .s))) (c .before .cut .ensures)
+
+div-cut : tie.Need-div-cut
+div-cut c = search needs
+
+cut-requires : tie.Need-cut-requires
+cut-requires c κs = search needs
+
+rem-read : tie.Need-rem-read
+rem-read c = search needs
+
+read-requires : tie.Need-read-requires
+read-requires c κs = search needs
+
+enum-known-version : tie.Need-enum-known-version
+enum-known-version c = search needs
+
+enum-told : tie.Need-enum-told
+enum-told c = search needs
+
+enum-told-2 : tie.Need-enum-told-2
+enum-told-2 c = search needs
+
+enum-told-3 : tie.Need-enum-told-3
+enum-told-3 c = search needs
+
+returns : tie.Need-returns
+unfolding lookupOf
+returns c = ap (lookupOf _) (sym (c .before .version .given .1) ∙ stands (c .before .before .before))
+
+returns-2 : tie.Need-returns-2
+unfolding lookupOf
+returns-2 c = ap (lookupOf _) (sym (c .enum-told .given .1) ∙ stands (c .before .before))
+
+returns-3 : tie.Need-returns-3
+unfolding lookupOf
+returns-3 c = ap (lookupOf _) (sym (c .enum-told2 .given .1) ∙ stands (c .before .before))
+
+returns-4 : tie.Need-returns-4
+unfolding lookupOf
+returns-4 c = ap (lookupOf _) (sym (c .enum-told3 .given .1) ∙ stands (c .before .before))
+
+pub look-spec : {M : Type 1} → statement M
+look-spec =
+    tie.close
+    (tie.spec
+    div-cut
+    cut-requires
+    rem-read
+    read-requires
+    enum-known-version
+    enum-told
+    enum-told-2
+    enum-told-3
+    returns
+    returns-2
+    returns-3
+    returns-4)

@@ -1,0 +1,107 @@
+-- `recovery::read::read_value` meets its contract: the value is what the entry has behind its head.
+use Prim.Native.Nat.{ℕ, _-_, _+_}
+use mathlib.Core.Path.{_≡_, sym, _∙_, ap}
+use native.Mathlib.Omega.{arith}
+use lib.ListN.{take, drop}
+use Rattle.segment.specs.Layout.{edition1}
+use Rattle.recovery.specs.Lookups.{valueBy}
+use Rattle.recovery.specs.LookupLaws.{ObjectInside, object-inside, value-promise}
+use borrow.Author.Needs.{needs}
+use Rattle.recovery.proofs.read.read_value.Statement.{statement}
+use Rattle.recovery.proofs.read.read_value.Tie as tie
+
+inside : (c : tie.After-place)
+    → ObjectInside edition1 (c .before .before .before .before .before .args .area .now) (c .place .given .0 .0) (c .place .given .0 .1 .1 .1 .0)
+inside c = object-inside edition1 _ _ _ _ _ _ _ _ (sym (c .before .before .find .ensures) ∙ c .place .given .1)
+
+find-requires : tie.Need-find-requires
+find-requires c κs = search needs
+
+enum-known-place : tie.Need-enum-known-place
+enum-known-place c = search needs
+
+add-result : tie.Need-add-result
+unfolding edition1
+add-result c = let h = inside (c .before) in omega arith
+
+add-result-2 : tie.Need-add-result-2
+unfolding edition1
+add-result-2 c = let h = inside (c .before) in omega arith
+
+sub-result : tie.Need-sub-result
+unfolding edition1
+sub-result c = let h = inside (c .before) in omega arith
+
+part-result-start : tie.Need-part-result-start
+unfolding edition1
+part-result-start c = let h = inside (c .before) in omega arith
+
+part-result-end : tie.Need-part-result-end
+unfolding edition1
+part-result-end c = let h = inside (c .before) in omega arith
+
+enum-told : tie.Need-enum-told
+enum-told c = search needs
+
+sub-result-2 : tie.Need-sub-result-2
+sub-result-2 c = search needs
+
+part-result-start-2 : tie.Need-part-result-start-2
+part-result-start-2 c = search needs
+
+part-result-end-2 : tie.Need-part-result-end-2
+part-result-end-2 c = search needs
+
+enum-told-2 : tie.Need-enum-told-2
+enum-told-2 c = search needs
+
+sub-result-3 : tie.Need-sub-result-3
+sub-result-3 c = search needs
+
+part-result-start-3 : tie.Need-part-result-start-3
+part-result-start-3 c = search needs
+
+part-result-end-3 : tie.Need-part-result-end-3
+part-result-end-3 c = search needs
+
+returns : tie.Need-returns
+unfolding edition1 valueBy
+returns c =
+    let k = c .before .before in
+    let p = k .place .given .0 .0 in
+    let n = k .place .given .0 .1 .1 .1 .0 in
+    let long : p + n - (p + 11) ≡ n - 11 = omega arith in
+    value-promise edition1 _ _ _ _ _ _ (k .before .before .find .ensures)
+    (ap (λ (m : ℕ). take m (drop (p + 11) (k .before .before .before .before .before .args .area .now))) long
+    ∙ ap (valueBy edition1 _) (sym (k .place .given .1)))
+
+returns-2 : tie.Need-returns-2
+unfolding edition1 valueBy
+returns-2 c = value-promise edition1 _ _ _ _ _ _ (c .before .before .before .find .ensures) (ap (valueBy edition1 _) (sym (c .before .enum-told .given .1)))
+
+returns-3 : tie.Need-returns-3
+unfolding edition1 valueBy
+returns-3 c = value-promise edition1 _ _ _ _ _ _ (c .before .before .before .find .ensures) (ap (valueBy edition1 _) (sym (c .before .enum-told2 .given .1)))
+
+pub read-value-spec : {M : Type 1} → statement M
+read-value-spec =
+    tie.close
+    (tie.spec
+    find-requires
+    enum-known-place
+    add-result
+    add-result-2
+    sub-result
+    part-result-start
+    part-result-end
+    enum-told
+    sub-result-2
+    part-result-start-2
+    part-result-end-2
+    enum-told-2
+    sub-result-3
+    part-result-start-3
+    part-result-end-3
+    returns
+    returns-2
+    returns-3)

@@ -1,0 +1,232 @@
+-- The tests of recovery at each return of the code.
+use Prim.Native.Nat.{ℕ, _+_, _*_, _≤_, _<_, max}
+use mathlib.Core.Path.{_≡_, refl, sym, _∙_, ap}
+use mathlib.Core.Bool.{Bool, true, false, not}
+use mathlib.Core.List.{List, [], _∷_}
+use mathlib.Core.Option.{Option, none, some}
+use native.Mathlib.Omega.{arith}
+use lib.ListN.{length}
+use Rattle.segment.specs.Choice.{pick, either}
+use Rattle.segment.specs.Layout.{Layout}
+use Rattle.segment.specs.declared.Digest.{Digest}
+use Rattle.segment.specs.declared.Version.{Version}
+use Rattle.record.specs.Range.{cellsGood, mapGood}
+use Rattle.record.specs.declared.Pending.the-variants.{Idle}
+use Rattle.record.specs.declared.Refusal.{Refusal}
+use Rattle.record.specs.declared.Refusal.the-variants.{Geometry, Cells, BadOrder, NoDigest, BadDigest, DamagedLog, SharedVersion}
+use Rattle.model.specs.Log.{View, Head, Scan, damaged, scanned, scan, endOf, segmentOf, headOf, logOf, highest, versionShared}
+use Rattle.model.specs.Causes.{Cause, when, firstCause}
+use Rattle.model.specs.Recovery.{geometryBad, orderBad, noHead, headElse, mapBad, digestBad, logDamaged, logSlots, logUnder, imageCauses}
+use Rattle.laws.specs.CauseLaws.{cause-first, cause-skip, cause-none}
+use Rattle.laws.specs.Scans.{scan-scans, scans-high}
+use Rattle.laws.specs.Stores.{length-segment}
+use Rattle.laws.specs.RecoverLaws.{map-bad-good}
+use Rattle.log.specs.Heads.{told, untold, untold-told}
+use Rattle.log.specs.Extents.{extentFrom, extentOf, surveyOf}
+use Rattle.log.specs.declared.Extent.{Extent}
+use Rattle.log.specs.declared.HeadFound.{HeadFound}
+use Rattle.log.specs.declared.Survey.{Survey}
+use Rattle.recovery.specs.Recovering.{lentFirst, checkedAs, imageFor, imageOf, imageUnder, storeWith}
+use Rattle.recovery.specs.declared.Checked.{Checked}
+use Rattle.recovery.specs.declared.Image.{Image}
+
+-- ---- what is lent
+
+module _ (n s m areaLength : ℕ) (order : List ℕ) where
+  abbrev geometry : Cause
+  geometry = when (geometryBad n s areaLength) Geometry
+
+  abbrev cells : Cause
+  cells = when (not (cellsGood m)) Cells
+
+  abbrev slots : Cause
+  slots = when (orderBad n order) BadOrder
+
+  pub lent-geometry : geometryBad n s areaLength ≡ true → Checked.Refused Geometry ≡ checkedAs (lentFirst n s m areaLength order)
+  unfolding checkedAs
+  lent-geometry e = ap checkedAs (sym (cause-first geometry (cells ∷ slots ∷ []) e))
+
+  module _ (g : geometryBad n s areaLength ≡ false) where
+    pub lent-cells : cellsGood m ≡ false → Checked.Refused Cells ≡ checkedAs (lentFirst n s m areaLength order)
+    unfolding checkedAs
+    lent-cells e = ap checkedAs (sym (cause-skip geometry (cells ∷ slots ∷ []) g ∙ cause-first cells (slots ∷ []) (ap not e)))
+
+    module _ (c : cellsGood m ≡ true) where
+      passes : lentFirst n s m areaLength order ≡ firstCause (slots ∷ [])
+      passes = cause-skip geometry (cells ∷ slots ∷ []) g ∙ cause-skip cells (slots ∷ []) (ap not c)
+
+      pub lent-order : orderBad n order ≡ true → Checked.Refused BadOrder ≡ checkedAs (lentFirst n s m areaLength order)
+      unfolding checkedAs
+      lent-order e = ap checkedAs (sym (passes ∙ cause-first slots [] e))
+
+      pub lent-passed : orderBad n order ≡ false → Checked.Passed ≡ checkedAs (lentFirst n s m areaLength order)
+      unfolding checkedAs firstCause
+      lent-passed e = ap checkedAs (sym (passes ∙ cause-none slots [] e refl))
+
+pub check-refused : (o : Option Refusal) (c : Refusal) → checkedAs o ≡ Checked.Refused c → o ≡ some c
+unfolding checkedAs
+check-refused none c e = let z : _≡_ {A = ℕ} 0 1 = cc in absurd (omega arith)
+check-refused (some d) c e = cc
+
+pub check-passed : (o : Option Refusal) → checkedAs o ≡ Checked.Passed → o ≡ none
+unfolding checkedAs
+check-passed none e = refl
+check-passed (some d) e = let z : _≡_ {A = ℕ} 0 1 = cc in absurd (omega arith)
+
+-- ---- the head's digest
+
+-- A chain of tests any of which is enough: t is what the code finds for the test x, and b the rest of the chain.
+module _ {t x : Bool} (b : Bool) (e : t ≡ x) where
+  pub holds : t ≡ true → true ≡ either x b
+  unfolding either
+  holds f = rw (← e, f)
+
+  pub passed : {r : Bool} → t ≡ false → r ≡ b → r ≡ either x b
+  unfolding either
+  passed f g = rw (← e, f) g
+
+-- the test of the map, by that of a record's map
+pub map-bad : (n : ℕ) (h : Head) (t : Bool) → t ≡ mapGood n (h .slot) (h .digest .map) → not t ≡ mapBad n h
+map-bad n h t e = ap not e ∙ sym (map-bad-good n h)
+
+-- ---- the image
+
+module _ (v : ℕ → View) (n : ℕ) where
+  pub head-none : headOf v n ≡ none → Image.Refused NoDigest ≡ imageOf v n
+  unfolding imageFor noHead
+  head-none e =
+      ap (λ (o : Option Refusal). imageFor v n (headElse (headOf v n)) o)
+      (sym (cause-first (when (noHead (headOf v n)) NoDigest) _ (ap noHead e)))
+
+  pub head-some : (h : Head) → headOf v n ≡ some h → imageUnder v n h ≡ imageOf v n
+  unfolding headElse
+  head-some h e = ap (λ (o : Option Head). imageFor v n (headElse o) (firstCause (imageCauses v n o))) (sym e)
+
+  module _ (h : Head) where
+    abbrev digest : Cause
+    digest = when (digestBad v n h) BadDigest
+
+    abbrev damage : Cause
+    damage = when (logDamaged v (logSlots h) n) DamagedLog
+
+    abbrev shared : Cause
+    shared = when (versionShared (logUnder v n h)) SharedVersion
+
+    has-head : firstCause (imageCauses v n (some h)) ≡ firstCause (digest ∷ damage ∷ shared ∷ [])
+    unfolding noHead headElse
+    has-head = cause-skip (when false NoDigest) (digest ∷ damage ∷ shared ∷ []) refl
+
+    pub head-digest : digestBad v n h ≡ true → Image.Refused BadDigest ≡ imageUnder v n h
+    unfolding imageFor
+    head-digest e = ap (imageFor v n h) (sym (has-head ∙ cause-first digest (damage ∷ shared ∷ []) e))
+
+    module _ (d : digestBad v n h ≡ false) where
+      pub head-damaged : logDamaged v (logSlots h) n ≡ true → Image.Refused DamagedLog ≡ imageUnder v n h
+      unfolding imageFor
+      head-damaged e =
+          ap (imageFor v n h)
+          (sym (has-head ∙ cause-skip digest (damage ∷ shared ∷ []) d ∙ cause-first damage (shared ∷ []) e))
+
+      module _ (u : logDamaged v (logSlots h) n ≡ false) where
+        last : firstCause (imageCauses v n (some h)) ≡ firstCause (shared ∷ [])
+        last = has-head ∙ cause-skip digest (damage ∷ shared ∷ []) d ∙ cause-skip damage (shared ∷ []) u
+
+        pub head-shared : versionShared (logUnder v n h) ≡ true → Image.Refused SharedVersion ≡ imageUnder v n h
+        unfolding imageFor
+        head-shared e = ap (imageFor v n h) (sym (last ∙ cause-first shared [] e))
+
+        pub head-sound : (top : Version) → top ≡ record { 0 = highest (logUnder v n h) } → versionShared (logUnder v n h) ≡ false
+            → Image.Sound (h .slot) (h .digest) top ≡ imageUnder v n h
+        unfolding imageFor firstCause
+        head-sound top e f =
+            ap (Image.Sound (h .slot) (h .digest)) e ∙ ap (imageFor v n h) (sym (last ∙ cause-none shared [] f refl))
+
+-- ---- what the callees of the log say
+
+pub told-none : (o : Option Head) → told o ≡ HeadFound.Nothing → o ≡ none
+unfolding untold
+told-none o e = sym (untold-told o) ∙ ap untold e
+
+pub told-some : (o : Option Head) (i : ℕ) (d : Digest) → told o ≡ HeadFound.At i d → o ≡ some (record { slot = i; digest = d })
+unfolding untold
+told-some o i d e = sym (untold-told o) ∙ ap untold e
+
+module _ (v : ℕ → View) (p : ℕ → Bool) (n : ℕ) where
+  pub survey-damaged : surveyOf v p n ≡ Survey.Damaged → logDamaged v p n ≡ true
+  unfolding surveyOf pick
+  survey-damaged e = go (logDamaged v p n) e
+    where
+      go : (t : Bool) → pick t Survey.Damaged (Survey.Sound (record { 0 = highest (logOf v p n) })) ≡ Survey.Damaged → t ≡ true
+      go true q = refl
+      go false q = let z : _≡_ {A = ℕ} 0 1 = cc in absurd (omega arith)
+
+  pub survey-sound : (top : Version) → surveyOf v p n ≡ Survey.Sound top → (logDamaged v p n ≡ false) × (top ≡ record { 0 = highest (logOf v p n) })
+  unfolding surveyOf pick
+  survey-sound top e = go (logDamaged v p n) e
+    where
+      go : (t : Bool) → pick t Survey.Damaged (Survey.Sound (record { 0 = highest (logOf v p n) })) ≡ Survey.Sound top
+          → (t ≡ false) × (top ≡ record { 0 = highest (logOf v p n) })
+      go true q = let z : _≡_ {A = ℕ} 0 1 = cc in absurd (omega arith)
+      go false q = (refl, cc)
+
+-- the end of a segment's entries
+pub extent-damaged : (r : Scan) → extentOf r ≡ Extent.Damaged → 0 ≡ endOf r
+unfolding extentFrom endOf
+extent-damaged damaged e = refl
+extent-damaged (scanned is k) e = let z : _≡_ {A = ℕ} 0 1 = cc in absurd (omega arith)
+
+pub extent-sound : (r : Scan) (k : ℕ) (top : Version) → extentOf r ≡ Extent.Sound k top → k ≡ endOf r
+unfolding extentFrom endOf
+extent-sound damaged k top e = let z : _≡_ {A = ℕ} 0 1 = cc in absurd (omega arith)
+extent-sound (scanned is j) k top e = cc
+
+-- ---- the record
+
+-- a segment's entries end in it
+end-inside : (L : Layout) (s : List ℕ) → endOf (scan L s) ≤ length s
+unfolding endOf
+end-inside L s = go (scan L s) refl
+  where
+    go : (r : Scan) → scan L s ≡ r → endOf r ≤ length s
+    go damaged e = omega arith
+    go (scanned is k) e = scans-high (scan-scans L s e)
+
+pub end-fits : (L : Layout) (area : List ℕ) (s slot : ℕ) → slot * s + s ≤ length area → endOf (scan L (segmentOf area s slot)) ≤ s
+end-fits L area s slot room =
+    omega (arith, end-inside L (segmentOf area s slot), length-segment area s slot room)
+
+-- the greater of two versions
+pub next-above : (a b : ℕ) → a < b → _≡_ {A = Version} (record { 0 = b }) (record { 0 = max a b })
+next-above a b h = let e : b ≡ max a b = omega arith in λ i. record { 0 = e i }
+
+pub next-kept : (a : Version) (b : ℕ) → b ≤ a .0 → a ≡ record { 0 = max (a .0) b }
+next-kept a b h = let e : a .0 ≡ max (a .0) b = omega arith in λ i. record { 0 = e i }
+
+pub record-with : (L : Layout) (n s m : ℕ) (area : List ℕ) (slot : ℕ) (d : Digest) (top : Version) (keys e : ℕ) (next : Version)
+    → e ≡ endOf (scan L (segmentOf area s slot)) → next ≡ record { 0 = max (d .next .0) (top .0 + 1) }
+    → record {
+      slots = n;
+      size = s;
+      cells = m;
+      head = slot;
+      end = e;
+      number = d .number;
+      map = d .map;
+      next = next;
+      keys = keys;
+      pending = Idle;
+    } ≡ storeWith L n s m area slot d top keys
+record-with L n s m area slot d top keys e next p q =
+    λ i.
+    record {
+      slots = n;
+      size = s;
+      cells = m;
+      head = slot;
+      end = p i;
+      number = d .number;
+      map = d .map;
+      next = q i;
+      keys = keys;
+      pending = Idle;
+    }

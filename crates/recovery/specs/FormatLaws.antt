@@ -1,0 +1,105 @@
+-- Format as its code does it: byte 0 of every slot in turn, the digest, and the 0 behind it.
+use Prim.Native.Nat.{ℕ, _+_, _*_, _≤_, _<_}
+use mathlib.Core.Path.{_≡_, refl, sym, _∙_, ap}
+use mathlib.Core.Bool.{true, false, not}
+use mathlib.Core.List.{List, [], _∷_, _++_}
+use native.Mathlib.Numerals.{add-one}
+use native.Mathlib.Omega.{arith}
+use lib.Dec.{eqb}
+use lib.ListN.{length, set}
+use lib.Seq.{sets}
+use borrow.Author.Tests.{not-false, eqb-true}
+use Rattle.word.specs.Laws.{sets-append}
+use Rattle.segment.specs.Choice.{both, both-left, both-right}
+use Rattle.segment.specs.Layout.{Layout, digestSize}
+use Rattle.segment.specs.Digest.{encodedDigest}
+use Rattle.segment.specs.DigestLaws.{length-encodedDigest}
+use Rattle.record.specs.Range.{slotsGood, sizeGood}
+use Rattle.record.specs.RangeLaws.{between-low, between-high}
+use Rattle.record.specs.declared.FormatAnswer.{FormatAnswer}
+use Rattle.record.specs.declared.Refusal.the-variants.{Geometry}
+use Rattle.model.specs.Operations.{cleared, firstDigest, formatted}
+use Rattle.model.specs.Causes.{firstCause}
+use Rattle.model.specs.Recovery.{geometryBad}
+use Rattle.model.specs.Promises.{FormatPromise, formatAnswer, areaUnless}
+use Rattle.laws.specs.CauseLaws.{cause-first, cause-none}
+use Rattle.laws.specs.Stores.{slots-apart, stored-from}
+
+-- ---- the test of cause 1, as the code makes it
+
+module _ (n s area : ℕ) where
+  pub geometry-slots : slotsGood n ≡ false → geometryBad n s area ≡ true
+  unfolding both
+  geometry-slots e = rw e
+
+  pub geometry-size : slotsGood n ≡ true → sizeGood s ≡ false → geometryBad n s area ≡ true
+  unfolding both
+  geometry-size e d = rw (e, d)
+
+  pub geometry-area : slotsGood n ≡ true → sizeGood s ≡ true → geometryBad n s area ≡ not (eqb area (n * s))
+  unfolding both
+  geometry-area e d = rw (e, d)
+
+-- What it says where it fails.
+pub record Fits (n s area : ℕ) : Type 0 where
+  pub slots-low : 4 ≤ n
+  pub slots-high : n ≤ 32
+  pub size-low : 256 ≤ s
+  pub size-high : s ≤ 2048
+  pub area-own : area ≡ n * s
+  pub slot-fits : s ≤ area
+
+pub geometry-fits : (n s area : ℕ) → geometryBad n s area ≡ false → Fits n s area
+geometry-fits n s area e =
+    let good = not-false (both (both (slotsGood n) (sizeGood s)) (eqb area (n * s))) e in
+    let limits = both-left (both (slotsGood n) (sizeGood s)) (eqb area (n * s)) good in
+    let slots = both-left (slotsGood n) (sizeGood s) limits in
+    let size = both-right (slotsGood n) (sizeGood s) limits in
+    let own = eqb-true area (n * s) (both-right (both (slotsGood n) (sizeGood s)) (eqb area (n * s)) good) in
+    record {
+      slots-low = between-low 4 32 n slots;
+      slots-high = between-high 4 32 n slots;
+      size-low = between-low 256 2048 s size;
+      size-high = between-high 256 2048 s size;
+      area-own = own;
+      slot-fits = omega (arith, slots-apart s {k = 0} {i = n} (omega (arith, between-low 4 32 n slots)));
+    }
+
+-- ---- the stores
+
+pub cleared-none : (S : ℕ) (area : List ℕ) → area ≡ cleared S 0 area
+unfolding cleared
+cleared-none S area = refl
+
+pub cleared-turn : (S i : ℕ) (area : List ℕ) → cleared S (i + 1) area ≡ set (cleared S i area) (i * S) 0
+unfolding cleared
+cleared-turn S i area = rw (add-one i)
+
+-- room for a byte of slot i
+pub slot-first : (n S i a : ℕ) → 0 < S → i < n → n * S ≤ a → i * S < a
+slot-first n S i a some-byte h fits = omega (arith, slots-apart S h)
+
+module _ (L : Layout) (n S : ℕ) (area : List ℕ) where
+  pub format-refused : geometryBad n S (length area) ≡ true → FormatPromise L n S area area (FormatAnswer.Refused Geometry)
+  unfolding formatAnswer areaUnless
+  format-refused bad =
+      let first = cause-first (record { holds = geometryBad n S (length area); refusal = Geometry }) [] bad in
+      record { answers = rw first; leaves = rw first }
+
+  pub format-done : (a₁ a₂ a₃ : List ℕ) → geometryBad n S (length area) ≡ false → a₁ ≡ cleared S n area → a₂ ≡ sets a₁ 0 (encodedDigest L firstDigest)
+      → a₃ ≡ set a₂ (digestSize L) 0 → FormatPromise L n S area a₃ FormatAnswer.Formatted
+  unfolding formatAnswer areaUnless firstCause
+  format-done a₁ a₂ a₃ good e₁ e₂ e₃ =
+      let nothing = cause-none (record { holds = geometryBad n S (length area); refusal = Geometry }) [] good refl in
+      record { answers = rw nothing; leaves = rw nothing (whole) }
+    where
+      behind : digestSize L ≡ 0 + length (encodedDigest L firstDigest)
+      behind = omega (arith, length-encodedDigest L firstDigest)
+
+      whole : a₃ ≡ formatted L n S area
+      whole =
+          e₃
+          ∙ ap (λ (a : List ℕ). set a (digestSize L) 0) (e₂ ∙ ap (λ (a : List ℕ). sets a 0 (encodedDigest L firstDigest)) e₁)
+          ∙ ap (λ (k : ℕ). set (sets (cleared S n area) 0 (encodedDigest L firstDigest)) k 0) behind
+          ∙ sym (sets-append (cleared S n area) 0 (encodedDigest L firstDigest) (0 ∷ []))
+          ∙ sym (stored-from (cleared S n area) 0 (encodedDigest L firstDigest ++ 0 ∷ []))

@@ -1,0 +1,48 @@
+-- What a read looks up, as a total function of any record, area and index (01, "Index" and "Read").
+use Prim.Native.Nat.{ℕ, _+_, _-_, _/_, _%_}
+use mathlib.Core.List.{List, []}
+use lib.ListN.{length, getD, take, drop}
+use Rattle.segment.specs.Choice.{pick}
+use Rattle.segment.specs.Layout.{Layout, entrySize}
+use Rattle.segment.specs.Entry.{entryAt, answer}
+use Rattle.segment.specs.declared.Key.{Key}
+use Rattle.segment.specs.declared.Read.{Read}
+use Rattle.record.specs.Range.{fitsLent}
+use Rattle.record.specs.declared.Store.{Store}
+use Rattle.record.specs.declared.ReadAnswer.{ReadAnswer}
+use Rattle.record.specs.declared.Refusal.{Refusal}
+use Rattle.model.specs.Log.{segmentOf}
+use Rattle.index.specs.Search.{searchFor}
+use Rattle.index.specs.declared.Found.{Found}
+use Rattle.recovery.specs.declared.Lookup.{Lookup}
+
+-- what stands at a place of the area, in its slot's segment
+abbrev pub standsAt : Layout → ℕ → List ℕ → ℕ → Read
+standsAt L S area p = answer L (entryAt L (segmentOf area S (p / S)) (p % S))
+
+unfoldable pub lookupOf : ℕ → Read → Lookup
+lookupOf p (Read.Object k v kind n) = Lookup.Object p v kind n
+lookupOf p (Read.Tombstone k v n) = Lookup.Absent
+lookupOf p Read.End = Lookup.Bad
+lookupOf p Read.Damage = Lookup.Bad
+
+unfoldable pub lookupAt : Layout → ℕ → List ℕ → List ℕ → Found → Lookup
+lookupAt L S area cells (Found.At i) = lookupOf (getD cells i 0 - 1) (standsAt L S area (getD cells i 0 - 1))
+lookupAt L S area cells (Found.Free i) = Lookup.Absent
+lookupAt L S area cells Found.Full = Lookup.Bad
+
+-- a record that does not fit what is lent is bad
+unfoldable pub lookedUp : Layout → Store → List ℕ → List ℕ → Key → Lookup
+lookedUp L r area cells k =
+    pick (fitsLent L r (length area) (length cells)) (lookupAt L (r .size) area cells (searchFor L area cells k)) Lookup.Bad
+
+unfoldable pub toldBy : Lookup → ReadAnswer
+toldBy (Lookup.Object p v kind n) = ReadAnswer.Present v kind
+toldBy Lookup.Absent = ReadAnswer.Refused Refusal.Absent
+toldBy Lookup.Bad = ReadAnswer.Refused Refusal.BadRecord
+
+-- the value's part of the area
+unfoldable pub valueBy : Layout → List ℕ → Lookup → List ℕ
+valueBy L area (Lookup.Object p v kind n) = take (n - entrySize L 0) (drop (p + entrySize L 0) area)
+valueBy L area Lookup.Absent = []
+valueBy L area Lookup.Bad = []

@@ -1,0 +1,308 @@
+-- What recovery's parts give together is what it promises.
+use Prim.Native.Nat.{ℕ, _-_, _<_}
+use mathlib.Core.Path.{_≡_, refl, sym, _∙_, ap, subst}
+use mathlib.Core.Bool.{Bool, true, false, not}
+use mathlib.Core.List.{List, [], _∷_, _++_}
+use mathlib.Core.Option.{Option, none, some}
+use native.Mathlib.Omega.{arith}
+use lib.Dec.{eqb}
+use lib.ListN.{length, replicate, length-replicate}
+use borrow.Author.Tests.{not-false, ltb-false}
+use Rattle.segment.specs.Choice.{pick, pick-true, pick-false, either-false-left, either-false-right}
+use Rattle.segment.specs.Layout.{Layout, versionLimit}
+use Rattle.segment.specs.LayoutLaws.{version-below}
+use Rattle.segment.specs.EntryLaws.{found-accepted}
+use Rattle.segment.specs.declared.Digest.{Digest}
+use Rattle.segment.specs.declared.Version.{Version}
+use Rattle.slot_map.specs.Bit.{named}
+use Rattle.record.specs.Range.{mapGood, cellsGood}
+use Rattle.record.specs.RangeLaws.{map-in, between-low, between-high}
+use Rattle.record.specs.Refusals.{numberOfRefusal}
+use Rattle.record.specs.declared.Refusal.{Refusal}
+use Rattle.record.specs.declared.Refusal.the-variants.{BadOrder, TooManyKeys}
+use Rattle.record.specs.declared.Store.{Store}
+use Rattle.record.specs.declared.Recovery.{Recovery}
+use Rattle.record.specs.declared.RecoverAnswer.{RecoverAnswer}
+use Rattle.model.specs.Log.{View, Head, Placed, segmentOf, viewsOf, headOf, logOf, keysOf, highest, versionShared}
+use Rattle.model.specs.Causes.{Cause, when, firstCause}
+use Rattle.model.specs.Recovery.{orderBad, headElse, digestBad, logDamaged, logSlots, logUnder, keysBad, storeUnder, lentCauses, imageCauses, keyCauses, recoverCauses, storeOf, recoveryFor, recovery}
+use Rattle.model.specs.Index.{IndexRule}
+use Rattle.model.specs.Operations.{logNow}
+use Rattle.model.specs.Promises.{RecoverPromise, IndexAfter}
+use Rattle.laws.specs.CauseLaws.{cause-first, cause-none}
+use Rattle.laws.specs.Versions.{highest-below}
+use Rattle.laws.specs.LogLaws.{AllScanned, undamaged-scans}
+use Rattle.laws.specs.RecoverLaws.{NoCause, no-cause, map-bad-good}
+use Rattle.log.specs.Shape.{Shape}
+use Rattle.index.specs.Build.{Rebuilt, built}
+use Rattle.index.specs.BuildLaws.{Holds, built-rule, built-over}
+use Rattle.index.specs.declared.Built.{Built}
+use Rattle.recovery.specs.FormatLaws.{Fits, geometry-fits}
+use Rattle.recovery.specs.LookupLaws.{log-stands}
+use Rattle.recovery.specs.Recovering.{lentFirst, imageFor, imageOf, storeWith, refusedWith}
+use Rattle.recovery.specs.declared.Image.{Image}
+
+-- ---- the first cause of two lists of causes
+
+first-left : (a b : List Cause) (c : Refusal) → firstCause a ≡ some c → firstCause (a ++ b) ≡ some c
+unfolding firstCause pick
+first-left [] b c e = let z : _≡_ {A = ℕ} 0 1 = cc in absurd (omega arith)
+first-left (x ∷ a) b c e = go (x .holds) e (λ q. first-left a b c q)
+  where
+    go : (t : Bool) → pick t (some (x .refusal)) (firstCause a) ≡ some c → (firstCause a ≡ some c → firstCause (a ++ b) ≡ some c)
+        → pick t (some (x .refusal)) (firstCause (a ++ b)) ≡ some c
+    go true q ih = q
+    go false q ih = ih q
+
+first-right : (a b : List Cause) → firstCause a ≡ none → firstCause (a ++ b) ≡ firstCause b
+unfolding firstCause pick
+first-right [] b e = refl
+first-right (x ∷ a) b e = go (x .holds) e (λ q. first-right a b q)
+  where
+    go : (t : Bool) → pick t (some (x .refusal)) (firstCause a) ≡ none → (firstCause a ≡ none → firstCause (a ++ b) ≡ firstCause b)
+        → pick t (some (x .refusal)) (firstCause (a ++ b)) ≡ firstCause b
+    go true q ih = let z : _≡_ {A = ℕ} 0 1 = cc in absurd (omega arith)
+    go false q ih = ih q
+
+-- None of the causes is 20, at which alone the index changes.
+abbrev KeepsIndex : List Cause → Type 0
+KeepsIndex [] = Unit {0}
+KeepsIndex (x ∷ a) = (eqb (numberOfRefusal (x .refusal)) 20 ≡ false) × KeepsIndex a
+
+first-keeps : (a : List Cause) → KeepsIndex a → (c : Refusal) → firstCause a ≡ some c → eqb (numberOfRefusal c) 20 ≡ false
+unfolding firstCause pick
+first-keeps [] k c e = let z : _≡_ {A = ℕ} 0 1 = cc in absurd (omega arith)
+first-keeps (x ∷ a) k c e = go (x .holds) e (λ q. first-keeps a (k .1) c q)
+  where
+    go : (t : Bool) → pick t (some (x .refusal)) (firstCause a) ≡ some c → (firstCause a ≡ some c → eqb (numberOfRefusal c) 20 ≡ false)
+        → eqb (numberOfRefusal c) 20 ≡ false
+    go true q ih = let same : x .refusal ≡ c = cc in subst (λ (r : Refusal). eqb (numberOfRefusal r) 20 ≡ false) same (k .0)
+    go false q ih = ih q
+
+-- ---- a sound image
+
+-- The head's slot and digest, and what the four causes that do not hold say.
+record SoundImage (v : ℕ → View) (n i : ℕ) (d : Digest) (top : Version) : Type 0 where
+  clear : firstCause (imageCauses v n (headOf v n)) ≡ none
+  head : headElse (headOf v n) ≡ record { slot = i; digest = d }
+  top-is : top ≡ record { 0 = highest (logOf v (named (d .map)) n) }
+
+sound-image : (v : ℕ → View) (n i : ℕ) (d : Digest) (top : Version) → imageOf v n ≡ Image.Sound i d top → SoundImage v n i d top
+unfolding imageFor
+sound-image v n i d top e = go (headElse (headOf v n)) refl (firstCause (imageCauses v n (headOf v n))) refl e
+  where
+    go : (h : Head) → headElse (headOf v n) ≡ h → (o : Option Refusal) → firstCause (imageCauses v n (headOf v n)) ≡ o
+        → imageFor v n h o ≡ Image.Sound i d top → SoundImage v n i d top
+    go h p none q f =
+        let slot : h .slot ≡ i = cc in
+        let digest : h .digest ≡ d = cc in
+        let high : record { 0 = highest (logUnder v n h) } ≡ top = cc in
+        record {
+          clear = q;
+          head = p ∙ (λ j. record { slot = slot j; digest = digest j });
+          top-is = sym high ∙ ap (λ (x : Digest). record { 0 = highest (logOf v (named (x .map)) n) }) digest;
+        }
+    go h p (some c) q f = let z : _≡_ {A = ℕ} 0 1 = cc in absurd (omega arith)
+
+module _ (v : ℕ → View) (n i : ℕ) (d : Digest) (top : Version) (s : SoundImage v n i d top) where
+  abbrev own : Head
+  own = record { slot = i; digest = d }
+
+  none-holds : NoCause (imageCauses v n (headOf v n))
+  none-holds = no-cause (imageCauses v n (headOf v n)) (s .clear)
+
+  image-map : mapGood n i (d .map) ≡ true
+  image-map =
+      let digest = subst (λ (h : Head). digestBad v n h ≡ false) (s .head) (none-holds .1 .0) in
+      not-false _ (sym (map-bad-good n own) ∙ either-false-left _ _ (either-false-right _ _ digest))
+
+  image-scans : AllScanned v (named (d .map)) n
+  image-scans =
+      undamaged-scans v (named (d .map)) n (subst (λ (h : Head). logDamaged v (logSlots h) n ≡ false) (s .head) (none-holds .1 .1 .0))
+
+  image-versions : versionShared (logOf v (named (d .map)) n) ≡ false
+  image-versions = subst (λ (h : Head). versionShared (logUnder v n h) ≡ false) (s .head) (none-holds .1 .1 .1 .0)
+
+-- ---- the promise
+
+module _ (L : Layout) (n s : ℕ) (order area cells : List ℕ) where
+  abbrev m : ℕ
+  m = length cells
+
+  abbrev v : ℕ → View
+  v = viewsOf L area s
+
+  abbrev cause : Option Refusal
+  cause = firstCause (recoverCauses L n s m order area)
+
+  -- any refusal but 20 leaves the index
+  refused-kept : (c : Refusal) → cause ≡ some c → eqb (numberOfRefusal c) 20 ≡ false → RecoverPromise L n s order area cells cells (refusedWith c)
+  unfolding recovery recoveryFor IndexAfter
+  refused-kept c e k =
+      record {
+        answers = ap (λ (o : Option Refusal). recoveryFor o (storeOf L n s m area)) (sym e);
+        same-length = refl;
+        index = sym (pick-false (eqb (numberOfRefusal c) 20) (replicate m 0) cells k);
+      }
+
+  pub lent-promise : (c : Refusal) (r : Recovery) → lentFirst n s m (length area) order ≡ some c → r ≡ refusedWith c
+      → RecoverPromise L n s order area cells cells r
+  lent-promise c r e its =
+      subst (RecoverPromise L n s order area cells cells) (sym its)
+      (refused-kept c (first-left (lentCauses n s m (length area) ++ (when (orderBad n order) BadOrder ∷ [])) _ c e)
+      (first-keeps (lentCauses n s m (length area) ++ (when (orderBad n order) BadOrder ∷ [])) (refl, (refl, (refl, tt))) c e))
+
+  module _ (passed : lentFirst n s m (length area) order ≡ none) where
+    abbrev rest : List Cause
+    rest = imageCauses v n (headOf v n) ++ keyCauses v n m (headOf v n)
+
+    on-image : cause ≡ firstCause rest
+    on-image = first-right (lentCauses n s m (length area) ++ (when (orderBad n order) BadOrder ∷ [])) rest passed
+
+    lent-clear : NoCause (lentCauses n s m (length area) ++ (when (orderBad n order) BadOrder ∷ []))
+    lent-clear = no-cause (lentCauses n s m (length area) ++ (when (orderBad n order) BadOrder ∷ [])) passed
+
+    pub lent-fits : Fits n s (length area)
+    lent-fits = geometry-fits n s (length area) (lent-clear .0)
+
+    pub lent-shape : Shape n s area
+    lent-shape =
+        let f = lent-fits in
+        record {
+          slots-least = f .slots-low;
+          slots-most = f .slots-high;
+          size-least = f .size-low;
+          size-most = f .size-high;
+          whole = f .area-own;
+        }
+
+    cells-good : cellsGood m ≡ true
+    cells-good = not-false (cellsGood m) (lent-clear .1 .0)
+
+    pub cells-some : 0 < m
+    cells-some = omega (arith, between-low 16 4096 m cells-good)
+
+    pub cells-few : m < 4097
+    cells-few = omega (arith, between-high 16 4096 m cells-good)
+
+    pub image-promise : (c : Refusal) (r : Recovery) → imageOf v n ≡ Image.Refused c → r ≡ refusedWith c
+        → RecoverPromise L n s order area cells cells r
+    unfolding imageFor
+    image-promise c r e its =
+        subst (RecoverPromise L n s order area cells cells) (sym its) (go (firstCause (imageCauses v n (headOf v n))) refl e)
+      where
+        go : (o : Option Refusal) → firstCause (imageCauses v n (headOf v n)) ≡ o → imageFor v n (headElse (headOf v n)) o ≡ Image.Refused c
+            → RecoverPromise L n s order area cells cells (refusedWith c)
+        go none p q = let z : _≡_ {A = ℕ} 0 1 = cc in absurd (omega arith)
+        go (some b) p q =
+            let same : b ≡ c = cc in
+            let f : firstCause (imageCauses v n (headOf v n)) ≡ some c = p ∙ ap some same in
+            refused-kept c (on-image ∙ first-left (imageCauses v n (headOf v n)) (keyCauses v n m (headOf v n)) c f)
+            (first-keeps (imageCauses v n (headOf v n)) (refl, (refl, (refl, (refl, tt)))) c f)
+
+    module _ (i : ℕ) (d : Digest) (top : Version) (sound : imageOf v n ≡ Image.Sound i d top) where
+      abbrev log : List Placed
+      log = logOf v (named (d .map)) n
+
+      image : SoundImage v n i d top
+      image = sound-image v n i d top sound
+
+      on-keys : cause ≡ firstCause (when (keysBad m log) TooManyKeys ∷ [])
+      on-keys =
+          on-image
+          ∙ first-right (imageCauses v n (headOf v n)) (keyCauses v n m (headOf v n)) (image .clear)
+          ∙ ap (λ (h : Head). firstCause (when (keysBad m (logUnder v n h)) TooManyKeys ∷ [])) (image .head)
+
+      pub head-inside : i < n
+      head-inside = map-in n i (d .map) (image-map v n i d top image) .head-in
+
+      rebuilt : keysBad m log ≡ false → Holds s m log (built L area s (d .map) order m)
+      rebuilt few =
+          built-rule L area s (d .map) n m order (lent-fits .area-own) (map-in n i (d .map) (image-map v n i d top image) .below)
+          (image-scans v n i d top image) (image-versions v n i d top image) (lent-clear .1 .1 .0) cells-some few
+
+      overfull : keysBad m log ≡ true → built L area s (d .map) order m ≡ record { answer = Built.TooMany; cells = replicate m 0 }
+      overfull many =
+          built-over L area s (d .map) n m order (lent-fits .area-own) (map-in n i (d .map) (image-map v n i d top image) .below)
+          (image-scans v n i d top image) (image-versions v n i d top image) (lent-clear .1 .1 .0) cells-some many
+
+      -- the highest version in the log, and so the next, fits
+      pub highest-fits : 0 < versionLimit L → top .0 < versionLimit L
+      highest-fits p =
+          omega (
+            arith,
+            ap (λ (x : Version). x .0) (image .top-is),
+            highest-below log (versionLimit L) p
+                (λ x w.
+                version-below L (x .entry .version)
+                (found-accepted L (segmentOf area s (x .slot)) (x .offset) (x .entry)
+                (log-stands L area s (named (d .map)) n (image-scans v n i d top image) x w) .good)),
+          )
+
+      -- what the rebuilding answers, and the cells that it leaves
+      abbrev Rebuilds : Built → List ℕ → Type 0
+      Rebuilds a cells′ = _≡_ {A = Rebuilt} (record { answer = a; cells = cells′ }) (built L area s (d .map) order m)
+
+      pub over-promise : (a : Built) (cells′ : List ℕ) (r : Recovery) → Rebuilds a cells′ → a ≡ Built.TooMany → r ≡ refusedWith TooManyKeys
+          → RecoverPromise L n s order area cells cells′ r
+      unfolding recovery recoveryFor IndexAfter
+      over-promise a cells′ r e over its = subst (RecoverPromise L n s order area cells cells′) (sym its) (go (keysBad m log) refl)
+        where
+          go : (t : Bool) → keysBad m log ≡ t → RecoverPromise L n s order area cells cells′ (refusedWith TooManyKeys)
+          go true q =
+              let first : cause ≡ some TooManyKeys = on-keys ∙ cause-first (when (keysBad m log) TooManyKeys) [] q in
+              let zeros : cells′ ≡ replicate m 0 = ap (λ (r : Rebuilt). r .cells) (e ∙ overfull q) in
+              record {
+                answers = ap (λ (o : Option Refusal). recoveryFor o (storeOf L n s m area)) (sym first);
+                same-length = ap length zeros ∙ length-replicate m 0;
+                index = zeros ∙ sym (pick-true (eqb 20 20) (replicate m 0) cells refl);
+              }
+          go false q =
+              let says : a ≡ Built.Keys (length (keysOf log)) = ap (λ (r : Rebuilt). r .answer) e ∙ rebuilt q .answers in
+              let z : _≡_ {A = ℕ} 0 1 = cc in absurd (omega arith)
+
+      -- the number of keys that a rebuilding tells
+      record Told (k : ℕ) (cells′ : List ℕ) : Type 0 where
+        few : keysBad m log ≡ false
+        keys : k ≡ length (keysOf log)
+        rule : IndexRule s log cells′
+        long : length cells′ ≡ m
+
+      told : (a : Built) (k : ℕ) (cells′ : List ℕ) → Rebuilds a cells′ → a ≡ Built.Keys k → Told k cells′
+      told a k cells′ e counts = go (keysBad m log) refl
+        where
+          go : (t : Bool) → keysBad m log ≡ t → Told k cells′
+          go true q =
+              let says : a ≡ Built.TooMany = ap (λ (r : Rebuilt). r .answer) (e ∙ overfull q) in
+              let z : _≡_ {A = ℕ} 0 1 = cc in absurd (omega arith)
+          go false q =
+              let h = rebuilt q in
+              let says : a ≡ Built.Keys (length (keysOf log)) = ap (λ (r : Rebuilt). r .answer) e ∙ h .answers in
+              let its : cells′ ≡ built L area s (d .map) order m .cells = ap (λ (r : Rebuilt). r .cells) e in
+              record { few = q; keys = cc; rule = subst (IndexRule s log) (sym its) (h .rule); long = ap length its ∙ h .long }
+
+      -- the number of keys fits
+      pub keys-few : (a : Built) (k : ℕ) (cells′ : List ℕ) → Rebuilds a cells′ → a ≡ Built.Keys k → k < 4097
+      keys-few a k cells′ e counts =
+          let t = told a k cells′ e counts in
+          omega (arith, ltb-false (m - 1) (length (keysOf log)) (t .few), cells-few)
+
+      pub keys-promise : (a : Built) (k : ℕ) (cells′ : List ℕ) (store : Store) → Rebuilds a cells′ → a ≡ Built.Keys k
+          → store ≡ storeWith L n s (length cells′) area i d top k
+          → RecoverPromise L n s order area cells cells′ (record { answer = RecoverAnswer.Recovered; store = store })
+      unfolding recovery recoveryFor IndexAfter
+      keys-promise a k cells′ store e counts its =
+          let t = told a k cells′ e counts in
+          let nothing : cause ≡ none = on-keys ∙ cause-none (when (keysBad m log) TooManyKeys) [] (t .few) nil in
+          let same : store ≡ storeUnder v n s m (record { slot = i; digest = d }) =
+          its ∙ (λ j. storeWith L n s (t .long j) area i d (image .top-is j) (t .keys j)) in
+          record {
+            answers =
+                ap (λ (x : Store). record { answer = RecoverAnswer.Recovered; store = x }) (same ∙ ap (storeUnder v n s m) (sym (image .head)))
+                ∙ ap (λ (o : Option Refusal). recoveryFor o (storeOf L n s m area)) (sym nothing);
+            same-length = t .long;
+            index = subst (λ (x : Store). IndexRule (x .size) (logNow L area x) cells′) (sym its) (t .rule);
+          }
+        where
+          nil : firstCause [] ≡ none
+          nil = unfold firstCause in refl

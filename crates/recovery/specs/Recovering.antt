@@ -1,0 +1,59 @@
+-- Recovery in the parts in which its code makes it: what is lent (1, 2, 15), the image (16 to 19), and the record.
+use Prim.Native.Nat.{ℕ, _+_, max}
+use mathlib.Core.List.{List, [], _∷_, _++_}
+use mathlib.Core.Option.{Option, none, some}
+use Rattle.segment.specs.Layout.{Layout}
+use Rattle.segment.specs.declared.Digest.{Digest}
+use Rattle.segment.specs.declared.Version.{Version}
+use Rattle.record.specs.Answers.{blank}
+use Rattle.record.specs.declared.Refusal.{Refusal}
+use Rattle.record.specs.declared.Refusal.the-variants.{BadOrder}
+use Rattle.record.specs.declared.Pending.the-variants.{Idle}
+use Rattle.record.specs.declared.Store.{Store}
+use Rattle.record.specs.declared.Recovery.{Recovery}
+use Rattle.record.specs.declared.RecoverAnswer.{RecoverAnswer}
+use Rattle.model.specs.Log.{View, Head, segmentOf, scan, endOf, headOf, highest}
+use Rattle.model.specs.Causes.{when, firstCause}
+use Rattle.model.specs.Recovery.{orderBad, lentCauses, imageCauses, headElse, logUnder}
+use Rattle.recovery.specs.declared.Checked.{Checked}
+use Rattle.recovery.specs.declared.Image.{Image}
+
+-- 1, 2 and 15, which look at no byte of the area
+abbrev pub lentFirst : ℕ → ℕ → ℕ → ℕ → List ℕ → Option Refusal
+lentFirst n s m areaLength order = firstCause (lentCauses n s m areaLength ++ (when (orderBad n order) BadOrder ∷ []))
+
+unfoldable pub checkedAs : Option Refusal → Checked
+checkedAs none = Checked.Passed
+checkedAs (some c) = Checked.Refused c
+
+-- 16 to 19, or the head with the highest version in its log
+unfoldable pub imageFor : (ℕ → View) → ℕ → Head → Option Refusal → Image
+imageFor v n h none = Image.Sound (h .slot) (h .digest) (record { 0 = highest (logUnder v n h) })
+imageFor v n h (some c) = Image.Refused c
+
+abbrev pub imageOf : (ℕ → View) → ℕ → Image
+imageOf v n = imageFor v n (headElse (headOf v n)) (firstCause (imageCauses v n (headOf v n)))
+
+-- the same under a head that was found
+abbrev pub imageUnder : (ℕ → View) → ℕ → Head → Image
+imageUnder v n h = imageFor v n h (firstCause (imageCauses v n (some h)))
+
+-- the record of a head, the highest version in its log, and the number of its keys
+abbrev pub storeWith : Layout → ℕ → ℕ → ℕ → List ℕ → ℕ → Digest → Version → ℕ → Store
+storeWith L n s m area slot d top keys =
+    record {
+      slots = n;
+      size = s;
+      cells = m;
+      head = slot;
+      end = endOf (scan L (segmentOf area s slot));
+      number = d .number;
+      map = d .map;
+      next = record { 0 = max (d .next .0) (top .0 + 1) };
+      keys = keys;
+      pending = Idle;
+    }
+
+-- a refusal stands beside the blank record
+abbrev pub refusedWith : Refusal → Recovery
+refusedWith c = record { answer = RecoverAnswer.Refused c; store = blank }

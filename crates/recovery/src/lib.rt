@@ -1,0 +1,37 @@
+// The calls that look at a store: format, recovery, and reads.
+use record::Refusal;
+use segment::Digest;
+use segment::Version;
+
+pub mod format;
+pub mod read;
+pub mod recover;
+
+// What the index says of a key: its object at a place of the area, with the length of the whole entry; that no object is
+// its latest entry; or that the record, the index or the log is not one that a call may go by.
+pub enum Lookup {
+    Object {
+        place: usize,
+        version: Version,
+        kind: u8,
+        length: usize,
+    },
+    Absent,
+    Bad,
+}
+
+// Whether recovery may go on, or the cause that refuses it.
+pub enum Checked {
+    Passed,
+    Refused(Refusal),
+}
+
+// What recovery found in an area: the cause that refuses it, or the head with the highest version in its log.
+pub enum Image {
+    Refused(Refusal),
+    Sound {
+        slot: usize,
+        digest: Digest,
+        highest: Version,
+    },
+}

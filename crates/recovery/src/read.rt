@@ -1,0 +1,101 @@
+// Reads (01, "Read"): what the index says of a key, its version and kind, and its value.
+use crate::Lookup;
+use index::Found;
+use index::search::search;
+use log::slots::cut;
+use record::ReadAnswer;
+use record::Reading;
+use record::Refusal;
+use record::Store;
+use record::range::fits_lent;
+use segment::Key;
+use segment::Read;
+use segment::layout::HEAD_SIZE;
+use segment::reader;
+ghost use Prim.Native.Nat.{_+_, _*_, _/_, _≤_, _<_};
+ghost use mathlib.Core.Path.{_≡_};
+ghost use lib.ListN.{length};
+ghost use Rattle.segment.specs.Layout.{edition1};
+ghost use Rattle.model.specs.Promises.{ReadPromise, ValuePromise};
+ghost use Rattle.recovery.specs.Lookups.{standsAt, lookupOf, lookedUp, toldBy};
+
+// What stands at a place of the area, read in its slot's segment.
+fn look(s: usize, area: &[u8], place: usize) -> Lookup
+    requires { ⌜ (0 < s) × (place / s * s + s ≤ length (now area)) ⌝ }
+    ensures { λ r. ⌜ r ≡ lookupOf place (standsAt edition1 s (now (area .entry)) place) ⌝ }
+{
+    match reader::read(cut(s, area, place / s), place % s) {
+        Read::Object {
+            key: _,
+            version,
+            kind,
+            length,
+        } => Lookup::Object {
+            place,
+            version,
+            kind,
+            length,
+        },
+        Read::Tombstone {
+            key: _,
+            version: _,
+            length: _,
+        } => Lookup::Absent,
+        Read::End => Lookup::Bad,
+        Read::Damage => Lookup::Bad,
+    }
+}
+
+// What the index says of a key. A place at which no entry stands, and an index without an end to the search, are bad.
+pub fn find(store: Store, area: &[u8], index: &[u32], key: Key) -> Lookup
+    ensures { λ r. ⌜ r ≡ lookedUp edition1 store (now (area .entry)) (now (index .entry)) key ⌝ }
+{
+    if !fits_lent(store, area.len(), index.len()) {
+        return Lookup::Bad;
+    }
+    match search(area, index, key) {
+        Found::Full => Lookup::Bad,
+        Found::Free(_) => Lookup::Absent,
+        Found::At(i) => look(store.size as usize, area, (index[i] - 1) as usize),
+    }
+}
+
+// The read's answer.
+fn told(found: Lookup) -> ReadAnswer
+    ensures { λ r. ⌜ r ≡ toldBy found ⌝ }
+{
+    match found {
+        Lookup::Object {
+            place: _,
+            version,
+            kind,
+            length: _,
+        } => ReadAnswer::Present { version, kind },
+        Lookup::Absent => ReadAnswer::Refused(Refusal::Absent),
+        Lookup::Bad => ReadAnswer::Refused(Refusal::BadRecord),
+    }
+}
+
+// The version and kind of a key's object. The record is handed back.
+pub fn read(store: Store, area: &[u8], index: &[u32], key: Key) -> Reading
+    ensures { λ r. ⌜ ReadPromise edition1 store (now (area .entry)) (now (index .entry)) key r ⌝ }
+{
+    let answer = told(find(store, area, index, key));
+    Reading { answer, store }
+}
+
+// The value of a key's object, as a part of the area; the empty part at its start where `read` refuses.
+pub fn read_value<'a>(store: Store, area: &'a [u8], index: &[u32], key: Key) -> &'a [u8]
+    ensures { λ r. ⌜ ValuePromise edition1 store (now (area .entry)) (now (index .entry)) key (now r) ⌝ }
+{
+    match find(store, area, index, key) {
+        Lookup::Object {
+            place,
+            version: _,
+            kind: _,
+            length,
+        } => &area[place + HEAD_SIZE..place + length],
+        Lookup::Absent => &area[0..0],
+        Lookup::Bad => &area[0..0],
+    }
+}

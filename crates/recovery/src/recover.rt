@@ -1,0 +1,269 @@
+// Recovery (01, "Refused calls" and "The log and its map"): the record of an area and its index, or the first cause.
+use crate::Checked;
+use crate::Image;
+use crate::format::geometry_bad;
+use index::Built;
+use index::build::build;
+use log::Extent;
+use log::HeadFound;
+use log::Survey;
+use log::head::find_head;
+use log::head::names_no_digest;
+use log::head::shared_number;
+use log::scan::extent;
+use log::scan::survey;
+use log::slots::cut;
+use log::versions::version_shared;
+use record::Pending;
+use record::RecoverAnswer;
+use record::Recovery;
+use record::Refusal;
+use record::Store;
+use record::blank;
+use record::range::cells_good;
+use record::range::map_good;
+use segment::Digest;
+use segment::DigestNumber;
+use segment::Version;
+use slot_map::with_slot;
+ghost use Prim.Native.Nat.{_+_, _*_, _≤_, _<_, max};
+ghost use mathlib.Core.Path.{_≡_};
+ghost use mathlib.Core.Option.{none};
+ghost use lib.Dec.{eqb, ltb};
+ghost use lib.ListN.{length};
+ghost use Rattle.segment.specs.Choice.{either};
+ghost use Rattle.segment.specs.Layout.{edition1};
+ghost use Rattle.model.specs.Log.{viewsOf, scan, endOf};
+ghost use Rattle.model.specs.Recovery.{orderBad, sharing, digestBad};
+ghost use Rattle.model.specs.Promises.{RecoverPromise};
+ghost use Rattle.log.specs.Shape.{Shape};
+ghost use Rattle.recovery.specs.Order.{seeSlot, seenFrom};
+ghost use Rattle.recovery.specs.Recovering.{lentFirst, checkedAs, imageOf, imageUnder, storeWith, refusedWith};
+
+// The slots seen so far and one more, if it is one of the n.
+fn see_slot(n: u32, seen: u32, slot: u8) -> u32
+    requires { ⌜ n ≤ 32 ⌝ }
+    ensures { λ r. ⌜ r ≡ seeSlot n seen slot ⌝ }
+{
+    let slot = slot as u32;
+    if slot < n {
+        return with_slot(seen, slot);
+    }
+    seen
+}
+
+// Which of the n slots the order list names, as a slot map.
+fn slots_seen(n: u32, order: &[u8]) -> u32
+    requires { ⌜ n ≤ 32 ⌝ }
+    ensures { λ r. ⌜ r ≡ seenFrom n 0 (now (order .entry)) ⌝ }
+{
+    let mut seen = 0;
+    let mut i = 0;
+    while i < order.len() {
+        seen = see_slot(n, seen, order[i]);
+        i += 1;
+    }
+    seen
+}
+
+// Whether the order list is not N bytes that name each of 0 to N-1 once.
+fn order_bad(n: u32, order: &[u8]) -> bool
+    requires { ⌜ (1 ≤ n) × (n ≤ 32) ⌝ }
+    ensures { λ r. ⌜ r ≡ orderBad n (now (order .entry)) ⌝ }
+{
+    if order.len() != n as usize {
+        return true;
+    }
+    slots_seen(n, order) != 0xffff_ffff >> (32 - n)
+}
+
+// 1, 2 and 15, before any look at the area.
+fn check_lent(n: u32, s: u32, order: &[u8], area: usize, index: usize) -> Checked
+    ensures { λ r. ⌜ r ≡ checkedAs (lentFirst n s index area (now (order .entry))) ⌝ }
+{
+    if geometry_bad(n, s, area) {
+        return Checked::Refused(Refusal::Geometry);
+    }
+    if !cells_good(index) {
+        return Checked::Refused(Refusal::Cells);
+    }
+    if order_bad(n, order) {
+        return Checked::Refused(Refusal::BadOrder);
+    }
+    Checked::Passed
+}
+
+// Whether the highest digest number is 0, or more than one slot has it.
+fn number_bad(n: usize, s: usize, area: &[u8], number: DigestNumber) -> bool
+    requires { ⌜ Shape n s (now area) ⌝ }
+    ensures { λ r.
+        ⌜ r ≡ either (eqb (number .0) 0) (ltb 1 (sharing (viewsOf edition1 (now (area .entry)) s) (number .0) n)) ⌝ }
+{
+    if number.0 == 0 {
+        return true;
+    }
+    shared_number(n, s, area, number)
+}
+
+// 17, of the head's digest.
+fn digest_bad(n: usize, s: usize, area: &[u8], slot: usize, digest: Digest) -> bool
+    requires { ⌜ Shape n s (now area) × (slot < n) ⌝ }
+    ensures { λ r.
+        ⌜ r ≡ digestBad (viewsOf edition1 (now (area .entry)) s) n (record { slot = slot; digest = digest }) ⌝ }
+{
+    let number = digest.number;
+    let next = digest.next;
+    if number_bad(n, s, area, number) {
+        return true;
+    }
+    if !map_good(n as u32, slot as u32, digest.map) {
+        return true;
+    }
+    if names_no_digest(n, s, area, digest.map) {
+        return true;
+    }
+    next.0 == 0
+}
+
+// 17 to 19, under a head that was found.
+fn look_under(n: usize, s: usize, area: &[u8], slot: usize, digest: Digest) -> Image
+    requires { ⌜ Shape n s (now area) × (slot < n) ⌝ }
+    ensures { λ r.
+        ⌜ r ≡ imageUnder (viewsOf edition1 (now (area .entry)) s) n (record { slot = slot; digest = digest }) ⌝ }
+{
+    if digest_bad(n, s, area, slot, digest) {
+        return Image::Refused(Refusal::BadDigest);
+    }
+    let map = digest.map;
+    match survey(n, s, area, map) {
+        Survey::Damaged => Image::Refused(Refusal::DamagedLog),
+        Survey::Sound { highest } => {
+            if version_shared(n, s, area, map) {
+                return Image::Refused(Refusal::SharedVersion);
+            }
+            Image::Sound {
+                slot,
+                digest,
+                highest,
+            }
+        }
+    }
+}
+
+// 16 to 19, which look at the image alone.
+fn look_at(n: usize, s: usize, area: &[u8]) -> Image
+    requires { ⌜ Shape n s (now area) ⌝ }
+    ensures { λ r. ⌜ r ≡ imageOf (viewsOf edition1 (now (area .entry)) s) n ⌝ }
+{
+    match find_head(n, s, area) {
+        HeadFound::Nothing => Image::Refused(Refusal::NoDigest),
+        HeadFound::At { slot, digest } => look_under(n, s, area, slot, digest),
+    }
+}
+
+// The end of a segment's entries; 0 in a damaged one.
+fn end_of(part: &[u8]) -> usize
+    ensures { λ r. ⌜ r ≡ endOf (scan edition1 (now (part .entry))) ⌝ }
+{
+    match extent(part) {
+        Extent::Damaged => 0,
+        Extent::Sound { end, highest: _ } => end,
+    }
+}
+
+// The next version: the greater of the digest's field and one more than the highest version in the log.
+fn next_version(next: Version, highest: Version) -> Version
+    requires { ⌜ highest .0 < 4294967295 ⌝ }
+    ensures { λ r. ⌜ r ≡ record { 0 = max (next .0) (highest .0 + 1) } ⌝ }
+{
+    if next.0 < highest.0 + 1 {
+        return Version(highest.0 + 1);
+    }
+    next
+}
+
+// The record of a head.
+fn record_of(
+    n: u32,
+    s: u32,
+    m: u32,
+    area: &[u8],
+    slot: usize,
+    digest: Digest,
+    highest: Version,
+    keys: u32,
+) -> Store
+    requires { ⌜ (slot * s + s ≤ length (now area)) × (highest .0 < 4294967295) × (s ≤ 2048) × (slot < 32) ⌝ }
+    ensures { λ r. ⌜ r ≡ storeWith edition1 n s m (now (area .entry)) slot digest highest keys ⌝ }
+{
+    let number = digest.number;
+    let end = end_of(cut(s as usize, area, slot));
+    let next = next_version(digest.next, highest);
+    Store {
+        slots: n,
+        size: s,
+        cells: m,
+        head: slot as u32,
+        end: end as u32,
+        number,
+        map: digest.map,
+        next,
+        keys,
+        pending: Pending::Idle,
+    }
+}
+
+// A refusal stands beside the blank record.
+fn refused(cause: Refusal) -> Recovery
+    ensures { λ r. ⌜ r ≡ refusedWith cause ⌝ }
+{
+    Recovery {
+        answer: RecoverAnswer::Refused(cause),
+        store: blank(),
+    }
+}
+
+// Recovery once what is lent is checked: the index is not touched before the whole log is read.
+fn recover_image(n: u32, s: u32, order: &[u8], area: &[u8], index: &mut [u32]) -> Recovery
+    requires { ⌜ lentFirst n s (length (now index)) (length (now area)) (now order) ≡ none ⌝ }
+    ensures { λ r.
+        ⌜ RecoverPromise edition1 n s (now (order .entry)) (now (area .entry)) (now (index .entry)) (now (index .exit)) r ⌝ }
+{
+    match look_at(n as usize, s as usize, area) {
+        Image::Refused(cause) => refused(cause),
+        Image::Sound {
+            slot,
+            digest,
+            highest,
+        } => {
+            let map = digest.map;
+            match build(area, index, order, s as usize, map) {
+                Built::TooMany => refused(Refusal::TooManyKeys),
+                Built::Keys(keys) => Recovery {
+                    answer: RecoverAnswer::Recovered,
+                    store: record_of(
+                        n,
+                        s,
+                        index.len() as u32,
+                        area,
+                        slot,
+                        digest,
+                        highest,
+                        keys as u32,
+                    ),
+                },
+            }
+        }
+    }
+}
+
+// Recovery: 1, 2, 15 to 20.
+pub fn recover(n: u32, s: u32, order: &[u8], area: &[u8], index: &mut [u32]) -> Recovery
+    ensures { λ r.
+        ⌜ RecoverPromise edition1 n s (now (order .entry)) (now (area .entry)) (now (index .entry)) (now (index .exit)) r ⌝ }
+{
+    match check_lent(n, s, order, area.len(), index.len()) {
+        Checked::Refused(cause) => refused(cause),
+        Checked::Passed => recover_image(n, s, order, area, index),
+    }
+}
