@@ -1,0 +1,56 @@
+-- `writing::start::write` meets its contract.
+use mathlib.Core.Path.{sym, _∙_}
+use denote.Ref.{now}
+use Rattle.segment.specs.Layout.{edition1}
+use Rattle.laws.specs.StoreKept.{edition1-roomy}
+use Rattle.writing.specs.StartLaws.{write-refused, write-ready, write-number, write-laid}
+use borrow.Author.Needs.{needs}
+use Rattle.writing.proofs.start.write.Statement.{statement}
+use Rattle.writing.proofs.start.write.Tie as tie
+
+check-write-requires : tie.Need-check-write-requires
+check-write-requires c κs = search needs
+
+enum-known-c : tie.Need-enum-known-c
+enum-known-c c = search needs
+
+enum-told : tie.Need-enum-told
+enum-told c = search needs
+
+object-kind-requires : tie.Need-object-kind-requires
+object-kind-requires c κs = search needs
+
+lay-entry-requires : tie.Need-lay-entry-requires
+unfolding edition1
+lay-entry-requires c κs =
+    let t = c .before .before in
+    let a = t .before .before .before .before .before .before .before .args in
+    let passed = sym (t .enum-told .given .1) ∙ t .before .before .check-write .ensures in (
+      write-ready edition1 (a .store) (now (a .area)) (now (a .index)) (now (a .work)) (a .key) (now (a .value)) passed edition1-roomy,
+      write-number edition1 (a .store) (now (a .area)) (now (a .index)) (now (a .work)) (a .key) (now (a .value)) passed,
+    )
+
+returns : tie.Need-returns
+returns c = write-refused edition1 _ _ _ _ _ _ _ (sym (c .before .c .given .1) ∙ c .before .before .before .check-write .ensures)
+
+same-length : tie.Need-same-length
+same-length c = search needs
+
+returns-2 : tie.Need-returns-2
+returns-2 c =
+    let t = c .before .before .before .before .before in
+    write-laid edition1 _ _ _ _ _ _ (sym (t .enum-told .given .1) ∙ t .before .before .check-write .ensures) _ _ _
+    (c .before .before .before .object-kind .ensures) (c .before .before .lay-entry .ensures)
+
+pub write-spec : {M : Type 1} → statement M
+write-spec =
+    tie.close
+    (tie.spec
+    check-write-requires
+    enum-known-c
+    enum-told
+    object-kind-requires
+    lay-entry-requires
+    returns
+    same-length
+    returns-2)

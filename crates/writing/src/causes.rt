@@ -1,0 +1,166 @@
+// The tests of a start, in the order of 01, "Refused calls".
+use crate::Check;
+use crate::Presence;
+use crate::find::find;
+use index::Found;
+use index::search::search;
+use record::Pending;
+use record::Refusal;
+use record::Store;
+use record::range::fits_lent;
+use segment::Key;
+use segment::layout::HEAD_SIZE;
+use segment::layout::NUMBER_LIMIT;
+use segment::layout::VERSION_LIMIT;
+use segment::layout::object_kind;
+ghost use Prim.Native.Nat.{_+_, _^_, _≤_, _<_};
+ghost use mathlib.Core.Path.{_≡_};
+ghost use lib.Dec.{leb};
+ghost use lib.ListN.{length};
+ghost use Rattle.segment.specs.Layout.{edition1};
+ghost use Rattle.model.specs.Causes.{firstCause};
+ghost use Rattle.model.specs.Refused.{isPending};
+ghost use Rattle.index.specs.Search.{searchFor};
+ghost use Rattle.writing.specs.Tests.{checked, lentTests, roomTests, keyTests, writeTests, presenceFor, deleteTests};
+
+// Whether an operation is pending.
+fn is_pending(pending: Pending) -> bool
+    ensures { λ r. ⌜ r ≡ isPending pending ⌝ }
+{
+    match pending {
+        Pending::Idle => false,
+        Pending::Append { length: _, left: _ } => true,
+        Pending::NewHead {
+            slot: _,
+            length: _,
+            left: _,
+        } => true,
+        Pending::Clean {
+            slot: _,
+            victims: _,
+            length: _,
+            left: _,
+        } => true,
+    }
+}
+
+// 4, as far as it needs no look at the log, 3 and 5, for any start.
+pub fn check_lent(store: Store, area: usize, index: usize, work: usize) -> Check
+    ensures { λ r. ⌜ r ≡ checked (firstCause (lentTests edition1 store (record { area = area; index = index; work = work }))) ⌝ }
+{
+    if !fits_lent(store, area, index) {
+        return Check::Refused(Refusal::BadRecord);
+    }
+    if work < store.size as usize {
+        return Check::Refused(Refusal::WorkShort);
+    }
+    let pending = store.pending;
+    if is_pending(pending) {
+        return Check::Refused(Refusal::Busy);
+    }
+    Check::Passed
+}
+
+// Whether an entry of that length fits the head; it may end exactly at S.
+pub fn fits_head(store: Store, length: usize) -> bool
+    requires { ⌜ length ≤ 256 ⌝ }
+    ensures { λ r. ⌜ r ≡ leb (store .end + length) (store .size) ⌝ }
+{
+    store.end as usize + length <= store.size as usize
+}
+
+// 12 and 10, which only a new head brings.
+fn check_room(store: Store, length: usize) -> Check
+    requires { ⌜ (length ≤ 256) × (store .map < 2 ^ store .slots) ⌝ }
+    ensures { λ r. ⌜ r ≡ checked (firstCause (roomTests store length)) ⌝ }
+{
+    if fits_head(store, length) {
+        return Check::Passed;
+    }
+    if slot_map::free_slots(store.slots, store.map) < 2 {
+        return Check::Refused(Refusal::NoRoom);
+    }
+    let number = store.number;
+    if number.0 == NUMBER_LIMIT {
+        return Check::Refused(Refusal::NumbersSpent);
+    }
+    Check::Passed
+}
+
+// 11, by what the search for the key found; an index without a free cell is none that the rule allows.
+fn check_key(store: Store, found: Found) -> Check
+    requires { ⌜ 1 ≤ store .cells ⌝ }
+    ensures { λ r. ⌜ r ≡ checked (firstCause (keyTests store found)) ⌝ }
+{
+    match found {
+        Found::At(_) => Check::Passed,
+        Found::Free(_) => {
+            if store.keys == store.cells - 1 {
+                return Check::Refused(Refusal::KeysFull);
+            }
+            Check::Passed
+        }
+        Found::Full => Check::Refused(Refusal::BadRecord),
+    }
+}
+
+// Write: 4, 3, 5, 7, 9, 11, 12, 10, for a value of so many bytes.
+pub fn check_write(
+    store: Store,
+    area: &[u8],
+    index: &[u32],
+    work: usize,
+    key: Key,
+    value: usize,
+) -> Check
+    ensures { λ r.
+        ⌜
+        r ≡ checked
+        (firstCause
+        (writeTests edition1 store (searchFor edition1 (now (area .entry)) (now (index .entry)) key)
+        (record { area = length (now (area .entry)); index = length (now (index .entry)); work = work }) value))
+        ⌝ }
+{
+    match check_lent(store, area.len(), index.len(), work) {
+        Check::Refused(c) => Check::Refused(c),
+        Check::Passed => {
+            if object_kind(value) == 0 {
+                return Check::Refused(Refusal::ValueLength);
+            }
+            let next = store.next;
+            if next.0 == VERSION_LIMIT {
+                return Check::Refused(Refusal::VersionsSpent);
+            }
+            match check_key(store, search(area, index, key)) {
+                Check::Refused(c) => Check::Refused(c),
+                Check::Passed => check_room(store, HEAD_SIZE + value),
+            }
+        }
+    }
+}
+
+// Delete: 4, 3, 5, 8, 9, 12, 10.
+pub fn check_delete(store: Store, area: &[u8], index: &[u32], work: usize, key: Key) -> Check
+    ensures { λ r.
+        ⌜
+        r ≡ checked
+        (firstCause
+        (deleteTests edition1 store (presenceFor edition1 (now (area .entry)) (now (index .entry)) key)
+        (record { area = length (now (area .entry)); index = length (now (index .entry)); work = work })))
+        ⌝ }
+{
+    match check_lent(store, area.len(), index.len(), work) {
+        Check::Refused(c) => Check::Refused(c),
+        Check::Passed => match find(area, index, key) {
+            Presence::Bad => Check::Refused(Refusal::BadRecord),
+            Presence::Absent => Check::Refused(Refusal::Absent),
+            Presence::Object => {
+                let next = store.next;
+                if next.0 == VERSION_LIMIT {
+                    return Check::Refused(Refusal::VersionsSpent);
+                }
+                check_room(store, HEAD_SIZE)
+            }
+        },
+    }
+}

@@ -1,0 +1,54 @@
+// The starts of a write and of a delete (01, "Operations, store by store"). The area and the index are only read.
+use crate::Check;
+use crate::causes::check_delete;
+use crate::causes::check_write;
+use crate::lay::lay_entry;
+use record::Start;
+use record::StartAnswer;
+use record::Store;
+use segment::Key;
+use segment::layout::TOMBSTONE;
+use segment::layout::object_kind;
+ghost use Rattle.segment.specs.Layout.{edition1};
+ghost use Rattle.model.specs.Operations.{write, delete};
+ghost use Rattle.model.specs.Promises.{StartPromise};
+
+// A value is to come under a key.
+pub fn write(
+    store: Store,
+    area: &[u8],
+    index: &[u32],
+    work: &mut [u8],
+    key: Key,
+    value: &[u8],
+) -> Start
+    ensures { λ r.
+        ⌜
+        StartPromise edition1 (write key (now (value .entry))) store (now (area .entry)) (now (index .entry)) (now (work .entry))
+        (now (work .exit)) r
+        ⌝ }
+{
+    match check_write(store, area, index, work.len(), key, value.len()) {
+        Check::Refused(c) => Start {
+            answer: StartAnswer::Refused(c),
+            store,
+        },
+        Check::Passed => lay_entry(store, work, object_kind(value.len()), key, value),
+    }
+}
+
+// A key is to go: a tombstone, which has no value, takes the next version.
+pub fn delete(store: Store, area: &[u8], index: &[u32], work: &mut [u8], key: Key) -> Start
+    ensures { λ r.
+        ⌜
+        StartPromise edition1 (delete key) store (now (area .entry)) (now (index .entry)) (now (work .entry)) (now (work .exit)) r
+        ⌝ }
+{
+    match check_delete(store, area, index, work.len(), key) {
+        Check::Refused(c) => Start {
+            answer: StartAnswer::Refused(c),
+            store,
+        },
+        Check::Passed => lay_entry(store, work, TOMBSTONE, key, &area[0..0]),
+    }
+}
