@@ -1,0 +1,27 @@
+-- `cleaning::clean::split_of` meets its contract.
+use Prim.Native.Nat.{ℕ}
+use mathlib.Core.Path.{_≡_, refl, sym, _∙_, ap}
+use borrow.Author.Needs.{needs}
+use Rattle.cleaning.specs.declared.Split.{Split}
+use Rattle.cleaning.proofs.clean.split_of.Statement.{statement}
+use Rattle.cleaning.proofs.clean.split_of.Tie as tie
+use Rattle.cleaning.proofs.clean.split_of.Reads as reads
+use Rattle.cleaning.proofs.clean.split_of.Lts as lts
+use Rattle.slot_map.proofs.without_slots.Reads as without-slots-reads
+
+cast-t3 : tie.Need-cast-t3
+cast-t3 c = search needs
+
+cast-t4 : tie.Need-cast-t4
+cast-t4 c = search needs
+
+without-slots-requires : tie.Need-without-slots-requires
+without-slots-requires c κs = search needs
+
+returns : tie.Need-returns
+returns c =
+    let a = c .before .before .before .args in
+    ap (λ (m : ℕ). record { slots = a .store .slots; size = a .store .size; victims = a .victims; outside = m }) (c .without-slots .ensures)
+
+pub split-of-spec : {M : Type 1} → statement M
+split-of-spec = tie.close (tie.spec cast-t3 cast-t4 without-slots-requires returns)

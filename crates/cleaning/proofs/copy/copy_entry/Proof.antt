@@ -1,0 +1,72 @@
+-- `cleaning::copy::copy_entry` meets its contract.
+use mathlib.Core.Path.{_≡_, refl, sym, _∙_, ap}
+use native.Mathlib.Omega.{arith}
+use lib.ListN.{length}
+use denote.Ref.{now}
+use borrow.Author.Needs.{needs}
+use Rattle.segment.specs.Layout.{edition1}
+use borrow.Author.Tests.{not-true, not-false}
+use Rattle.cleaning.specs.KeptLaws.{entry-dropped, entry-kept}
+use Rattle.cleaning.specs.Copied.{copied-none, copied-part, part-room}
+use Rattle.cleaning.specs.Kept.{keptEntry}
+use Rattle.cleaning.proofs.copy.copy_entry.Statement.{statement}
+use Rattle.cleaning.proofs.copy.copy_entry.Tie as tie
+use Rattle.cleaning.proofs.copy.copy_entry.Reads as reads
+use Rattle.cleaning.proofs.copy.copy_entry.Lts as lts
+use Rattle.cleaning.proofs.kept.is_kept.Reads as is-kept-reads
+use Rattle.segment.proofs.writer.copy_into.Reads as copy-into-reads
+
+is-kept-requires : tie.Need-is-kept-requires
+is-kept-requires c κs = search needs
+
+returns : tie.Need-returns
+returns c = copied-none _ _ _ (entry-dropped edition1 _ _ _ (c .before .before .before .before .before .args .header) _ (sym (c .before .is-kept .ensures) ∙ not-true _ (c .if1 .taken)))
+
+add-end : tie.Need-add-end
+add-end c = search needs
+
+sub-copy-into : tie.Need-sub-copy-into
+sub-copy-into c = search needs
+
+part-copy-into-start : tie.Need-part-copy-into-start
+part-copy-into-start c = search needs
+
+part-copy-into-end : tie.Need-part-copy-into-end
+part-copy-into-end c = search needs
+
+copy-into-requires : tie.Need-copy-into-requires
+copy-into-requires c κs =
+    let s = c .before .before .before .before .before .before .before .before in
+    let a = s .args in
+    part-room (now (a .area)) (a .to) (a .place) (a .header .length) (length (now (a .work)))
+    (keptEntry edition1 (now (a .area)) (now (a .cells)) (a .split) (a .header) (a .place))
+    (entry-kept edition1 (now (a .area)) (now (a .cells)) (a .split) (a .header) (a .place) (sym (c .before .before .before .before .is-kept .ensures) ∙ not-false _ (c .before .before .before .if1 .left)))
+    (s .pre .1 .1 .1)
+
+add-result : tie.Need-add-result
+add-result c = search needs
+
+same-length : tie.Need-same-length
+same-length c = search needs
+
+returns-2 : tie.Need-returns-2
+returns-2 c =
+    let s = c .before .before .before .before .before .before .before .before .before .before .before .before in
+    copied-part _ _ _ _ _ _ _ (s .pre .1 .0)
+    (entry-kept edition1 _ _ _ (s .args .header) _ (sym (c .before .before .before .before .before .before .before .before .is-kept .ensures) ∙ not-false _ (c .before .before .before .before .before .before .before .if1 .left)))
+    (c .before .before .before .copy-into .ensures)
+
+pub copy-entry-spec : {M : Type 1} → statement M
+copy-entry-spec =
+    tie.close
+    (tie.spec
+    is-kept-requires
+    returns
+    add-end
+    sub-copy-into
+    part-copy-into-start
+    part-copy-into-end
+    copy-into-requires
+    add-result
+    same-length
+    returns-2)

@@ -1,0 +1,66 @@
+-- The entries of the slots as a cleaning meets them, as total functions of any area: damage ends a segment.
+use Prim.Native.Nat.{ℕ, _+_, _*_, _≤_, _<_}
+use mathlib.Core.Path.{_≡_, refl, sym, _∙_, ap}
+use mathlib.Core.Bool.{Bool, true, false, not}
+use mathlib.Core.List.{List, [], _∷_}
+use native.Mathlib.Omega.{arith}
+use lib.Dec.{eqb}
+use lib.ListN.{length}
+use Rattle.segment.specs.Choice.{both, either}
+use Rattle.segment.specs.Layout.{Layout, isTombstone, digestSize}
+use Rattle.segment.specs.Entry.{Entry, Found, entry, end, damage, entryAt, sizeOf, keyOf, answer}
+use Rattle.segment.specs.EntryLaws.{found-fits}
+use Rattle.segment.specs.AnswerLaws.{Tells, tells-end, tells-damage}
+use Rattle.segment.specs.declared.Key.{Key}
+use Rattle.segment.specs.declared.Version.{Version}
+use Rattle.segment.specs.declared.Read.the-variants as R
+use Rattle.slot_map.specs.Bit.{named}
+use Rattle.model.specs.Log.{Item, segmentOf, sameKey}
+use Rattle.laws.specs.LogLaws.{anyBelow}
+use Rattle.laws.specs.Stores.{slot-inside, length-segment}
+use Rattle.index.specs.Build.{entriesAt}
+use Rattle.cleaning.specs.declared.Split.{Split}
+use Rattle.cleaning.specs.declared.Header.{Header}
+use Rattle.cleaning.specs.declared.Next.{Next}
+use Rattle.cleaning.specs.declared.Next.the-variants as N
+
+-- ---- the slots of an area
+
+-- N and S within their limits, and the area N × S bytes long, as the range test has found them.
+pub record Shape (split : Split) (area : List ℕ) : Type 0 where
+  pub slots-high : split .slots ≤ 32
+  pub size-low : 256 ≤ split .size
+  pub size-high : split .size ≤ 2048
+  pub whole : length area ≡ split .slots * split .size
+
+-- the entries of a slot
+abbrev pub slotItems : Layout → List ℕ → ℕ → ℕ → List Item
+slotItems L area S i = entriesAt L (segmentOf area S i) (digestSize L)
+
+-- ---- one entry
+
+abbrev pub headerOf : Layout → Entry → Header
+headerOf L e = record { key = keyOf e; tombstone = isTombstone L (e .kind); length = sizeOf L e }
+
+unfoldable pub nextOf : Layout → Found → Next
+nextOf L (entry e) = N.Entry (headerOf L e)
+nextOf L end = N.Stop
+nextOf L damage = N.Stop
+
+-- ---- an object of a key
+
+-- an entry that is an object of the key
+unfoldable pub isObject : Key → Header → Bool
+isObject k h = both (not (h .tombstone)) (both (eqb (k .table) (h .key .table)) (eqb (k .key) (h .key .key)))
+
+-- whether one of a segment's entries is
+unfoldable pub objectIn : Layout → Key → List Item → Bool
+objectIn L k [] = false
+objectIn L k (x ∷ xs) = either (isObject k (headerOf L (x .entry))) (objectIn L k xs)
+
+-- A log slot outside the victims holds an object of that key.
+abbrev pub slotHolds : Layout → List ℕ → Split → Key → ℕ → Bool
+slotHolds L area split k i = both (named (split .outside) i) (objectIn L k (slotItems L area (split .size) i))
+
+abbrev pub objectBelow : Layout → List ℕ → Split → Key → Bool
+objectBelow L area split k = anyBelow (slotHolds L area split k) (split .slots)

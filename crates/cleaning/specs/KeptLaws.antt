@@ -1,0 +1,156 @@
+-- What is kept, at each test of the code.
+use Prim.Native.Nat.{ℕ, zero, suc, _+_, _*_, _≤_, _<_}
+use mathlib.Core.Path.{_≡_, refl, sym, _∙_, ap}
+use mathlib.Core.Bool.{Bool, true, false, not}
+use mathlib.Core.List.{List, [], _∷_, _++_}
+use native.Mathlib.Decide.{ℕ-discrete}
+use native.Mathlib.Numerals.{add-one}
+use native.Mathlib.Omega.{arith}
+use lib.Dec.{eqb}
+use lib.ListN.{length, getD, take, drop, length-append, length-take}
+use Rattle.segment.specs.Choice.{pick, pick-true, pick-false, both, both-false-left, either}
+use Rattle.segment.specs.Layout.{Layout, digestSize}
+use Rattle.segment.specs.Packed.{length-part}
+use Rattle.segment.specs.declared.Key.{Key}
+use Rattle.slot_map.specs.Bit.{named}
+use Rattle.model.specs.Log.{Item, Placed, segmentOf, placedIn}
+use Rattle.index.specs.Build.{entriesAt}
+use Rattle.index.specs.Search.{searchFor}
+use Rattle.index.specs.declared.Found.{Found}
+use Rattle.laws.specs.Scans.{itemAt}
+use Rattle.cleaning.specs.Entries.{headerOf, slotItems, objectBelow}
+use Rattle.cleaning.specs.EntriesLaws.{Meets, entries-meets}
+use Rattle.cleaning.specs.Kept.{cellIs, latestAt, keptAt, keptTest, keptEntry, gathered, keptSlot, keptPart, keptBelow}
+use Rattle.cleaning.specs.declared.Split.{Split}
+use Rattle.cleaning.specs.declared.Header.{Header}
+
+-- ---- the place that the index has for a key
+
+module _ (L : Layout) (area cells : List ℕ) (k : Key) (place : ℕ) where
+  pub latest-cell : (i : ℕ) → searchFor L area cells k ≡ Found.At i → eqb (getD cells i 0) (place + 1) ≡ latestAt L area cells k place
+  unfolding cellIs
+  latest-cell i e = sym (ap (cellIs cells place) e)
+
+  pub latest-free : (i : ℕ) → searchFor L area cells k ≡ Found.Free i → false ≡ latestAt L area cells k place
+  unfolding cellIs
+  latest-free i e = sym (ap (cellIs cells place) e)
+
+  pub latest-full : searchFor L area cells k ≡ Found.Full → false ≡ latestAt L area cells k place
+  unfolding cellIs
+  latest-full e = sym (ap (cellIs cells place) e)
+
+module _ (L : Layout) (area cells : List ℕ) (split : Split) where
+  -- ---- one entry
+
+  module _ (k : Key) (tombstone : Bool) (place : ℕ) where
+    pub kept-older : latestAt L area cells k place ≡ false → false ≡ keptAt L area cells split k tombstone place
+    unfolding keptAt
+    kept-older e = sym (both-false-left (latestAt L area cells k place) _ e)
+
+    pub kept-object : latestAt L area cells k place ≡ true → tombstone ≡ false → true ≡ keptAt L area cells split k tombstone place
+    unfolding keptAt both either
+    kept-object e t = rw (e, t)
+
+    pub kept-tombstone : latestAt L area cells k place ≡ true → tombstone ≡ true → objectBelow L area split k ≡ keptAt L area cells split k tombstone place
+    unfolding keptAt both either
+    kept-tombstone e t = rw (e, t)
+
+  module _ (h : Header) (place : ℕ) where
+    pub entry-dropped : keptTest L area cells split h place ≡ false → keptEntry L area cells split h place ≡ []
+    entry-dropped e = pick-false (keptTest L area cells split h place) (take (h .length) (drop place area)) [] e
+
+    pub entry-kept : keptTest L area cells split h place ≡ true → keptEntry L area cells split h place ≡ take (h .length) (drop place area)
+    entry-kept e = pick-true (keptTest L area cells split h place) (take (h .length) (drop place area)) [] e
+
+    pub length-dropped : keptTest L area cells split h place ≡ false → 0 ≡ length (keptEntry L area cells split h place)
+    length-dropped e = sym (ap length (entry-dropped e))
+
+    pub length-kept : place + h .length ≤ length area → keptTest L area cells split h place ≡ true →
+        h .length ≡ length (keptEntry L area cells split h place)
+    length-kept fits e = sym (ap length (entry-kept e) ∙ length-part (h .length) place area fits)
+
+    pub entry-short : length (keptEntry L area cells split h place) ≤ h .length
+    entry-short = go (keptTest L area cells split h place) refl
+      where
+        go : (t : Bool) → keptTest L area cells split h place ≡ t → length (keptEntry L area cells split h place) ≤ h .length
+        go true e = rw (entry-kept e) (simp length-take (omega arith))
+        go false e = rw (entry-dropped e) (omega arith)
+
+  -- ---- a turn of the loop over a segment
+
+  -- what is kept of slot i, of the bytes s, from an offset on
+  abbrev pub keptFrom : ℕ → List ℕ → ℕ → List ℕ
+  keptFrom i s at = gathered L area cells split (placedIn i (entriesAt L s at))
+
+  module _ (i : ℕ) (s : List ℕ) where
+    pub from-whole : s ≡ segmentOf area (split .size) i → keptFrom i s (digestSize L) ≡ keptSlot L area cells split i
+    from-whole e = ap (λ (t : List ℕ). keptFrom i t (digestSize L)) e
+
+    pub measured-whole : s ≡ segmentOf area (split .size) i → 0 + length (keptFrom i s (digestSize L)) ≡ length (keptSlot L area cells split i)
+    measured-whole e = omega (arith, ap length (from-whole e))
+
+    module _ (at : ℕ) where
+      pub from-stop : entriesAt L s at ≡ [] → keptFrom i s at ≡ []
+      unfolding gathered placedIn
+      from-stop e = ap (λ (is : List Item). gathered L area cells split (placedIn i is)) e
+
+      pub from-entry : {h : Header} → Meets L s at h →
+          keptFrom i s at ≡ keptEntry L area cells split h (i * split .size + at) ++ keptFrom i s (at + h .length)
+      unfolding gathered placedIn
+      from-entry {h} m =
+          ap (λ (is : List Item). gathered L area cells split (placedIn i is)) (entries-meets L s at m)
+          ∙ ap (λ (g : Header). keptEntry L area cells split g (i * split .size + at) ++ keptFrom i s (at + h .length)) (m .its)
+
+      -- the lengths: total is that of what came before
+      module _ (total whole : ℕ) (so-far : total + length (keptFrom i s at) ≡ whole) where
+        pub measured-stop : entriesAt L s at ≡ [] → total ≡ whole
+        measured-stop e = omega (arith, so-far, ap length (from-stop e))
+
+        pub measured-entry : {h : Header} → Meets L s at h → (n : ℕ) → n ≡ length (keptEntry L area cells split h (i * split .size + at)) →
+            total + n + length (keptFrom i s (at + h .length)) ≡ whole
+        measured-entry {h} m n e =
+            omega (
+              arith,
+              so-far,
+              ap length (from-entry m),
+              length-append (keptEntry L area cells split h (i * split .size + at)) (keptFrom i s (at + h .length)),
+            )
+
+  -- ---- the slots
+
+  module _ (i : ℕ) where
+    pub part-victim : named (split .victims) i ≡ true → keptSlot L area cells split i ≡ keptPart L area cells split i
+    unfolding keptPart
+    part-victim e = sym (pick-true (named (split .victims) i) (keptSlot L area cells split i) [] e)
+
+    pub part-other : named (split .victims) i ≡ false → keptPart L area cells split i ≡ []
+    unfolding keptPart
+    part-other e = pick-false (named (split .victims) i) (keptSlot L area cells split i) [] e
+
+    pub below-more : keptBelow L area cells split (i + 1) ≡ keptBelow L area cells split i ++ keptPart L area cells split i
+    unfolding keptBelow
+    below-more = ap (keptBelow L area cells split) (add-one i)
+
+    pub below-length : length (keptBelow L area cells split (i + 1)) ≡ length (keptBelow L area cells split i) + length (keptPart L area cells split i)
+    below-length = ap length below-more ∙ length-append (keptBelow L area cells split i) (keptPart L area cells split i)
+
+  pub below-none : keptBelow L area cells split 0 ≡ []
+  unfolding keptBelow
+  below-none = refl
+
+  -- more slots, more bytes
+  pub below-longer : (i n : ℕ) → i ≤ n → length (keptBelow L area cells split i) ≤ length (keptBelow L area cells split n)
+  unfolding keptBelow
+  below-longer i zero h = let e : i ≡ 0 = omega arith in rw e (omega arith)
+  below-longer i (suc n) h = go (ℕ-discrete i (suc n)) (λ l. below-longer i n l)
+    where
+      go : Dec (i ≡ suc n) → (i ≤ n → length (keptBelow L area cells split i) ≤ length (keptBelow L area cells split n)) →
+          length (keptBelow L area cells split i) ≤ length (keptBelow L area cells split n ++ keptPart L area cells split n)
+      go (yes e) ih = rw e (omega arith)
+      go (no ne) ih =
+          omega (arith, ih (omega arith), length-append (keptBelow L area cells split n) (keptPart L area cells split n))
+
+  -- there is room for one slot more
+  pub below-room : (from room i n : ℕ) → i < n → from + length (keptBelow L area cells split n) ≤ room →
+      from + length (keptBelow L area cells split i) + length (keptPart L area cells split i) ≤ room
+  below-room from room i n h fits = omega (arith, below-length i, below-longer (i + 1) n (omega arith))

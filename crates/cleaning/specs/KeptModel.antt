@@ -1,0 +1,269 @@
+-- On a genuine store the bytes that the code gathers are those of the entries that the model keeps.
+use Prim.Native.Nat.{ℕ, zero, suc, _+_, _*_, _≤_, _<_}
+use mathlib.Core.Path.{_≡_, refl, sym, _∙_, ap, subst}
+use mathlib.Core.Bool.{Bool, true, false, not}
+use mathlib.Core.Option.{Option, none, some}
+use mathlib.Core.List.{List, [], _∷_, _++_, append-assoc, List·Memᴰ·head, List·Memᴰ·tail, List·Memᴰ·not-nil}
+use native.Mathlib.Decide.{ℕ-discrete}
+use native.Mathlib.Omega.{arith}
+use lib.Dec.{eqb, ltb}
+use lib.ListN.{length, getD, take, drop}
+use borrow.Author.Tests.{eq-eqb, ne-eqb, eqb-true, eqb-false, ltb-true, ltb-false}
+use Rattle.word.specs.Number.{Bytes}
+use Rattle.word.specs.Laws.{bytes-take, bytes-drop}
+use Rattle.segment.specs.Choice.{pick, pick-true, pick-false, both, either}
+use Rattle.segment.specs.Layout.{Layout, isTombstone, digestSize}
+use Rattle.segment.specs.Packed.{field-at}
+use Rattle.segment.specs.Entry.{Entry, entry, entryAt, encoded, sizeOf, keyOf}
+use Rattle.segment.specs.EntryLaws.{found-fits, found-stands}
+use Rattle.slot_map.specs.Bit.{bit, named, within, less}
+use Rattle.slot_map.specs.BitLaws.{bit-le, within-le, named-true, set-named}
+use Rattle.record.specs.Answers.{withPending}
+use Rattle.record.specs.declared.Pending.the-variants.{Idle}
+use Rattle.record.specs.declared.Store.{Store}
+use Rattle.model.specs.Log.{View, Item, Placed, placeOf, segmentOf, viewsOf, scan, itemsOf, placedIn, logOf, latest}
+use Rattle.model.specs.Operations.{logNow, isVersion, isHighest, objectOutside, isKept, keptOf, kept, allEncoded}
+use Rattle.model.specs.Promises.{Genuine}
+use Rattle.laws.specs.Members.{clash, In, first, Within}
+use Rattle.laws.specs.Latest.{Apart, own-key, latest-some, latest-none}
+use Rattle.laws.specs.LogLaws.{AllScanned, partOf, part-picked, part-passed, itemOf, mem-placed, in-log, log-in, scan-whole}
+use Rattle.laws.specs.Scans.{scan-scans, scans-found}
+use Rattle.laws.specs.Stores.{slots-apart, slot-inside, length-segment}
+use Rattle.laws.specs.RecoverLaws.{recovered-case, recovered-apart, recovered-lent}
+use Rattle.index.specs.Search.{searchFor, cellHas}
+use Rattle.index.specs.Finds.{search-known}
+use Rattle.index.specs.Area.{AllIn, area-picks}
+use Rattle.index.specs.BuildLaws.{log-in-area}
+use Rattle.cleaning.specs.Entries.{headerOf, slotItems, objectBelow}
+use Rattle.cleaning.specs.Kept.{cellIs, latestAt, keptAt, keptTest, keptEntry, gathered, keptSlot, keptPart, keptBelow, keptBytes}
+use Rattle.cleaning.specs.KeptLaws.{part-victim, part-other}
+use Rattle.cleaning.specs.Outside.{slot-items, object-same}
+use Rattle.cleaning.specs.declared.Split.{Split}
+
+-- the log's slots parted by the victims
+abbrev pub splitOf : Store → ℕ → Split
+splitOf r victims = record { slots = r .slots; size = r .size; victims = victims; outside = less (r .map) victims }
+
+-- ---- what is kept, and its bytes, part by part
+
+module _ (L : Layout) where
+  encoded-append : (a b : List Entry) → allEncoded L (a ++ b) ≡ allEncoded L a ++ allEncoded L b
+  unfolding allEncoded
+  encoded-append [] b = refl
+  encoded-append (x ∷ a) b = ap (λ (l : List ℕ). encoded L x ++ l) (encoded-append a b) ∙ sym (append-assoc (encoded L x) (allEncoded L a) (allEncoded L b))
+
+  module _ (victims : ℕ) (log : List Placed) where
+    kept-front : (x : Placed) (xs : List Placed) → isKept L victims log x ≡ true → keptOf L victims log (x ∷ xs) ≡ x .entry ∷ keptOf L victims log xs
+    unfolding keptOf
+    kept-front x xs e = pick-true (isKept L victims log x) (x .entry ∷ keptOf L victims log xs) (keptOf L victims log xs) e
+
+    kept-behind : (x : Placed) (xs : List Placed) → isKept L victims log x ≡ false → keptOf L victims log (x ∷ xs) ≡ keptOf L victims log xs
+    unfolding keptOf
+    kept-behind x xs e = pick-false (isKept L victims log x) (x .entry ∷ keptOf L victims log xs) (keptOf L victims log xs) e
+
+    kept-append : (a b : List Placed) → keptOf L victims log (a ++ b) ≡ keptOf L victims log a ++ keptOf L victims log b
+    unfolding keptOf
+    kept-append [] b = refl
+    kept-append (x ∷ a) b = go (isKept L victims log x) refl (kept-append a b)
+      where
+        go : (t : Bool) → isKept L victims log x ≡ t → keptOf L victims log (a ++ b) ≡ keptOf L victims log a ++ keptOf L victims log b →
+            keptOf L victims log (x ∷ (a ++ b)) ≡ keptOf L victims log (x ∷ a) ++ keptOf L victims log b
+        go true e ih =
+            kept-front x (a ++ b) e
+            ∙ ap (λ (l : List Entry). x .entry ∷ l) ih
+            ∙ ap (λ (l : List Entry). l ++ keptOf L victims log b) (sym (kept-front x a e))
+        go false e ih = kept-behind x (a ++ b) e ∙ ih ∙ ap (λ (l : List Entry). l ++ keptOf L victims log b) (sym (kept-behind x a e))
+
+    -- of slots that are no victims nothing is kept
+    kept-none : (xs : List Placed) → ((x : Placed) → In x xs → named victims (x .slot) ≡ false) → keptOf L victims log xs ≡ []
+    unfolding keptOf both
+    kept-none [] f = refl
+    kept-none (x ∷ xs) f = kept-behind x xs (rw (f x first)) ∙ kept-none xs (λ y m. f y (List·Memᴰ·tail m))
+
+-- ---- a genuine store
+
+module _ (L : Layout) (area cells : List ℕ) (r : Store) (g : Genuine L area r cells) where
+  abbrev v : ℕ → View
+  v = viewsOf L area (r .size)
+
+  abbrev log : List Placed
+  log = logNow L area r
+
+  scans : AllScanned v (named (r .map)) (r .slots)
+  scans =
+      recovered-case L (r .slots) (r .size) (r .cells) area (λ (k : Store). AllScanned v (named (k .map)) (r .slots)) (λ h l f. f .scans)
+      (withPending r Idle) (g .recovers)
+
+  apart : Apart log
+  apart = recovered-apart L (r .slots) (r .size) (r .cells) area (withPending r Idle) (g .recovers)
+
+  long : length area ≡ r .slots * r .size
+  long = recovered-lent L (r .slots) (r .size) (r .cells) area (withPending r Idle) (g .recovers) .long
+
+  all-in : AllIn L area (r .size) log
+  all-in = log-in-area L area (r .size) (named (r .map)) (r .slots) scans
+
+  -- ---- an entry of the log, and its place
+
+  module _ (x : Placed) (m : In x log) where
+    below : x .slot < r .slots
+    below = log-in v (named (r .map)) (r .slots) x m .below
+
+    found : entryAt L (segmentOf area (r .size) (x .slot)) (x .offset) ≡ entry (x .entry)
+    found =
+        let w = log-in v (named (r .map)) (r .slots) x m in
+        let s : List ℕ = segmentOf area (r .size) (x .slot) in
+        scans-found (scan-scans L s (scan-whole (scan L s) (scans (x .slot) (w .below) (w .picked)))) (w .item)
+
+    inside : x .offset + sizeOf L (x .entry) ≤ r .size
+    inside =
+        omega (
+          arith,
+          found-fits L (segmentOf area (r .size) (x .slot)) (x .offset) (x .entry) found,
+          length-segment area (r .size) (x .slot) (slot-inside area (r .slots) (r .size) (x .slot) long below),
+        )
+
+    -- its own bytes in the area
+    own-part : Bytes area → take (sizeOf L (x .entry)) (drop (placeOf (r .size) x) area) ≡ encoded L (x .entry)
+    own-part bytes =
+        sym (field-at (sizeOf L (x .entry)) (x .offset) (r .size) (x .slot * r .size) area inside)
+        ∙ found-stands L (segmentOf area (r .size) (x .slot)) (x .offset) (x .entry) found (bytes-take (r .size) _ (bytes-drop (x .slot * r .size) area bytes)) .same
+
+  -- entries of one place are one
+  place-one : (x y : Placed) → In x log → In y log → placeOf (r .size) x ≡ placeOf (r .size) y → x ≡ y
+  place-one x y mx my e = go (ℕ-discrete (x .slot) (y .slot))
+    where
+      low : x .slot < y .slot → ⊥
+      low h = omega (arith, slots-apart (r .size) h, inside x mx)
+
+      high : y .slot < x .slot → ⊥
+      high h = omega (arith, slots-apart (r .size) h, inside y my)
+
+      go : Dec (x .slot ≡ y .slot) → x ≡ y
+      go (yes s) =
+          let o : x .offset ≡ y .offset = omega (arith, ap (λ (k : ℕ). k * r .size) s) in
+          let there : entryAt L (segmentOf area (r .size) (x .slot)) (x .offset) ≡ entryAt L (segmentOf area (r .size) (y .slot)) (y .offset) =
+          λ i. entryAt L (segmentOf area (r .size) (s i)) (o i) in
+          let both : entry (x .entry) ≡ entry (y .entry) = sym (found x mx) ∙ there ∙ found y my in
+          let own : x .entry ≡ y .entry = cc in
+          λ i. record { slot = s i; offset = o i; entry = own i }
+      go (no n) = absurd (apart-slots (ltb (x .slot) (y .slot)) refl)
+        where
+          apart-slots : (t : Bool) → ltb (x .slot) (y .slot) ≡ t → ⊥
+          apart-slots true p = low (ltb-true (x .slot) (y .slot) p)
+          apart-slots false p = high (omega (arith, ltb-false (x .slot) (y .slot) p))
+
+  -- ---- the index has the place of an entry exactly if it is its key's highest version
+
+  module _ (x : Placed) (m : In x log) where
+    pub latest-highest : latestAt L area cells (keyOf (x .entry)) (placeOf (r .size) x) ≡ isHighest log (x .entry)
+    unfolding isVersion cellIs
+    latest-highest = go (latest log (keyOf (x .entry))) refl
+      where
+        tests : (y : Placed) → In y log → (t : Bool) → eqb (y .entry .version) (x .entry .version) ≡ t →
+            eqb (placeOf (r .size) y + 1) (placeOf (r .size) x + 1) ≡ t
+        tests y n true e =
+            let same : y ≡ x = apart y x n m (eqb-true (y .entry .version) (x .entry .version) e) in
+            eq-eqb (placeOf (r .size) y + 1) (placeOf (r .size) x + 1) (ap (λ (z : Placed). placeOf (r .size) z + 1) same)
+        tests y n false e =
+            ne-eqb (placeOf (r .size) y + 1) (placeOf (r .size) x + 1)
+            (λ p.
+            let same : y ≡ x = place-one y x n m (omega arith) in
+            eqb-false (y .entry .version) (x .entry .version) e (ap (λ (z : Placed). z .entry .version) same))
+
+        go : (o : Option Placed) → latest log (keyOf (x .entry)) ≡ o →
+            latestAt L area cells (keyOf (x .entry)) (placeOf (r .size) x) ≡ isVersion o (x .entry .version)
+        go none e = absurd (clash _ (own-key (x .entry)) (latest-none log (keyOf (x .entry)) e x m))
+        go (some y) e =
+            let (c, s) =
+            search-known (r .size) log cells (g .rule) (cellHas L area (keyOf (x .entry))) (keyOf (x .entry)) (area-picks L area (r .size) log (keyOf (x .entry)) all-in) y e in
+            ap (cellIs cells (placeOf (r .size) x)) s
+            ∙ ap (λ (k : ℕ). eqb k (placeOf (r .size) x + 1)) (c .holds)
+            ∙ tests y (latest-some log (keyOf (x .entry)) y e .member) (eqb (y .entry .version) (x .entry .version)) refl
+
+  -- ---- a cleaning
+
+  module _ (victims : ℕ) (sub : within victims (r .map) ≡ true) where
+    kept-same : (x : Placed) → In x log → named victims (x .slot) ≡ true →
+        keptTest L area cells (splitOf r victims) (headerOf L (x .entry)) (placeOf (r .size) x) ≡ isKept L victims log x
+    unfolding keptAt both
+    kept-same x m e =
+        rw (e, latest-highest x m, object-same L area (r .size) (r .map) victims (r .slots) scans (keyOf (x .entry)))
+
+    module _ (bytes : Bytes area) where
+      gathered-kept : (xs : List Placed) → Within xs log → ((x : Placed) → In x xs → named victims (x .slot) ≡ true) →
+          gathered L area cells (splitOf r victims) xs ≡ allEncoded L (keptOf L victims log xs)
+      unfolding gathered allEncoded keptOf
+      gathered-kept [] w f = refl
+      gathered-kept (x ∷ xs) w f = go (isKept L victims log x) refl (gathered-kept xs (λ y m. w y (List·Memᴰ·tail m)) (λ y m. f y (List·Memᴰ·tail m)))
+        where
+          entry-part : List ℕ
+          entry-part = keptEntry L area cells (splitOf r victims) (headerOf L (x .entry)) (placeOf (r .size) x)
+
+          same : (t : Bool) → isKept L victims log x ≡ t → keptTest L area cells (splitOf r victims) (headerOf L (x .entry)) (placeOf (r .size) x) ≡ t
+          same t e = kept-same x (w x first) (f x first) ∙ e
+
+          go : (t : Bool) → isKept L victims log x ≡ t → gathered L area cells (splitOf r victims) xs ≡ allEncoded L (keptOf L victims log xs) →
+              entry-part ++ gathered L area cells (splitOf r victims) xs ≡ allEncoded L (keptOf L victims log (x ∷ xs))
+          go true e ih =
+              ap (λ (l : List ℕ). l ++ gathered L area cells (splitOf r victims) xs) (pick-true _ _ _ (same true e) ∙ own-part x (w x first) bytes)
+              ∙ ap (λ (l : List ℕ). encoded L (x .entry) ++ l) ih
+              ∙ ap (allEncoded L) (sym (kept-front L victims log x xs e))
+          go false e ih =
+              ap (λ (l : List ℕ). l ++ gathered L area cells (splitOf r victims) xs) (pick-false _ _ _ (same false e))
+              ∙ ih
+              ∙ ap (allEncoded L) (sym (kept-behind L victims log x xs e))
+
+      -- the part of the log that one slot is
+      part-in : (i : ℕ) → i < r .slots → Within (partOf v (named (r .map)) i) log
+      part-in i h x m = go (named (r .map) i) refl
+        where
+          go : (t : Bool) → named (r .map) i ≡ t → In x log
+          go true e =
+              let w = mem-placed i x (itemsOf (v i .scan)) (rw (part-picked v (named (r .map)) i e) at m) in
+              in-log v (named (r .map)) (r .slots) x
+              (record {
+                below = omega (arith, w .0);
+                picked = ap (named (r .map)) (w .0) ∙ e;
+                item = subst (λ (j : ℕ). In (itemOf x) (itemsOf (v j .scan))) (sym (w .0)) (w .1);
+              })
+          go false e = absurd (List·Memᴰ·not-nil (rw (part-passed v (named (r .map)) i e) at m))
+
+      part-slot : (i : ℕ) (x : Placed) → In x (partOf v (named (r .map)) i) → x .slot ≡ i
+      part-slot i x m = go (named (r .map) i) refl
+        where
+          go : (t : Bool) → named (r .map) i ≡ t → x .slot ≡ i
+          go true e = mem-placed i x (itemsOf (v i .scan)) (rw (part-picked v (named (r .map)) i e) at m) .0
+          go false e = absurd (List·Memᴰ·not-nil (rw (part-passed v (named (r .map)) i e) at m))
+
+      part-kept : (i : ℕ) → i < r .slots →
+          keptPart L area cells (splitOf r victims) i ≡ allEncoded L (keptOf L victims log (partOf v (named (r .map)) i))
+      unfolding allEncoded
+      part-kept i h = go (named victims i) refl
+        where
+          go : (t : Bool) → named victims i ≡ t →
+              keptPart L area cells (splitOf r victims) i ≡ allEncoded L (keptOf L victims log (partOf v (named (r .map)) i))
+          go true e =
+              let in-map : named (r .map) i ≡ true =
+              set-named (r .map) i (omega (arith, within-le victims (r .map) sub i, named-true victims i e, bit-le (r .map) i)) in
+              let whole : placedIn i (slotItems L area (r .size) i) ≡ partOf v (named (r .map)) i =
+              ap (placedIn i) (slot-items L area (r .size) (r .map) (r .slots) scans i h in-map)
+              ∙ sym (part-picked v (named (r .map)) i in-map) in
+              sym (part-victim L area cells (splitOf r victims) i e)
+              ∙ ap (gathered L area cells (splitOf r victims)) whole
+              ∙ gathered-kept (partOf v (named (r .map)) i) (part-in i h) (λ x m. ap (named victims) (part-slot i x m) ∙ e)
+          go false e =
+              part-other L area cells (splitOf r victims) i e
+              ∙ sym (ap (allEncoded L) (kept-none L victims log (partOf v (named (r .map)) i) (λ x m. ap (named victims) (part-slot i x m) ∙ e)))
+
+      below-kept : (n : ℕ) → n ≤ r .slots →
+          keptBelow L area cells (splitOf r victims) n ≡ allEncoded L (keptOf L victims log (logOf v (named (r .map)) n))
+      unfolding keptBelow logOf keptOf allEncoded
+      below-kept zero h = refl
+      below-kept (suc n) h =
+          (λ i. below-kept n (omega arith) i ++ part-kept n h i)
+          ∙ sym (encoded-append L (keptOf L victims log (logOf v (named (r .map)) n)) (keptOf L victims log (partOf v (named (r .map)) n)))
+          ∙ ap (allEncoded L) (sym (kept-append L victims log (logOf v (named (r .map)) n) (partOf v (named (r .map)) n)))
+
+      pub bytes-kept : keptBytes L area cells (splitOf r victims) ≡ allEncoded L (kept L victims log)
+      bytes-kept = below-kept (r .slots) (omega arith)

@@ -1,0 +1,9 @@
+pub mod Entries
+pub mod EntriesLaws
+pub mod Kept
+pub mod KeptLaws
+pub mod Outside
+pub mod KeptModel
+pub mod Begun
+pub mod CleanLaws
+pub mod Copied

@@ -1,0 +1,138 @@
+-- The test for an object outside the victims, as the code goes through the slots, is the model's on an undamaged log.
+use Prim.Native.Nat.{ℕ, zero, suc, _-_, _<_}
+use mathlib.Core.Path.{_≡_, refl, sym, _∙_, ap, subst}
+use mathlib.Core.Bool.{Bool, true, false, not}
+use mathlib.Core.Logic.{_⊎_, inl, inr}
+use mathlib.Core.List.{List, [], _∷_, List·Memᴰ·head, List·Memᴰ·tail}
+use native.Mathlib.Omega.{arith}
+use lib.Dec.{eqb}
+use borrow.Author.Tests.{eq-eqb, ne-eqb}
+use Rattle.segment.specs.Choice.{both, both-left, both-right, both-true, both-false-left, both-false-right, either, either-false, either-false-left, either-false-right}
+use Rattle.segment.specs.Layout.{Layout, isTombstone, digestSize}
+use Rattle.segment.specs.declared.Key.{Key}
+use Rattle.slot_map.specs.Bit.{bit, named, less}
+use Rattle.slot_map.specs.BitLaws.{bit-cases, bit-less}
+use Rattle.model.specs.Log.{Item, Placed, segmentOf, viewsOf, scan, itemsOf, logOf, sameKey}
+use Rattle.model.specs.Operations.{objectOutside}
+use Rattle.laws.specs.Members.{fail-together, clash, In, first}
+use Rattle.laws.specs.LogLaws.{AllScanned, InLog, itemOf, placedAt, in-log, log-in, none-below, below-none}
+use Rattle.index.specs.Entries.{entries-scan}
+use Rattle.cleaning.specs.Entries.{headerOf, slotItems, isObject, objectIn, slotHolds, objectBelow}
+use Rattle.cleaning.specs.declared.Split.{Split}
+
+-- ---- no object of a key among entries
+
+module _ (L : Layout) (k : Key) where
+  pub items-none : (is : List Item) → ((y : Item) → In y is → isObject k (headerOf L (y .entry)) ≡ false) → objectIn L k is ≡ false
+  unfolding objectIn
+  items-none [] f = refl
+  items-none (x ∷ xs) f =
+      either-false (isObject k (headerOf L (x .entry))) (objectIn L k xs) (f x first) (items-none xs (λ y m. f y (List·Memᴰ·tail m)))
+
+  pub none-items : (is : List Item) → objectIn L k is ≡ false → (y : Item) → In y is → isObject k (headerOf L (y .entry)) ≡ false
+  unfolding objectIn
+  none-items (x ∷ xs) e y (List·Memᴰ·head q) =
+      ap (λ (z : Item). isObject k (headerOf L (z .entry))) q ∙ either-false-left (isObject k (headerOf L (x .entry))) (objectIn L k xs) e
+  none-items (x ∷ xs) e y (List·Memᴰ·tail m) =
+      none-items xs (either-false-right (isObject k (headerOf L (x .entry))) (objectIn L k xs) e) y m
+
+  module _ (victims : ℕ) where
+    -- the model's test of one entry
+    abbrev seen : Placed → Bool
+    seen x = both (both (not (named victims (x .slot))) (sameKey k (x .entry))) (not (isTombstone L (x .entry .kind)))
+
+    outside-none : (log : List Placed) → ((x : Placed) → In x log → seen x ≡ false) → objectOutside L victims log k ≡ false
+    unfolding objectOutside
+    outside-none [] f = refl
+    outside-none (x ∷ xs) f = either-false (seen x) (objectOutside L victims xs k) (f x first) (outside-none xs (λ y m. f y (List·Memᴰ·tail m)))
+
+    none-outside : (log : List Placed) → objectOutside L victims log k ≡ false → (x : Placed) → In x log → seen x ≡ false
+    unfolding objectOutside
+    none-outside (y ∷ ys) e x (List·Memᴰ·head q) = ap seen q ∙ either-false-left (seen y) (objectOutside L victims ys k) e
+    none-outside (y ∷ ys) e x (List·Memᴰ·tail m) = none-outside ys (either-false-right (seen y) (objectOutside L victims ys k) e) x m
+
+    -- the two tests of an entry agree outside the victims
+    seen-victim : (x : Placed) → named victims (x .slot) ≡ true → seen x ≡ false
+    seen-victim x e =
+        both-false-left (both (not (named victims (x .slot))) (sameKey k (x .entry))) _ (both-false-left (not (named victims (x .slot))) _ (ap not e))
+
+    seen-object : (x : Placed) → named victims (x .slot) ≡ false → seen x ≡ isObject k (headerOf L (x .entry))
+    unfolding isObject sameKey both
+    seen-object x e =
+        rw e
+        (go (eqb (k .table) (x .entry .table)) (eqb (k .key) (x .entry .key)) (not (isTombstone L (x .entry .kind))))
+      where
+        go : (t j n : Bool) → both (both true (both t j)) n ≡ both n (both t j)
+        go true true true = refl
+        go true true false = refl
+        go true false true = refl
+        go true false false = refl
+        go false j true = refl
+        go false j false = refl
+
+-- ---- the slots outside
+
+both-rest : {b : Bool} (t : Bool) → t ≡ true → both t b ≡ false → b ≡ false
+unfolding both
+both-rest true p q = q
+both-rest false p q = absurd (clash false p refl)
+
+pub outside-named : (map victims i : ℕ) → named (less map victims) i ≡ both (named map i) (not (named victims i))
+unfolding both
+outside-named map victims i = go (bit-cases map i) (bit-cases victims i)
+  where
+    go : (bit map i ≡ 0) ⊎ (bit map i ≡ 1) → (bit victims i ≡ 0) ⊎ (bit victims i ≡ 1) →
+        eqb (bit (less map victims) i) 1 ≡ both (eqb (bit map i) 1) (not (eqb (bit victims i) 1))
+    go (inl m) (inl v) = rw (bit-less map victims i, m, v)
+    go (inl m) (inr v) = rw (bit-less map victims i, m, v)
+    go (inr m) (inl v) = rw (bit-less map victims i, m, v)
+    go (inr m) (inr v) = rw (bit-less map victims i, m, v)
+
+-- ---- the two tests of a key agree
+
+pub slot-items : (L : Layout) (area : List ℕ) (S map n : ℕ) → AllScanned (viewsOf L area S) (named map) n → (i : ℕ) → i < n →
+    named map i ≡ true → slotItems L area S i ≡ itemsOf (scan L (segmentOf area S i))
+slot-items L area S map n scans i h e = entries-scan L (segmentOf area S i) (scans i h e)
+
+module _ (L : Layout) (area : List ℕ) (S map victims n : ℕ) (scans : AllScanned (viewsOf L area S) (named map) n) (k : Key) where
+  abbrev log : List Placed
+  log = logOf (viewsOf L area S) (named map) n
+
+  abbrev split : Split
+  split = record { slots = n; size = S; victims = victims; outside = less map victims }
+
+  to-model : objectBelow L area split k ≡ false → objectOutside L victims log k ≡ false
+  to-model e = outside-none L k victims log (λ x m. go x (log-in (viewsOf L area S) (named map) n x m) (named victims (x .slot)) refl)
+    where
+      go : (x : Placed) → InLog (viewsOf L area S) (named map) n x → (t : Bool) → named victims (x .slot) ≡ t → seen L k victims x ≡ false
+      go x w true v = seen-victim L k victims x v
+      go x w false v =
+          let out : named (less map victims) (x .slot) ≡ true =
+          outside-named map victims (x .slot) ∙ both-true (named map (x .slot)) (not (named victims (x .slot))) (w .picked) (ap not v) in
+          seen-object L k victims x v
+          ∙ none-items L k (slotItems L area S (x .slot)) (both-rest (named (less map victims) (x .slot)) out (below-none n (slotHolds L area split k) e (x .slot) (w .below))) (itemOf x)
+          (subst (λ (is : List Item). In (itemOf x) is) (sym (slot-items L area S map n scans (x .slot) (w .below) (w .picked))) (w .item))
+
+  from-model : objectOutside L victims log k ≡ false → objectBelow L area split k ≡ false
+  from-model e = none-below n (slotHolds L area split k) (λ i h. go i h (named (less map victims) i) refl)
+    where
+      go : (i : ℕ) → i < n → (t : Bool) → named (less map victims) i ≡ t → slotHolds L area split k i ≡ false
+      go i h false v = both-false-left (named (less map victims) i) _ v
+      go i h true v =
+          let both-parts : both (named map i) (not (named victims i)) ≡ true = sym (outside-named map victims i) ∙ v in
+          let in-map = both-left (named map i) (not (named victims i)) both-parts in
+          let no-victim = not-of (named victims i) (both-right (named map i) (not (named victims i)) both-parts) in
+          both-false-right (named (less map victims) i) _
+          (items-none L k (slotItems L area S i)
+          (λ y m.
+          sym (seen-object L k victims (placedAt i y) no-victim)
+          ∙ none-outside L k victims log e (placedAt i y)
+          (in-log (viewsOf L area S) (named map) n (placedAt i y)
+          (record { below = h; picked = in-map; item = subst (λ (is : List Item). In y is) (slot-items L area S map n scans i h in-map) m }))))
+        where
+          not-of : (t : Bool) → not t ≡ true → t ≡ false
+          not-of true p = sym p
+          not-of false p = refl
+
+  pub object-same : objectBelow L area split k ≡ objectOutside L victims log k
+  object-same = fail-together (objectBelow L area split k) (objectOutside L victims log k) to-model from-model

@@ -1,0 +1,116 @@
+// What is kept, copied to the work buffer.
+use crate::Header;
+use crate::Next;
+use crate::Split;
+use crate::entries::cut;
+use crate::entries::is_named;
+use crate::entries::next;
+use crate::kept::is_kept;
+use segment::layout::DIGEST_SIZE;
+use segment::writer::copy_into;
+ghost use Prim.Native.Nat.{ℕ, _+_, _≤_, _<_};
+ghost use mathlib.Core.Path.{_≡_};
+ghost use mathlib.Core.List.{List};
+ghost use lib.ListN.{length};
+ghost use lib.Seq.{sets};
+ghost use Rattle.segment.specs.Layout.{edition1};
+ghost use Rattle.cleaning.specs.Entries.{Shape};
+ghost use Rattle.cleaning.specs.Kept.{keptEntry, keptSlot, keptPart, keptBytes};
+ghost use Rattle.cleaning.specs.Copied.{Copied};
+
+// The bytes of an entry, if it is kept, from an offset of the work buffer on. Like the others here it answers the offset
+// behind what it copied.
+fn copy_entry(
+    area: &[u8],
+    cells: &[u32],
+    split: Split,
+    header: Header,
+    place: usize,
+    work: &mut [u8],
+    to: usize,
+) -> usize
+    requires { ⌜ Shape split (now area) ⌝ }
+    requires { ⌜ place + header .length ≤ length (now area) ⌝ }
+    requires { ⌜ place < 65536 ⌝ }
+    requires { ⌜ to + length (keptEntry edition1 (now area) (now cells) split header place) ≤ length (now work) ⌝ }
+    ensures { λ r.
+        ⌜
+        Copied (keptEntry edition1 (now (area .entry)) (now (cells .entry)) split header place) (now (work .entry)) to (now (work .exit)) r
+        ⌝ }
+{
+    if !is_kept(area, cells, split, header, place) {
+        return to;
+    }
+    let end = place + header.length;
+    copy_into(work, to, &area[place..end]);
+    to + header.length
+}
+
+// What is kept of a slot.
+fn copy_slot(
+    area: &[u8],
+    cells: &[u32],
+    split: Split,
+    slot: usize,
+    work: &mut [u8],
+    from: usize,
+) -> usize
+    requires { ⌜ Shape split (now area) ⌝ }
+    requires { ⌜ slot < split .slots ⌝ }
+    requires { ⌜ from + length (keptSlot edition1 (now area) (now cells) split slot) ≤ length (now work) ⌝ }
+    ensures { λ r.
+        ⌜ Copied (keptSlot edition1 (now (area .entry)) (now (cells .entry)) split slot) (now (work .entry)) from (now (work .exit)) r ⌝ }
+{
+    let size = split.size;
+    let s = cut(area, size, slot);
+    let mut at = DIGEST_SIZE;
+    let mut to = from;
+    loop {
+        match next(s, at) {
+            Next::Entry(header) => {
+                to = copy_entry(area, cells, split, header, slot * size + at, work, to);
+                at += header.length;
+            }
+            Next::Stop => {
+                return to;
+            }
+        }
+    }
+}
+
+// The same, nothing where the slot is no victim.
+fn copy_victim(
+    area: &[u8],
+    cells: &[u32],
+    split: Split,
+    slot: usize,
+    work: &mut [u8],
+    to: usize,
+) -> usize
+    requires { ⌜ Shape split (now area) ⌝ }
+    requires { ⌜ slot < split .slots ⌝ }
+    requires { ⌜ to + length (keptPart edition1 (now area) (now cells) split slot) ≤ length (now work) ⌝ }
+    ensures { λ r.
+        ⌜ Copied (keptPart edition1 (now (area .entry)) (now (cells .entry)) split slot) (now (work .entry)) to (now (work .exit)) r ⌝ }
+{
+    if !is_named(split.victims, slot) {
+        return to;
+    }
+    copy_slot(area, cells, split, slot, work, to)
+}
+
+// All that is kept, by ascending slot and then offset.
+pub fn copy_kept(area: &[u8], cells: &[u32], split: Split, work: &mut [u8], from: usize) -> usize
+    requires { ⌜ Shape split (now area) ⌝ }
+    requires { ⌜ from + length (keptBytes edition1 (now area) (now cells) split) ≤ length (now work) ⌝ }
+    ensures { λ r.
+        ⌜ Copied (keptBytes edition1 (now (area .entry)) (now (cells .entry)) split) (now (work .entry)) from (now (work .exit)) r ⌝ }
+{
+    let mut to = from;
+    let mut i = 0;
+    while i < split.slots {
+        to = copy_victim(area, cells, split, i, work, to);
+        i += 1;
+    }
+    to
+}

@@ -1,0 +1,112 @@
+// What is kept of the victims' slots, and how long it is.
+use crate::Header;
+use crate::Next;
+use crate::Split;
+use crate::entries::cut;
+use crate::entries::is_named;
+use crate::entries::next;
+use crate::outside::object_outside;
+use index::Found;
+use index::search::search;
+use segment::Key;
+use segment::layout::DIGEST_SIZE;
+ghost use Prim.Native.Nat.{_+_, _*_, _≤_, _<_};
+ghost use mathlib.Core.Path.{_≡_};
+ghost use lib.ListN.{length};
+ghost use Rattle.segment.specs.Layout.{edition1};
+ghost use Rattle.cleaning.specs.Entries.{Shape};
+ghost use Rattle.cleaning.specs.Kept.{latestAt, keptTest, keptEntry, keptSlot, keptPart, keptBytes};
+
+// Whether the index has this place for the key.
+fn is_latest(area: &[u8], cells: &[u32], key: Key, place: usize) -> bool
+    requires { ⌜ place < 65536 ⌝ }
+    ensures { λ r. ⌜ r ≡ latestAt edition1 (now (area .entry)) (now (cells .entry)) key place ⌝ }
+{
+    match search(area, cells, key) {
+        Found::At(i) => cells[i] as usize == place + 1,
+        Found::Free(_) => false,
+        Found::Full => false,
+    }
+}
+
+// Whether a victim's entry at a place is kept: it is its key's highest version, and a tombstone only where an object of the
+// key stands outside the victims.
+pub fn is_kept(area: &[u8], cells: &[u32], split: Split, header: Header, place: usize) -> bool
+    requires { ⌜ Shape split (now area) ⌝ }
+    requires { ⌜ place < 65536 ⌝ }
+    ensures { λ r. ⌜ r ≡ keptTest edition1 (now (area .entry)) (now (cells .entry)) split header place ⌝ }
+{
+    let key = header.key;
+    if !is_latest(area, cells, key, place) {
+        return false;
+    }
+    if !header.tombstone {
+        return true;
+    }
+    object_outside(area, split, key)
+}
+
+// The length of an entry that is kept, 0 of one that is not.
+fn kept_length(area: &[u8], cells: &[u32], split: Split, header: Header, place: usize) -> usize
+    requires { ⌜ Shape split (now area) ⌝ }
+    requires { ⌜ place + header .length ≤ length (now area) ⌝ }
+    requires { ⌜ place < 65536 ⌝ }
+    ensures { λ r. ⌜ r ≡ length (keptEntry edition1 (now (area .entry)) (now (cells .entry)) split header place) ⌝ }
+{
+    if is_kept(area, cells, split, header, place) {
+        return header.length;
+    }
+    0
+}
+
+// How long what is kept of a slot is.
+fn measure_slot(area: &[u8], cells: &[u32], split: Split, slot: usize) -> usize
+    requires { ⌜ Shape split (now area) ⌝ }
+    requires { ⌜ slot < split .slots ⌝ }
+    ensures { λ r. ⌜ (r ≡ length (keptSlot edition1 (now (area .entry)) (now (cells .entry)) split slot)) × (r ≤ 2048) ⌝ }
+{
+    let size = split.size;
+    let s = cut(area, size, slot);
+    let mut at = DIGEST_SIZE;
+    let mut total = 0;
+    loop {
+        match next(s, at) {
+            Next::Entry(header) => {
+                total += kept_length(area, cells, split, header, slot * size + at);
+                at += header.length;
+            }
+            Next::Stop => {
+                return total;
+            }
+        }
+    }
+}
+
+// The same, 0 where the slot is no victim.
+fn measure_victim(area: &[u8], cells: &[u32], split: Split, slot: usize) -> usize
+    requires { ⌜ Shape split (now area) ⌝ }
+    requires { ⌜ slot < split .slots ⌝ }
+    ensures { λ r. ⌜ (r ≡ length (keptPart edition1 (now (area .entry)) (now (cells .entry)) split slot)) × (r ≤ 2048) ⌝ }
+{
+    if !is_named(split.victims, slot) {
+        return 0;
+    }
+    measure_slot(area, cells, split, slot)
+}
+
+// How long all that is kept is.
+pub fn measure(area: &[u8], cells: &[u32], split: Split) -> usize
+    requires { ⌜ Shape split (now area) ⌝ }
+    ensures { λ r.
+        ⌜
+        (r ≡ length (keptBytes edition1 (now (area .entry)) (now (cells .entry)) split)) × (r ≤ 65536)
+        ⌝ }
+{
+    let mut total = 0;
+    let mut i = 0;
+    while i < split.slots {
+        total += measure_victim(area, cells, split, i);
+        i += 1;
+    }
+    total
+}
