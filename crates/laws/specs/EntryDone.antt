@@ -26,6 +26,7 @@ use Rattle.record.specs.declared.Store.{Store}
 use Rattle.model.specs.Log.{View, Item, Placed, scan, scanned, itemsOf, segmentOf, viewsOf, logOf, highest, versionShared, sameKey}
 use Rattle.model.specs.Recovery.{recovered}
 use Rattle.model.specs.Operations.{Operation, logNow, fitsHead, newSlot, newDigest, allEncoded, laidAppend, laidHead, laidEntry, commit, planOf, stored, appendedStore, headedStore, entryStore}
+use Rattle.laws.specs.Members.{Added}
 use Rattle.laws.specs.Versions.{below-highest}
 use Rattle.laws.specs.MapLaws.{valueAt, gives, Above, value-added}
 use Rattle.laws.specs.Stores.{length-stored, slot-inside}
@@ -58,75 +59,104 @@ module _ (L : Layout) (roomy : Roomy L) (area : List ℕ) (r : Store) (x : Entry
         below-highest (logNow L area r) (x .version) (subst⁻¹ (λ (v : ℕ). highest (logNow L area r) < v) (f .takes .version) (recovered-highest L (r .slots) (r .size) (r .cells) area r e))
 
     -- at the end of the head
-    appended : r .end + sizeOf L x ≤ r .size → Done (stored area (commit (r .size) (r .head) (r .end) (encoded L x))) (appendedStore L r (logNow L area r) x)
-    appended fits = (
-      appended-recovered L (r .slots) (r .size) (r .cells) area after r (itemAt (r .end) x) e views (length-stored area plan) (f .takes),
-      value-added (logNow L area r) (record { slot = r .head; offset = r .end; entry = x }) (logNow L after (appendedStore L r (logNow L area r) x))
-          (entered-added (logNow L area r) (record { slot = r .head; offset = r .end; entry = x }) (logNow L after (appendedStore L r (logNow L area r) x))
-          (appended-entered L (r .slots) (r .size) (r .cells) area after r (itemAt (r .end) x) e views)) (above (r .head) (r .end)) L
-          (recovered-apart L (r .slots) (r .size) (r .cells) area r e),
-    )
-      where
-        plan : List (ℕ × ℕ)
-        plan = commit (r .size) (r .head) (r .end) (encoded L x)
+    module _ (fits : r .end + sizeOf L x ≤ r .size) where
+      abbrev append-plan : List (ℕ × ℕ)
+      append-plan = commit (r .size) (r .head) (r .end) (encoded L x)
 
-        after : List ℕ
-        after = stored area plan
+      abbrev items : List Item
+      items = itemsOf (scan L (segmentOf area (r .size) (r .head)))
 
-        items : List Item
-        items = itemsOf (scan L (segmentOf area (r .size) (r .head)))
+      append-views :
+          Appends (viewsOf L area (r .size)) (viewsOf L (stored area append-plan) (r .size)) (r .slots) (r .head) (itemAt (r .end) x)
+          (r .end + sizeOf L x)
+      append-views =
+          record {
+            others =
+                λ i l o.
+                append-other L (r .slots) (r .size) (r .head) area items (r .end) x (facts .area-own) (facts .head-below)
+                (recovered-scan L (r .slots) (r .size) (r .cells) area r e) (f .formed) fits i o;
+            digest =
+                append-digest L (r .slots) (r .size) (r .head) area items (r .end) x (facts .area-own) (facts .head-below)
+                (recovered-scan L (r .slots) (r .size) (r .cells) area r e) (f .formed) fits;
+            scan =
+                append-scan L (r .slots) (r .size) (r .head) area items (r .end) x (facts .area-own) (facts .head-below)
+                (recovered-scan L (r .slots) (r .size) (r .cells) area r e) (f .formed) fits;
+          }
 
-        views : Appends (viewsOf L area (r .size)) (viewsOf L after (r .size)) (r .slots) (r .head) (itemAt (r .end) x) (r .end + sizeOf L x)
-        views =
-            record {
-              others =
-                  λ i l o.
-                  append-other L (r .slots) (r .size) (r .head) area items (r .end) x (facts .area-own) (facts .head-below)
-                  (recovered-scan L (r .slots) (r .size) (r .cells) area r e) (f .formed) fits i o;
-              digest =
-                  append-digest L (r .slots) (r .size) (r .head) area items (r .end) x (facts .area-own) (facts .head-below)
-                  (recovered-scan L (r .slots) (r .size) (r .cells) area r e) (f .formed) fits;
-              scan =
-                  append-scan L (r .slots) (r .size) (r .head) area items (r .end) x (facts .area-own) (facts .head-below)
-                  (recovered-scan L (r .slots) (r .size) (r .cells) area r e) (f .formed) fits;
-            }
+      -- the log has the entry more, where the head ended
+      pub appended-added :
+          Added (logNow L area r) (record { slot = r .head; offset = r .end; entry = x })
+          (logNow L (stored area append-plan) (appendedStore L r (logNow L area r) x))
+      appended-added =
+          entered-added (logNow L area r) (record { slot = r .head; offset = r .end; entry = x })
+          (logNow L (stored area append-plan) (appendedStore L r (logNow L area r) x))
+          (appended-entered L (r .slots) (r .size) (r .cells) area (stored area append-plan) r (itemAt (r .end) x) e append-views)
+
+      appended : Done (stored area append-plan) (appendedStore L r (logNow L area r) x)
+      appended = (
+        appended-recovered L (r .slots) (r .size) (r .cells) area (stored area append-plan) r (itemAt (r .end) x) e append-views
+            (length-stored area append-plan) (f .takes),
+        value-added (logNow L area r) (record { slot = r .head; offset = r .end; entry = x })
+            (logNow L (stored area append-plan) (appendedStore L r (logNow L area r) x)) appended-added (above (r .head) (r .end)) L
+            (recovered-apart L (r .slots) (r .size) (r .cells) area r e),
+      )
 
     -- in a new head
-    headed :
-        fitsHead L r x ≡ false →
-        Done (stored area (headPlan L (r .size) (newSlot r) (newDigest r 0) (x ∷ []))) (headedStore L r (logNow L area r) x)
-    headed no-fit = (
-      headed-recovered L (r .slots) (r .size) (r .cells) area after r x e views (length-stored area plan) (omega (arith, f .two-free no-fit)) (f .takes),
-      value-added (logNow L area r) (record { slot = newSlot r; offset = digestSize L; entry = x }) (logNow L after (headedStore L r (logNow L area r) x))
-          (entered-added (logNow L area r) (record { slot = newSlot r; offset = digestSize L; entry = x }) (logNow L after (headedStore L r (logNow L area r) x))
-          (headed-entered L (r .slots) (r .size) (r .cells) area after r x e views)) (above (newSlot r) (digestSize L)) L (recovered-apart L (r .slots) (r .size) (r .cells) area r e),
-    )
-      where
-        plan : List (ℕ × ℕ)
-        plan = headPlan L (r .size) (newSlot r) (newDigest r 0) (x ∷ [])
+    module _ (no-fit : fitsHead L r x ≡ false) where
+      abbrev head-plan : List (ℕ × ℕ)
+      head-plan = headPlan L (r .size) (newSlot r) (newDigest r 0) (x ∷ [])
 
-        after : List ℕ
-        after = stored area plan
+      head-fits : digestSize L + length (allEncoded L (x ∷ [])) ≤ r .size
+      head-fits =
+          omega (
+            arith,
+            ap length (encoded-one L x),
+            length-encoded L x,
+            roomy .room (x .kind) (length (x .value)) (f .formed .kind-known),
+            facts .size-low,
+          )
 
-        fits : digestSize L + length (allEncoded L (x ∷ [])) ≤ r .size
-        fits =
-            omega (
-              arith,
-              ap length (encoded-one L x),
-              length-encoded L x,
-              roomy .room (x .kind) (length (x .value)) (f .formed .kind-known),
-              facts .size-low,
-            )
+      head-views :
+          Heads L (viewsOf L area (r .size)) (viewsOf L (stored area head-plan) (r .size)) (r .slots) (newSlot r) (newDigest r 0) (x ∷ [])
+      head-views =
+          record {
+            others = λ i l o. new-head-other L (r .size) (newSlot r) area (newDigest r 0) (x ∷ []) head-fits i o;
+            own =
+                new-head-view L (newDigest r 0) (x ∷ []) (omega (arith, f .number-left no-fit))
+                (new-map-fits L area r e 0 (none-within (r .map))) (new-next-fits L area r e bytes) (formed-one L x (f .formed)) (r .slots)
+                (r .size) (newSlot r) area (facts .area-own) (new-below L area r e) head-fits;
+          }
 
-        views : Heads L (viewsOf L area (r .size)) (viewsOf L after (r .size)) (r .slots) (newSlot r) (newDigest r 0) (x ∷ [])
-        views =
-            record {
-              others = λ i l o. new-head-other L (r .size) (newSlot r) area (newDigest r 0) (x ∷ []) fits i o;
-              own =
-                  new-head-view L (newDigest r 0) (x ∷ []) (omega (arith, f .number-left no-fit))
-                  (new-map-fits L area r e 0 (none-within (r .map))) (new-next-fits L area r e bytes) (formed-one L x (f .formed)) (r .slots)
-                  (r .size) (newSlot r) area (facts .area-own) (new-below L area r e) fits;
-            }
+      -- the log has the entry more, behind the new digest
+      headed-added-one :
+          Added (logNow L area r) (record { slot = newSlot r; offset = digestSize L; entry = x })
+          (logNow L (stored area head-plan) (headedStore L r (logNow L area r) x))
+      headed-added-one =
+          entered-added (logNow L area r) (record { slot = newSlot r; offset = digestSize L; entry = x })
+          (logNow L (stored area head-plan) (headedStore L r (logNow L area r) x))
+          (headed-entered L (r .slots) (r .size) (r .cells) area (stored area head-plan) r x e head-views)
+
+      pub headed-added :
+          Added (logNow L area r) (record { slot = newSlot r; offset = digestSize L; entry = x })
+          (logNow L
+          (stored area ((newSlot r * r .size, 0) ∷ commit (r .size) (newSlot r) 0 (encodedDigest L (newDigest r 0) ++ encoded L x)))
+          (headedStore L r (logNow L area r) x))
+      headed-added =
+          subst
+          (λ (b : List ℕ).
+          Added (logNow L area r) (record { slot = newSlot r; offset = digestSize L; entry = x })
+          (logNow L (stored area ((newSlot r * r .size, 0) ∷ commit (r .size) (newSlot r) 0 (encodedDigest L (newDigest r 0) ++ b)))
+          (headedStore L r (logNow L area r) x)))
+          (encoded-one L x) headed-added-one
+
+      headed : Done (stored area head-plan) (headedStore L r (logNow L area r) x)
+      headed = (
+        headed-recovered L (r .slots) (r .size) (r .cells) area (stored area head-plan) r x e head-views (length-stored area head-plan)
+            (omega (arith, f .two-free no-fit)) (f .takes),
+        value-added (logNow L area r) (record { slot = newSlot r; offset = digestSize L; entry = x })
+            (logNow L (stored area head-plan) (headedStore L r (logNow L area r) x)) headed-added-one (above (newSlot r) (digestSize L)) L
+            (recovered-apart L (r .slots) (r .size) (r .cells) area r e),
+      )
 
     -- Whichever it is: recovery gives the record of 01's formulas, and the map is the old one with the key set or gone.
     pub entry-done :

@@ -1,0 +1,48 @@
+-- `stepping::finish::finish` meets its contract.
+use borrow.Author.Needs.{needs}
+use native.Mathlib.Omega.{arith}
+use Rattle.segment.specs.Layout.{edition1}
+use Rattle.stepping.specs.FinishLaws.{in-append, in-head, in-clean, with-idle, with-append, with-head, with-clean}
+use Rattle.stepping.proofs.finish.finish.Statement.{statement}
+use Rattle.stepping.proofs.finish.finish.Tie as tie
+
+finish-append-requires : tie.Need-finish-append-requires
+finish-append-requires c κs = omega (arith, in-append _ (c .before .before .pending .given .1) (c .before .before .before .before .before .before .pre .2))
+
+finish-head-requires : tie.Need-finish-head-requires
+finish-head-requires c κs = omega (arith, in-head _ (c .before .before .pending2 .given .1) (c .before .before .before .before .before .before .pre .2))
+
+finish-clean-requires : tie.Need-finish-clean-requires
+finish-clean-requires c κs = omega (arith, in-clean _ (c .before .before .pending3 .given .1) (c .before .before .before .before .before .before .pre .2))
+
+returns : tie.Need-returns
+returns c = with-idle edition1 _ _ _ (c .before .enum-told .given .1) (c .refused .ensures)
+
+returns-2 : tie.Need-returns-2
+returns-2 c = with-append edition1 _ _ _ (c .before .before .before .before .before .pending .given .1) (c .before .before .finish-append .ensures)
+
+returns-3 : tie.Need-returns-3
+returns-3 c = with-head edition1 _ _ _ (c .before .before .before .before .before .pending2 .given .1) (c .before .before .finish-head .ensures)
+
+returns-4 : tie.Need-returns-4
+returns-4 c = with-clean edition1 _ _ _ (c .before .before .before .before .before .pending3 .given .1) (c .before .before .finish-clean .ensures)
+
+pub finish-spec : {M : Type 1} → statement M
+finish-spec =
+    tie.close
+    (tie.spec
+    (λ c. search needs)
+    (λ c κs. search needs)
+    (λ c. search needs)
+    finish-append-requires
+    (λ c. search needs)
+    finish-head-requires
+    (λ c. search needs)
+    finish-clean-requires
+    returns
+    (λ c. search needs)
+    returns-2
+    (λ c. search needs)
+    returns-3
+    (λ c. search needs)
+    returns-4)

@@ -1,0 +1,10 @@
+-- The step of a pending operation, as total functions of whatever record and buffers it gets.
+pub mod Next
+pub mod NextLaws
+pub mod PlanLaws
+pub mod Finish
+pub mod FinishLaws
+pub mod EntryLaws
+pub mod CleanLaws
+pub mod ExactLaws
+pub mod StepLaws

@@ -1,0 +1,299 @@
+-- The step's promise, from what its code does.
+use Prim.Native.Nat.{ℕ, zero, suc, _+_, _*_, _-_, _^_, _≤_, _<_}
+use mathlib.Core.Path.{_≡_, refl, sym, _∙_, ap, subst}
+use mathlib.Core.Bool.{Bool, true, false, not}
+use mathlib.Core.List.{List, [], _∷_}
+use mathlib.Core.Option.{Option, none, some}
+use native.Mathlib.Omega.{arith}
+use lib.Dec.{ltb}
+use lib.ListN.{length, getD, take, set}
+use borrow.Author.Tests.{lt-ltb, le-ltb, ltb-false, not-true, not-false}
+use Rattle.segment.specs.Choice.{pick, pick-true, pick-false}
+use Rattle.segment.specs.Layout.{Layout}
+use Rattle.segment.specs.Entry.{Entry}
+use Rattle.record.specs.Answers.{storesLeft, withPending}
+use Rattle.record.specs.Range.{fitsLent}
+use Rattle.record.specs.RangeLaws.{Lent, lent}
+use Rattle.record.specs.declared.Pending.{Pending}
+use Rattle.record.specs.declared.Pending.the-variants.{Idle, Append, NewHead, Clean}
+use Rattle.record.specs.declared.Refusal.{Refusal}
+use Rattle.record.specs.declared.Refusal.the-variants.{BadRecord, WorkShort, NonePending}
+use Rattle.record.specs.declared.StepAnswer.{StepAnswer}
+use Rattle.record.specs.declared.Stepped.{Stepped}
+use Rattle.record.specs.declared.Store.{Store}
+use Rattle.model.specs.Log.{Placed}
+use Rattle.model.specs.Index.{IndexRule}
+use Rattle.model.specs.Operations.{Operation, write, delete, clean, Laid, laid, laidAppend, laidHead, fitsHead, writtenEntry, tombstoneEntry, logNow, planFor, stored, finishedStore, toldVersion}
+use Rattle.model.specs.Causes.{Cause, when, firstCause}
+use Rattle.model.specs.Refused.{Lengths, recordBad, workShort, isPending, stepCauses}
+use Rattle.model.specs.Promises.{Genuine, Started, OneByte, StepPromise, StepExact, stepped, IndexStepped, leftAfter, lentLengths}
+use Rattle.laws.specs.CauseLaws.{cause-false, cause-rest, cause-none, cause-first, cause-skip}
+use Rattle.laws.specs.Stores.{stored-next, stored-all}
+use Rattle.laws.specs.Operated.{Accepted, StoreLaws}
+use Rattle.laws.specs.Entering.{Roomy}
+use Rattle.laws.specs.StoreKept.{store-laws}
+use Rattle.stepping.specs.Next.{nextStore}
+use Rattle.stepping.specs.PlanLaws.{atOf, accepted, next-started}
+use Rattle.stepping.specs.Finish.{After, refusedWith, oneLess, finishWith, advanced}
+use Rattle.stepping.specs.ExactLaws.{Ends, operation-ends}
+use Rattle.stepping.specs.declared.NextStore.{NextStore}
+use Rattle.stepping.specs.declared.NextStore.the-variants.{At, Bad}
+
+-- ---- the causes, at the tests of the code
+
+pending-left : (p : Pending) → storesLeft p ≡ 0 → ((p ≡ Idle → ⊥) → 0 < storesLeft p) → isPending p ≡ false
+unfolding isPending
+pending-left Idle e h = refl
+pending-left (Append n k) e h = absurd (omega (arith, h (λ q. let z : _≡_ {A = ℕ} 0 1 = cc in absurd (omega arith))))
+pending-left (NewHead i n k) e h = absurd (omega (arith, h (λ q. let z : _≡_ {A = ℕ} 0 1 = cc in absurd (omega arith))))
+pending-left (Clean i v n k) e h = absurd (omega (arith, h (λ q. let z : _≡_ {A = ℕ} 0 1 = cc in absurd (omega arith))))
+
+left-pending : (p : Pending) → (storesLeft p ≡ 0 → ⊥) → isPending p ≡ true
+unfolding isPending
+left-pending Idle h = absurd (h refl)
+left-pending (Append n k) h = refl
+left-pending (NewHead i n k) h = refl
+left-pending (Clean i v n k) h = refl
+
+no-causes : firstCause [] ≡ none
+unfolding firstCause
+no-causes = refl
+
+module _ (L : Layout) (r : Store) (area cells work : List ℕ) {t : Bool} (found : t ≡ fitsLent L r (length area) (length cells)) where
+  abbrev First : Option Refusal → Type 0
+  First o = firstCause (stepCauses L r (lentLengths area cells work)) ≡ o
+
+  pub step-bad : not t ≡ true → First (some BadRecord)
+  step-bad e = cause-first _ _ (ap not (sym found) ∙ e)
+
+  module _ (fits : not t ≡ false) where
+    pub step-lent : Lent L r (length area) (length cells)
+    step-lent = lent L r (length area) (length cells) (sym found ∙ not-false t fits)
+
+    past-first : recordBad L r (lentLengths area cells work) ≡ false
+    past-first = ap not (sym found) ∙ fits
+
+    pub step-short : length work < r .size → First (some WorkShort)
+    step-short h = cause-skip _ _ past-first ∙ cause-first _ _ (lt-ltb (length work) (r .size) h)
+
+    module _ (long : r .size ≤ length work) {k : ℕ} (left : k ≡ storesLeft (r .pending)) where
+      pub step-none : k ≡ 0 → First (some NonePending)
+      step-none e =
+          cause-skip _ _ past-first ∙ cause-skip _ _ (le-ltb (length work) (r .size) long)
+          ∙ cause-first _ _ (ap not (pending-left (r .pending) (sym left ∙ e) (step-lent .left-some)))
+
+      pub step-goes : (k ≡ 0 → ⊥) → First none
+      step-goes h =
+          cause-none _ _ past-first
+          (cause-none _ _ (le-ltb (length work) (r .size) long)
+          (cause-none _ _ (ap not (left-pending (r .pending) (λ e. h (left ∙ e)))) no-causes))
+
+-- ---- refused
+
+same-byte : (area : List ℕ) → OneByte area area
+same-byte [] = (0, 0, refl)
+same-byte (b ∷ s) = (0, b, refl)
+
+module _ (L : Layout) (r : Store) (area cells work : List ℕ) (c : Refusal) (first : firstCause (stepCauses L r (lentLengths area cells work)) ≡ some c) where
+  pub refused-promise : {x : Stepped} → x ≡ refusedWith r c → StepPromise L r area area cells cells work x
+  refused-promise {x} e =
+      record {
+        one-byte = same-byte area;
+        same-length = refl;
+        refused = λ d f. record { answers = e ∙ ap (refusedWith r) (same d f); area-same = refl; index-same = refl };
+        exact = λ f g s. absurd (never f);
+      }
+    where
+      same : (d : Refusal) → firstCause (stepCauses L r (lentLengths area cells work)) ≡ some d → c ≡ d
+      same d f = let q : _≡_ {A = Option Refusal} (some c) (some d) = sym first ∙ f in cc
+
+      never : firstCause (stepCauses L r (lentLengths area cells work)) ≡ none → ⊥
+      never f =
+          let q : _≡_ {A = Option Refusal} (some c) none = sym first ∙ f in
+          let z : _≡_ {A = ℕ} 0 1 = cc in
+          omega arith
+
+-- ---- the stores left of what is laid down
+
+module _ (L : Layout) (idle : Store) (log : List Placed) where
+  -- so many stores are left of it, and one less after a step
+  abbrev CountsDown : Laid → Type 0
+  CountsDown l = (k : ℕ) → (storesLeft (l .pending k) ≡ k) × (oneLess (l .pending k) ≡ l .pending (k - 1))
+
+  entry-counts : (t : Bool) (e : Entry) → CountsDown (pick t (laidAppend L e) (laidHead L idle e))
+  unfolding oneLess pick
+  entry-counts true e k = (refl, refl)
+  entry-counts false e k = (refl, refl)
+
+  pub counts-down : (o : Operation) → CountsDown (laid L idle log o)
+  unfolding laid oneLess
+  counts-down (write key value) =
+      entry-counts (fitsHead L idle (writtenEntry L idle key value)) (writtenEntry L idle key value)
+  counts-down (delete key) = entry-counts (fitsHead L idle (tombstoneEntry L idle key)) (tombstoneEntry L idle key)
+  counts-down (clean victims) = λ k. (refl, refl)
+
+-- ---- a step of a started operation
+
+module _ (L : Layout) (roomy : Roomy L) (r : Store) (area cells work : List ℕ)
+    (first : firstCause (stepCauses L r (lentLengths area cells work)) ≡ none) where
+  step-fits : Lent L r (length area) (length cells)
+  step-fits = lent L r (length area) (length cells) (not-false _ (cause-false _ _ first))
+
+  work-long : r .size ≤ length work
+  work-long = ltb-false (length work) (r .size) (cause-false _ _ (cause-rest _ _ first))
+
+  no-refusal : (c : Refusal) → firstCause (stepCauses L r (lentLengths area cells work)) ≡ some c → ⊥
+  no-refusal c f =
+      let q : _≡_ {A = Option Refusal} (some c) none = sym f ∙ first in
+      let z : _≡_ {A = ℕ} 0 1 = cc in
+      omega arith
+
+  module _ (s : Started L area r work) where
+    abbrev before : List ℕ
+    before = s .before
+
+    abbrev idle : Store
+    idle = s .idle
+
+    abbrev log : List Placed
+    log = logNow L (s .before) (s .idle)
+
+    abbrev plan : List (ℕ × ℕ)
+    plan = planFor L (s .idle) (logNow L (s .before) (s .idle)) (s .operation)
+
+    acc : Accepted L (s .before) (s .idle) (s .operation)
+    acc = accepted L (store-laws L roomy) area r work s
+
+    long-enough : s .idle .size ≤ length work
+    long-enough = subst (λ (x : Store). x .size ≤ length work) (s .record-now) work-long
+
+    pub turn : nextStore (length area) work r ≡ atOf (getD plan (s .since) (0, 0))
+    turn = next-started L (store-laws L roomy) area r work s long-enough
+
+    pub no-bad : nextStore (length area) work r ≡ Bad → ⊥
+    no-bad e =
+        let q : Bad ≡ atOf (getD plan (s .since) (0, 0)) = sym e ∙ turn in
+        let z : _≡_ {A = ℕ} 0 1 = cc in
+        omega arith
+
+    module _ (p b : ℕ) (at : nextStore (length area) work r ≡ At p b) where
+      stores-next : set area p b ≡ stored before (take (suc (s .since)) plan)
+      stores-next =
+          let q : At p b ≡ atOf (getD plan (s .since) (0, 0)) = sym at ∙ turn in
+          let place : p ≡ getD plan (s .since) (0, 0) .0 = cc in
+          let byte : b ≡ getD plan (s .since) (0, 0) .1 = cc in
+          ap (λ (x : ℕ). set area x b) place ∙ ap (set area (getD plan (s .since) (0, 0) .0)) byte
+          ∙ ap (λ (x : List ℕ). set x (getD plan (s .since) (0, 0) .0) (getD plan (s .since) (0, 0) .1)) (s .area-now)
+          ∙ sym (stored-next before plan (s .since) (s .some-left))
+
+      module _ (g : Genuine L area r cells) where
+        -- what the record and the index are, of the idle record
+        rule-idle : IndexRule (s .idle .size) log cells
+        rule-idle =
+            subst (λ (l : List Placed). IndexRule (s .idle .size) l cells)
+            (ap (λ (x : List ℕ). logNow L x idle) (s .area-now)
+            ∙ store-laws L roomy .prefix-log before idle (s .operation) acc (s .since) (s .some-left))
+            (subst (λ (x : Store). IndexRule (x .size) (logNow L area x) cells) (s .record-now) (g .rule))
+
+        cells-idle : length cells ≡ s .idle .cells
+        cells-idle = step-fits .index-own ∙ ap (λ (x : Store). x .cells) (s .record-now)
+
+        left-now : storesLeft (r .pending) ≡ length plan - s .since
+        left-now =
+            ap (λ (x : Store). storesLeft (x .pending)) (s .record-now)
+            ∙ counts-down L idle log (s .operation) (length plan - s .since) .0
+
+        -- the record with k stores left
+        abbrev with-left : ℕ → Store
+        with-left k = withPending idle (laid L idle log (s .operation) .pending k)
+
+        -- what a step is to give that leaves so many stores
+        abbrev Gives : After → ℕ → Type 0
+        Gives a k = (a .stepped ≡ stepped L before idle (s .operation) k) × IndexStepped L (set area p b) cells (a .cells) (a .stepped .store) k
+
+        goes-on : (k : ℕ) → length plan - s .since ≡ suc (suc k) → Gives (advanced L r (set area p b) cells) (suc k)
+        unfolding advanced stepped IndexStepped
+        goes-on k e =
+            subst (λ (a : After). Gives a (suc k))
+            (sym (pick-true (ltb 1 (storesLeft (r .pending))) _ _ (lt-ltb 1 (storesLeft (r .pending)) (omega (arith, left-now)))))
+            (answer, refl)
+          where
+            answer :
+                _≡_ {A = Stepped}
+                (record { answer = StepAnswer.Left (storesLeft (r .pending) - 1); store = withPending r (oneLess (r .pending)) })
+                (record { answer = StepAnswer.Left (suc k); store = with-left (suc k) })
+            answer =
+                let less : storesLeft (r .pending) - 1 ≡ suc k = omega (arith, left-now) in
+                let one : length plan - s .since - 1 ≡ suc k = omega arith in
+                ap (λ (n : ℕ). record { answer = StepAnswer.Left n; store = withPending r (oneLess (r .pending)) }) less
+                ∙ ap (λ (x : Store). record { answer = StepAnswer.Left (suc k); store = withPending x (oneLess (x .pending)) }) (s .record-now)
+                ∙ ap (λ (q : Pending). record { answer = StepAnswer.Left (suc k); store = withPending idle q })
+                (counts-down L idle log (s .operation) (length plan - s .since) .1 ∙ ap (laid L idle log (s .operation) .pending) one)
+
+        ends-now : length plan - s .since ≡ 1 → Gives (advanced L r (set area p b) cells) zero
+        unfolding advanced stepped IndexStepped
+        ends-now e =
+            subst (λ (a : After). Gives a zero)
+            (sym (pick-false (ltb 1 (storesLeft (r .pending))) _ _ (le-ltb 1 (storesLeft (r .pending)) (omega (arith, left-now)))))
+            (subst
+            (λ (x : Store).
+            Gives (finishWith L x (set area p b) cells (x .pending)) zero) (sym (s .record-now)) (gives all))
+          where
+            whole : set area p b ≡ stored before plan
+            whole =
+                let last : suc (s .since) ≡ length plan = omega (arith, s .some-left) in
+                stores-next ∙ ap (λ (n : ℕ). stored before (take n plan)) last ∙ stored-all before plan
+
+            all :
+                Ends L (set area p b) (finishedStore L before idle (s .operation)) (toldVersion idle (s .operation))
+                (finishWith L (with-left (length plan - s .since)) (set area p b) cells (laid L idle log (s .operation) .pending (length plan - s .since)))
+            all =
+                subst
+                (λ (x : List ℕ).
+                Ends L x (finishedStore L before idle (s .operation)) (toldVersion idle (s .operation))
+                (finishWith L (with-left (length plan - s .since)) x cells (laid L idle log (s .operation) .pending (length plan - s .since))))
+                (sym whole)
+                (operation-ends L roomy before cells idle (s .operation) acc cells-idle rule-idle (length plan - s .since))
+
+            gives : {a : After} → Ends L (set area p b) (finishedStore L before idle (s .operation)) (toldVersion idle (s .operation)) a → Gives a zero
+            gives {a} w = (
+              w .answers,
+              subst (λ (x : Store). IndexRule (x .size) (logNow L (set area p b) x) (a .cells)) (ap (λ (y : Stepped). y .store) (sym (w .answers)))
+                  (w .rule),
+            )
+
+        pub step-exact :
+            {x : Stepped} {cells′ : List ℕ} → record { stepped = x; cells = cells′ } ≡ advanced L r (set area p b) cells →
+            StepExact L r area (set area p b) cells cells′ work x s
+        step-exact {x} {cells′} e =
+            record { stores = stores-next; answers = all .0; index = all .1 }
+          where
+            by : (k : ℕ) → length plan - suc (s .since) ≡ k → Gives (advanced L r (set area p b) cells) k
+            by zero q = ends-now (omega (arith, s .some-left))
+            by (suc k) q = goes-on k (omega (arith, s .some-left))
+
+            all : Gives (record { stepped = x; cells = cells′ }) (length plan - suc (s .since))
+            all = subst (λ (a : After). Gives a (length plan - suc (s .since))) (sym e) (by (length plan - suc (s .since)) refl)
+
+  -- ---- the promise, where there is no next store, and where it is made
+
+  pub bad-promise : nextStore (length area) work r ≡ Bad → {x : Stepped} → StepPromise L r area area cells cells work x
+  bad-promise e =
+      record {
+        one-byte = same-byte area;
+        same-length = refl;
+        refused = λ c f. absurd (no-refusal c f);
+        exact = λ f g s. absurd (no-bad s e);
+      }
+
+  pub stored-promise :
+      (p b : ℕ) → nextStore (length area) work r ≡ At p b → {x : Stepped} {cells′ : List ℕ} →
+      record { stepped = x; cells = cells′ } ≡ advanced L r (set area p b) cells → length cells′ ≡ length cells →
+      StepPromise L r area (set area p b) cells cells′ work x
+  stored-promise p b at e same =
+      record {
+        one-byte = (p, b, refl);
+        same-length = same;
+        refused = λ c f. absurd (no-refusal c f);
+        exact = λ f g s. step-exact s p b at g e;
+      }
