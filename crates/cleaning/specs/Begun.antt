@@ -136,7 +136,7 @@ module _ (L : Layout) (r : Store) (log : List Placed) (victims : ℕ) (work : Li
   begun-same none =
       let bytes = encodedDigest L (newDigest r victims) ++ model-bytes in
       let e : storesOf (r .size) (digestSize L + length model-bytes)
-          ≡ length (planOf r (Clean (newSlot r) victims (digestSize L + length model-bytes) 0) bytes) =
+      ≡ length (planOf r (Clean (newSlot r) victims (digestSize L + length model-bytes) 0) bytes) =
       sym (plan-length r (newSlot r) victims (digestSize L + length model-bytes) 0 bytes (omega (arith, model-length)) ∙ ap (storesOf (r .size)) model-length) in
       λ i.
       record {

@@ -94,7 +94,11 @@ fn stores_of(size: u32, length: u32) -> u32
     requires { ⌜ (length ≤ size) × (size ≤ 2048) ⌝ }
     ensures { λ r. ⌜ r ≡ storesOf size length ⌝ }
 {
-    if length < size { length + 2 } else { length + 1 }
+    if length < size {
+        length + 2
+    } else {
+        length + 1
+    }
 }
 
 // The cleaning pending, with all its stores to come.
@@ -116,7 +120,14 @@ fn started(store: Store, victims: u32, slot: u32, length: u32) -> Start
 }
 
 // The new head's bytes go to the work buffer, and the cleaning is pending.
-fn begin(store: Store, area: &[u8], index: &[u32], work: &mut [u8], victims: u32, split: Split) -> Start
+fn begin(
+    store: Store,
+    area: &[u8],
+    index: &[u32],
+    work: &mut [u8],
+    victims: u32,
+    split: Split,
+) -> Start
     requires { ⌜ Ready store victims ⌝ }
     requires { ⌜ Room edition1 store split (now area) (now index) (now work) ⌝ }
     ensures { λ r.

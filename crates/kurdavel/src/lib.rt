@@ -34,10 +34,10 @@ ghost use Rattle.words.specs.Words.{recordWords};
 ghost use Rattle.kurdavel.specs.Crossing.{FormatCrossed, RecoverCrossed, ReadCrossed, ValueCrossed, StartCrossed, StepCrossed, keptWords, storesAfter, Handed};
 
 #[no_mangle]
-pub extern "C" fn kurdavel_format(slots: u32, slot_bytes: u32, area: &mut [u8]) -> u32
-    ensures { λ r. ⌜ FormatCrossed slots slot_bytes (now (area .entry)) (now (area .exit)) r ⌝ }
+pub extern "C" fn kurdavel_format(slots: u32, size: u32, area: &mut [u8]) -> u32
+    ensures { λ r. ⌜ FormatCrossed slots size (now (area .entry)) (now (area .exit)) r ⌝ }
 {
-    match format(slots, slot_bytes, area) {
+    match format(slots, size, area) {
         FormatAnswer::Formatted => 0,
         FormatAnswer::Refused(cause) => number(cause),
     }
@@ -46,7 +46,7 @@ pub extern "C" fn kurdavel_format(slots: u32, slot_bytes: u32, area: &mut [u8]) 
 #[no_mangle]
 pub extern "C" fn kurdavel_recover(
     slots: u32,
-    slot_bytes: u32,
+    size: u32,
     order: &[u8],
     area: &[u8],
     index: &mut [u32],
@@ -54,14 +54,14 @@ pub extern "C" fn kurdavel_recover(
 ) -> u32
     ensures { λ r.
         ⌜
-        RecoverCrossed slots slot_bytes (now (order .entry)) (now (area .entry)) (now (index .entry)) (now (index .exit))
+        RecoverCrossed slots size (now (order .entry)) (now (area .entry)) (now (index .entry)) (now (index .exit))
         (now (words .entry)) (now (words .exit)) r
         ⌝ }
 {
     if words.len() < WORDS {
         return 4;
     }
-    let found = recover(slots, slot_bytes, order, area, index);
+    let found = recover(slots, size, order, area, index);
     let answer = found.answer;
     match answer {
         RecoverAnswer::Refused(cause) => number(cause),
