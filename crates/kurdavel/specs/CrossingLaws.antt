@@ -7,6 +7,7 @@ use mathlib.Core.List.{List}
 use native.Mathlib.Nat.{mul-le-mul}
 use native.Mathlib.Omega.{arith}
 use lib.ListN.{length, take, drop}
+use lib.Seq.{sets}
 use Rattle.segment.specs.Layout.{edition1}
 use Rattle.segment.specs.declared.Key.{Key}
 use Rattle.segment.specs.declared.Version.{Version}
@@ -28,7 +29,7 @@ use Rattle.model.specs.Promises.{FormatPromise, RecoverPromise, ReadPromise, Va
 use Rattle.recovery.specs.Lookups.{lookedUp, toldBy, valueBy}
 use Rattle.recovery.specs.LookupLaws.{looked-unfit, read-promise, value-promise}
 use Rattle.recovery.specs.declared.Lookup.{Lookup}
-use Rattle.words.specs.Words.{recordWords, isRecord, decoded}
+use Rattle.words.specs.Words.{recordWords, wordsOf, isRecord, decoded}
 use Rattle.words.specs.WordLaws.{record-long, decoded-none}
 use Rattle.words.specs.declared.Decoded.{Decoded}
 use Rattle.kurdavel.specs.Crossing.{FormatCrossed, Recovers, RecoverCrossed, wordsAfter, ReadCrossed, versionAfter, kindAfter, ValueCrossed, Handed, storesAfter, StartCrossed, keptWords, StepCrossed, leftAfter, toldAfter}
@@ -44,6 +45,14 @@ ok-long words {d} e ok = go (isRecord words) refl
         let yes : decoded words .ok ≡ true = sym (ap (λ (x : Decoded). x .ok) e) ∙ ok in
         let z : _≡_ {A = ℕ} 0 1 = cc in
         absurd (omega arith)
+
+pub kept-on : {ok : Bool} (words words′ : List ℕ) (r : Store) → ok ≡ true → words′ ≡ sets words 0 (wordsOf r) → words′ ≡ keptWords ok words r
+unfolding keptWords
+kept-on words words′ r e w = rw e w
+
+pub kept-off : {ok : Bool} (words : List ℕ) (r : Store) → ok ≡ false → words ≡ keptWords ok words r
+unfolding keptWords
+kept-off words r e = rw e
 
 -- ---- format and recovery
 

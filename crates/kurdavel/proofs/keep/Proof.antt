@@ -1,25 +1,20 @@
+-- `kurdavel::keep` meets its contract.
+use Rattle.kurdavel.specs.CrossingLaws.{kept-on, kept-off}
 use borrow.Author.Needs.{needs}
 use Rattle.kurdavel.proofs.keep.Statement.{statement}
 use Rattle.kurdavel.proofs.keep.Tie as tie
-use Rattle.kurdavel.proofs.keep.Reads as reads
-use Rattle.kurdavel.proofs.keep.Lts as lts
-use Rattle.words.proofs.encode.Reads as encode-reads
 
--- src/lib.rt:151:9
 encode-requires : tie.Need-encode-requires
-encode-requires c κs = ?
+encode-requires c κs = c .before .before .before .pre (c .before .if1 .taken)
 
--- src/lib.rt:146:1
 same-length : tie.Need-same-length
 same-length c = search needs
 
--- src/lib.rt:146:1
 returns : tie.Need-returns
-returns c = ?
+returns c = kept-on _ _ (c .before .before .before .before .before .before .args .store) (c .before .before .before .before .if1 .taken) (c .before .before .encode .ensures)
 
--- src/lib.rt:146:1
 returns-2 : tie.Need-returns-2
-returns-2 c = ?
+returns-2 c = kept-off _ _ (c .if1 .left)
 
 pub keep-spec : {M : Type 1} → statement M
 keep-spec = tie.close (tie.spec encode-requires same-length returns returns-2)
