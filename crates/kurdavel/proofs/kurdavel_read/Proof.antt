@@ -1,0 +1,46 @@
+-- `kurdavel::kurdavel_read` meets its contract.
+use mathlib.Core.Path.{refl}
+use Rattle.kurdavel.specs.Crossing.{versionAfter, kindAfter}
+use Rattle.kurdavel.specs.CrossingLaws.{read-crossed}
+use borrow.Author.Needs.{needs}
+use Rattle.kurdavel.proofs.kurdavel_read.Statement.{statement}
+use Rattle.kurdavel.proofs.kurdavel_read.Tie as tie
+
+decode-requires : tie.Need-decode-requires
+decode-requires c κs = search needs
+
+read-requires : tie.Need-read-requires
+read-requires c κs = search needs
+
+enum-known-answer : tie.Need-enum-known-answer
+enum-known-answer c = search needs
+
+number-requires : tie.Need-number-requires
+number-requires c κs = search needs
+
+enum-known-answer-2 : tie.Need-enum-known-answer-2
+enum-known-answer-2 c = search needs
+
+cast-kind : tie.Need-cast-kind
+cast-kind c = search needs
+
+returns : tie.Need-returns
+unfolding versionAfter kindAfter
+returns c = read-crossed (c .before .before .before .before .before .before .decode .ensures) (c .before .before .before .before .read .ensures) (c .before .before .answer .given .1) (c .number .ensures) refl refl
+
+returns-2 : tie.Need-returns-2
+unfolding versionAfter kindAfter
+returns-2 c = read-crossed (c .before .before .before .before .before .decode .ensures) (c .before .before .before .read .ensures) (c .before .answer2 .given .1) refl refl refl
+
+pub kurdavel-read-spec : {M : Type 1} → statement M
+kurdavel-read-spec =
+    tie.close
+    (tie.spec
+    decode-requires
+    read-requires
+    enum-known-answer
+    number-requires
+    enum-known-answer-2
+    cast-kind
+    returns
+    returns-2)

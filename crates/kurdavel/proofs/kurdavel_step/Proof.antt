@@ -1,0 +1,94 @@
+-- `kurdavel::kurdavel_step` meets its contract.
+use mathlib.Core.Path.{refl}
+use Rattle.kurdavel.specs.Crossing.{leftAfter, toldAfter}
+use Rattle.kurdavel.specs.CrossingLaws.{ok-long, step-crossed}
+use borrow.Author.Needs.{needs}
+use Rattle.kurdavel.proofs.kurdavel_step.Statement.{statement}
+use Rattle.kurdavel.proofs.kurdavel_step.Tie as tie
+
+decode-requires : tie.Need-decode-requires
+decode-requires c κs = search needs
+
+step-requires : tie.Need-step-requires
+step-requires c κs = search needs
+
+keep-requires : tie.Need-keep-requires
+keep-requires c κs = ok-long _ (c .before .before .before .before .before .before .before .before .before .before .decode .ensures)
+
+enum-known-answer : tie.Need-enum-known-answer
+enum-known-answer c = search needs
+
+number-requires : tie.Need-number-requires
+number-requires c κs = search needs
+
+enum-known-answer-2 : tie.Need-enum-known-answer-2
+enum-known-answer-2 c = search needs
+
+enum-known-answer-3 : tie.Need-enum-known-answer-3
+enum-known-answer-3 c = search needs
+
+same-length : tie.Need-same-length
+same-length c = search needs
+
+same-length-2 : tie.Need-same-length-2
+same-length-2 c = search needs
+
+same-length-3 : tie.Need-same-length-3
+same-length-3 c = search needs
+
+returns : tie.Need-returns
+unfolding leftAfter toldAfter
+returns c =
+    step-crossed (c .before .before .before .before .before .before .before .before .before .before .before .before .before .before .before .before .before .decode .ensures) (c .before .before .before .before .before .before .before .before .before .before .before .before .before .step .ensures) (c .before .before .before .before .before .before .keep .ensures) (c .before .before .answer .given .1) (c .number .ensures) refl refl
+
+same-length-4 : tie.Need-same-length-4
+same-length-4 c = search needs
+
+same-length-5 : tie.Need-same-length-5
+same-length-5 c = search needs
+
+same-length-6 : tie.Need-same-length-6
+same-length-6 c = search needs
+
+returns-2 : tie.Need-returns-2
+unfolding leftAfter toldAfter
+returns-2 c =
+    step-crossed (c .before .before .before .before .before .before .before .before .before .before .before .before .before .before .before .before .decode .ensures) (c .before .before .before .before .before .before .before .before .before .before .before .before .step .ensures) (c .before .before .before .before .before .keep .ensures) (c .before .answer2 .given .1) refl refl refl
+
+same-length-7 : tie.Need-same-length-7
+same-length-7 c = search needs
+
+same-length-8 : tie.Need-same-length-8
+same-length-8 c = search needs
+
+same-length-9 : tie.Need-same-length-9
+same-length-9 c = search needs
+
+returns-3 : tie.Need-returns-3
+unfolding leftAfter toldAfter
+returns-3 c =
+    step-crossed (c .before .before .before .before .before .before .before .before .before .before .before .before .before .before .before .before .decode .ensures) (c .before .before .before .before .before .before .before .before .before .before .before .before .step .ensures) (c .before .before .before .before .before .keep .ensures) (c .before .answer3 .given .1) refl refl refl
+
+pub kurdavel-step-spec : {M : Type 1} → statement M
+kurdavel-step-spec =
+    tie.close
+    (tie.spec
+    decode-requires
+    step-requires
+    keep-requires
+    enum-known-answer
+    number-requires
+    enum-known-answer-2
+    enum-known-answer-3
+    same-length
+    same-length-2
+    same-length-3
+    returns
+    same-length-4
+    same-length-5
+    same-length-6
+    returns-2
+    same-length-7
+    same-length-8
+    same-length-9
+    returns-3)

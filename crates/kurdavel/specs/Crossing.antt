@@ -1,0 +1,122 @@
+-- What each exported function promises, for every input: that the call behind it keeps its own promise on the record that the
+-- lent words say, that its answer is the number told, and that its record is what the words say afterwards. Words that are
+-- no record say the blank one, which every call refuses with 4; they stay as they are.
+use Prim.Native.Nat.{ℕ, _+_, _≤_, _<_}
+use mathlib.Core.Path.{_≡_}
+use mathlib.Core.Bool.{Bool, true, false}
+use mathlib.Core.List.{List}
+use lib.ListN.{length, take, drop}
+use lib.Seq.{sets}
+use Rattle.segment.specs.Layout.{edition1}
+use Rattle.segment.specs.declared.Key.{Key}
+use Rattle.record.specs.Answers.{formatSaid, recoverSaid, readSaid, startSaid, stepSaid}
+use Rattle.record.specs.declared.Store.{Store}
+use Rattle.record.specs.declared.FormatAnswer.{FormatAnswer}
+use Rattle.record.specs.declared.Recovery.{Recovery}
+use Rattle.record.specs.declared.RecoverAnswer.{RecoverAnswer}
+use Rattle.record.specs.declared.Reading.{Reading}
+use Rattle.record.specs.declared.ReadAnswer.{ReadAnswer}
+use Rattle.record.specs.declared.Start.{Start}
+use Rattle.record.specs.declared.StartAnswer.{StartAnswer}
+use Rattle.record.specs.declared.Stepped.{Stepped}
+use Rattle.record.specs.declared.StepAnswer.{StepAnswer}
+use Rattle.model.specs.Operations.{Operation}
+use Rattle.model.specs.Promises.{FormatPromise, RecoverPromise, ReadPromise, ValuePromise, StartPromise, StepPromise}
+use Rattle.words.specs.Words.{recordWords, wordsOf, decoded}
+
+-- the words after a call that handed this record back
+unfoldable pub keptWords : Bool → List ℕ → Store → List ℕ
+keptWords true words r = sets words 0 (wordsOf r)
+keptWords false words r = words
+
+-- ---- format and recovery
+
+pub record FormatCrossed (n s : ℕ) (area area′ : List ℕ) (number : ℕ) : Type 0 where
+  pub answer : FormatAnswer
+  pub promised : FormatPromise edition1 n s area area′ answer
+  pub numbered : number ≡ formatSaid answer .refused
+
+-- the record's words after a recovery
+unfoldable pub wordsAfter : RecoverAnswer → List ℕ → Store → List ℕ
+wordsAfter RecoverAnswer.Recovered words r = sets words 0 (wordsOf r)
+wordsAfter (RecoverAnswer.Refused c) words r = words
+
+pub record Recovers (n s : ℕ) (order area cells cells′ words words′ : List ℕ) (number : ℕ) : Type 0 where
+  pub recovery : Recovery
+  pub promised : RecoverPromise edition1 n s order area cells cells′ recovery
+  pub numbered : number ≡ recoverSaid (recovery .answer) .refused
+  pub says : words′ ≡ wordsAfter (recovery .answer) words (recovery .store)
+
+-- Where the record has no room, 4, and all stays.
+pub record TooShort (cells cells′ words words′ : List ℕ) (number : ℕ) : Type 0 where
+  pub numbered : number ≡ 4
+  pub index-same : cells′ ≡ cells
+  pub words-same : words′ ≡ words
+
+pub record RecoverCrossed (n s : ℕ) (order area cells cells′ words words′ : List ℕ) (number : ℕ) : Type 0 where
+  pub short : length words < recordWords → TooShort cells cells′ words words′ number
+  pub recovers : recordWords ≤ length words → Recovers n s order area cells cells′ words words′ number
+
+-- ---- read
+
+-- what a read tells, or what was there before
+unfoldable pub versionAfter : ReadAnswer → ℕ → ℕ
+versionAfter (ReadAnswer.Present v k) old = v .0
+versionAfter (ReadAnswer.Refused c) old = old
+
+unfoldable pub kindAfter : ReadAnswer → ℕ → ℕ
+kindAfter (ReadAnswer.Present v k) old = k
+kindAfter (ReadAnswer.Refused c) old = old
+
+pub record ReadCrossed (words area cells : List ℕ) (k : Key) (version kind version′ kind′ number : ℕ) : Type 0 where
+  pub reading : Reading
+  pub promised : ReadPromise edition1 (decoded words .store) area cells k reading
+  pub numbered : number ≡ readSaid (reading .answer) .refused
+  pub version-told : version′ ≡ versionAfter (reading .answer) version
+  pub kind-told : kind′ ≡ kindAfter (reading .answer) kind
+
+-- The value is a part of the area, also on stores that are not genuine; where the read is refused it is the empty part at
+-- the start.
+pub record ValueCrossed (words area cells : List ℕ) (k : Key) (place bytes number : ℕ) : Type 0 where
+  pub reading : Reading
+  pub promised : ReadPromise edition1 (decoded words .store) area cells k reading
+  pub numbered : number ≡ readSaid (reading .answer) .refused
+  pub value : ValuePromise edition1 (decoded words .store) area cells k (take bytes (drop place area))
+  pub inside : place + bytes ≤ length area
+
+-- ---- write, delete and clean
+
+unfoldable pub storesAfter : StartAnswer → ℕ → ℕ
+storesAfter (StartAnswer.Started n) old = n
+storesAfter (StartAnswer.Refused c) old = old
+
+-- What is handed back of a start.
+pub record Handed (ok : Bool) (start : Start) (words words′ : List ℕ) (stores stores′ number : ℕ) : Type 0 where
+  pub numbered : number ≡ startSaid (start .answer) .refused
+  pub told : stores′ ≡ storesAfter (start .answer) stores
+  pub says : words′ ≡ keptWords ok words (start .store)
+
+pub record StartCrossed (o : Operation) (words words′ area cells work work′ : List ℕ) (stores stores′ number : ℕ) : Type 0 where
+  pub start : Start
+  pub promised : StartPromise edition1 o (decoded words .store) area cells work work′ start
+  pub handed : Handed (decoded words .ok) start words words′ stores stores′ number
+
+-- ---- step
+
+unfoldable pub leftAfter : StepAnswer → ℕ → ℕ
+leftAfter (StepAnswer.Left n) old = n
+leftAfter (StepAnswer.Done v) old = 0
+leftAfter (StepAnswer.Refused c) old = old
+
+unfoldable pub toldAfter : StepAnswer → ℕ → ℕ
+toldAfter (StepAnswer.Left n) old = 0
+toldAfter (StepAnswer.Done v) old = v .0
+toldAfter (StepAnswer.Refused c) old = old
+
+pub record StepCrossed (words words′ area area′ cells cells′ work : List ℕ) (left left′ version version′ number : ℕ) : Type 0 where
+  pub stepped : Stepped
+  pub promised : StepPromise edition1 (decoded words .store) area area′ cells cells′ work stepped
+  pub numbered : number ≡ stepSaid (stepped .answer) .refused
+  pub left-told : left′ ≡ leftAfter (stepped .answer) left
+  pub version-told : version′ ≡ toldAfter (stepped .answer) version
+  pub says : words′ ≡ keptWords (decoded words .ok) words (stepped .store)

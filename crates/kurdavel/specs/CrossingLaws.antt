@@ -1,0 +1,159 @@
+-- What the exported functions promise, from what the calls behind them ensure: one law for each function, over the case of
+-- the answer that a `match` found.
+use Prim.Native.Nat.{ℕ, _+_, _*_, _≤_, _<_}
+use mathlib.Core.Path.{_≡_, refl, sym, ap, _∙_}
+use mathlib.Core.Bool.{Bool, true, false}
+use mathlib.Core.List.{List}
+use native.Mathlib.Nat.{mul-le-mul}
+use native.Mathlib.Omega.{arith}
+use lib.ListN.{length, take, drop}
+use lib.Seq.{sets}
+use Rattle.segment.specs.Layout.{edition1}
+use Rattle.segment.specs.declared.Key.{Key}
+use Rattle.segment.specs.declared.Version.{Version}
+use Rattle.record.specs.Answers.{formatSaid, recoverSaid, readSaid, startSaid, stepSaid}
+use Rattle.record.specs.Range.{fitsLent}
+use Rattle.record.specs.RangeLaws.{lent}
+use Rattle.record.specs.declared.Store.{Store}
+use Rattle.record.specs.declared.FormatAnswer.{FormatAnswer}
+use Rattle.record.specs.declared.Recovery.{Recovery}
+use Rattle.record.specs.declared.RecoverAnswer.{RecoverAnswer}
+use Rattle.record.specs.declared.Reading.{Reading}
+use Rattle.record.specs.declared.ReadAnswer.{ReadAnswer}
+use Rattle.record.specs.declared.Start.{Start}
+use Rattle.record.specs.declared.StartAnswer.{StartAnswer}
+use Rattle.record.specs.declared.Stepped.{Stepped}
+use Rattle.record.specs.declared.StepAnswer.{StepAnswer}
+use Rattle.model.specs.Operations.{Operation}
+use Rattle.model.specs.Promises.{FormatPromise, RecoverPromise, ReadPromise, ValuePromise, StartPromise, StepPromise}
+use Rattle.recovery.specs.Lookups.{lookedUp, toldBy, valueBy}
+use Rattle.recovery.specs.LookupLaws.{looked-unfit, read-promise, value-promise}
+use Rattle.recovery.specs.declared.Lookup.{Lookup}
+use Rattle.words.specs.Words.{recordWords, wordsOf, isRecord, decoded}
+use Rattle.words.specs.WordLaws.{record-long, decoded-none}
+use Rattle.words.specs.declared.Decoded.{Decoded}
+use Rattle.kurdavel.specs.Crossing.{FormatCrossed, Recovers, RecoverCrossed, wordsAfter, ReadCrossed, versionAfter, kindAfter, ValueCrossed, Handed, storesAfter, StartCrossed, keptWords, StepCrossed, leftAfter, toldAfter}
+
+-- words that decode to a record are enough of them
+pub ok-long : (words : List ℕ) {d : Decoded} → d ≡ decoded words → d .ok ≡ true → recordWords ≤ length words
+ok-long words {d} e ok = go (isRecord words) refl
+  where
+    go : (t : Bool) → isRecord words ≡ t → recordWords ≤ length words
+    go true f = record-long words f
+    go false f =
+        let no : decoded words .ok ≡ false = ap (λ (x : Decoded). x .ok) (decoded-none words f) in
+        let yes : decoded words .ok ≡ true = sym (ap (λ (x : Decoded). x .ok) e) ∙ ok in
+        let z : _≡_ {A = ℕ} 0 1 = cc in
+        absurd (omega arith)
+
+pub kept-on : {ok : Bool} (words words′ : List ℕ) (r : Store) → ok ≡ true → words′ ≡ sets words 0 (wordsOf r) → words′ ≡ keptWords ok words r
+unfolding keptWords
+kept-on words words′ r e w = rw e w
+
+pub kept-off : {ok : Bool} (words : List ℕ) (r : Store) → ok ≡ false → words ≡ keptWords ok words r
+unfolding keptWords
+kept-off words r e = rw e
+
+-- ---- format and recovery
+
+pub format-crossed : {n s : ℕ} {area area′ : List ℕ} {a b : FormatAnswer} {number : ℕ} → FormatPromise edition1 n s area area′ a → a ≡ b
+    → number ≡ formatSaid b .refused → FormatCrossed n s area area′ number
+format-crossed {a = a} p e m = record { answer = a; promised = p; numbered = m ∙ ap (λ (x : FormatAnswer). formatSaid x .refused) (sym e) }
+
+pub recover-short : {n s : ℕ} {order area cells words : List ℕ} → length words < recordWords
+    → RecoverCrossed n s order area cells cells words words 4
+recover-short h = record { short = λ _. record { numbered = refl; index-same = refl; words-same = refl }; recovers = λ g. absurd (omega arith) }
+
+pub recover-crossed : {n s : ℕ} {order area cells cells′ words words′ : List ℕ} {x : Recovery} {b : RecoverAnswer} {number : ℕ}
+    → recordWords ≤ length words → RecoverPromise edition1 n s order area cells cells′ x → x .answer ≡ b
+    → number ≡ recoverSaid b .refused → words′ ≡ wordsAfter b words (x .store)
+    → RecoverCrossed n s order area cells cells′ words words′ number
+recover-crossed {words = words} {x = x} h p e m w =
+    record {
+      short = λ g. absurd (omega arith);
+      recovers = λ _. record {
+        recovery = x;
+        promised = p;
+        numbered = m ∙ ap (λ (a : RecoverAnswer). recoverSaid a .refused) (sym e);
+        says = w ∙ ap (λ (a : RecoverAnswer). wordsAfter a words (x .store)) (sym e);
+      };
+    }
+
+-- ---- read
+
+pub read-crossed : {words area cells : List ℕ} {k : Key} {version kind version′ kind′ number : ℕ} {d : Decoded} {x : Reading} {b : ReadAnswer}
+    → d ≡ decoded words → ReadPromise edition1 (d .store) area cells k x → x .answer ≡ b → number ≡ readSaid b .refused
+    → version′ ≡ versionAfter b version → kind′ ≡ kindAfter b kind → ReadCrossed words area cells k version kind version′ kind′ number
+read-crossed {area = area} {cells = cells} {k = k} {version = version} {kind = kind} {x = x} f p e m v w =
+    record {
+      reading = x;
+      promised = rw (ap (λ (a : Decoded). a .store) f) at p;
+      numbered = m ∙ ap (λ (a : ReadAnswer). readSaid a .refused) (sym e);
+      version-told = v ∙ ap (λ (a : ReadAnswer). versionAfter a version) (sym e);
+      kind-told = w ∙ ap (λ (a : ReadAnswer). kindAfter a kind) (sym e);
+    }
+
+-- a record that an object was looked up with fits what is lent, which is at most the largest area
+pub found-small : (r : Store) (area cells : List ℕ) (k : Key) {p kind n : ℕ} {v : Version}
+    → lookedUp edition1 r area cells k ≡ Lookup.Object p v kind n → length area ≤ 65536
+found-small r area cells k e = go (fitsLent edition1 r (length area) (length cells)) refl
+  where
+    go : (t : Bool) → fitsLent edition1 r (length area) (length cells) ≡ t → length area ≤ 65536
+    go false f = let g = looked-unfit edition1 r area cells k f in let z : _≡_ {A = ℕ} 0 1 = cc in absurd (omega arith)
+    go true f =
+        let l = lent edition1 r (length area) (length cells) f in
+        let most : r .slots * r .size ≤ 32 * 2048 = mul-le-mul (l .slots-high) (l .size-high) in
+        omega arith
+
+pub value-crossed : {words area cells : List ℕ} {k : Key} {place bytes number : ℕ} {d : Decoded} {x b : Lookup} → d ≡ decoded words
+    → x ≡ lookedUp edition1 (d .store) area cells k → x ≡ b → number ≡ readSaid (toldBy b) .refused
+    → take bytes (drop place area) ≡ valueBy edition1 area b → place + bytes ≤ length area → ValueCrossed words area cells k place bytes number
+value-crossed {words} {area} {cells} {k} {place} {bytes} {b = b} f l e m v i =
+    let found : b ≡ lookedUp edition1 (decoded words .store) area cells k =
+    sym e ∙ l ∙ ap (λ (a : Decoded). lookedUp edition1 (a .store) area cells k) f in
+    record {
+      reading = record { answer = toldBy b; store = decoded words .store };
+      promised = read-promise edition1 (decoded words .store) area cells k b (toldBy b) found refl;
+      numbered = m;
+      value = value-promise edition1 (decoded words .store) area cells k b (take bytes (drop place area)) found v;
+      inside = i;
+    }
+
+-- ---- write, delete and clean
+
+pub handed : {ok : Bool} {x : Start} {words words′ : List ℕ} {stores stores′ number : ℕ} {b : StartAnswer}
+    → words′ ≡ keptWords ok words (x .store) → x .answer ≡ b → number ≡ startSaid b .refused → stores′ ≡ storesAfter b stores
+    → Handed ok x words words′ stores stores′ number
+handed {stores = stores} w e m s =
+    record {
+      numbered = m ∙ ap (λ (a : StartAnswer). startSaid a .refused) (sym e);
+      told = s ∙ ap (λ (a : StartAnswer). storesAfter a stores) (sym e);
+      says = w;
+    }
+
+pub start-crossed : {o : Operation} {words words′ area cells work work′ : List ℕ} {stores stores′ number : ℕ} {d : Decoded} {x : Start}
+    → d ≡ decoded words → StartPromise edition1 o (d .store) area cells work work′ x
+    → Handed (d .ok) x words words′ stores stores′ number → StartCrossed o words words′ area cells work work′ stores stores′ number
+start-crossed {x = x} f p h =
+    record {
+      start = x;
+      promised = rw (ap (λ (a : Decoded). a .store) f) at p;
+      handed = rw (ap (λ (a : Decoded). a .ok) f) at h;
+    }
+
+-- ---- step
+
+pub step-crossed : {words words′ area area′ cells cells′ work : List ℕ} {left left′ version version′ number : ℕ} {d : Decoded} {x : Stepped}
+    {b : StepAnswer} → d ≡ decoded words → StepPromise edition1 (d .store) area area′ cells cells′ work x
+    → words′ ≡ keptWords (d .ok) words (x .store) → x .answer ≡ b → number ≡ stepSaid b .refused
+    → left′ ≡ leftAfter b left → version′ ≡ toldAfter b version
+    → StepCrossed words words′ area area′ cells cells′ work left left′ version version′ number
+step-crossed {words = words} {left = left} {version = version} {x = x} f p w e m l v =
+    record {
+      stepped = x;
+      promised = rw (ap (λ (a : Decoded). a .store) f) at p;
+      numbered = m ∙ ap (λ (a : StepAnswer). stepSaid a .refused) (sym e);
+      left-told = l ∙ ap (λ (a : StepAnswer). leftAfter a left) (sym e);
+      version-told = v ∙ ap (λ (a : StepAnswer). toldAfter a version) (sym e);
+      says = w ∙ ap (λ (a : Decoded). keptWords (a .ok) words (x .store)) f;
+    }

@@ -1,0 +1,3 @@
+-- What crosses to a firmware: the promises of the calls, with the record as words and the answer as a number.
+pub mod Crossing
+pub mod CrossingLaws

@@ -1,0 +1,276 @@
+// The store for a firmware in C or Rust (include/kurdavel.h): the seven calls and the value read, over slices and numbers.
+// Each function decodes the record from the words that are lent, makes the call, and encodes what it hands back. Nothing is
+// required of the caller's values: words that are no record are refused with 4. The answer is 0 or the refusal's number.
+use cleaning::clean::clean;
+use record::FormatAnswer;
+use record::ReadAnswer;
+use record::RecoverAnswer;
+use record::Start;
+use record::StartAnswer;
+use record::StepAnswer;
+use record::Store;
+use record::number;
+use recovery::Lookup;
+use recovery::format::format;
+use recovery::read::find;
+use recovery::read::read;
+use recovery::recover::recover;
+use segment::Key;
+use segment::layout::HEAD_SIZE;
+use stepping::step;
+use words::WORDS;
+use words::decode;
+use words::encode;
+use writing::start::delete;
+use writing::start::write;
+ghost use Prim.Native.Nat.{_≤_};
+ghost use mathlib.Core.Path.{_≡_};
+ghost use mathlib.Core.Bool.{true};
+ghost use lib.ListN.{length};
+ghost use Rattle.segment.specs.Choice.{pick};
+ghost use Rattle.record.specs.Answers.{startSaid};
+ghost use Rattle.model.specs.Operations.{write, delete, clean};
+ghost use Rattle.words.specs.Words.{recordWords};
+ghost use Rattle.kurdavel.specs.Crossing.{FormatCrossed, RecoverCrossed, ReadCrossed, ValueCrossed, StartCrossed, StepCrossed, keptWords, storesAfter, Handed};
+
+#[no_mangle]
+pub extern "C" fn kurdavel_format(slots: u32, size: u32, area: &mut [u8]) -> u32
+    ensures { λ r. ⌜ FormatCrossed slots size (now (area .entry)) (now (area .exit)) r ⌝ }
+{
+    match format(slots, size, area) {
+        FormatAnswer::Formatted => 0,
+        FormatAnswer::Refused(cause) => number(cause),
+    }
+}
+
+#[no_mangle]
+pub extern "C" fn kurdavel_recover(
+    slots: u32,
+    size: u32,
+    order: &[u8],
+    area: &[u8],
+    index: &mut [u32],
+    words: &mut [u32],
+) -> u32
+    ensures { λ r.
+        ⌜
+        RecoverCrossed slots size (now (order .entry)) (now (area .entry)) (now (index .entry)) (now (index .exit))
+        (now (words .entry)) (now (words .exit)) r
+        ⌝ }
+{
+    if words.len() < WORDS {
+        return 4;
+    }
+    let found = recover(slots, size, order, area, index);
+    let answer = found.answer;
+    match answer {
+        RecoverAnswer::Refused(cause) => number(cause),
+        RecoverAnswer::Recovered => {
+            let store = found.store;
+            encode(store, words);
+            0
+        }
+    }
+}
+
+#[no_mangle]
+pub extern "C" fn kurdavel_read(
+    words: &[u32],
+    area: &[u8],
+    index: &[u32],
+    table: u16,
+    key: u32,
+    version: &mut u32,
+    kind: &mut u32,
+) -> u32
+    ensures { λ r.
+        ⌜
+        ReadCrossed (now (words .entry)) (now (area .entry)) (now (index .entry)) (record { table = table; key = key })
+        (now (version .entry)) (now (kind .entry)) (now (version .exit)) (now (kind .exit)) r
+        ⌝ }
+{
+    let decoded = decode(words);
+    let store = decoded.store;
+    let reading = read(store, area, index, Key { table, key });
+    let answer = reading.answer;
+    match answer {
+        ReadAnswer::Refused(cause) => number(cause),
+        ReadAnswer::Present {
+            version: found,
+            kind: told,
+        } => {
+            *version = found.0;
+            *kind = told as u32;
+            0
+        }
+    }
+}
+
+#[no_mangle]
+pub extern "C" fn kurdavel_read_value(
+    words: &[u32],
+    area: &[u8],
+    index: &[u32],
+    table: u16,
+    key: u32,
+    place: &mut u32,
+    bytes: &mut u32,
+) -> u32
+    ensures { λ r.
+        ⌜
+        ValueCrossed (now (words .entry)) (now (area .entry)) (now (index .entry)) (record { table = table; key = key })
+        (now (place .exit)) (now (bytes .exit)) r
+        ⌝ }
+{
+    let decoded = decode(words);
+    let store = decoded.store;
+    *place = 0;
+    *bytes = 0;
+    match find(store, area, index, Key { table, key }) {
+        Lookup::Object {
+            place: entry,
+            version: _,
+            kind: _,
+            length,
+        } => {
+            *place = (entry + HEAD_SIZE) as u32;
+            *bytes = (length - HEAD_SIZE) as u32;
+            0
+        }
+        Lookup::Absent => 8,
+        Lookup::Bad => 4,
+    }
+}
+
+// The record back into its words, if they were a record's.
+fn keep(words: &mut [u32], ok: bool, store: Store)
+    requires { ⌜ (ok ≡ true → recordWords ≤ length (now words)) ⌝ }
+    ensures { λ _. ⌜ now (words .exit) ≡ keptWords ok (now (words .entry)) store ⌝ }
+{
+    if ok {
+        encode(store, words);
+    }
+}
+
+// What a start hands back: its record, its number of stores if it is accepted, and its answer's number.
+fn hand_back(words: &mut [u32], ok: bool, start: Start, stores: &mut u32) -> u32
+    requires { ⌜ (ok ≡ true → recordWords ≤ length (now words)) ⌝ }
+    ensures { λ r.
+        ⌜
+        Handed ok start (now (words .entry)) (now (words .exit)) (now (stores .entry)) (now (stores .exit)) r
+        ⌝ }
+{
+    let store = start.store;
+    let answer = start.answer;
+    keep(words, ok, store);
+    match answer {
+        StartAnswer::Refused(cause) => number(cause),
+        StartAnswer::Started(count) => {
+            *stores = count;
+            0
+        }
+    }
+}
+
+#[no_mangle]
+pub extern "C" fn kurdavel_write(
+    words: &mut [u32],
+    area: &[u8],
+    index: &[u32],
+    work: &mut [u8],
+    table: u16,
+    key: u32,
+    value: &[u8],
+    stores: &mut u32,
+) -> u32
+    ensures { λ r.
+        ⌜
+        StartCrossed (write (record { table = table; key = key }) (now (value .entry))) (now (words .entry)) (now (words .exit))
+        (now (area .entry)) (now (index .entry)) (now (work .entry)) (now (work .exit)) (now (stores .entry)) (now (stores .exit)) r
+        ⌝ }
+{
+    let decoded = decode(words);
+    let store = decoded.store;
+    let start = write(store, area, index, work, Key { table, key }, value);
+    hand_back(words, decoded.ok, start, stores)
+}
+
+#[no_mangle]
+pub extern "C" fn kurdavel_delete(
+    words: &mut [u32],
+    area: &[u8],
+    index: &[u32],
+    work: &mut [u8],
+    table: u16,
+    key: u32,
+    stores: &mut u32,
+) -> u32
+    ensures { λ r.
+        ⌜
+        StartCrossed (delete (record { table = table; key = key })) (now (words .entry)) (now (words .exit)) (now (area .entry))
+        (now (index .entry)) (now (work .entry)) (now (work .exit)) (now (stores .entry)) (now (stores .exit)) r
+        ⌝ }
+{
+    let decoded = decode(words);
+    let store = decoded.store;
+    let start = delete(store, area, index, work, Key { table, key });
+    hand_back(words, decoded.ok, start, stores)
+}
+
+#[no_mangle]
+pub extern "C" fn kurdavel_clean(
+    words: &mut [u32],
+    area: &[u8],
+    index: &[u32],
+    work: &mut [u8],
+    victims: u32,
+    stores: &mut u32,
+) -> u32
+    ensures { λ r.
+        ⌜
+        StartCrossed (clean victims) (now (words .entry)) (now (words .exit)) (now (area .entry)) (now (index .entry))
+        (now (work .entry)) (now (work .exit)) (now (stores .entry)) (now (stores .exit)) r
+        ⌝ }
+{
+    let decoded = decode(words);
+    let store = decoded.store;
+    let start = clean(store, area, index, work, victims);
+    hand_back(words, decoded.ok, start, stores)
+}
+
+#[no_mangle]
+pub extern "C" fn kurdavel_step(
+    words: &mut [u32],
+    area: &mut [u8],
+    index: &mut [u32],
+    work: &[u8],
+    left: &mut u32,
+    version: &mut u32,
+) -> u32
+    ensures { λ r.
+        ⌜
+        StepCrossed (now (words .entry)) (now (words .exit)) (now (area .entry)) (now (area .exit)) (now (index .entry))
+        (now (index .exit)) (now (work .entry)) (now (left .entry)) (now (left .exit)) (now (version .entry))
+        (now (version .exit)) r
+        ⌝ }
+{
+    let decoded = decode(words);
+    let store = decoded.store;
+    let stepped = step(store, area, index, work);
+    let after = stepped.store;
+    let answer = stepped.answer;
+    keep(words, decoded.ok, after);
+    match answer {
+        StepAnswer::Refused(cause) => number(cause),
+        StepAnswer::Left(count) => {
+            *left = count;
+            *version = 0;
+            0
+        }
+        StepAnswer::Done(told) => {
+            *left = 0;
+            *version = told.0;
+            0
+        }
+    }
+}

@@ -1,0 +1,71 @@
+-- The store record as 14 words of 32 bits: N, S, M, head slot, end of the head's entries, digest number, slot map, next
+-- version, number of keys; then the pending operation: a tag, the new head's slot, the victims, the length of what the work
+-- buffer holds, and the stores left. A word that an operation has no use for is 0.
+use Prim.Native.Nat.{ℕ}
+use mathlib.Core.Bool.{Bool, true, false}
+use mathlib.Core.List.{List, [], _∷_, _++_}
+use lib.Dec.{eqb, leb}
+use lib.ListN.{length, getD}
+use Rattle.segment.specs.Choice.{pick, both}
+use Rattle.record.specs.Answers.{blank}
+use Rattle.record.specs.declared.Pending.{Pending}
+use Rattle.record.specs.declared.Pending.the-variants.{Idle, Append, NewHead, Clean}
+use Rattle.record.specs.declared.Store.{Store}
+use Rattle.words.specs.declared.Decoded.{Decoded}
+
+-- how many words a record takes
+abbrev pub recordWords : ℕ
+recordWords = 14
+
+-- ---- the words of a record
+
+abbrev pub pendingWords : Pending → List ℕ
+pendingWords Idle = 0 ∷ 0 ∷ 0 ∷ 0 ∷ 0 ∷ []
+pendingWords (Append n k) = 1 ∷ 0 ∷ 0 ∷ n ∷ k ∷ []
+pendingWords (NewHead s n k) = 2 ∷ s ∷ 0 ∷ n ∷ k ∷ []
+pendingWords (Clean s v n k) = 3 ∷ s ∷ v ∷ n ∷ k ∷ []
+
+abbrev pub numberWords : Store → List ℕ
+numberWords r = r .slots ∷ r .size ∷ r .cells ∷ r .head ∷ r .end ∷ r .number .0 ∷ r .map ∷ r .next .0 ∷ r .keys ∷ []
+
+abbrev pub wordsOf : Store → List ℕ
+wordsOf r = numberWords r ++ pendingWords (r .pending)
+
+-- ---- the record of words
+
+unfoldable pub zeros : ℕ → ℕ → Bool
+zeros a b = both (eqb a 0) (eqb b 0)
+
+-- whether five words are those of a pending operation
+unfoldable pub pendingFits : ℕ → ℕ → ℕ → ℕ → ℕ → Bool
+pendingFits t s v n k =
+    pick (eqb t 0) (both (zeros s v) (zeros n k)) (pick (eqb t 1) (zeros s v) (pick (eqb t 2) (eqb v 0) (eqb t 3)))
+
+unfoldable pub pendingOf : ℕ → ℕ → ℕ → ℕ → ℕ → Pending
+pendingOf t s v n k = pick (eqb t 1) (Append n k) (pick (eqb t 2) (NewHead s n k) (pick (eqb t 3) (Clean s v n k) Idle))
+
+abbrev pub word : List ℕ → ℕ → ℕ
+word w i = getD w i 0
+
+abbrev pub storeOf : List ℕ → Store
+storeOf w =
+    record {
+      slots = word w 0;
+      size = word w 1;
+      cells = word w 2;
+      head = word w 3;
+      end = word w 4;
+      number = record { 0 = word w 5 };
+      map = word w 6;
+      next = record { 0 = word w 7 };
+      keys = word w 8;
+      pending = pendingOf (word w 9) (word w 10) (word w 11) (word w 12) (word w 13);
+    }
+
+-- whether the first words of what is lent are a record's
+unfoldable pub isRecord : List ℕ → Bool
+isRecord w = both (leb recordWords (length w)) (pendingFits (word w 9) (word w 10) (word w 11) (word w 12) (word w 13))
+
+-- the record, or the blank one where the words are no record's
+unfoldable pub decoded : List ℕ → Decoded
+decoded w = pick (isRecord w) (record { ok = true; store = storeOf w }) (record { ok = false; store = blank })

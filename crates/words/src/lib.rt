@@ -1,0 +1,156 @@
+// The store record as words: what crosses to a firmware, which lends the words and keeps them from call to call.
+use record::Pending;
+use record::Store;
+use record::blank;
+use segment::DigestNumber;
+use segment::Version;
+ghost use Prim.Native.Nat.{_≤_};
+ghost use mathlib.Core.Path.{_≡_};
+ghost use mathlib.Core.Bool.{true};
+ghost use mathlib.Core.List.{[], _∷_};
+ghost use lib.ListN.{length};
+ghost use lib.Seq.{sets};
+ghost use Rattle.words.specs.Words.{recordWords, numberWords, pendingWords, zeros, pendingFits, pendingOf, wordsOf, storeOf, isRecord, decoded};
+
+// How many words a record takes.
+pub const WORDS: usize = 14;
+
+// Whether words are a record, and the record; the blank one where they are not.
+pub struct Decoded {
+    pub ok: bool,
+    pub store: Store,
+}
+
+// The five words of a pending operation, from the tenth on.
+fn put_pending(words: &mut [u32], tag: u32, slot: u32, victims: u32, bytes: u32, left: u32)
+    requires { ⌜ recordWords ≤ length (now words) ⌝ }
+    ensures { λ _. ⌜ now (words .exit) ≡ sets (now (words .entry)) 9 (tag ∷ slot ∷ victims ∷ bytes ∷ left ∷ []) ⌝ }
+{
+    words[9] = tag;
+    words[10] = slot;
+    words[11] = victims;
+    words[12] = bytes;
+    words[13] = left;
+}
+
+fn encode_pending(p: Pending, words: &mut [u32])
+    requires { ⌜ recordWords ≤ length (now words) ⌝ }
+    ensures { λ _. ⌜ now (words .exit) ≡ sets (now (words .entry)) 9 (pendingWords p) ⌝ }
+{
+    match p {
+        Pending::Idle => put_pending(words, 0, 0, 0, 0, 0),
+        Pending::Append { length, left } => put_pending(words, 1, 0, 0, length, left),
+        Pending::NewHead { slot, length, left } => put_pending(words, 2, slot, 0, length, left),
+        Pending::Clean {
+            slot,
+            victims,
+            length,
+            left,
+        } => put_pending(words, 3, slot, victims, length, left),
+    }
+}
+
+// The nine numbers of a record besides its pending operation.
+fn put_numbers(store: Store, words: &mut [u32])
+    requires { ⌜ recordWords ≤ length (now words) ⌝ }
+    ensures { λ _. ⌜ now (words .exit) ≡ sets (now (words .entry)) 0 (numberWords store) ⌝ }
+{
+    let number = store.number;
+    let next = store.next;
+    words[0] = store.slots;
+    words[1] = store.size;
+    words[2] = store.cells;
+    words[3] = store.head;
+    words[4] = store.end;
+    words[5] = number.0;
+    words[6] = store.map;
+    words[7] = next.0;
+    words[8] = store.keys;
+}
+
+// The record into the first words of what is lent; the others stay.
+pub fn encode(store: Store, words: &mut [u32])
+    requires { ⌜ recordWords ≤ length (now words) ⌝ }
+    ensures { λ _. ⌜ now (words .exit) ≡ sets (now (words .entry)) 0 (wordsOf store) ⌝ }
+{
+    let pending = store.pending;
+    put_numbers(store, words);
+    encode_pending(pending, words);
+}
+
+// Whether two words are 0.
+fn zeros(a: u32, b: u32) -> bool
+    ensures { λ r. ⌜ r ≡ zeros a b ⌝ }
+{
+    a == 0 && b == 0
+}
+
+// Whether five words are those of a pending operation: words that it has no use for are 0.
+fn pending_fits(tag: u32, slot: u32, victims: u32, length: u32, left: u32) -> bool
+    ensures { λ r. ⌜ r ≡ pendingFits tag slot victims length left ⌝ }
+{
+    match tag {
+        0 => zeros(slot, victims) && zeros(length, left),
+        1 => zeros(slot, victims),
+        2 => victims == 0,
+        3 => true,
+        _ => false,
+    }
+}
+
+fn pending_of(tag: u32, slot: u32, victims: u32, length: u32, left: u32) -> Pending
+    ensures { λ r. ⌜ r ≡ pendingOf tag slot victims length left ⌝ }
+{
+    match tag {
+        1 => Pending::Append { length, left },
+        2 => Pending::NewHead { slot, length, left },
+        3 => Pending::Clean {
+            slot,
+            victims,
+            length,
+            left,
+        },
+        _ => Pending::Idle,
+    }
+}
+
+// The record that the first words say, where there are enough of them.
+fn store_of(words: &[u32]) -> Store
+    requires { ⌜ recordWords ≤ length (now words) ⌝ }
+    ensures { λ r. ⌜ r ≡ storeOf (now (words .entry)) ⌝ }
+{
+    let pending = pending_of(words[9], words[10], words[11], words[12], words[13]);
+    Store {
+        slots: words[0],
+        size: words[1],
+        cells: words[2],
+        head: words[3],
+        end: words[4],
+        number: DigestNumber(words[5]),
+        map: words[6],
+        next: Version(words[7]),
+        keys: words[8],
+        pending,
+    }
+}
+
+// Whether the words lent are those of a record.
+fn is_record(words: &[u32]) -> bool
+    ensures { λ r. ⌜ r ≡ isRecord (now (words .entry)) ⌝ }
+{
+    if words.len() < WORDS {
+        return false;
+    }
+    pending_fits(words[9], words[10], words[11], words[12], words[13])
+}
+
+pub fn decode(words: &[u32]) -> Decoded
+    ensures { λ r. ⌜ r ≡ decoded (now (words .entry)) ⌝ }
+{
+    if is_record(words) {
+        let store = store_of(words);
+        return Decoded { ok: true, store };
+    }
+    let store = blank();
+    Decoded { ok: false, store }
+}

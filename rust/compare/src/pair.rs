@@ -1,0 +1,346 @@
+//! Two stores that live through the same history.
+
+use std::fmt::Write;
+
+use reference::book::Operation;
+use reference::index::rule_holds;
+use reference::{Key, SlotMap};
+
+use crate::guarded::Guarded;
+use crate::{same, translate, Fault};
+
+/// What a cut leaves in memory that it loses.
+const LOST_CELL: u32 = 0xDEAD_BEEF;
+const LOST_BYTE: u8 = 0x5A;
+
+/// One implementation's memory.
+#[derive(Clone, Debug)]
+struct Memory {
+    area: Guarded<u8>,
+    index: Guarded<u32>,
+    work: Guarded<u8>,
+}
+
+impl Memory {
+    fn new(area: &[u8], cells: usize, work_bytes: usize) -> Memory {
+        Memory {
+            area: Guarded::new(area, 5),
+            index: Guarded::new(&vec![LOST_CELL; cells], 1),
+            work: Guarded::new(&vec![LOST_BYTE; work_bytes], 5),
+        }
+    }
+
+    fn is_intact(&self) -> bool {
+        self.area.is_intact() && self.index.is_intact() && self.work.is_intact()
+    }
+}
+
+/// The proved store and the reference, after the same calls and cuts.
+#[derive(Clone, Debug)]
+pub struct Pair {
+    slots: u32,
+    slot_bytes: u32,
+    proved: Memory,
+    reference: Memory,
+    /// The newest record of each. None from a format, a cut or a refusal with 20 up to the next accepted recovery.
+    records: Option<(kurdavel::Record, reference::Record)>,
+    /// The proved store's index as the last recovery or last step left it: no other call may change it.
+    settled: Vec<u32>,
+    /// The calls so far, for a report; accepted steps are counted together.
+    history: String,
+    steps: u32,
+}
+
+impl Pair {
+    /// Two stores over the same bytes, not recovered yet. The work buffers are a little longer than they must be.
+    pub fn unrecovered(slots: u32, slot_bytes: u32, cells: usize, area: &[u8]) -> Pair {
+        let work_bytes = slot_bytes as usize + 3;
+        Pair {
+            slots,
+            slot_bytes,
+            proved: Memory::new(area, cells, work_bytes),
+            reference: Memory::new(area, cells, work_bytes),
+            records: None,
+            settled: vec![LOST_CELL; cells],
+            history: format!("N {slots}, S {slot_bytes}, M {cells}\n"),
+            steps: 0,
+        }
+    }
+
+    /// Two stores formatted over the given bytes and recovered.
+    pub fn fresh(slots: u32, slot_bytes: u32, cells: usize, area: &[u8]) -> Result<Pair, Fault> {
+        let mut pair = Pair::unrecovered(slots, slot_bytes, cells, area);
+        pair.format(slots, slot_bytes)?
+            .map_err(|refusal| format!("format refused: {refusal}"))?;
+        pair.must_recover(&pair.ascending())?;
+        Ok(pair)
+    }
+
+    /// The slots in ascending order.
+    pub fn ascending(&self) -> Vec<u8> {
+        (0..self.slots as u8).collect()
+    }
+
+    /// Number of slots.
+    pub fn slots(&self) -> u32 {
+        self.slots
+    }
+
+    /// Bytes in a slot.
+    pub fn slot_bytes(&self) -> u32 {
+        self.slot_bytes
+    }
+
+    /// Cells of the index.
+    pub fn cells(&self) -> usize {
+        self.proved.index.len()
+    }
+
+    /// Length of the work buffer.
+    pub fn work_bytes(&self) -> usize {
+        self.proved.work.len()
+    }
+
+    /// The bytes that both stores stand on.
+    pub fn area(&self) -> &[u8] {
+        &self.proved.area
+    }
+
+    /// The proved store's index.
+    pub fn index(&self) -> &[u32] {
+        &self.proved.index
+    }
+
+    /// Whether a record is held, so that calls other than recovery may come.
+    pub fn is_recovered(&self) -> bool {
+        self.records.is_some()
+    }
+
+    /// The newest record, as the reference has it.
+    pub fn record(&self) -> reference::Record {
+        self.records.expect("an accepted recovery came before").1
+    }
+
+    /// The calls so far.
+    pub fn history(&mut self) -> &str {
+        self.tell(format_args!("end"));
+        &self.history
+    }
+
+    fn tell(&mut self, line: std::fmt::Arguments) {
+        if self.steps > 0 {
+            let _ = writeln!(self.history, "{} steps", self.steps);
+            self.steps = 0;
+        }
+        let _ = writeln!(self.history, "{line}");
+    }
+
+    /// Formats both.
+    pub fn format(&mut self, slots: u32, slot_bytes: u32) -> Result<Result<(), u32>, Fault> {
+        self.tell(format_args!("format {slots} {slot_bytes}"));
+        let proved = kurdavel::format(slots, slot_bytes, &mut self.proved.area);
+        let owed = reference::format(slots, slot_bytes, &mut self.reference.area);
+        let answer = translate::proved(proved);
+        same!("format", answer, translate::reference(owed));
+        if answer.is_ok() {
+            self.records = None;
+        }
+        self.same_memory()?;
+        Ok(answer)
+    }
+
+    /// Sets bytes of both areas, as of a store that has lived long.
+    pub fn age(&mut self, place: usize, bytes: &[u8]) {
+        let end = place + bytes.len();
+        self.tell(format_args!("bytes {bytes:?} at {place}"));
+        self.proved.area[place..end].copy_from_slice(bytes);
+        self.reference.area[place..end].copy_from_slice(bytes);
+    }
+
+    /// All that a call may not leave otherwise in one than in the other.
+    fn same_memory(&self) -> Result<(), Fault> {
+        if !self.proved.is_intact() {
+            return Err("memory beside what was lent is changed".into());
+        }
+        if self.proved.area[..] != self.reference.area[..] {
+            let place = (0..).find(|&i| self.proved.area[i] != self.reference.area[i]);
+            return Err(format!("areas differ at {place:?}"));
+        }
+        same!("work buffer", self.proved.work[..], self.reference.work[..]);
+        self.same_record()
+    }
+
+    fn same_record(&self) -> Result<(), Fault> {
+        if let Some((proved, reference)) = self.records {
+            same!("record", proved, translate::record(reference));
+        }
+        Ok(())
+    }
+
+    fn check_index(&self) -> Result<(), Fault> {
+        let map = SlotMap(self.record().map.0);
+        let (area, index) = (&self.proved.area, &self.proved.index);
+        if rule_holds(self.slots, self.slot_bytes, map, area, index) {
+            Ok(())
+        } else {
+            Err("the index breaks its rule".into())
+        }
+    }
+
+    /// Loses all that a cut loses.
+    pub fn cut(&mut self) {
+        self.tell(format_args!("cut"));
+        self.records = None;
+        for memory in [&mut self.proved, &mut self.reference] {
+            memory.index.fill(LOST_CELL);
+            memory.work.fill(LOST_BYTE);
+        }
+        self.settled.fill(LOST_CELL);
+    }
+
+    /// Recovers both into an index of the given length, which takes the place of the old one if that is accepted.
+    pub fn recover(&mut self, cells: usize, order: &[u8]) -> Result<Result<(), u32>, Fault> {
+        self.tell(format_args!("recover, M {cells}, order {order:?}"));
+        let (slots, slot_bytes) = (self.slots, self.slot_bytes);
+        let mut proved = Guarded::new(&vec![LOST_CELL; cells], 1);
+        let mut reference = proved.clone();
+        let answer = kurdavel::recover(slots, slot_bytes, order, &self.proved.area, &mut proved);
+        let area = &self.reference.area;
+        let owed = reference::recover(slots, slot_bytes, area, &mut reference, order);
+        let told = translate::proved(answer.map(|_| ()));
+        same!("recovery", told, translate::reference(owed.map(|_| ())));
+        if !proved.is_intact() {
+            return Err("memory beside the index is changed".into());
+        }
+        match (answer, owed) {
+            (Ok(record), Ok(owed)) => {
+                self.records = Some((record, owed));
+                self.settled = proved.to_vec();
+                self.proved.index = proved;
+                self.reference.index = reference;
+                self.same_memory()?;
+                self.check_index()?;
+            }
+            _ => {
+                same!("index of a refused recovery", proved[..], reference[..]);
+                self.same_memory()?;
+                if told == Err(20) {
+                    self.records = None;
+                }
+            }
+        }
+        Ok(told)
+    }
+
+    /// Recovers as after any cut: the same index length, any order, always accepted.
+    pub fn must_recover(&mut self, order: &[u8]) -> Result<(), Fault> {
+        match self.recover(self.cells(), order)? {
+            Ok(()) => Ok(()),
+            Err(refusal) => Err(format!("recovery refused: {refusal}")),
+        }
+    }
+
+    /// Starts an operation on both, with the first bytes of the work buffer.
+    pub fn start(&mut self, operation: &Operation, lent: usize) -> Result<Result<u32, u32>, Fault> {
+        let (mut record, before) = self.records.expect("an accepted recovery came before");
+        let Memory { area, index, work } = &mut self.proved;
+        let work = &mut work[..lent];
+        let answer = match operation {
+            Operation::Write(key, value) => {
+                record.write(area, index, work, translate::key(*key), value)
+            }
+            Operation::Delete(key) => record.delete(area, index, work, translate::key(*key)),
+            Operation::Clean(victims) => {
+                record.clean(area, index, work, kurdavel::SlotMap(victims.0))
+            }
+        };
+        let Memory { area, index, work } = &mut self.reference;
+        let work = &mut work[..lent];
+        let (after, owed) = match operation {
+            Operation::Write(key, value) => {
+                reference::write(before, area, index, work, *key, value)
+            }
+            Operation::Delete(key) => reference::delete(before, area, index, work, *key),
+            Operation::Clean(victims) => reference::clean(before, area, index, work, *victims),
+        };
+        let answer = translate::proved(answer);
+        self.tell(format_args!(
+            "{}, work {lent}: {answer:?}",
+            named(operation)
+        ));
+        same!("start", answer, translate::reference(owed));
+        self.records = Some((record, after));
+        same!("index of a start", self.proved.index[..], self.settled[..]);
+        self.same_memory()?;
+        Ok(answer)
+    }
+
+    /// Starts an operation with the whole work buffer.
+    pub fn begin(&mut self, operation: &Operation) -> Result<Result<u32, u32>, Fault> {
+        self.start(operation, self.work_bytes())
+    }
+
+    /// Makes one step on both.
+    pub fn step(&mut self) -> Result<Result<(u32, u32), u32>, Fault> {
+        let (mut record, before) = self.records.expect("an accepted recovery came before");
+        let Memory { area, index, work } = &mut self.proved;
+        let answer = record.step(area, index, work);
+        let Memory { area, index, work } = &mut self.reference;
+        let (after, owed) = reference::step(before, area, index, work);
+        let answer = translate::proved(answer.map(translate::proved_progress));
+        let owed = translate::reference(owed.map(translate::reference_progress));
+        same!("step", answer, owed);
+        self.records = Some((record, after));
+        self.same_memory()?;
+        self.steps += u32::from(answer.is_ok());
+        if let Ok((0, _)) = answer {
+            self.check_index()?;
+            self.settled.copy_from_slice(&self.proved.index);
+        }
+        same!("index of a step", self.proved.index[..], self.settled[..]);
+        Ok(answer)
+    }
+
+    /// Steps up to the end of the pending operation.
+    pub fn finish(&mut self) -> Result<(), Fault> {
+        while self.record().pending.left() > 0 {
+            if let Err(refusal) = self.step()? {
+                return Err(format!("step refused: {refusal}"));
+            }
+        }
+        Ok(())
+    }
+
+    /// Reads a key from both. Version, kind, value and the value's place are the same.
+    pub fn read(&self, key: Key) -> Result<Result<(u32, u8), u32>, Fault> {
+        let (record, owed) = self.records.expect("an accepted recovery came before");
+        let Memory { area, index, .. } = &self.proved;
+        let found = record.read(area, index, translate::key(key));
+        let value = record.read_value(area, index, translate::key(key));
+        let place = value.as_ptr() as usize - area.as_ptr() as usize;
+        let Memory { area, index, .. } = &self.reference;
+        let owed_found = reference::read(&owed, area, index, key);
+        let owed_value = reference::read_value(&owed, area, index, key);
+        let owed_place = owed_value.as_ptr() as usize - area.as_ptr() as usize;
+        let found = translate::proved(found.map(|found| (found.version.0, found.kind)));
+        let owed_found = owed_found.map(|found| (found.version.0, found.kind));
+        same!(
+            format!("read of {key:?}"),
+            found,
+            translate::reference(owed_found)
+        );
+        same!(format!("value of {key:?}"), value, owed_value);
+        same!(format!("place of {key:?}"), place, owed_place);
+        Ok(found)
+    }
+}
+
+fn named(operation: &Operation) -> String {
+    match operation {
+        Operation::Write(key, value) => {
+            format!("write {}/{}, {} bytes", key.table, key.key, value.len())
+        }
+        Operation::Delete(key) => format!("delete {}/{}", key.table, key.key),
+        Operation::Clean(victims) => format!("clean {:#b}", victims.0),
+    }
+}

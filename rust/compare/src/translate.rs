@@ -1,0 +1,74 @@
+//! The reference's types as the wrapper's.
+
+use kurdavel::{Fields, Pending, Record};
+
+/// The wrapper's key.
+pub fn key(key: reference::Key) -> kurdavel::Key {
+    kurdavel::Key {
+        table: key.table,
+        key: key.key,
+    }
+}
+
+/// The record's words.
+pub fn record(record: reference::Record) -> Record {
+    Record::of(Fields {
+        slots: record.slots,
+        slot_bytes: record.slot_bytes,
+        cells: record.cells,
+        head: record.head,
+        end: record.end,
+        digest: kurdavel::DigestNumber(record.digest.0),
+        map: kurdavel::SlotMap(record.map.0),
+        next: kurdavel::Version(record.next.0),
+        keys: record.keys,
+        pending: pending(record.pending),
+    })
+}
+
+fn pending(pending: reference::Pending) -> Pending {
+    match pending {
+        reference::Pending::None => Pending::Idle,
+        reference::Pending::Append { left, length } => Pending::Append { length, left },
+        reference::Pending::NewHead { left, length, slot } => {
+            Pending::NewHead { slot, length, left }
+        }
+        reference::Pending::Clean {
+            left,
+            length,
+            slot,
+            victims,
+        } => Pending::Clean {
+            slot,
+            victims: kurdavel::SlotMap(victims.0),
+            length,
+            left,
+        },
+    }
+}
+
+/// An answer of the wrapper with the refusal as its number.
+pub fn proved<T>(answer: Result<T, kurdavel::Refusal>) -> Result<T, u32> {
+    answer.map_err(kurdavel::Refusal::number)
+}
+
+/// An answer of the reference with the refusal as its number.
+pub fn reference<T>(answer: Result<T, reference::Refusal>) -> Result<T, u32> {
+    answer.map_err(reference::Refusal::number)
+}
+
+/// Stores left and version of the wrapper's step.
+pub fn proved_progress(progress: kurdavel::Progress) -> (u32, u32) {
+    match progress {
+        kurdavel::Progress::More { left } => (left, 0),
+        kurdavel::Progress::Done { version } => (0, version.0),
+    }
+}
+
+/// Stores left and version of the reference's step.
+pub fn reference_progress(progress: reference::Progress) -> (u32, u32) {
+    match progress {
+        reference::Progress::More { left } => (left, 0),
+        reference::Progress::Done { version } => (0, version.0),
+    }
+}

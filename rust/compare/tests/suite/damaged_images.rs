@@ -1,0 +1,139 @@
+//! Images valid and damaged: both recover them alike, in any order, and read every key alike.
+
+use compare::images::{Image, Shape, Versions};
+use compare::pair::Pair;
+use compare::Fault;
+use reference::rng::Rng;
+use reference::Key;
+
+/// Recovers an image with both. Gives 0 or the refusal.
+fn recover(rng: &mut Rng, image: &Image, cells: usize) -> Result<u32, Fault> {
+    let mut order = rng.order(image.slots);
+    if rng.one_in(60) {
+        let place = rng.below(image.slots) as usize;
+        order[place] = rng.bits() as u8;
+    }
+    let mut pair = Pair::unrecovered(image.slots, image.slot_bytes, cells, &image.area);
+    match pair.recover(cells, &order)? {
+        Err(refusal) => Ok(refusal),
+        Ok(()) => {
+            for _ in 0..12 {
+                let _ = pair.read(some_key(rng, image))?;
+            }
+            Ok(0)
+        }
+    }
+}
+
+/// A key of the image, or one that is likely absent.
+fn some_key(rng: &mut Rng, image: &Image) -> Key {
+    if image.entries.is_empty() || rng.one_in(6) {
+        return Key {
+            table: rng.below(4) as u16,
+            key: rng.below(3000),
+        };
+    }
+    let at = *rng.pick(&image.entries);
+    let bytes = &image.area[at..];
+    Key {
+        table: u16::from_le_bytes([bytes[1], bytes[2]]),
+        key: u32::from_le_bytes([bytes[3], bytes[4], bytes[5], bytes[6]]),
+    }
+}
+
+fn must_recover(rng: &mut Rng, image: &Image, cells: usize, met: &mut [u32; 21]) {
+    let cause = recover(rng, image, cells)
+        .unwrap_or_else(|fault| panic!("{fault}\nN {} S {}", image.slots, image.slot_bytes));
+    met[cause as usize] += 1;
+}
+
+#[test]
+fn whole_images() {
+    let mut rng = Rng::new(1);
+    let mut met = [0; 21];
+    for _ in 0..8000 {
+        let image = Shape::random(&mut rng).make(&mut rng);
+        let cells = *rng.pick(&[16, 17, 500, 4095, 4096]);
+        must_recover(&mut rng, &image, cells, &mut met);
+    }
+    println!("{met:?}");
+    assert!(met[0] > 2000, "{met:?}");
+}
+
+/// Each image damaged a few bytes at a time, in eleven ways one after the other and apart.
+#[test]
+fn damaged_images() {
+    let mut rng = Rng::new(2);
+    let mut met = [0; 21];
+    for _ in 0..16_000 {
+        let mut image = Shape::random(&mut rng).make(&mut rng);
+        let whole = image.area.clone();
+        for _ in 0..12 {
+            if rng.one_in(3) {
+                image.area.copy_from_slice(&whole);
+            }
+            for _ in 0..rng.within(1, 4) {
+                image.damage(&mut rng);
+            }
+            let cells = *rng.pick(&[16, 100, 4096]);
+            must_recover(&mut rng, &image, cells, &mut met);
+        }
+    }
+    println!("{met:?}");
+    for cause in [0, 15, 17, 18, 19, 20] {
+        assert!(met[cause] > 100, "{met:?}");
+    }
+}
+
+/// Bytes that are few kinds only, so that much looks like entries.
+#[test]
+fn random_bytes() {
+    let mut rng = Rng::new(3);
+    let mut met = [0; 21];
+    for _ in 0..4000 {
+        let (slots, slot_bytes) = (rng.within(4, 32), rng.within(256, 600));
+        let mut area = vec![0; (slots * slot_bytes) as usize];
+        for byte in &mut area {
+            *byte = rng.below(6) as u8;
+        }
+        let image = Image {
+            slots,
+            slot_bytes,
+            area,
+            entries: Vec::new(),
+            head: 0,
+        };
+        must_recover(&mut rng, &image, 64, &mut met);
+    }
+    println!("{met:?}");
+}
+
+/// Full areas whose versions collide in any filter by their low bits, with and without one that is shared.
+#[test]
+fn shared_versions_in_full_areas() {
+    let mut rng = Rng::new(4);
+    let mut met = [0; 21];
+    for round in 0..300 {
+        let shape = Shape {
+            slots: 32,
+            slot_bytes: rng.within(1900, 2048),
+            keys: 3000,
+            versions: *rng.pick(&[
+                Versions::InARow,
+                Versions::Random,
+                Versions::Stride(8192),
+                Versions::Stride(2048),
+                Versions::Stride(1),
+            ]),
+            kinds: vec![4, 4, 4, 1],
+            full: true,
+        };
+        let mut image = shape.make(&mut rng);
+        if round % 2 == 0 {
+            image.share_a_version(&mut rng);
+        }
+        must_recover(&mut rng, &image, 4096, &mut met);
+    }
+    println!("{met:?}");
+    assert!(met[0] > 50 && met[19] > 50, "{met:?}");
+}

@@ -1,0 +1,7 @@
+//! The proved store beside the reference. The tests print how much they ran.
+
+mod damaged_images;
+mod not_genuine;
+mod random_histories;
+mod refused_calls;
+mod short_histories;

@@ -1,0 +1,212 @@
+//! Records, indexes, areas and work buffers that no start or recovery gave: no call leaves what it is lent, a start
+//! changes no byte of the area, and a step at most one. Where the range and length tests refuse the record, both
+//! answer 4; where a step is refused with 3 or 6, both do.
+
+use compare::guarded::Guarded;
+use compare::images::Shape;
+use compare::translate;
+use reference::rng::Rng;
+use reference::{DigestNumber, Key, Pending, Record, SlotMap, Version};
+
+fn number(rng: &mut Rng, likely: u32) -> u32 {
+    match rng.below(6) {
+        0 => rng.bits() as u32,
+        1 => u32::MAX - rng.below(3),
+        2 => rng.below(3),
+        _ => rng.below(likely.max(1)),
+    }
+}
+
+/// A pending operation, often one that a start could have given somewhere.
+fn pending(rng: &mut Rng, slots: u32) -> Pending {
+    let slot = number(rng, slots);
+    let length = match rng.below(3) {
+        0 => number(rng, 2048),
+        1 => *rng.pick(&[11, 19, 35, 67]),
+        _ => 13 + *rng.pick(&[0, 11, 19, 35, 67]),
+    };
+    let left = match rng.below(4) {
+        0 => 1,
+        1 => number(rng, 2049),
+        2 => length.saturating_add(rng.below(3)),
+        _ => 1 + rng.below(length.clamp(1, 2048)),
+    };
+    match rng.below(4) {
+        0 => Pending::None,
+        1 => Pending::Append { length, left },
+        2 => Pending::NewHead { slot, length, left },
+        _ => Pending::Clean {
+            slot,
+            length,
+            victims: SlotMap(rng.bits() as u32),
+            left,
+        },
+    }
+}
+
+/// A record like the given one, some fields of which are anything.
+fn forged(rng: &mut Rng, genuine: Record) -> Record {
+    let mut record = genuine;
+    for _ in 0..rng.below(4) {
+        match rng.below(9) {
+            0 => record.head = number(rng, record.slots),
+            1 => record.end = number(rng, record.slot_bytes),
+            2 => record.digest = DigestNumber(number(rng, u32::MAX)),
+            3 => record.map = SlotMap(rng.bits() as u32 | 1 << (record.head % 32)),
+            4 => record.next = Version(number(rng, u32::MAX)),
+            5 => record.keys = number(rng, record.cells),
+            6 => record.slots = number(rng, 33),
+            7 => record.slot_bytes = number(rng, 2049),
+            _ => record.cells = number(rng, 4097),
+        }
+    }
+    record.pending = pending(rng, genuine.slots);
+    record
+}
+
+fn forge_index(rng: &mut Rng, index: &mut [u32], area_bytes: u32) {
+    match rng.below(4) {
+        0 => {}
+        1 => index.fill(number(rng, area_bytes)),
+        2 => {
+            for cell in index.iter_mut() {
+                *cell = number(rng, area_bytes);
+            }
+        }
+        _ => {
+            for _ in 0..8 {
+                let cell = rng.below(index.len() as u32) as usize;
+                index[cell] = number(rng, area_bytes);
+            }
+        }
+    }
+}
+
+/// What is lent to the calls of one round.
+struct Lent {
+    record: Record,
+    area: Guarded<u8>,
+    index: Guarded<u32>,
+    work: Guarded<u8>,
+}
+
+impl Lent {
+    /// Whether the range and length tests of 4 let the record pass.
+    fn passes(&self) -> bool {
+        let area = self.record.slots as usize * self.record.slot_bytes as usize;
+        let cells = self.record.cells as usize;
+        self.record.is_in_range() && self.area.len() == area && self.index.len() == cells
+    }
+
+    fn is_intact(&self) -> bool {
+        self.area.is_intact() && self.index.is_intact() && self.work.is_intact()
+    }
+
+    /// A read and the three starts. Gives how many were accepted.
+    fn read_and_start(&mut self, rng: &mut Rng) -> u32 {
+        let key = Key {
+            table: rng.below(3) as u16,
+            key: rng.below(20),
+        };
+        let key = translate::key(key);
+        let before = (self.area.to_vec(), self.index.to_vec(), self.work.to_vec());
+        let record = translate::record(self.record);
+        let Lent {
+            area, index, work, ..
+        } = self;
+        let found = translate::proved(record.read(area, index, key).map(|_| 0));
+        let value = record.read_value(area, index, key);
+        assert!(value.len() <= 56);
+        assert!(area.as_ptr_range().contains(&value.as_ptr()));
+        let mut records = [record; 3];
+        let value = vec![3; *rng.pick(&[8, 24, 56, 0, 70])];
+        let victims = kurdavel::SlotMap(match rng.below(3) {
+            0 => self.record.map.0,
+            1 => self.record.map.0 & rng.bits() as u32,
+            _ => rng.bits() as u32,
+        });
+        let starts = [
+            records[0].write(area, index, work, key, &value),
+            records[1].delete(area, index, work, key),
+            records[2].clean(area, index, work, victims),
+        ];
+        assert_eq!((&area[..], &index[..]), (&before.0[..], &before.1[..]));
+        assert!(self.is_intact());
+        if !self.passes() {
+            assert_eq!(found, Err(4));
+            assert_eq!(starts.map(translate::proved), [Err(4); 3]);
+            assert_eq!(records, [record; 3]);
+            assert_eq!(self.work[..], before.2[..]);
+        }
+        starts.iter().map(|start| u32::from(start.is_ok())).sum()
+    }
+
+    /// A step. Gives whether it was accepted.
+    fn step(&mut self) -> bool {
+        let before = (self.area.to_vec(), self.index.to_vec(), self.work.to_vec());
+        let mut record = translate::record(self.record);
+        let answer = translate::proved(record.step(&mut self.area, &mut self.index, &self.work));
+        let changed = (self.area.iter().zip(&before.0)).filter(|(new, old)| new != old);
+        assert!(changed.count() <= 1, "{:?}", self.record);
+        assert_eq!(self.work[..], before.2[..]);
+        assert!(self.is_intact());
+        let owed = match self.record {
+            _ if !self.passes() => Some(4),
+            record if self.work.len() < record.slot_bytes as usize => Some(3),
+            record if record.pending == Pending::None => Some(6),
+            _ => None,
+        };
+        if let Some(cause) = owed {
+            assert_eq!(answer, Err(cause));
+            assert_eq!(record, translate::record(self.record));
+            assert_eq!(
+                (&self.area[..], &self.index[..]),
+                (&before.0[..], &before.1[..])
+            );
+        }
+        answer.is_ok()
+    }
+}
+
+#[test]
+fn forged_stores() {
+    let mut rng = Rng::new(21);
+    let (mut starts, mut steps) = (0, 0);
+    for _ in 0..4000 {
+        let mut shape = Shape::random(&mut rng);
+        shape.slot_bytes = rng.within(256, 700);
+        shape.slots = rng.within(4, 12);
+        let image = shape.make(&mut rng);
+        let cells = *rng.pick(&[16, 64, 500]);
+        let mut index = vec![0; cells];
+        let order: Vec<u8> = (0..image.slots as u8).collect();
+        let recovered = reference::recover(
+            image.slots,
+            image.slot_bytes,
+            &image.area,
+            &mut index,
+            &order,
+        );
+        let Ok(genuine) = recovered else { continue };
+        for _ in 0..16 {
+            let mut index = index.clone();
+            forge_index(&mut rng, &mut index, image.area.len() as u32);
+            let mut area = image.area.clone();
+            if rng.one_in(3) {
+                rng.fill(&mut area);
+            }
+            let mut work = vec![0; image.slot_bytes as usize + 1 - rng.below(3) as usize];
+            rng.fill(&mut work);
+            let mut lent = Lent {
+                record: forged(&mut rng, genuine),
+                area: Guarded::new(&area, 1),
+                index: Guarded::new(&index, 3),
+                work: Guarded::new(&work, 1),
+            };
+            starts += lent.read_and_start(&mut rng);
+            steps += u32::from(lent.step());
+        }
+    }
+    println!("{starts} starts and {steps} steps accepted");
+    assert!(starts > 1000 && steps > 1000, "{starts} {steps}");
+}

@@ -1,0 +1,265 @@
+//! Random histories with cuts, refused calls and recoveries at any time, over many geometries.
+
+use compare::pair::Pair;
+use compare::Fault;
+use reference::book::Operation;
+use reference::rng::Rng;
+use reference::{Key, SlotMap};
+
+/// How many operations, cuts and refusals of each cause a run met.
+#[derive(Default)]
+struct Tally {
+    operations: u32,
+    cuts: u32,
+    refused: [u32; 21],
+}
+
+impl Tally {
+    fn count<T>(&mut self, answer: Result<T, u32>) {
+        match answer {
+            Ok(_) => self.operations += 1,
+            Err(refusal) => self.refused[refusal as usize] += 1,
+        }
+    }
+}
+
+struct Player {
+    rng: Rng,
+    pair: Pair,
+    keys: Vec<Key>,
+    tally: Tally,
+    /// One operation in so many is a cleaning.
+    clean_rarity: u32,
+}
+
+impl Player {
+    fn new(seed: u64) -> Result<Player, Fault> {
+        let mut rng = Rng::new(seed);
+        let slots = match rng.below(4) {
+            0 | 1 => 4,
+            2 => rng.within(4, 8),
+            _ => rng.within(4, 32),
+        };
+        let slot_bytes = match rng.below(4) {
+            0 | 1 => 256,
+            2 => rng.within(256, 400),
+            _ => rng.within(256, 2048),
+        };
+        let cells = match rng.below(4) {
+            0 | 1 => 16,
+            2 => rng.within(16, 64),
+            _ => rng.within(16, 4096),
+        };
+        let mut area = vec![0; (slots * slot_bytes) as usize];
+        rng.fill(&mut area);
+        let mut pair = Pair::unrecovered(slots, slot_bytes, cells as usize, &area);
+        pair.format(slots, slot_bytes)?
+            .expect("the geometry is right");
+        age(&mut rng, &mut pair);
+        let keys = (0..rng.within(2, 24)).map(|_| any_key(&mut rng)).collect();
+        pair.must_recover(&rng.order(slots))?;
+        let clean_rarity = *rng.pick(&[4, 8, 30]);
+        Ok(Player {
+            rng,
+            pair,
+            keys,
+            tally: Tally::default(),
+            clean_rarity,
+        })
+    }
+
+    fn play(&mut self, actions: u32) -> Result<(), Fault> {
+        if self.rng.one_in(6) {
+            self.fill()?;
+        }
+        for _ in 0..actions {
+            if self.pair.is_recovered() {
+                self.act()?;
+            } else {
+                self.recover()?;
+            }
+        }
+        self.cut();
+        let order = self.rng.order(self.pair.slots());
+        self.pair.must_recover(&order)?;
+        for key in &self.keys {
+            let _ = self.pair.read(*key)?;
+        }
+        Ok(())
+    }
+
+    /// Gives every key an entry, as far as there is room.
+    fn fill(&mut self) -> Result<(), Fault> {
+        for key in self.keys.clone() {
+            let answer = self.pair.begin(&Operation::Write(key, vec![7; 8]))?;
+            self.tally.count(answer);
+            self.pair.finish()?;
+        }
+        Ok(())
+    }
+
+    fn act(&mut self) -> Result<(), Fault> {
+        match self.rng.below(40) {
+            0 | 1 => self.cut(),
+            2 | 3 => self.recover()?,
+            4 | 5 => self.start()?,
+            6 | 7 => self.few_steps()?,
+            8..=11 => {
+                let key = *self.rng.pick(&self.keys);
+                let answer = self.pair.read(key)?;
+                self.tally.count(answer);
+            }
+            _ => {
+                if self.pair.record().pending.left() == 0 {
+                    self.start()?;
+                }
+                if self.rng.one_in(4) {
+                    self.few_steps()?;
+                } else {
+                    self.pair.finish()?;
+                }
+            }
+        }
+        Ok(())
+    }
+
+    fn start(&mut self) -> Result<(), Fault> {
+        let operation = self.operation();
+        let lent = match self.rng.below(30) {
+            0 => self.rng.below(self.pair.slot_bytes()) as usize,
+            1 => self.pair.slot_bytes() as usize,
+            _ => self.pair.work_bytes(),
+        };
+        let answer = self.pair.start(&operation, lent)?;
+        self.tally.count(answer);
+        Ok(())
+    }
+
+    fn operation(&mut self) -> Operation {
+        let rng = &mut self.rng;
+        let key = *rng.pick(&self.keys);
+        if rng.one_in(self.clean_rarity) {
+            let map = self.pair.record().map.0;
+            return Operation::Clean(SlotMap(match rng.below(8) {
+                0 => map,
+                1 => rng.bits() as u32,
+                2 => 0,
+                3 => map & rng.bits() as u32,
+                4 => 1 << self.pair.record().head,
+                _ => 1 << rng.below(self.pair.slots()),
+            }));
+        }
+        if rng.one_in(3) {
+            return Operation::Delete(key);
+        }
+        let bytes = match rng.below(20) {
+            0 => rng.below(70) as usize,
+            _ => *rng.pick(&[8, 24, 56]),
+        };
+        let mut value = vec![0; bytes];
+        rng.fill(&mut value);
+        Operation::Write(key, value)
+    }
+
+    fn few_steps(&mut self) -> Result<(), Fault> {
+        let left = self.pair.record().pending.left();
+        let steps = match self.rng.below(3) {
+            0 => 1,
+            1 => left.max(2) - 1,
+            _ => self.rng.below(left + 2),
+        };
+        for _ in 0..steps {
+            if let Err(refusal) = self.pair.step()? {
+                self.tally.refused[refusal as usize] += 1;
+            }
+        }
+        Ok(())
+    }
+
+    fn cut(&mut self) {
+        self.tally.cuts += 1;
+        self.pair.cut();
+    }
+
+    /// A recovery, with or without a cut before it, and sometimes one that is refused.
+    fn recover(&mut self) -> Result<(), Fault> {
+        let rng = &mut self.rng;
+        let mut order = rng.order(self.pair.slots());
+        let mut cells = self.pair.cells();
+        match rng.below(8) {
+            0 => order[0] = rng.bits() as u8,
+            1 => order.truncate(3),
+            2 => cells = rng.below(40) as usize,
+            3 => {
+                let most = *rng.pick(&[24, 40, 4200]);
+                cells = rng.within(16, most) as usize;
+            }
+            _ => return self.pair.must_recover(&order),
+        }
+        let answer = self.pair.recover(cells, &order)?;
+        if let Err(refusal) = answer {
+            self.tally.refused[refusal as usize] += 1;
+        }
+        Ok(())
+    }
+}
+
+/// In some stores, counters close to their limits, as after a long life.
+fn age(rng: &mut Rng, pair: &mut Pair) {
+    if rng.one_in(6) {
+        let next = u32::MAX - rng.below(12);
+        pair.age(9, &next.to_le_bytes());
+    }
+    if rng.one_in(6) {
+        let number = u32::MAX - rng.below(4);
+        pair.age(1, &number.to_le_bytes());
+    }
+}
+
+fn any_key(rng: &mut Rng) -> Key {
+    match rng.below(3) {
+        0 => Key {
+            table: *rng.pick(&[0, 1, u16::MAX]),
+            key: *rng.pick(&[0, 1, u32::MAX]),
+        },
+        _ => Key {
+            table: rng.bits() as u16,
+            key: rng.bits() as u32,
+        },
+    }
+}
+
+fn play_all(seeds: std::ops::Range<u64>, actions: u32) -> Tally {
+    let mut total = Tally::default();
+    for seed in seeds {
+        let mut player = Player::new(seed).unwrap_or_else(|fault| panic!("seed {seed}: {fault}"));
+        if let Err(fault) = player.play(actions) {
+            panic!("seed {seed}: {fault} after\n{}", player.pair.history());
+        }
+        total.operations += player.tally.operations;
+        total.cuts += player.tally.cuts;
+        for (sum, count) in total.refused.iter_mut().zip(player.tally.refused) {
+            *sum += count;
+        }
+    }
+    println!(
+        "{} accepted calls, {} cuts, refused {:?}",
+        total.operations, total.cuts, total.refused
+    );
+    total
+}
+
+/// Many short histories.
+#[test]
+fn many_histories() {
+    let total = play_all(0..20_000, 40);
+    for cause in (2..=3).chain(5..=15).chain([20]) {
+        assert!(total.refused[cause] > 0, "{:?}", total.refused);
+    }
+}
+
+/// A few long ones, in which heads are replaced many times.
+#[test]
+fn long_histories() {
+    play_all(1_000_000..1_000_060, 2500);
+}

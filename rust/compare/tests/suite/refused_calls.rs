@@ -1,0 +1,258 @@
+//! Calls that must be refused, each with the same number from both, and nothing changed.
+
+use compare::guarded::Guarded;
+use compare::pair::Pair;
+use compare::translate;
+use kurdavel::{slices, Record, Refusal, WORDS};
+use reference::book::Operation;
+use reference::rng::Rng;
+use reference::{DigestNumber, Key, Pending, SlotMap, Version};
+
+const KEY: Key = Key { table: 7, key: 9 };
+
+/// A store with a written key, and with a write pending if asked.
+fn store(rng: &mut Rng, pending: bool) -> Pair {
+    let (slots, slot_bytes) = (rng.within(4, 32), rng.within(256, 300));
+    let area = vec![5; (slots * slot_bytes) as usize];
+    let mut pair = Pair::fresh(slots, slot_bytes, 16, &area).unwrap();
+    pair.begin(&Operation::Write(KEY, vec![1; 8]))
+        .unwrap()
+        .unwrap();
+    pair.finish().unwrap();
+    if pending {
+        pair.begin(&Operation::Write(KEY, vec![2; 24]))
+            .unwrap()
+            .unwrap();
+    }
+    pair
+}
+
+/// A record that differs from a genuine one in one number, which is out of range.
+fn out_of_range(rng: &mut Rng, genuine: reference::Record) -> reference::Record {
+    let mut record = genuine;
+    let over = genuine.slot_bytes + 2;
+    match rng.below(13) {
+        0 => record.slots = *rng.pick(&[0, 3, 33, u32::MAX]),
+        1 => record.slot_bytes = *rng.pick(&[0, 255, 2049, u32::MAX]),
+        2 => record.cells = *rng.pick(&[0, 15, 4097, u32::MAX]),
+        3 => record.map = SlotMap(genuine.map.0 & !(1 << genuine.head)),
+        4 => record.map = SlotMap(u32::MAX >> (32 - genuine.slots)),
+        5 => record.head = *rng.pick(&[genuine.slots, 32, 64, u32::MAX]),
+        6 => record.end = *rng.pick(&[0, 12, genuine.slot_bytes + 1, u32::MAX]),
+        7 => record.digest = DigestNumber(0),
+        8 => record.next = Version(0),
+        9 => record.keys = *rng.pick(&[genuine.cells, u32::MAX]),
+        10 => {
+            record.pending = Pending::Append {
+                length: 19,
+                left: 0,
+            }
+        }
+        11 => {
+            record.pending = Pending::NewHead {
+                slot: 1,
+                length: 32,
+                left: over,
+            }
+        }
+        _ => {
+            record.pending = Pending::Clean {
+                slot: 1,
+                length: 13,
+                victims: SlotMap(1),
+                left: *rng.pick(&[0, over, u32::MAX]),
+            }
+        }
+    }
+    record
+}
+
+/// Every call that takes a record, on words that must be refused with 4.
+fn refuse_all(words: &[u32], area: &[u8], index: &[u32], work_bytes: usize) {
+    let mut record = Guarded::new(words, 9);
+    let (mut lent_area, mut lent_index) = (Guarded::new(area, 5), Guarded::new(index, 1));
+    let mut work = Guarded::new(&vec![0x77; work_bytes], 5);
+    let (mut first, mut second) = (71, 72);
+    let (table, key) = (KEY.table, KEY.key);
+    let record = &mut record;
+    let answers = [
+        slices::read(
+            record,
+            &lent_area,
+            &lent_index,
+            table,
+            key,
+            &mut first,
+            &mut second,
+        ),
+        slices::write(
+            record,
+            &lent_area,
+            &lent_index,
+            &mut work,
+            table,
+            key,
+            &[3; 8],
+            &mut first,
+        ),
+        slices::delete(
+            record,
+            &lent_area,
+            &lent_index,
+            &mut work,
+            table,
+            key,
+            &mut first,
+        ),
+        slices::clean(record, &lent_area, &lent_index, &mut work, 1, &mut first),
+        slices::step(
+            record,
+            &mut lent_area,
+            &mut lent_index,
+            &work,
+            &mut first,
+            &mut second,
+        ),
+    ];
+    assert_eq!(answers, [4; 5], "{words:?}");
+    assert_eq!((first, second), (71, 72));
+    let value = slices::read_value(
+        record,
+        &lent_area,
+        &lent_index,
+        table,
+        key,
+        &mut first,
+        &mut second,
+    );
+    assert_eq!((value, first, second), (4, 0, 0));
+    assert_eq!(record[..], words[..]);
+    assert_eq!((&lent_area[..], &lent_index[..]), (area, index));
+    assert!(work.iter().all(|&byte| byte == 0x77));
+    assert!(record.is_intact() && work.is_intact());
+    assert!(lent_area.is_intact() && lent_index.is_intact());
+}
+
+/// Records out of range, lent lengths that are not the record's, and words that are no record.
+#[test]
+fn records_that_are_none() {
+    let mut rng = Rng::new(11);
+    for round in 0..20_000 {
+        let pending = rng.one_in(2);
+        let pair = store(&mut rng, pending);
+        let genuine = *translate::record(pair.record()).words();
+        let (mut area, mut index) = (pair.area().to_vec(), pair.index().to_vec());
+        let mut words = genuine.to_vec();
+        match round % 5 {
+            0 => {
+                let record = out_of_range(&mut rng, pair.record());
+                words = translate::record(record).words().to_vec();
+            }
+            1 => area.truncate(area.len() - 1),
+            2 => index.push(0),
+            3 => words.truncate(rng.below(WORDS as u32) as usize),
+            _ => spoil(&mut rng, &mut words),
+        }
+        refuse_all(&words, &area, &index, pair.work_bytes());
+    }
+}
+
+/// Makes the words of a pending operation none that encode one.
+fn spoil(rng: &mut Rng, words: &mut [u32]) {
+    let other = rng.bits() as u32 | 1;
+    match rng.below(4) {
+        0 => words[9] = 4 + rng.below(u32::MAX - 4),
+        1 => words[9..].copy_from_slice(&[0, 0, 0, 0, other]),
+        2 => words[9..].copy_from_slice(&[1, other, 0, 19, 20]),
+        _ => words[9..].copy_from_slice(&[2, 1, other, 32, 33]),
+    }
+    assert_eq!(Record::from_words(words.try_into().unwrap()).fields(), None);
+}
+
+/// Words past those of the record stay, and are no hindrance.
+#[test]
+fn longer_records() {
+    let mut area = [0; 1024];
+    kurdavel::format(4, 256, &mut area).unwrap();
+    let (mut index, mut work) = ([0; 16], [0; 256]);
+    let mut words = [6; WORDS + 3];
+    let order = [0, 1, 2, 3];
+    assert_eq!(
+        slices::recover(4, 256, &order, &area, &mut index, &mut words),
+        0
+    );
+    let (mut stores, mut left, mut version) = (0, 0, 0);
+    let answer = slices::write(
+        &mut words,
+        &area,
+        &index,
+        &mut work,
+        7,
+        9,
+        &[1; 8],
+        &mut stores,
+    );
+    assert_eq!((answer, stores), (0, 20));
+    for _ in 0..stores {
+        slices::step(
+            &mut words,
+            &mut area,
+            &mut index,
+            &work,
+            &mut left,
+            &mut version,
+        );
+    }
+    assert_eq!((left, version), (0, 1));
+    assert_eq!(words[WORDS..], [6; 3]);
+}
+
+/// Recovery into a record that is too short: 4, and the index stays.
+#[test]
+fn recovery_into_too_few_words() {
+    let mut area = [0; 1024];
+    kurdavel::format(4, 256, &mut area).unwrap();
+    let mut index = [8; 16];
+    for length in 0..WORDS {
+        let mut words = vec![6; length];
+        let answer = slices::recover(4, 256, &[0, 1, 2, 3], &area, &mut index, &mut words);
+        assert_eq!(answer, Refusal::BadRecord.number());
+        assert!(words.iter().all(|&word| word == 6));
+        assert_eq!(index, [8; 16]);
+    }
+}
+
+/// Format and recovery with every N, S and length near their limits.
+#[test]
+fn geometries() {
+    let mut formats = 0;
+    for slots in (0..=40).chain([255, 256, u32::MAX / 2, u32::MAX]) {
+        for slot_bytes in [
+            0,
+            1,
+            255,
+            256,
+            257,
+            1024,
+            2047,
+            2048,
+            2049,
+            65_536,
+            u32::MAX,
+        ] {
+            let right = u64::from(slots) * u64::from(slot_bytes);
+            for length in [0, right.saturating_sub(1), right, right + 1, 1024] {
+                let length = length.min(70_000) as usize;
+                let mut pair =
+                    Pair::unrecovered(slots.min(40), slot_bytes.min(4096), 16, &vec![5; length]);
+                let answer = pair.format(slots, slot_bytes).unwrap();
+                formats += u32::from(answer.is_ok());
+                for cells in [0, 15, 16, 4096, 4097] {
+                    let order = pair.ascending();
+                    let _ = pair.recover(cells, &order).unwrap();
+                }
+            }
+        }
+    }
+    assert!(formats > 100, "{formats}");
+}

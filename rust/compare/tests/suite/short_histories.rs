@@ -1,0 +1,136 @@
+//! Every history of up to four operations over two keys, cut after every store.
+
+use compare::pair::Pair;
+use compare::Fault;
+use reference::book::Operation;
+use reference::Key;
+
+const KEYS: [Key; 2] = [
+    Key { table: 0, key: 0 },
+    Key {
+        table: u16::MAX,
+        key: u32::MAX,
+    },
+];
+
+/// Orders that put each slot of four first and last once.
+const ORDERS: [[u8; 4]; 4] = [[0, 1, 2, 3], [3, 2, 1, 0], [1, 3, 0, 2], [2, 0, 3, 1]];
+
+/// An operation whose details depend on the store that it meets.
+#[derive(Clone, Copy, PartialEq, Eq, Debug)]
+enum Choice {
+    Write(Key, usize),
+    Delete(Key),
+    CleanAll,
+}
+
+struct Explorer {
+    choices: Vec<Choice>,
+    histories: u64,
+    cuts: u64,
+}
+
+impl Explorer {
+    fn operation(&self, pair: &Pair, choice: Choice) -> Operation {
+        match choice {
+            Choice::Write(key, bytes) => {
+                let tag = pair.record().next.0 as u8;
+                let value = (0..bytes as u8).map(|i| i.wrapping_add(tag)).collect();
+                Operation::Write(key, value)
+            }
+            Choice::Delete(key) => Operation::Delete(key),
+            Choice::CleanAll => Operation::Clean(pair.record().map),
+        }
+    }
+
+    /// All histories of up to `depth` further operations, with at most one cut.
+    fn explore(&mut self, pair: &Pair, depth: u32, was_cut: bool) -> Result<(), Fault> {
+        if depth == 0 {
+            return Ok(());
+        }
+        for choice in self.choices.clone() {
+            let mut next = pair.clone();
+            self.histories += 1;
+            let operation = self.operation(&next, choice);
+            let answer = next.begin(&operation)?;
+            if was_cut {
+                next.finish()?;
+            } else {
+                self.cut_everywhere(&mut next, answer.unwrap_or(0), depth)
+                    .map_err(|fault| format!("{fault}\nafter {}", next.history()))?;
+            }
+            check_reads(&next)?;
+            self.explore(&next, depth - 1, was_cut)?;
+        }
+        Ok(())
+    }
+
+    /// Makes the stores of an operation; before and after each, cuts a copy, recovers it in every order and goes on
+    /// from there.
+    fn cut_everywhere(&mut self, pair: &mut Pair, stores: u32, depth: u32) -> Result<(), Fault> {
+        for done in 0..=stores {
+            let mut copy = pair.clone();
+            for order in &ORDERS {
+                copy = pair.clone();
+                copy.cut();
+                copy.must_recover(order)?;
+                check_reads(&copy)?;
+                self.cuts += 1;
+            }
+            self.explore(&copy, depth - 1, true)?;
+            if done < stores {
+                let _ = pair.step()?;
+                check_reads(pair)?;
+            }
+        }
+        Ok(())
+    }
+}
+
+fn check_reads(pair: &Pair) -> Result<(), Fault> {
+    for key in KEYS {
+        let _ = pair.read(key)?;
+    }
+    Ok(())
+}
+
+fn explore_all(slot_bytes: u32, fill: u8, bytes: [usize; 2]) {
+    let area = vec![fill; 4 * slot_bytes as usize];
+    let pair = Pair::fresh(4, slot_bytes, 16, &area).unwrap_or_else(|fault| panic!("{fault}"));
+    let mut explorer = Explorer {
+        choices: vec![
+            Choice::Write(KEYS[0], bytes[0]),
+            Choice::Write(KEYS[1], bytes[1]),
+            Choice::Delete(KEYS[0]),
+            Choice::Delete(KEYS[1]),
+            Choice::CleanAll,
+        ],
+        histories: 0,
+        cuts: 0,
+    };
+    if let Err(fault) = explorer.explore(&pair, 4, false) {
+        panic!("{fault}");
+    }
+    println!("{} histories, {} cuts", explorer.histories, explorer.cuts);
+    assert!(explorer.histories > 780);
+}
+
+#[test]
+fn small_values_over_zeros() {
+    explore_all(256, 0, [8, 8]);
+}
+
+#[test]
+fn mixed_values_over_object_kinds() {
+    explore_all(256, 1, [24, 8]);
+}
+
+#[test]
+fn large_values_over_tombstone_kinds() {
+    explore_all(256, 4, [56, 56]);
+}
+
+#[test]
+fn large_and_small_values_over_digest_kinds() {
+    explore_all(257, 5, [56, 8]);
+}

@@ -1,0 +1,106 @@
+//! The functions of the static library, as `include/kurdavel.h` declares them: a slice is a pointer and its length in
+//! elements.
+
+extern "C" {
+    pub(crate) fn kurdavel_format(
+        slots: u32,
+        slot_bytes: u32,
+        area: *mut u8,
+        area_bytes: usize,
+    ) -> u32;
+
+    pub(crate) fn kurdavel_recover(
+        slots: u32,
+        slot_bytes: u32,
+        order: *const u8,
+        order_bytes: usize,
+        area: *const u8,
+        area_bytes: usize,
+        index: *mut u32,
+        index_words: usize,
+        record: *mut u32,
+        record_words: usize,
+    ) -> u32;
+
+    pub(crate) fn kurdavel_read(
+        record: *const u32,
+        record_words: usize,
+        area: *const u8,
+        area_bytes: usize,
+        index: *const u32,
+        index_words: usize,
+        table: u16,
+        key: u32,
+        version: *mut u32,
+        kind: *mut u32,
+    ) -> u32;
+
+    pub(crate) fn kurdavel_read_value(
+        record: *const u32,
+        record_words: usize,
+        area: *const u8,
+        area_bytes: usize,
+        index: *const u32,
+        index_words: usize,
+        table: u16,
+        key: u32,
+        place: *mut u32,
+        bytes: *mut u32,
+    ) -> u32;
+
+    pub(crate) fn kurdavel_write(
+        record: *mut u32,
+        record_words: usize,
+        area: *const u8,
+        area_bytes: usize,
+        index: *const u32,
+        index_words: usize,
+        work: *mut u8,
+        work_bytes: usize,
+        table: u16,
+        key: u32,
+        value: *const u8,
+        value_bytes: usize,
+        stores: *mut u32,
+    ) -> u32;
+
+    pub(crate) fn kurdavel_delete(
+        record: *mut u32,
+        record_words: usize,
+        area: *const u8,
+        area_bytes: usize,
+        index: *const u32,
+        index_words: usize,
+        work: *mut u8,
+        work_bytes: usize,
+        table: u16,
+        key: u32,
+        stores: *mut u32,
+    ) -> u32;
+
+    pub(crate) fn kurdavel_clean(
+        record: *mut u32,
+        record_words: usize,
+        area: *const u8,
+        area_bytes: usize,
+        index: *const u32,
+        index_words: usize,
+        work: *mut u8,
+        work_bytes: usize,
+        victims: u32,
+        stores: *mut u32,
+    ) -> u32;
+
+    pub(crate) fn kurdavel_step(
+        record: *mut u32,
+        record_words: usize,
+        area: *mut u8,
+        area_bytes: usize,
+        index: *mut u32,
+        index_words: usize,
+        work: *const u8,
+        work_bytes: usize,
+        left: *mut u32,
+        version: *mut u32,
+    ) -> u32;
+}

@@ -1,0 +1,207 @@
+//! The store record as words, and what they say.
+
+use crate::values::{DigestNumber, SlotMap, Version};
+
+/// How many words a record takes.
+pub const WORDS: usize = 14;
+
+/// An operation that was started and whose stores are not all made.
+#[derive(Clone, Copy, PartialEq, Eq, Hash, Debug)]
+pub enum Pending {
+    /// No operation.
+    Idle,
+    /// A write or delete whose entry goes to the end of the head.
+    Append {
+        /// Bytes of the work buffer that are the operation's.
+        length: u32,
+        /// Stores left.
+        left: u32,
+    },
+    /// A write or delete whose entry goes to a new head.
+    NewHead {
+        /// Slot of the new head.
+        slot: u32,
+        /// Bytes of the work buffer that are the operation's.
+        length: u32,
+        /// Stores left.
+        left: u32,
+    },
+    /// A cleaning.
+    Clean {
+        /// Slot of the new head.
+        slot: u32,
+        /// The slots that leave the log.
+        victims: SlotMap,
+        /// Bytes of the work buffer that are the operation's.
+        length: u32,
+        /// Stores left.
+        left: u32,
+    },
+}
+
+impl Pending {
+    /// Stores left; 0 if there is no operation.
+    pub const fn left(self) -> u32 {
+        match self {
+            Pending::Idle => 0,
+            Pending::Append { left, .. }
+            | Pending::NewHead { left, .. }
+            | Pending::Clean { left, .. } => left,
+        }
+    }
+
+    const fn words(self) -> [u32; 5] {
+        match self {
+            Pending::Idle => [0; 5],
+            Pending::Append { length, left } => [1, 0, 0, length, left],
+            Pending::NewHead { slot, length, left } => [2, slot, 0, length, left],
+            Pending::Clean {
+                slot,
+                victims,
+                length,
+                left,
+            } => [3, slot, victims.0, length, left],
+        }
+    }
+
+    const fn of_words(words: [u32; 5]) -> Option<Pending> {
+        Some(match words {
+            [0, 0, 0, 0, 0] => Pending::Idle,
+            [1, 0, 0, length, left] => Pending::Append { length, left },
+            [2, slot, 0, length, left] => Pending::NewHead { slot, length, left },
+            [3, slot, victims, length, left] => Pending::Clean {
+                slot,
+                victims: SlotMap(victims),
+                length,
+                left,
+            },
+            _ => return None,
+        })
+    }
+}
+
+/// What a record says.
+#[derive(Clone, Copy, PartialEq, Eq, Hash, Debug)]
+pub struct Fields {
+    /// Number of slots (N).
+    pub slots: u32,
+    /// Bytes in a slot (S).
+    pub slot_bytes: u32,
+    /// Cells of the index (M).
+    pub cells: u32,
+    /// Slot of the head.
+    pub head: u32,
+    /// Offset in the head at which its entries end.
+    pub end: u32,
+    /// Number of the head's digest.
+    pub digest: DigestNumber,
+    /// The slots of the log.
+    pub map: SlotMap,
+    /// The version that the next write or delete takes.
+    pub next: Version,
+    /// How many keys have an entry in the log, deleted ones included.
+    pub keys: u32,
+    /// The operation under way.
+    pub pending: Pending,
+}
+
+/// What the calls know of a store besides its area and index, as the words that cross to the library.
+///
+/// A record comes from [`recover`](crate::recover), and each accepted call changes it. Any words can be made a record
+/// again, as those of a firmware that kept them; a call refuses words that are none with
+/// [`BadRecord`](crate::Refusal::BadRecord).
+#[derive(Clone, Copy, PartialEq, Eq, Hash, Debug)]
+pub struct Record {
+    pub(crate) words: [u32; WORDS],
+}
+
+impl Record {
+    /// The record with these words.
+    #[inline]
+    pub const fn from_words(words: [u32; WORDS]) -> Record {
+        Record { words }
+    }
+
+    /// The words of the record.
+    #[inline]
+    pub const fn words(&self) -> &[u32; WORDS] {
+        &self.words
+    }
+
+    /// The record that says this.
+    ///
+    /// ```
+    /// use kurdavel::{DigestNumber, Fields, Pending, Record, SlotMap, Version};
+    /// let fields = Fields {
+    ///     slots: 4,
+    ///     slot_bytes: 256,
+    ///     cells: 16,
+    ///     head: 0,
+    ///     end: 13,
+    ///     digest: DigestNumber(1),
+    ///     map: SlotMap(1),
+    ///     next: Version(1),
+    ///     keys: 0,
+    ///     pending: Pending::Append { length: 19, left: 20 },
+    /// };
+    /// assert_eq!(Record::of(fields).words(), &[4, 256, 16, 0, 13, 1, 1, 1, 0, 1, 0, 0, 19, 20]);
+    /// assert_eq!(Record::of(fields).fields(), Some(fields));
+    /// ```
+    pub const fn of(fields: Fields) -> Record {
+        let [tag, slot, victims, length, left] = fields.pending.words();
+        Record {
+            words: [
+                fields.slots,
+                fields.slot_bytes,
+                fields.cells,
+                fields.head,
+                fields.end,
+                fields.digest.0,
+                fields.map.0,
+                fields.next.0,
+                fields.keys,
+                tag,
+                slot,
+                victims,
+                length,
+                left,
+            ],
+        }
+    }
+
+    /// What the record says; nothing if its words are no record's.
+    pub const fn fields(&self) -> Option<Fields> {
+        let [slots, slot_bytes, cells, head, end, digest, map, next, keys, tag, slot, victims, length, left] =
+            self.words;
+        let Some(pending) = Pending::of_words([tag, slot, victims, length, left]) else {
+            return None;
+        };
+        Some(Fields {
+            slots,
+            slot_bytes,
+            cells,
+            head,
+            end,
+            digest: DigestNumber(digest),
+            map: SlotMap(map),
+            next: Version(next),
+            keys,
+            pending,
+        })
+    }
+
+    /// The version that the next write or delete takes.
+    pub const fn next(&self) -> Version {
+        Version(self.words[7])
+    }
+
+    /// The slots of the log.
+    pub const fn map(&self) -> SlotMap {
+        SlotMap(self.words[6])
+    }
+
+    /// Stores left of the operation under way; 0 if there is none.
+    pub const fn left(&self) -> u32 {
+        self.words[13]
+    }
+}

@@ -1,0 +1,218 @@
+//! The calls over plain slices and numbers, for a firmware that keeps its record as words.
+//!
+//! Each answers 0 or the number of a refusal, as `include/kurdavel.h` says, and is safe with any arguments: the library
+//! is proved to stay within what it is lent, to change only what it is lent to change, and to end.
+//!
+//! This is the only module with `unsafe` code. What the library asks of its pointers is, in every call here, what Rust
+//! already knows of the references that they come from: valid for the length that goes with them, not null, aligned,
+//! and unlike every other one that the call may write through.
+
+#![allow(unsafe_code)]
+
+use crate::library::*;
+
+/// Makes an area an empty store.
+#[inline]
+pub fn format(slots: u32, slot_bytes: u32, area: &mut [u8]) -> u32 {
+    // SAFETY: the pointer and length are those of one exclusive slice.
+    unsafe { kurdavel_format(slots, slot_bytes, area.as_mut_ptr(), area.len()) }
+}
+
+/// Reads the log of an area, in the order given, and makes its record and index.
+#[inline]
+pub fn recover(
+    slots: u32,
+    slot_bytes: u32,
+    order: &[u8],
+    area: &[u8],
+    index: &mut [u32],
+    record: &mut [u32],
+) -> u32 {
+    // SAFETY: each pointer and length are those of one slice; the two written to are exclusive.
+    unsafe {
+        kurdavel_recover(
+            slots,
+            slot_bytes,
+            order.as_ptr(),
+            order.len(),
+            area.as_ptr(),
+            area.len(),
+            index.as_mut_ptr(),
+            index.len(),
+            record.as_mut_ptr(),
+            record.len(),
+        )
+    }
+}
+
+/// Tells version and kind of a key's object.
+#[inline]
+pub fn read(
+    record: &[u32],
+    area: &[u8],
+    index: &[u32],
+    table: u16,
+    key: u32,
+    version: &mut u32,
+    kind: &mut u32,
+) -> u32 {
+    // SAFETY: each pointer and length are those of one slice; `version` and `kind` are exclusive.
+    unsafe {
+        kurdavel_read(
+            record.as_ptr(),
+            record.len(),
+            area.as_ptr(),
+            area.len(),
+            index.as_ptr(),
+            index.len(),
+            table,
+            key,
+            version,
+            kind,
+        )
+    }
+}
+
+/// Tells place and length of the value of a key's object; both are 0 where the call is refused.
+#[inline]
+pub fn read_value(
+    record: &[u32],
+    area: &[u8],
+    index: &[u32],
+    table: u16,
+    key: u32,
+    place: &mut u32,
+    bytes: &mut u32,
+) -> u32 {
+    // SAFETY: each pointer and length are those of one slice; `place` and `bytes` are exclusive.
+    unsafe {
+        kurdavel_read_value(
+            record.as_ptr(),
+            record.len(),
+            area.as_ptr(),
+            area.len(),
+            index.as_ptr(),
+            index.len(),
+            table,
+            key,
+            place,
+            bytes,
+        )
+    }
+}
+
+/// Starts to write a value under a key; tells the stores to come.
+#[inline]
+#[allow(clippy::too_many_arguments)]
+pub fn write(
+    record: &mut [u32],
+    area: &[u8],
+    index: &[u32],
+    work: &mut [u8],
+    table: u16,
+    key: u32,
+    value: &[u8],
+    stores: &mut u32,
+) -> u32 {
+    // SAFETY: each pointer and length are those of one slice; `record`, `work` and `stores` are exclusive.
+    unsafe {
+        kurdavel_write(
+            record.as_mut_ptr(),
+            record.len(),
+            area.as_ptr(),
+            area.len(),
+            index.as_ptr(),
+            index.len(),
+            work.as_mut_ptr(),
+            work.len(),
+            table,
+            key,
+            value.as_ptr(),
+            value.len(),
+            stores,
+        )
+    }
+}
+
+/// Starts to delete a key; tells the stores to come.
+#[inline]
+pub fn delete(
+    record: &mut [u32],
+    area: &[u8],
+    index: &[u32],
+    work: &mut [u8],
+    table: u16,
+    key: u32,
+    stores: &mut u32,
+) -> u32 {
+    // SAFETY: each pointer and length are those of one slice; `record`, `work` and `stores` are exclusive.
+    unsafe {
+        kurdavel_delete(
+            record.as_mut_ptr(),
+            record.len(),
+            area.as_ptr(),
+            area.len(),
+            index.as_ptr(),
+            index.len(),
+            work.as_mut_ptr(),
+            work.len(),
+            table,
+            key,
+            stores,
+        )
+    }
+}
+
+/// Starts to clean the slots of a map; tells the stores to come.
+#[inline]
+pub fn clean(
+    record: &mut [u32],
+    area: &[u8],
+    index: &[u32],
+    work: &mut [u8],
+    victims: u32,
+    stores: &mut u32,
+) -> u32 {
+    // SAFETY: each pointer and length are those of one slice; `record`, `work` and `stores` are exclusive.
+    unsafe {
+        kurdavel_clean(
+            record.as_mut_ptr(),
+            record.len(),
+            area.as_ptr(),
+            area.len(),
+            index.as_ptr(),
+            index.len(),
+            work.as_mut_ptr(),
+            work.len(),
+            victims,
+            stores,
+        )
+    }
+}
+
+/// Makes one store of the pending operation; tells the stores left, and the version after the last.
+#[inline]
+pub fn step(
+    record: &mut [u32],
+    area: &mut [u8],
+    index: &mut [u32],
+    work: &[u8],
+    left: &mut u32,
+    version: &mut u32,
+) -> u32 {
+    // SAFETY: each pointer and length are those of one slice; all but `work` are exclusive.
+    unsafe {
+        kurdavel_step(
+            record.as_mut_ptr(),
+            record.len(),
+            area.as_mut_ptr(),
+            area.len(),
+            index.as_mut_ptr(),
+            index.len(),
+            work.as_ptr(),
+            work.len(),
+            left,
+            version,
+        )
+    }
+}

@@ -1,0 +1,220 @@
+//! The seven calls and the value read, with types.
+
+use crate::record::{Record, WORDS};
+use crate::refusal::Refusal;
+use crate::slices;
+use crate::values::{Key, SlotMap, Version};
+
+/// What a read tells of a present key besides its value.
+#[derive(Clone, Copy, PartialEq, Eq, Debug)]
+pub struct Found {
+    /// The version.
+    pub version: Version,
+    /// The kind of the object: 1, 2 or 3, for a value of 8, 24 or 56 bytes.
+    pub kind: u8,
+}
+
+/// The answer of an accepted step.
+#[derive(Clone, Copy, PartialEq, Eq, Debug)]
+pub enum Progress {
+    /// The operation goes on.
+    More {
+        /// Stores left, at least 1.
+        left: u32,
+    },
+    /// No stores are left: the operation counts.
+    Done {
+        /// The version that a write or delete took; 0 for a cleaning.
+        version: Version,
+    },
+}
+
+/// Makes an area of `slots` slots of `slot_bytes` bytes each an empty store.
+///
+/// ```
+/// use kurdavel::{format, Refusal};
+/// let mut area = [0xff; 1024];
+/// assert_eq!(format(4, 256, &mut area), Ok(()));
+/// assert_eq!(area[..14], [5, 1, 0, 0, 0, 1, 0, 0, 0, 1, 0, 0, 0, 0]);
+/// assert_eq!(format(3, 256, &mut area), Err(Refusal::Geometry));
+/// ```
+#[inline]
+pub fn format(slots: u32, slot_bytes: u32, area: &mut [u8]) -> Result<(), Refusal> {
+    Refusal::unless_accepted(slices::format(slots, slot_bytes, area))
+}
+
+/// Reads the log of an area and makes its record and index.
+///
+/// `order` names each slot once; every order gives the same store. The index stays as it was if the call is refused,
+/// but is all 0 after [`TooManyKeys`](Refusal::TooManyKeys).
+///
+/// ```
+/// use kurdavel::{recover, Refusal};
+/// let answer = recover(4, 256, &[0, 1, 2, 3], &[0; 1024], &mut [0; 16]);
+/// assert_eq!(answer, Err(Refusal::NoDigest));
+/// ```
+#[inline]
+pub fn recover(
+    slots: u32,
+    slot_bytes: u32,
+    order: &[u8],
+    area: &[u8],
+    index: &mut [u32],
+) -> Result<Record, Refusal> {
+    let mut words = [0; WORDS];
+    let answer = slices::recover(slots, slot_bytes, order, area, index, &mut words);
+    Refusal::unless_accepted(answer)?;
+    Ok(Record { words })
+}
+
+impl Record {
+    /// Tells version and kind of a key's object.
+    ///
+    /// ```
+    /// # let mut area = [0; 1024];
+    /// # kurdavel::format(4, 256, &mut area)?;
+    /// # let mut index = [0; 16];
+    /// # let record = kurdavel::recover(4, 256, &[0, 1, 2, 3], &area, &mut index)?;
+    /// use kurdavel::{Key, Refusal};
+    /// let absent = record.read(&area, &index, Key { table: 1, key: 2 });
+    /// assert_eq!(absent, Err(Refusal::Absent));
+    /// # Ok::<(), Refusal>(())
+    /// ```
+    #[inline]
+    pub fn read(&self, area: &[u8], index: &[u32], key: Key) -> Result<Found, Refusal> {
+        let (mut version, mut kind) = (0, 0);
+        let answer = slices::read(
+            &self.words,
+            area,
+            index,
+            key.table,
+            key.key,
+            &mut version,
+            &mut kind,
+        );
+        Refusal::unless_accepted(answer)?;
+        Ok(Found {
+            version: Version(version),
+            kind: kind as u8,
+        })
+    }
+
+    /// The value of a key's object, as a part of the area. Where [`read`](Record::read) is refused it is the empty
+    /// part at the start.
+    ///
+    /// The library stays within the area for genuine stores and others alike; a place outside it, which it never
+    /// tells, would give the empty part too.
+    #[inline]
+    pub fn read_value<'a>(&self, area: &'a [u8], index: &[u32], key: Key) -> &'a [u8] {
+        let (mut place, mut bytes) = (0, 0);
+        slices::read_value(
+            &self.words,
+            area,
+            index,
+            key.table,
+            key.key,
+            &mut place,
+            &mut bytes,
+        );
+        let start = place as usize;
+        area.get(start..start + bytes as usize)
+            .unwrap_or(&area[..0])
+    }
+
+    /// Starts to write a value under a key. Answers the number of stores to come.
+    #[inline]
+    pub fn write(
+        &mut self,
+        area: &[u8],
+        index: &[u32],
+        work: &mut [u8],
+        key: Key,
+        value: &[u8],
+    ) -> Result<u32, Refusal> {
+        let mut stores = 0;
+        let answer = slices::write(
+            &mut self.words,
+            area,
+            index,
+            work,
+            key.table,
+            key.key,
+            value,
+            &mut stores,
+        );
+        Refusal::unless_accepted(answer).map(|()| stores)
+    }
+
+    /// Starts to delete a key. Answers the number of stores to come.
+    #[inline]
+    pub fn delete(
+        &mut self,
+        area: &[u8],
+        index: &[u32],
+        work: &mut [u8],
+        key: Key,
+    ) -> Result<u32, Refusal> {
+        let mut stores = 0;
+        let answer = slices::delete(
+            &mut self.words,
+            area,
+            index,
+            work,
+            key.table,
+            key.key,
+            &mut stores,
+        );
+        Refusal::unless_accepted(answer).map(|()| stores)
+    }
+
+    /// Starts to clean slots: a new head takes over what they hold that still counts. Answers the number of stores to
+    /// come.
+    ///
+    /// ```
+    /// # let mut area = [0; 1024];
+    /// # kurdavel::format(4, 256, &mut area)?;
+    /// # let (mut index, mut work) = ([0; 16], [0; 256]);
+    /// # let mut record = kurdavel::recover(4, 256, &[0, 1, 2, 3], &area, &mut index)?;
+    /// use kurdavel::SlotMap;
+    /// let head = record.map();
+    /// let mut left = record.clean(&area, &index, &mut work, head)?;
+    /// assert_eq!(left, 15);
+    /// while left > 0 {
+    ///     record.step(&mut area, &mut index, &work)?;
+    ///     left -= 1;
+    /// }
+    /// assert_eq!(record.map(), SlotMap::of(1));
+    /// # Ok::<(), kurdavel::Refusal>(())
+    /// ```
+    #[inline]
+    pub fn clean(
+        &mut self,
+        area: &[u8],
+        index: &[u32],
+        work: &mut [u8],
+        victims: SlotMap,
+    ) -> Result<u32, Refusal> {
+        let mut stores = 0;
+        let answer = slices::clean(&mut self.words, area, index, work, victims.0, &mut stores);
+        Refusal::unless_accepted(answer).map(|()| stores)
+    }
+
+    /// Makes one store of the pending operation.
+    #[inline]
+    pub fn step(
+        &mut self,
+        area: &mut [u8],
+        index: &mut [u32],
+        work: &[u8],
+    ) -> Result<Progress, Refusal> {
+        let (mut left, mut version) = (0, 0);
+        let answer = slices::step(&mut self.words, area, index, work, &mut left, &mut version);
+        Refusal::unless_accepted(answer)?;
+        Ok(match left {
+            0 => Progress::Done {
+                version: Version(version),
+            },
+            left => Progress::More { left },
+        })
+    }
+}

@@ -1,0 +1,39 @@
+//! The numbers of the store, each with a type of its own, so that none is passed where another is meant.
+
+/// The version of an entry, or the next one to be given.
+#[derive(Clone, Copy, PartialEq, Eq, PartialOrd, Ord, Hash, Debug)]
+pub struct Version(pub u32);
+
+/// The number of a digest.
+#[derive(Clone, Copy, PartialEq, Eq, PartialOrd, Ord, Hash, Debug)]
+pub struct DigestNumber(pub u32);
+
+/// A set of slots: bit i, counted from the lowest, stands for slot i.
+#[derive(Clone, Copy, PartialEq, Eq, Hash, Debug)]
+pub struct SlotMap(pub u32);
+
+impl SlotMap {
+    /// The map of one slot below 32.
+    ///
+    /// ```
+    /// use kurdavel::SlotMap;
+    /// assert_eq!(SlotMap::of(3), SlotMap(8));
+    /// ```
+    pub const fn of(slot: u32) -> SlotMap {
+        SlotMap(1 << slot)
+    }
+
+    /// Whether a slot is in the map.
+    pub const fn has(self, slot: u32) -> bool {
+        slot < 32 && self.0 >> slot & 1 == 1
+    }
+}
+
+/// A table and a key in it, which together name a value.
+#[derive(Clone, Copy, PartialEq, Eq, PartialOrd, Ord, Hash, Debug)]
+pub struct Key {
+    /// The table.
+    pub table: u16,
+    /// The key within the table.
+    pub key: u32,
+}
