@@ -24,9 +24,14 @@ impl Entry {
     }
 }
 
-/// An area of `slots` slots, all but the last full of entries in a row, whose versions go up. `entry` gives the entry
-/// of each number from 0 on.
+/// An area of `slots` slots, all but the last full of entries in a row, whose versions are in a row too. `entry` gives
+/// the entry of each number from 0 on.
 pub fn full(slots: usize, entry: impl Fn(u32) -> Entry) -> Vec<u8> {
+    aged(slots, entry, |count| count + 1)
+}
+
+/// The same with versions of their own.
+pub fn aged(slots: usize, entry: impl Fn(u32) -> Entry, version: impl Fn(u32) -> u32) -> Vec<u8> {
     let mut area = vec![0; slots * SLOT_BYTES];
     let mut count: u32 = 0;
     let map = (1u32 << (slots - 1)) - 1;
@@ -38,7 +43,7 @@ pub fn full(slots: usize, entry: impl Fn(u32) -> Entry) -> Vec<u8> {
         segment[9..13].copy_from_slice(&(count + 1).to_le_bytes());
         let mut at = DIGEST_BYTES;
         while at + entry(count).length() <= SLOT_BYTES {
-            at = lay(segment, at, entry(count), count + 1);
+            at = lay(segment, at, entry(count), version(count));
             count += 1;
         }
     }

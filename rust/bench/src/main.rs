@@ -8,7 +8,7 @@ mod timing;
 use std::cell::RefCell;
 use std::hint::black_box;
 
-use image::{full, Entry, SLOT_BYTES};
+use image::{aged, full, Entry, SLOT_BYTES};
 use timing::{compare, Timing};
 
 const SLOTS: usize = 32;
@@ -89,10 +89,19 @@ fn recoveries() {
         };
         recovery(&case, slots, mixed);
     }
+    // Versions far apart, as cleanings leave them after a long life.
+    let mut rng = reference::rng::Rng::new(5);
+    let versions: Vec<u32> = (0..5000).map(|_| rng.within(1, u32::MAX - 1)).collect();
+    let area = aged(SLOTS, mixed, |count| versions[count as usize]);
+    recovery_of("recovery, 4,000 distinct keys, scattered versions", area);
 }
 
 fn recovery(case: &str, slots: usize, entry: impl Fn(u32) -> Entry) {
-    let area = full(slots, entry);
+    recovery_of(case, full(slots, entry));
+}
+
+fn recovery_of(case: &str, area: Vec<u8>) {
+    let slots = area.len() / SLOT_BYTES;
     let order: Vec<u8> = (0..slots as u8).collect();
     let index = RefCell::new(vec![0; CELLS]);
     let (n, s) = (slots as u32, SLOT_BYTES as u32);
