@@ -1,0 +1,4 @@
+-- Runs exist: every call can be made, every list of commands has a run, and one run is computed.
+pub mod Answers
+pub mod Steps
+pub mod Commands
