@@ -2,3 +2,5 @@
 pub mod Answers
 pub mod Steps
 pub mod Commands
+pub mod Compared
+pub mod Example
