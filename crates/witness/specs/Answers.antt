@@ -1,5 +1,5 @@
 -- Every read, start and recovery can be made: for every input there is an answer that keeps the promise, as a total function.
-use Prim.Native.Nat.{ℕ, _<_}
+use Prim.Native.Nat.{ℕ}
 use mathlib.Core.Path.{_≡_, refl, sym, ap}
 use mathlib.Core.Bool.{Bool, true, false}
 use mathlib.Core.List.{List}

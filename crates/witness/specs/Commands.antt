@@ -1,7 +1,7 @@
 -- For every list of commands there is a run: a command is a call with its arguments, or a cut, and the answers are those of the
 -- total functions.
 use Prim.Native.Nat.{ℕ}
-use mathlib.Core.Path.{_≡_, refl}
+use mathlib.Core.Path.{refl}
 use mathlib.Core.List.{List, [], _∷_, _++_}
 use mathlib.Core.Option.{Option, none, some}
 use lib.ListN.{length}
@@ -14,7 +14,7 @@ use Rattle.model.specs.Recovery.{recovery}
 use Rattle.model.specs.Promises.{Begun}
 use Rattle.history.specs.Book.{starts, steps, reads, readsValue, recovers, Event, called, cut}
 use Rattle.history.specs.Runs.{Held, World, heldAfter, recoveredWorld, Moves, start, step, read, readValue, recover, cuts, Run, stop, go}
-use Rattle.witness.specs.Answers.{readBy, valueBy, read-made, value-made, startedBy, start-made, recoveredCells, recover-made}
+use Rattle.witness.specs.Answers.{readBy, read-made, value-made, startedBy, start-made, recoveredCells, recover-made}
 use Rattle.witness.specs.Steps.{Moved, steppedBy, step-made}
 
 -- Arguments are of their types. A start gets any work buffer, a recovery any order list and any index.

@@ -5,7 +5,7 @@ use mathlib.Core.List.{List, [], _∷_}
 use native.Mathlib.Omega.{arith}
 use lib.ListN.{length, getD, drop}
 use Rattle.segment.specs.declared.Key.{Key}
-use Rattle.model.specs.Operations.{Operation, write, delete, clean}
+use Rattle.model.specs.Operations.{write, delete, clean}
 use Rattle.model.specs.Table.{Row, row, failing, Hold, rows-hold}
 use Rattle.history.specs.Book.{Call, starts, steps, reads, readsValue, recovers, Event, called, cut}
 

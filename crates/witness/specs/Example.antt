@@ -17,7 +17,7 @@ use Rattle.model.specs.Index.{around}
 use Rattle.model.specs.Operations.{Operation, write, delete, clean, Typed, TypedKey, formatted}
 use Rattle.model.specs.Play.{opened, keyed}
 use Rattle.model.specs.Table.{failing}
-use Rattle.history.specs.Book.{starts, steps, reads, recovers, Event, called, cut, Kept, Awaited, Book, sameKeys, finish, oneOff, takeOne, feedCall, feed, bookAfter, bookOf}
+use Rattle.history.specs.Book.{starts, steps, reads, readsValue, recovers, Event, called, cut, Kept, Awaited, Book, sameKeys, finish, oneOff, takeOne, feedCall, feed, bookAfter, bookOf}
 use Rattle.history.specs.Runs.{freshWorld, Run}
 use Rattle.index.specs.Build.{entriesFrom, inLog, listed, finished}
 use Rattle.index.specs.Insert.{insertedAt, tallied, insertNext, insertAll}
@@ -27,7 +27,7 @@ use Rattle.stepping.specs.Next.{commitStore, fitsSlot, fitsLeft, slotStore, slo
 use Rattle.witness.specs.Answers.{cellsBy}
 use Rattle.witness.specs.Compared.{callNumbers, eventNumbers, compared, events-equal}
 use Rattle.witness.specs.Steps.{storedBy, steppedUnless}
-use Rattle.witness.specs.Commands.{Command, operate, advance, look, restart, powerCut, Played, played, playOn, playAll, commands-run}
+use Rattle.witness.specs.Commands.{Command, operate, advance, look, lookValue, restart, powerCut, Played, played, playOn, playAll, commands-run}
 
 -- ---- the commands
 
@@ -59,6 +59,7 @@ commands =
     recovering
     ∷ starting (write nine ones) (nine-typed, bytes-of 8 0x11 (omega arith))
     ∷ replicate 20 advance ++ look nine nine-typed
+    ∷ lookValue nine nine-typed
     ∷ starting (write nine twos) (nine-typed, bytes-of 8 0x22 (omega arith))
     ∷ replicate 7 advance ++ powerCut
     ∷ recovering
@@ -87,15 +88,19 @@ writes =
     ∷ called (starts (write nine ones)) (told 20 0 0)
     ∷ leaving 19 1 ++ called steps (told 0 1 0)
     ∷ called (reads nine) (told 0 1 1)
+    ∷ called (readsValue nine) (refusal 0)
     ∷ []
 
 -- the second one, of which 7 of 20 stores are made
 abbrev pub tears : List Event
 tears = called (starts (write nine twos)) (told 20 0 0) ∷ leaving 7 13
 
--- a cut in it
+-- the cut in it, and what is left
 abbrev pub fails : List Event
-fails = cut ∷ called recovers (refusal 0) ∷ called (reads nine) (told 0 1 1) ∷ []
+fails = cut ∷ []
+
+abbrev pub returns : List Event
+returns = called recovers (refusal 0) ∷ called (reads nine) (told 0 1 1) ∷ []
 
 -- the delete takes the version that the torn write did not get
 abbrev pub deletes : List Event
@@ -111,7 +116,7 @@ cleans =
     ∷ []
 
 abbrev pub events : List Event
-events = writes ++ (tears ++ (fails ++ (deletes ++ cleans)))
+events = writes ++ (tears ++ (fails ++ (returns ++ (deletes ++ cleans))))
 
 -- ---- the run
 
@@ -149,25 +154,30 @@ pub record Page (b : Book) (kept : Option Kept) (next : ℕ) (pending : Option A
   pub next-version : b .next ≡ next
   pub awaits : b .pending ≡ pending
 
+-- what a book computes with
+unfoldable booking : Unit {0}
+unfolding pick both sameKeys finish oneOff takeOne feedCall feed bookAfter
+booking = tt
+
 abbrev first : Option Kept
 first = some (record { version = 1; value = ones })
 
 pub written : Page (bookOf writes) first 2 none
-unfolding pick both sameKeys finish oneOff takeOne feedCall feed bookAfter
+unfolding booking
 written = record { key = refl; next-version = refl; awaits = refl }
 
 pub torn : Page (bookOf (writes ++ tears)) first 2 (some (record { operation = write nine twos; left = 13 }))
-unfolding pick both sameKeys finish oneOff takeOne feedCall feed bookAfter
+unfolding booking
 torn = record { key = refl; next-version = refl; awaits = refl }
 
 pub failed : Page (bookOf (writes ++ (tears ++ fails))) first 2 none
-unfolding pick both sameKeys finish oneOff takeOne feedCall feed bookAfter
+unfolding booking
 failed = record { key = refl; next-version = refl; awaits = refl }
 
-pub deleted : Page (bookOf (writes ++ (tears ++ (fails ++ deletes)))) none 3 none
-unfolding pick both sameKeys finish oneOff takeOne feedCall feed bookAfter
+pub deleted : Page (bookOf (writes ++ (tears ++ (fails ++ (returns ++ deletes))))) none 3 none
+unfolding booking
 deleted = record { key = refl; next-version = refl; awaits = refl }
 
 pub cleaned : Page (bookOf events) none 3 none
-unfolding pick both sameKeys finish oneOff takeOne feedCall feed bookAfter
+unfolding booking
 cleaned = record { key = refl; next-version = refl; awaits = refl }

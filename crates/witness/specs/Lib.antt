@@ -4,3 +4,4 @@ pub mod Steps
 pub mod Commands
 pub mod Compared
 pub mod Example
+pub mod Applied
