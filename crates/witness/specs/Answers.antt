@@ -1,0 +1,145 @@
+-- Every read, start and recovery can be made: for every input there is an answer that keeps the promise, as a total function.
+use Prim.Native.Nat.{ℕ}
+use mathlib.Core.Path.{_≡_, refl, sym, ap}
+use mathlib.Core.Bool.{Bool, true, false}
+use mathlib.Core.List.{List}
+use mathlib.Core.Option.{Option, none, some}
+use native.Mathlib.Omega.{arith}
+use lib.Dec.{eqb}
+use lib.ListN.{length, replicate, length-replicate}
+use lib.Seq.{length-sets}
+use Rattle.segment.specs.Choice.{pick}
+use Rattle.segment.specs.Layout.{Layout}
+use Rattle.segment.specs.declared.Key.{Key}
+use Rattle.record.specs.RangeLaws.{between-low}
+use Rattle.record.specs.Refusals.{numberOfRefusal}
+use Rattle.record.specs.declared.Reading.{Reading}
+use Rattle.record.specs.declared.Recovery.{Recovery}
+use Rattle.record.specs.declared.RecoverAnswer.{RecoverAnswer}
+use Rattle.record.specs.declared.Refusal.{Refusal}
+use Rattle.record.specs.declared.Refusal.the-variants.{BadRecord}
+use Rattle.record.specs.declared.Store.{Store}
+use Rattle.model.specs.Log.{Placed, present}
+use Rattle.model.specs.Causes.{firstCause}
+use Rattle.model.specs.Operations.{Operation, write, delete, clean, logNow, laid}
+use Rattle.model.specs.Recovery.{recovery, recoveryFor, recoverCauses, storeOf}
+use Rattle.model.specs.Refused.{Lengths, recordBad, readCauses, startCauses}
+use Rattle.model.specs.Promises.{IndexAfter, RecoverPromise, readAnswer, readLengths, ReadPromise, valueAnswer, ValuePromise, Begun, begun, lentLengths, StartPromise}
+use Rattle.laws.specs.CauseLaws.{cause-first}
+use Rattle.laws.specs.RecoverLaws.{recovery-order, recovery-recovered, recovered-facts}
+use Rattle.index.specs.Build.{built}
+use Rattle.index.specs.BuildLaws.{Holds}
+use Rattle.stepping.specs.CleanLaws.{recovered-built}
+
+-- ---- read
+
+abbrev pub readBy : Layout → Store → List ℕ → List ℕ → Key → Reading
+readBy L r area cells k =
+    record {
+      answer = readAnswer (firstCause (readCauses L r (logNow L area r) (readLengths area cells) k)) (present L (logNow L area r) k);
+      store = r;
+    }
+
+abbrev pub valueBy : Layout → Store → List ℕ → List ℕ → Key → List ℕ
+valueBy L r area cells k =
+    valueAnswer L (r .size) area (firstCause (readCauses L r (logNow L area r) (readLengths area cells) k)) (present L (logNow L area r) k)
+
+module _ (L : Layout) (r : Store) (area cells : List ℕ) (k : Key) where
+  pub read-made : ReadPromise L r area cells k (readBy L r area cells k)
+  unfolding readAnswer
+  read-made =
+      record {
+        hands-back = refl;
+        unfit = λ bad. ap (λ (c : Option Refusal). readAnswer c (present L (logNow L area r) k)) (cause-first _ _ bad);
+        exact = λ g. refl;
+      }
+
+  pub value-made : ValuePromise L r area cells k (valueBy L r area cells k)
+  unfolding valueAnswer
+  value-made =
+      record {
+        unfit = λ bad. ap (λ (c : Option Refusal). valueAnswer L (r .size) area c (present L (logNow L area r) k)) (cause-first _ _ bad);
+        exact = λ g. refl;
+      }
+
+-- ---- write, delete and clean
+
+abbrev pub startedBy : Layout → Operation → Store → List ℕ → List ℕ → List ℕ → Begun
+startedBy L o r area cells work =
+    begun L r (logNow L area r) o work (firstCause (startCauses L r (logNow L area r) (lentLengths area cells work) o))
+
+begun-length : (L : Layout) (r : Store) (log : List Placed) (o : Operation) (work : List ℕ) (c : Option Refusal) →
+    length (begun L r log o work c .work) ≡ length work
+unfolding begun
+begun-length L r log o work none = length-sets work 0 (laid L r log o .bytes)
+begun-length L r log o work (some c) = refl
+
+start-bad : (L : Layout) (r : Store) (log : List Placed) (l : Lengths) (o : Operation) → recordBad L r l ≡ true →
+    firstCause (startCauses L r log l o) ≡ some BadRecord
+unfolding startCauses
+start-bad L r log l (write k value) h = cause-first _ _ h
+start-bad L r log l (delete k) h = cause-first _ _ h
+start-bad L r log l (clean victims) h = cause-first _ _ h
+
+module _ (L : Layout) (o : Operation) (r : Store) (area cells work : List ℕ) where
+  abbrev its : Begun
+  its = startedBy L o r area cells work
+
+  pub start-made : StartPromise L o r area cells work (its .work) (its .start)
+  unfolding begun
+  start-made =
+      record {
+        same-length =
+            begun-length L r (logNow L area r) o work (firstCause (startCauses L r (logNow L area r) (lentLengths area cells work) o));
+        unfit = λ bad. ap (begun L r (logNow L area r) o work) (start-bad L r (logNow L area r) (lentLengths area cells work) o bad);
+        exact = λ g. refl;
+      }
+
+-- ---- recovery
+
+unfoldable pub cellsBy : Layout → ℕ → List ℕ → List ℕ → List ℕ → Store → RecoverAnswer → List ℕ
+cellsBy L s order area cells r RecoverAnswer.Recovered = built L area s (r .map) order (length cells) .cells
+cellsBy L s order area cells r (RecoverAnswer.Refused c) = pick (eqb (numberOfRefusal c) 20) (replicate (length cells) 0) cells
+
+abbrev pub recoveredCells : Layout → ℕ → List ℕ → List ℕ → List ℕ → Recovery → List ℕ
+recoveredCells L s order area cells r = cellsBy L s order area cells (r .store) (r .answer)
+
+module _ (L : Layout) (n s : ℕ) (order area cells : List ℕ) where
+  abbrev m : ℕ
+  m = length cells
+
+  abbrev store : Store
+  store = storeOf L n s m area
+
+  abbrev cause : Option Refusal
+  cause = firstCause (recoverCauses L n s m order area)
+
+  abbrev Keeps : Recovery → Type 0
+  Keeps r = RecoverPromise L n s order area cells (recoveredCells L s order area cells r) r
+
+  rebuilt : recovery L n s m order area ≡ record { answer = RecoverAnswer.Recovered; store = store } →
+      Holds s m (logNow L area store) (built L area s (store .map) order m)
+  rebuilt e =
+      let recovers = recovery-recovered L n s m area order store e in
+      recovered-built L n s m area order store recovers (recovery-order L n s m area order store e)
+      (omega (arith, between-low 16 4096 m (recovered-facts L n s m area store recovers .lent .cells-good)))
+
+  by-cause : (c : Option Refusal) → cause ≡ c → Keeps (recoveryFor c store)
+  unfolding recovery recoveryFor cellsBy IndexAfter pick
+  by-cause none e =
+      let h = rebuilt (ap (λ (c : Option Refusal). recoveryFor c store) e) in
+      record { answers = ap (λ (c : Option Refusal). recoveryFor c store) (sym e); same-length = h .long; index = h .rule }
+  by-cause (some c) e =
+      record {
+        answers = ap (λ (d : Option Refusal). recoveryFor d store) (sym e);
+        same-length = go (eqb (numberOfRefusal c) 20);
+        index = refl;
+      }
+    where
+      go : (t : Bool) → length (pick t (replicate m 0) cells) ≡ m
+      go true = length-replicate m 0
+      go false = refl
+
+  pub recover-made : Keeps (recovery L n s m order area)
+  unfolding recovery
+  recover-made = by-cause cause refl

@@ -1,0 +1,129 @@
+-- For every list of commands there is a run: a command is a call with its arguments, or a cut, and the answers are those of the
+-- total functions.
+use Prim.Native.Nat.{ℕ}
+use mathlib.Core.Path.{refl}
+use mathlib.Core.List.{List, [], _∷_, _++_}
+use mathlib.Core.Option.{Option, none, some}
+use lib.ListN.{length}
+use Rattle.segment.specs.Layout.{Layout, edition1}
+use Rattle.segment.specs.declared.Key.{Key}
+use Rattle.record.specs.Answers.{recoverSaid, readSaid, startSaid, stepSaid, refusal}
+use Rattle.record.specs.declared.Recovery.{Recovery}
+use Rattle.model.specs.Operations.{Operation, Typed, TypedKey}
+use Rattle.model.specs.Recovery.{recovery}
+use Rattle.model.specs.Promises.{Begun}
+use Rattle.history.specs.Book.{starts, steps, reads, readsValue, recovers, Event, called, cut}
+use Rattle.history.specs.Runs.{Held, World, heldAfter, recoveredWorld, Moves, start, step, read, readValue, recover, cuts, Run, stop, go}
+use Rattle.witness.specs.Answers.{readBy, read-made, value-made, startedBy, start-made, recoveredCells, recover-made}
+use Rattle.witness.specs.Steps.{Moved, steppedBy, step-made}
+
+-- Arguments are of their types. A start gets any work buffer, a recovery any order list and any index.
+pub data Command : Type 0 where
+  operate : (o : Operation) → Typed o → List ℕ → Command
+  advance : Command
+  look : (k : Key) → TypedKey k → Command
+  lookValue : (k : Key) → TypedKey k → Command
+  restart : List ℕ → List ℕ → Command
+  powerCut : Command
+
+-- The events that have happened, and the world after them.
+pub record Played : Type 0 where
+  pub events : List Event
+  pub world : World
+
+-- ---- one command
+
+abbrev pub startedWorld : World → Held → Operation → Begun → Played
+startedWorld w h o b =
+    record {
+      events = called (starts o) (startSaid (b .start .answer)) ∷ [];
+      world = record { area = w .area; held = some (heldAfter h (b .work) (b .start)); cells = w .cells };
+    }
+
+abbrev pub steppedWorld : World → Held → Moved → Played
+steppedWorld w h x =
+    record {
+      events = called steps (stepSaid (x .after .stepped .answer)) ∷ [];
+      world =
+          record {
+            area = x .area;
+            held = some (record { store = x .after .stepped .store; cells = x .after .cells; work = h .work });
+            cells = w .cells;
+          };
+    }
+
+-- a call that leaves all as it is
+abbrev pub onlyTold : World → Event → Played
+onlyTold w e = record { events = e ∷ []; world = w }
+
+abbrev pub restarted : Layout → ℕ → World → List ℕ → List ℕ → Recovery → Played
+restarted L s w order cells r =
+    record {
+      events = called recovers (recoverSaid (r .answer)) ∷ [];
+      world = recoveredWorld w (recoveredCells L s order (w .area) cells r) r;
+    }
+
+-- Without a record only a recovery and a cut can happen: any other command does nothing. A step gets the work buffer of the start.
+unfoldable pub played : Layout → ℕ → ℕ → World → Option Held → Command → Played
+played L n s w (some h) (operate o t work) = startedWorld w h o (startedBy L o (h .store) (w .area) (h .cells) work)
+played L n s w (some h) advance = steppedWorld w h (steppedBy L (h .store) (w .area) (h .cells) (h .work))
+played L n s w (some h) (look k t) = onlyTold w (called (reads k) (readSaid (readBy L (h .store) (w .area) (h .cells) k .answer)))
+played L n s w (some h) (lookValue k t) = onlyTold w (called (readsValue k) (refusal 0))
+played L n s w none (operate o t work) = record { events = []; world = w }
+played L n s w none advance = record { events = []; world = w }
+played L n s w none (look k t) = record { events = []; world = w }
+played L n s w none (lookValue k t) = record { events = []; world = w }
+played L n s w held (restart order cells) = restarted L s w order cells (recovery L n s (length cells) order (w .area))
+played L n s w held powerCut = record { events = cut ∷ []; world = record { area = w .area; held = none; cells = w .cells } }
+
+-- ---- a list of them
+
+abbrev pub then : Played → Played → Played
+then p q = record { events = p .events ++ q .events; world = q .world }
+
+unfoldable pub playOn : Layout → ℕ → ℕ → Played → List Command → Played
+playOn L n s p [] = p
+playOn L n s p (c ∷ cs) = playOn L n s (then p (played L n s (p .world) (p .world .held) c)) cs
+
+abbrev pub playAll : Layout → ℕ → ℕ → World → List Command → Played
+playAll L n s w cs = playOn L n s (record { events = []; world = w }) cs
+
+-- ---- the run
+
+module _ (n s : ℕ) where
+  one : {w x : World} {e : Event} → Moves edition1 n s w e x → Run edition1 n s w (e ∷ []) x
+  one m = go m stop
+
+  run-append : {w x y : World} {es fs : List Event} → Run edition1 n s w es x → Run edition1 n s x fs y → Run edition1 n s w (es ++ fs) y
+  run-append stop q = q
+  run-append (go m p) q = go m (run-append p q)
+
+  abbrev From : World → Played → Type 0
+  From w p = Run edition1 n s w (p .events) (p .world)
+
+  played-run : (area : List ℕ) (m : Option ℕ) (held : Option Held) (c : Command) →
+      let w : World = record { area = area; held = held; cells = m } in From w (played edition1 n s w held c)
+  unfolding played
+  played-run area m (some h) (operate o t work) = one (start t (start-made edition1 o (h .store) area (h .cells) work))
+  played-run area m (some h) advance = one (step (λ e. refl) (step-made (h .store) area (h .cells) (h .work)))
+  played-run area m (some h) (look k t) = one (read t (read-made edition1 (h .store) area (h .cells) k))
+  played-run area m (some h) (lookValue k t) = one (readValue t (value-made edition1 (h .store) area (h .cells) k))
+  played-run area m none (operate o t work) = stop
+  played-run area m none advance = stop
+  played-run area m none (look k t) = stop
+  played-run area m none (lookValue k t) = stop
+  played-run area m (some h) (restart order cells) = one (recover (recover-made edition1 n s order area cells))
+  played-run area m none (restart order cells) = one (recover (recover-made edition1 n s order area cells))
+  played-run area m (some h) powerCut = one cuts
+  played-run area m none powerCut = one cuts
+
+  on-run : (w : World) (p : Played) (cs : List Command) → From w p → From w (playOn edition1 n s p cs)
+  unfolding playOn
+  on-run w p [] r = r
+  on-run w p (c ∷ cs) r =
+      on-run w (then p (played edition1 n s (p .world) (p .world .held) c)) cs
+      (run-append r (played-run (p .world .area) (p .world .cells) (p .world .held) c))
+
+  -- Whatever the world and the commands, the contracts allow what the total functions answer.
+  pub commands-run : (w : World) (cs : List Command) → From w (playAll edition1 n s w cs)
+  commands-run w cs = on-run w (record { events = []; world = w }) cs stop

@@ -1,0 +1,7 @@
+-- Runs exist: every call can be made, every list of commands has a run, and one run is computed.
+pub mod Answers
+pub mod Steps
+pub mod Commands
+pub mod Compared
+pub mod Example
+pub mod Applied

@@ -1,0 +1,154 @@
+-- Every step can be made: what the code does for any record, area, index and work buffer, as a total function, keeps the promise.
+use Prim.Native.Nat.{ℕ, _+_, _-_}
+use mathlib.Core.Path.{_≡_, refl, _∙_}
+use mathlib.Core.Bool.{Bool, true, false}
+use mathlib.Core.List.{List, [], _∷_}
+use mathlib.Core.Option.{Option, none, some}
+use lib.Dec.{eqb, ltb, leb}
+use lib.ListN.{length, getD, set, replicate, length-set, length-replicate}
+use Rattle.segment.specs.Choice.{pick, either}
+use Rattle.segment.specs.Layout.{Layout, edition1, entrySize, versionLimit, numberLimit}
+use Rattle.segment.specs.Entry.{keyOf}
+use Rattle.record.specs.Answers.{storesLeft}
+use Rattle.record.specs.declared.Pending.{Pending}
+use Rattle.record.specs.declared.Pending.the-variants.{Idle, Append, NewHead, Clean}
+use Rattle.record.specs.declared.Refusal.{Refusal}
+use Rattle.record.specs.declared.Store.{Store}
+use Rattle.model.specs.Log.{Placed, placeOf}
+use Rattle.model.specs.Causes.{firstCause}
+use Rattle.model.specs.Refused.{stepCauses}
+use Rattle.model.specs.Promises.{lentLengths, StepPromise}
+use Rattle.laws.specs.StoreKept.{edition1-roomy}
+use Rattle.index.specs.Insert.{Insertion, insertedAt, inserted, Tally, counted, over, tallied, insertNext, insertAll}
+use Rattle.index.specs.Search.{versionAt, searchFor}
+use Rattle.index.specs.Build.{finished, built}
+use Rattle.index.specs.declared.Found.{Found}
+use Rattle.index.specs.declared.Inserted.{Inserted}
+use Rattle.stepping.specs.Next.{nextStore}
+use Rattle.stepping.specs.Finish.{After, refusedWith, unfit, appendDone, keyIn, finishEntry, finishAppend, finishHead, cleanMap, finishClean, finishWith, advanced}
+use Rattle.stepping.specs.StepLaws.{refused-promise, bad-promise, stored-promise}
+use Rattle.stepping.specs.declared.NextStore.{NextStore}
+use Rattle.stepping.specs.declared.NextStore.the-variants.{At, Bad}
+
+-- What a step leaves: the area, and what it leaves besides.
+pub record Moved : Type 0 where
+  pub area : List ℕ
+  pub after : After
+
+unfoldable pub storedBy : Layout → Store → List ℕ → List ℕ → NextStore → Moved
+storedBy L r area cells (At p b) = record { area = set area p b; after = advanced L r (set area p b) cells }
+storedBy L r area cells Bad = record { area = area; after = unfit r cells }
+
+unfoldable pub steppedUnless : Layout → Store → List ℕ → List ℕ → List ℕ → Option Refusal → Moved
+steppedUnless L r area cells work none = storedBy L r area cells (nextStore (length area) work r)
+steppedUnless L r area cells work (some c) = record { area = area; after = record { stepped = refusedWith r c; cells = cells } }
+
+abbrev pub steppedBy : Layout → Store → List ℕ → List ℕ → List ℕ → Moved
+steppedBy L r area cells work = steppedUnless L r area cells work (firstCause (stepCauses L r (lentLengths area cells work)))
+
+-- ---- the index stays as long as it was, whatever the record
+
+length-inserted : (L : Layout) (area cells : List ℕ) (place version : ℕ) (f : Found) →
+    length (insertedAt L area cells place version f .cells) ≡ length cells
+unfolding insertedAt pick
+length-inserted L area cells place version (Found.At i) = go (ltb (versionAt L area (getD cells i 0 - 1)) version)
+  where
+    go : (t : Bool) →
+        length
+        (pick {A = Insertion} t (record { answer = Inserted.Newer; cells = set cells i (place + 1) }) (record { answer = Inserted.Older; cells = cells }) .cells)
+        ≡ length cells
+    go true = length-set cells i (place + 1)
+    go false = refl
+length-inserted L area cells place version (Found.Free i) = length-set cells i (place + 1)
+length-inserted L area cells place version Found.Full = refl
+
+-- as many cells in a tally that is not over
+abbrev Cells : ℕ → Tally → Type 0
+Cells m (counted cells n) = length cells ≡ m
+Cells m over = Unit {0}
+
+module _ (L : Layout) (area : List ℕ) (S m : ℕ) where
+  tallied-cells : (a : Inserted) (cells : List ℕ) (n : ℕ) → length cells ≡ m → Cells m (tallied a cells n)
+  unfolding tallied pick
+  tallied-cells Inserted.New cells n e = go (ltb (n + 1) (length cells))
+    where
+      go : (t : Bool) → Cells m (pick t (counted cells (n + 1)) over)
+      go true = e
+      go false = tt
+  tallied-cells Inserted.Newer cells n e = e
+  tallied-cells Inserted.Older cells n e = e
+  tallied-cells Inserted.Full cells n e = tt
+
+  next-cells : (x : Placed) (t : Tally) → Cells m t → Cells m (insertNext L area S x t)
+  unfolding insertNext
+  next-cells x (counted cells n) e =
+      tallied-cells (inserted L area cells (placeOf S x) (keyOf (x .entry)) (x .entry .version) .answer)
+      (inserted L area cells (placeOf S x) (keyOf (x .entry)) (x .entry .version) .cells) n
+      (length-inserted L area cells (placeOf S x) (x .entry .version) (searchFor L area cells (keyOf (x .entry))) ∙ e)
+  next-cells x over e = tt
+
+  all-cells : (xs : List Placed) (t : Tally) → Cells m t → Cells m (insertAll L area S xs t)
+  unfolding insertAll
+  all-cells [] t e = e
+  all-cells (x ∷ xs) t e = all-cells xs (insertNext L area S x t) (next-cells x t e)
+
+  finished-cells : (t : Tally) → Cells m t → length (finished m t .cells) ≡ m
+  unfolding finished
+  finished-cells (counted cells n) e = e
+  finished-cells over e = length-replicate m 0
+
+length-built : (L : Layout) (area : List ℕ) (S map : ℕ) (order : List ℕ) (m : ℕ) → length (built L area S map order m .cells) ≡ m
+length-built L area S map order m =
+    finished-cells L area S m _ (all-cells L area S m _ (counted (replicate m 0) 0) (length-replicate m 0))
+
+module _ (L : Layout) (r : Store) (area cells : List ℕ) where
+  abbrev Long : After → Type 0
+  Long a = length (a .cells) ≡ length cells
+
+  -- by a test, one of two that are as long
+  either-long : (t : Bool) (a b : After) → Long a → Long b → Long (pick t a b)
+  unfolding pick
+  either-long true a b p q = p
+  either-long false a b p q = q
+
+  entry-long : (done : Store) (place : ℕ) → Long (finishEntry L r done area cells place)
+  unfolding finishEntry
+  entry-long done place =
+      either-long (leb (place + entrySize L 0) (length area)) _ (unfit r cells)
+      (length-inserted L area cells place (r .next .0) (searchFor L area cells (keyIn area place))) refl
+
+  finish-long : (p : Pending) → Long (finishWith L r area cells p)
+  unfolding finishWith finishAppend finishHead finishClean
+  finish-long Idle = refl
+  finish-long (Append n k) = either-long (eqb (r .next .0) (versionLimit L)) (unfit r cells) _ refl (entry-long (appendDone r n) _)
+  finish-long (NewHead i n k) =
+      either-long (either (eqb (r .next .0) (versionLimit L)) (eqb (r .number .0) numberLimit)) (unfit r cells) _ refl (entry-long _ _)
+  finish-long (Clean i v n k) =
+      either-long (eqb (r .number .0) numberLimit) (unfit r cells) _ refl (length-built L area (r .size) (cleanMap r i v) _ (length cells))
+
+  advanced-long : Long (advanced L r area cells)
+  unfolding advanced
+  advanced-long = either-long (ltb 1 (storesLeft (r .pending))) _ _ refl (finish-long (r .pending))
+
+-- ---- the promise
+
+module _ (r : Store) (area cells work : List ℕ) where
+  abbrev Keeps : Moved → Type 0
+  Keeps x = StepPromise edition1 r area (x .area) cells (x .after .cells) work (x .after .stepped)
+
+  abbrev cause : Option Refusal
+  cause = firstCause (stepCauses edition1 r (lentLengths area cells work))
+
+  stored-made : cause ≡ none → (x : NextStore) → nextStore (length area) work r ≡ x → Keeps (storedBy edition1 r area cells x)
+  unfolding storedBy
+  stored-made first (At p b) e =
+      stored-promise edition1 edition1-roomy r area cells work first p b e refl (advanced-long edition1 r (set area p b) cells)
+  stored-made first Bad e = bad-promise edition1 edition1-roomy r area cells work first e
+
+  unless-made : (c : Option Refusal) → cause ≡ c → Keeps (steppedUnless edition1 r area cells work c)
+  unfolding steppedUnless
+  unless-made none e = stored-made e (nextStore (length area) work r) refl
+  unless-made (some c) e = refused-promise edition1 r area cells work c e refl
+
+  pub step-made : Keeps (steppedBy edition1 r area cells work)
+  step-made = unless-made cause refl
