@@ -269,14 +269,14 @@ fn shared_versions() -> Vec<Item> {
     items
 }
 
-/// Versions of which the low bits are equal and the whole are not.
+/// Versions of which the low bits are equal and the whole are not, and one that is
+/// shared after another with its low bits.
 fn scattered_versions() -> Vec<Item> {
-    let apart: Vec<Vec<u8>> = (0..16)
+    let apart: Vec<Vec<u8>> = (0..12)
         .map(|i| object(key(i), 5 + (1 << (i + 12))))
-        .take(12)
         .collect();
     let (first, second) = apart.split_at(6);
-    let shared = [second, &[tombstone(KEY, 5 + (1 << 13))]].concat();
+    let shared = [second, &[tombstone(KEY, 5 + (1 << 15))]].concat();
     vec![
         Item::new("versions far apart", &two_slots(first, second)).reading(&[key(0), key(11)]),
         Item::new("versions far apart, one shared", &two_slots(first, &shared)),
