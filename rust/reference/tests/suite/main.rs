@@ -13,3 +13,4 @@ mod random_histories;
 mod refusals;
 mod rig;
 mod short_histories;
+mod stored_images;
