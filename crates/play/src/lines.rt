@@ -36,15 +36,34 @@ pub fn bytes(name: &[u8], buffer: &[u8], count: usize) {
     io::write_all(1, b"\n");
 }
 
-// How the cuts of an operation went: `bad` is the number of stores before the first one that differs, 0 where none does.
-pub fn verdict(stores: u32, version: u32, bad: u32) {
-    field(b": ", stores);
-    field(b" stores, version ", version);
-    if bad == 0 {
-        field(b", ", stores);
-        text(b" cuts as the book says\n");
+// Whether all was as it must be, to the end of the line.
+fn verdict(agrees: bool) {
+    if agrees {
+        text(b" as the book says\n");
         return;
     }
-    field(b", after store ", bad);
     text(b" not as the book says\n");
+}
+
+// A name, a number, and whether all was as it must be.
+pub fn compared(name: &[u8], n: u32, agrees: bool) {
+    field(name, n);
+    text(b",");
+    verdict(agrees);
+}
+
+// How the cuts after each of so many stores went: `bad` is the number of stores before the first one that differs, 0 where none does.
+pub fn cuts(made: u32, bad: u32) {
+    if bad == 0 {
+        field(b", ", made);
+        text(b" cuts");
+    } else {
+        field(b", after store ", bad);
+    }
+    verdict(bad == 0);
+}
+
+pub fn cut(made: u32) {
+    field(b"cut after ", made);
+    text(b" stores\n");
 }

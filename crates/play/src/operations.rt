@@ -1,28 +1,39 @@
-// An operation of the history: its start, its steps to the end, and a cut after each of its stores.
+// An operation of a history: its start, its steps to the end or to the failing of the supply, and a cut after each of its stores.
 use crate::book;
 use crate::book::Book;
+use crate::book::Value;
 use crate::lines;
+use crate::memory;
+use crate::reads;
 use cleaning::clean::clean;
 use record::Pending;
 use record::Start;
 use record::StartAnswer;
 use record::StepAnswer;
 use record::Store;
-use segment::Key;
 use stepping::step;
 use writing::start::delete;
 use writing::start::write;
 
-// The store's record and its book.
+// The store's record, its book, and after how many stores of the next operation the supply fails, 0 where it does not.
 pub struct Played {
     pub store: Store,
     pub book: Book,
+    pub fails: u32,
 }
 
 // The record after a step, and whether all was as the book says.
 struct Turn {
     store: Store,
     agrees: bool,
+}
+
+// What an operation is to do: its version, the book before it and after it, and how many of its stores the supply allows.
+struct Due {
+    version: u32,
+    before: Book,
+    after: Book,
+    fails: u32,
 }
 
 // Whether a step says that so many stores are left, and after the last one the version.
@@ -34,43 +45,32 @@ fn told(answer: StepAnswer, left: u32, version: u32) -> bool {
     }
 }
 
-// Whether the reads of the running store, and those after a cut, are the book's.
-fn both_agree(store: Store, area: &[u8], index: &[u32], book: Book) -> bool {
-    if !book::agrees(store, area, index, book) {
-        return false;
-    }
-    book::cut_agrees(area, book)
-}
-
 // The book when so many stores are left.
-fn book_at(left: u32, before: Book, after: Book) -> Book {
+fn book_at(left: u32, due: Due) -> Book {
     if left == 0 {
-        return after;
+        return due.after;
     }
-    before
+    due.before
 }
 
 // One step, after which so many stores are left.
 fn one_step(
     store: Store,
-    area: &mut [u8],
-    index: &mut [u32],
-    work: &[u8],
+    area: &mut [u8; 1024],
+    index: &mut [u32; 16],
+    work: &[u8; 256],
     left: u32,
-    version: u32,
-    book: Book,
+    due: Due,
 ) -> Turn {
     let stepped = step(store, area, index, work);
     let answer = stepped.answer;
     let store = stepped.store;
-    if !told(answer, left, version) {
-        return Turn {
-            store,
-            agrees: false,
-        };
+    let said = told(answer, left, due.version);
+    let kept = reads::both_agree(store, area, index, book_at(left, due));
+    Turn {
+        store,
+        agrees: said && kept,
     }
-    let agrees = both_agree(store, area, index, book);
-    Turn { store, agrees }
 }
 
 // The first store that differs: the one noted before, or this one.
@@ -84,41 +84,33 @@ fn noted(bad: u32, made: u32, agrees: bool) -> u32 {
     made
 }
 
-// The steps of an operation, to the end of its line.
+// Steps of an operation that has so many stores, until `rest` are left, to the end of its line.
 fn steps(
     store: Store,
-    area: &mut [u8],
-    index: &mut [u32],
-    work: &[u8],
+    area: &mut [u8; 1024],
+    index: &mut [u32; 16],
+    work: &[u8; 256],
     stores: u32,
-    version: u32,
-    before: Book,
-    after: Book,
+    rest: u32,
+    due: Due,
 ) -> Store {
     let mut store = store;
     let mut left = stores;
     let mut bad = 0;
-    while 0 < left {
+    while rest < left {
         left -= 1;
-        let t = one_step(
-            store,
-            area,
-            index,
-            work,
-            left,
-            version,
-            book_at(left, before, after),
-        );
+        let t = one_step(store, area, index, work, left, due);
         let s = t.store;
         store = s;
         bad = noted(bad, stores - left, t.agrees);
     }
-    lines::verdict(stores, version, bad);
+    lines::cuts(stores - left, bad);
     store
 }
 
 // How many bytes of the work buffer are the operation's.
-fn laid(pending: Pending) -> u32 {
+fn laid(store: Store) -> u32 {
+    let pending = store.pending;
     match pending {
         Pending::Idle => 0,
         Pending::Append { length, left: _ } => length,
@@ -137,81 +129,136 @@ fn laid(pending: Pending) -> u32 {
 }
 
 // A refused start, which changes nothing.
-fn refused(store: Store, area: &[u8], index: &[u32], book: Book, number: u32) -> Played {
-    lines::field(b": refused ", number);
-    if both_agree(store, area, index, book) {
-        lines::text(b", as the book says\n");
-    } else {
-        lines::text(b", not as the book says\n");
+fn refused(store: Store, area: &[u8; 1024], index: &[u32; 16], number: u32, book: Book) -> Played {
+    lines::compared(
+        b": refused ",
+        number,
+        reads::both_agree(store, area, index, book),
+    );
+    Played {
+        store,
+        book,
+        fails: 0,
     }
-    Played { store, book }
 }
 
-// An operation from its start on. The work bytes come on a line of their own.
+// How many of an operation's stores are not made: none where the supply does not fail.
+fn unmade(stores: u32, fails: u32) -> u32 {
+    if fails == 0 {
+        return 0;
+    }
+    if stores < fails {
+        return 0;
+    }
+    stores - fails
+}
+
+// An accepted operation. Its work bytes come on a line of their own; where the supply failed a recovery comes next.
+fn accepted(
+    store: Store,
+    area: &mut [u8; 1024],
+    index: &mut [u32; 16],
+    work: &[u8; 256],
+    stores: u32,
+    due: Due,
+) -> Played {
+    let count = laid(store);
+    let rest = unmade(stores, due.fails);
+    let book = book_at(rest, due);
+    lines::field(b": ", stores);
+    lines::field(b" stores, version ", due.version);
+    let store = steps(store, area, index, work, stores, rest, due);
+    lines::bytes(b" ", work, count as usize);
+    if due.fails == 0 {
+        return Played {
+            store,
+            book,
+            fails: 0,
+        };
+    }
+    lines::cut(due.fails);
+    memory::power_on(area, index, book)
+}
+
+// An operation from its start on.
 fn run(
     start: Start,
-    area: &mut [u8],
-    index: &mut [u32],
-    work: &[u8],
-    version: u32,
-    before: Book,
-    after: Book,
+    area: &mut [u8; 1024],
+    index: &mut [u32; 16],
+    work: &[u8; 256],
+    due: Due,
 ) -> Played {
     let answer = start.answer;
     let store = start.store;
+    let book = due.before;
     match answer {
-        StartAnswer::Refused(cause) => refused(store, area, index, before, record::number(cause)),
-        StartAnswer::Started(stores) => {
-            let pending = store.pending;
-            let store = steps(store, area, index, work, stores, version, before, after);
-            lines::bytes(b" ", work, laid(pending) as usize);
-            Played { store, book: after }
-        }
+        StartAnswer::Refused(cause) => refused(store, area, index, record::number(cause), book),
+        StartAnswer::Started(stores) => accepted(store, area, index, work, stores, due),
     }
 }
 
 pub fn write_key(
     played: Played,
-    area: &mut [u8],
-    index: &mut [u32],
-    work: &mut [u8],
-    key: Key,
-    value: &[u8],
+    area: &mut [u8; 1024],
+    index: &mut [u32; 16],
+    work: &mut [u8; 256],
+    number: usize,
+    value: Value,
 ) -> Played {
     let store = played.store;
     let before = played.book;
+    let key = book::key(number);
+    let bytes = memory::value_bytes(value);
+    let length = memory::at_most(56, value.length);
     lines::operation(b"write", key);
-    let start = write(store, area, index, work, key, value);
-    let after = book::written(before, key, value);
-    run(start, area, index, work, before.next, before, after)
+    let start = write(store, area, index, work, key, &bytes[0..length]);
+    let due = Due {
+        version: before.next,
+        before,
+        after: book::written(before, number, value),
+        fails: played.fails,
+    };
+    run(start, area, index, work, due)
 }
 
 pub fn delete_key(
     played: Played,
-    area: &mut [u8],
-    index: &mut [u32],
-    work: &mut [u8],
-    key: Key,
+    area: &mut [u8; 1024],
+    index: &mut [u32; 16],
+    work: &mut [u8; 256],
+    number: usize,
 ) -> Played {
     let store = played.store;
     let before = played.book;
+    let key = book::key(number);
     lines::operation(b"delete", key);
     let start = delete(store, area, index, work, key);
-    let after = book::deleted(before, key);
-    run(start, area, index, work, before.next, before, after)
+    let due = Due {
+        version: before.next,
+        before,
+        after: book::deleted(before, number),
+        fails: played.fails,
+    };
+    run(start, area, index, work, due)
 }
 
 // A cleaning changes nothing that the book has, and its version is 0.
 pub fn clean_slots(
     played: Played,
-    area: &mut [u8],
-    index: &mut [u32],
-    work: &mut [u8],
+    area: &mut [u8; 1024],
+    index: &mut [u32; 16],
+    work: &mut [u8; 256],
     victims: u32,
 ) -> Played {
     let store = played.store;
     let book = played.book;
     lines::field(b"clean ", victims);
     let start = clean(store, area, index, work, victims);
-    run(start, area, index, work, 0, book, book)
+    let due = Due {
+        version: 0,
+        before: book,
+        after: book,
+        fails: played.fails,
+    };
+    run(start, area, index, work, due)
 }

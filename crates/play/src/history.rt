@@ -1,0 +1,141 @@
+// The written history, an event at a time.
+use crate::book::Value;
+use crate::lines;
+use crate::memory;
+use crate::operations;
+use crate::operations::Played;
+ghost use Prim.Native.Nat.{_<_};
+
+pub enum Event {
+    // A heading with the number of a case.
+    Case(u32),
+    // A new store, in an area of old bytes.
+    Format,
+    // The store of case 8.
+    Spread,
+    // A key's number; length, first byte and rise of its value.
+    Write(usize, usize, u8, u8),
+    Delete(usize),
+    // The victims.
+    Clean(u32),
+    // The supply fails after so many stores of the operation that comes next.
+    Fails(u32),
+    // A cut with nothing pending, and a recovery.
+    Recover,
+}
+
+// How many events there are.
+pub const EVENTS: usize = 58;
+
+// 01's cases, with the cuts of case 3, and a longer history.
+const HISTORY: [Event; EVENTS] = [
+    Event::Case(2),
+    Event::Write(0, 8, 0x11, 0),
+    Event::Case(4),
+    Event::Delete(0),
+    Event::Case(5),
+    Event::Clean(0b1),
+    Event::Recover,
+    Event::Case(6),
+    Event::Format,
+    Event::Write(0, 56, 1, 1),
+    Event::Write(1, 56, 2, 1),
+    Event::Write(0, 8, 3, 1),
+    Event::Write(1, 8, 4, 1),
+    Event::Write(2, 8, 5, 1),
+    Event::Write(3, 8, 6, 1),
+    Event::Delete(0),
+    Event::Delete(1),
+    Event::Delete(2),
+    Event::Recover,
+    Event::Case(7),
+    Event::Format,
+    Event::Write(0, 7, 0x11, 0),
+    Event::Write(0, 8, 0x11, 0),
+    Event::Case(8),
+    Event::Spread,
+    Event::Clean(0b10),
+    Event::Spread,
+    Event::Clean(0b11),
+    // Keys overwritten and deleted, and an entry that does not fit the head.
+    Event::Format,
+    Event::Delete(0),
+    Event::Write(0, 56, 0x20, 1),
+    Event::Write(1, 24, 0x60, 3),
+    Event::Write(0, 8, 0x80, 1),
+    Event::Write(2, 56, 0x90, 1),
+    Event::Write(3, 56, 0xd0, 1),
+    Event::Delete(0),
+    // The tombstone stays, since older objects of its key stand in slot 0.
+    Event::Clean(0b10),
+    Event::Fails(40),
+    Event::Write(0, 56, 0x10, 2),
+    Event::Delete(1),
+    // Both tombstones go, with every object of their keys.
+    Event::Fails(148),
+    Event::Clean(0b101),
+    Event::Clean(0b101),
+    // The search for a free slot goes round the end; then only one is free, and another new head is refused.
+    Event::Write(0, 56, 0x30, 1),
+    Event::Fails(81),
+    Event::Write(1, 56, 0x40, 1),
+    Event::Write(1, 56, 0x50, 1),
+    Event::Write(0, 56, 0x60, 1),
+    Event::Write(1, 56, 0x70, 1),
+    Event::Write(2, 56, 0x80, 1),
+    Event::Write(0, 56, 0x90, 1),
+    Event::Write(1, 56, 0xa0, 1),
+    Event::Write(3, 56, 0xb0, 1),
+    // What all slots would keep is too much, slot 2 is not in the log, and slot 0, which is not the head, has nothing to keep.
+    Event::Clean(0b1011),
+    Event::Clean(0b100),
+    Event::Clean(0b1),
+    Event::Write(3, 56, 0xc0, 1),
+    Event::Recover,
+];
+
+// The event of a number, which is below that of all events.
+pub fn scheduled(i: usize) -> Event
+    requires { ⌜ i < 58 ⌝ }
+{
+    HISTORY[i]
+}
+
+fn failing(played: Played, fails: u32) -> Played {
+    let store = played.store;
+    let book = played.book;
+    Played { store, book, fails }
+}
+
+fn heading(played: Played, case: u32) -> Played {
+    lines::field(b"case ", case);
+    lines::text(b"\n");
+    played
+}
+
+// What an event does.
+pub fn happens(
+    event: Event,
+    played: Played,
+    area: &mut [u8; 1024],
+    index: &mut [u32; 16],
+    work: &mut [u8; 256],
+) -> Played {
+    match event {
+        Event::Case(n) => heading(played, n),
+        Event::Format => memory::fresh(area, index),
+        Event::Spread => memory::spread(area, index),
+        Event::Write(number, length, first, rise) => {
+            let value = Value {
+                length,
+                first,
+                rise,
+            };
+            operations::write_key(played, area, index, work, number, value)
+        }
+        Event::Delete(number) => operations::delete_key(played, area, index, work, number),
+        Event::Clean(victims) => operations::clean_slots(played, area, index, work, victims),
+        Event::Fails(n) => failing(played, n),
+        Event::Recover => memory::power_on(area, index, played.book),
+    }
+}

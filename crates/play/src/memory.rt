@@ -1,0 +1,95 @@
+// The memory that is lent: what it holds before a format and after a cut, and the bytes of a value.
+use crate::book;
+use crate::book::Book;
+use crate::book::Value;
+use crate::lines;
+use crate::operations::Played;
+use crate::reads;
+use recovery::format::format;
+use recovery::recover::recover;
+use segment::writer::copy_into;
+ghost use Prim.Native.Nat.{_≤_};
+
+// N and S of the store.
+pub const SLOTS: u32 = 4;
+
+pub const SIZE: u32 = 256;
+
+// Every byte of the area made this one.
+fn fill(area: &mut [u8; 1024], byte: u8) {
+    let mut i = 0;
+    while i < 1024 {
+        area[i] = byte;
+        i += 1;
+    }
+}
+
+// What an index may hold after a cut.
+fn spoil(index: &mut [u32; 16]) {
+    let mut i = 0;
+    while i < 16 {
+        index[i] = 0xdead_beef;
+        i += 1;
+    }
+}
+
+pub fn at_most(limit: usize, n: usize) -> usize
+    ensures { λ r. ⌜ r ≤ limit ⌝ }
+{
+    if n < limit {
+        return n;
+    }
+    limit
+}
+
+// The bytes of a value, and more where it has fewer than 56.
+pub fn value_bytes(value: Value) -> [u8; 56] {
+    let mut bytes = [0; 56];
+    let mut byte = value.first;
+    let mut i = 0;
+    while i < 56 {
+        bytes[i] = byte;
+        byte = std::num::wrapping_add_u8(byte, value.rise);
+        i += 1;
+    }
+    bytes
+}
+
+// A recovery after the supply failed, which lost the index.
+pub fn power_on(area: &[u8; 1024], index: &mut [u32; 16], book: Book) -> Played {
+    spoil(index);
+    let recovery = recover(SLOTS, SIZE, b"\x00\x01\x02\x03", area, index);
+    let store = recovery.store;
+    let next = store.next;
+    let agrees = reads::agrees(store, area, index, book);
+    lines::compared(b"recovery: next version ", next.0, agrees);
+    Played {
+        store,
+        book,
+        fails: 0,
+    }
+}
+
+// An area of old bytes, formatted and recovered.
+pub fn fresh(area: &mut [u8; 1024], index: &mut [u32; 16]) -> Played {
+    fill(area, 0xaa);
+    format(SLOTS, SIZE, area);
+    lines::bytes(b"format:", area, 14);
+    power_on(area, index, book::empty(1))
+}
+
+// Case 8: version 1 of a key in slot 0; version 2 and tombstone 3 in slot 1, which is the head.
+pub fn spread(area: &mut [u8; 1024], index: &mut [u32; 16]) -> Played {
+    fill(area, 0xff);
+    copy_into(
+        area,
+        0,
+        b"\x05\x01\0\0\0\x01\0\0\0\x01\0\0\0\x01\x07\0\x09\0\0\0\x01\0\0\0\x11\x11\x11\x11\x11\x11\x11\x11\0",
+    );
+    copy_into(
+        area,
+        256,
+        b"\x05\x02\0\0\0\x03\0\0\0\x02\0\0\0\x01\x07\0\x09\0\0\0\x02\0\0\0\x12\x12\x12\x12\x12\x12\x12\x12\x04\x07\0\x09\0\0\0\x03\0\0\0\0",
+    );
+    power_on(area, index, book::empty(4))
+}

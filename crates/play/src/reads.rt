@@ -1,0 +1,96 @@
+// What the running store and a recovery after a cut answer, compared with the book.
+use crate::book;
+use crate::book::Book;
+use crate::book::Held;
+use crate::book::Value;
+use crate::memory;
+use record::ReadAnswer;
+use record::RecoverAnswer;
+use record::Store;
+use recovery::read::read;
+use recovery::read::read_value;
+use recovery::recover::recover;
+use segment::layout::object_kind;
+
+// Whether these are the bytes of a value.
+fn bytes_are(bytes: &[u8], value: Value) -> bool {
+    if bytes.len() != value.length {
+        return false;
+    }
+    let mut byte = value.first;
+    let mut i = 0;
+    while i < bytes.len() {
+        if bytes[i] != byte {
+            return false;
+        }
+        byte = std::num::wrapping_add_u8(byte, value.rise);
+        i += 1;
+    }
+    true
+}
+
+// Whether a read's answer is the one for what the key has.
+fn answer_is(answer: ReadAnswer, held: Held) -> bool {
+    let value = held.value;
+    match answer {
+        ReadAnswer::Present { version, kind } => {
+            version.0 == held.version && kind == object_kind(value.length)
+        }
+        ReadAnswer::Refused(cause) => held.version == 0 && record::number(cause) == 8,
+    }
+}
+
+// Whether both reads of a key give what it has.
+fn reads_as(store: Store, area: &[u8], index: &[u32], number: usize, held: Held) -> bool {
+    let key = book::key(number);
+    let value = held.value;
+    if !bytes_are(read_value(store, area, index, key), value) {
+        return false;
+    }
+    let reading = read(store, area, index, key);
+    let answer = reading.answer;
+    answer_is(answer, held)
+}
+
+// Whether the next version and the reads of every key are the book's.
+pub fn agrees(store: Store, area: &[u8], index: &[u32], book: Book) -> bool {
+    let next = store.next;
+    let held = book.held;
+    if next.0 != book.next {
+        return false;
+    }
+    let mut i = 0;
+    while i < book::KEYS {
+        if !reads_as(store, area, index, i, held[i]) {
+            return false;
+        }
+        i += 1;
+    }
+    true
+}
+
+// Whether recovery of what a cut leaves, with an index of its own and the slots in another order, gives the book.
+fn cut_agrees(area: &[u8], book: Book) -> bool {
+    let mut index = [0xdead_beef; 16];
+    let recovery = recover(
+        memory::SLOTS,
+        memory::SIZE,
+        b"\x02\x00\x03\x01",
+        area,
+        &mut index,
+    );
+    let answer = recovery.answer;
+    let store = recovery.store;
+    match answer {
+        RecoverAnswer::Recovered => agrees(store, area, &index, book),
+        RecoverAnswer::Refused(_) => false,
+    }
+}
+
+// Whether the reads of the running store, and those after a cut, are the book's.
+pub fn both_agree(store: Store, area: &[u8], index: &[u32], book: Book) -> bool {
+    if !agrees(store, area, index, book) {
+        return false;
+    }
+    cut_agrees(area, book)
+}
