@@ -1,5 +1,6 @@
--- Words that are no record, as the exported calls' contracts have it: every call answers 4, and nothing that is lent changes.
--- Format takes no record, and recovery takes words only to write them: there only too few of them are refused.
+-- Words that are no record, as the exported calls' contracts have it: every call answers 4, and nothing that is lent changes,
+-- but that a value's place and length are told as 0. Format takes no record, and recovery takes words only to write them: there
+-- only too few of them are refused.
 use Prim.Native.Nat.{ℕ, _<_}
 use mathlib.Core.Path.{_≡_, ap, _∙_, subst⁻¹}
 use mathlib.Core.Bool.{Bool, true, false, not}
