@@ -43,12 +43,11 @@ fn whole_images() {
     assert!(met[0] > 2000 && met[20] > 1000, "{met:?}");
 }
 
-/// Each image damaged a few bytes at a time, in eleven ways one after the other and apart.
-#[test]
-fn damaged_images() {
-    let mut rng = Rng::new(2);
+/// Images, each damaged a few bytes at a time, in twelve ways one after the other and apart.
+fn damage_all(seed: u64) {
+    let mut rng = Rng::new(seed);
     let mut met = [0; 21];
-    for _ in 0..16_000 {
+    for _ in 0..8000 {
         let mut image = Shape::random(&mut rng).make(&mut rng);
         let whole = image.area.clone();
         for _ in 0..12 {
@@ -64,7 +63,18 @@ fn damaged_images() {
     }
     println!("{met:?}");
     assert!(met[0] > 10_000, "{met:?}");
-    assert!(met[15..].iter().all(|&count| count > 1000), "{met:?}");
+    assert!(met[15..].iter().all(|&count| count > 500), "{met:?}");
+}
+
+// Two halves, so that they run side by side.
+#[test]
+fn damaged_images() {
+    damage_all(2);
+}
+
+#[test]
+fn more_damaged_images() {
+    damage_all(5);
 }
 
 /// Bytes that are few kinds only, so that much looks like entries.
