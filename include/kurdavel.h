@@ -162,8 +162,9 @@ uint32_t kurdavel_clean(uint32_t *record, size_t record_words, const uint8_t *ar
                         uint32_t victims, uint32_t *stores);
 
 /*
- * Makes one store of the pending operation. Tells the stores left and, with the last one, when *left is 0, the version
- * that a write or delete took; otherwise, and for a cleaning, *version is 0.
+ * Makes one store of the pending operation. The record is kept in place: the call updates its words, which are the
+ * next call's record. Tells the stores left and, with the last one, when *left is 0, the version that a write or
+ * delete took; otherwise, and for a cleaning, *version is 0.
  * Refused: 4, 3, 6, in this order.
  */
 uint32_t kurdavel_step(uint32_t *record, size_t record_words, uint8_t *area, size_t area_bytes, uint32_t *index,

@@ -1,6 +1,8 @@
-// The step for a firmware that keeps its record in place. This is the one function that takes a reference to a record: the
-// borrow checker does not cover it, so its proof is a walk by hand, and all the work is the by-value step's.
+// The step for a firmware that keeps its record in place. `step_kept` is the one function that takes a reference to a record,
+// and `step_held` the one that lends a record: the borrow checker covers neither, so each proof is a walk by hand, and all the
+// work is the by-value step's.
 use record::StepAnswer;
+use record::Stepped;
 use record::Store;
 use stepping::step;
 ghost use Rattle.segment.specs.Layout.{edition1};
@@ -18,4 +20,19 @@ pub fn step_kept(store: &mut Store, area: &mut [u8], index: &mut [u32], work: &[
     let stepped = step(before, area, index, work);
     *store = stepped.store;
     stepped.answer
+}
+
+// The same with plain parameters, for callers that want no walk: `step_kept` changes the record in place, in a local.
+pub fn step_held(store: Store, area: &mut [u8], index: &mut [u32], work: &[u8]) -> Stepped
+    ensures { λ r.
+        ⌜
+        StepPromise edition1 store (now (area .entry)) (now (area .exit)) (now (index .entry)) (now (index .exit)) (now (work .entry)) r
+        ⌝ }
+{
+    let mut kept = store;
+    let answer = step_kept(&mut kept, area, index, work);
+    Stepped {
+        answer,
+        store: kept,
+    }
 }

@@ -75,14 +75,14 @@ pub record ReadCrossed (words area cells : List ℕ) (k : Key) (version kind ver
   pub version-told : version′ ≡ versionAfter (reading .answer) version
   pub kind-told : kind′ ≡ kindAfter (reading .answer) kind
 
--- The value is a part of the area, also on stores that are not genuine; where the read is refused it is the empty part at
--- the start.
+-- The value is a part of the area, also on stores that are not genuine; where the read is refused both numbers are 0.
 pub record ValueCrossed (words area cells : List ℕ) (k : Key) (place bytes number : ℕ) : Type 0 where
   pub reading : Reading
   pub promised : ReadPromise edition1 (decoded words .store) area cells k reading
   pub numbered : number ≡ readSaid (reading .answer) .refused
   pub value : ValuePromise edition1 (decoded words .store) area cells k (take bytes (drop place area))
   pub inside : place + bytes ≤ length area
+  pub nowhere : (number ≡ 0 → ⊥) → (place ≡ 0) × (bytes ≡ 0)
 
 -- ---- write, delete and clean
 

@@ -107,8 +107,9 @@ found-small r area cells k e = go (fitsLent edition1 r (length area) (length cel
 
 pub value-crossed : {words area cells : List ℕ} {k : Key} {place bytes number : ℕ} {d : Decoded} {x b : Lookup} → d ≡ decoded words
     → x ≡ lookedUp edition1 (d .store) area cells k → x ≡ b → number ≡ readSaid (toldBy b) .refused
-    → take bytes (drop place area) ≡ valueBy edition1 area b → place + bytes ≤ length area → ValueCrossed words area cells k place bytes number
-value-crossed {words} {area} {cells} {k} {place} {bytes} {b = b} f l e m v i =
+    → take bytes (drop place area) ≡ valueBy edition1 area b → place + bytes ≤ length area
+    → ((number ≡ 0 → ⊥) → (place ≡ 0) × (bytes ≡ 0)) → ValueCrossed words area cells k place bytes number
+value-crossed {words} {area} {cells} {k} {place} {bytes} {b = b} f l e m v i w =
     let found : b ≡ lookedUp edition1 (decoded words .store) area cells k =
     sym e ∙ l ∙ ap (λ (a : Decoded). lookedUp edition1 (a .store) area cells k) f in
     record {
@@ -117,6 +118,7 @@ value-crossed {words} {area} {cells} {k} {place} {bytes} {b = b} f l e m v i =
       numbered = m;
       value = value-promise edition1 (decoded words .store) area cells k b (take bytes (drop place area)) found v;
       inside = i;
+      nowhere = w;
     }
 
 -- ---- write, delete and clean

@@ -1,3 +1,4 @@
 -- What crosses to a firmware: the promises of the calls, with the record as words and the answer as a number.
 pub mod Crossing
 pub mod CrossingLaws
+pub mod NoRecord

@@ -2,6 +2,7 @@
 // Each function decodes the record from the words that are lent, makes the call, and encodes what it hands back. Nothing is
 // required of the caller's values: words that are no record are refused with 4. The answer is 0 or the refusal's number.
 use cleaning::clean::clean;
+use firmware::step_held;
 use record::FormatAnswer;
 use record::ReadAnswer;
 use record::RecoverAnswer;
@@ -17,7 +18,6 @@ use recovery::read::read;
 use recovery::recover::recover;
 use segment::Key;
 use segment::layout::HEAD_SIZE;
-use stepping::step;
 use words::WORDS;
 use words::decode;
 use words::encode;
@@ -256,7 +256,7 @@ pub extern "C" fn kurdavel_step(
 {
     let decoded = decode(words);
     let store = decoded.store;
-    let stepped = step(store, area, index, work);
+    let stepped = step_held(store, area, index, work);
     let after = stepped.store;
     let answer = stepped.answer;
     keep(words, decoded.ok, after);

@@ -3,7 +3,6 @@
 //! of the index may lie otherwise, and are held to the index rule.
 
 pub mod guarded;
-pub mod images;
 pub mod pair;
 pub mod translate;
 

@@ -190,7 +190,8 @@ pub fn clean(
     }
 }
 
-/// Makes one store of the pending operation; tells the stores left, and the version after the last.
+/// Makes one store of the pending operation; tells the stores left, and the version after the last. The record is kept
+/// in place: the call updates its words.
 #[inline]
 pub fn step(
     record: &mut [u32],

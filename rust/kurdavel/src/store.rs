@@ -200,6 +200,21 @@ impl Record {
     }
 
     /// Makes one store of the pending operation.
+    ///
+    /// The record is kept in place: the call updates it, and a refused call leaves it as it was.
+    ///
+    /// ```
+    /// # let mut area = [0; 1024];
+    /// # kurdavel::format(4, 256, &mut area)?;
+    /// # let (mut index, mut work) = ([0; 16], [0; 256]);
+    /// # let mut record = kurdavel::recover(4, 256, &[0, 1, 2, 3], &area, &mut index)?;
+    /// use kurdavel::Key;
+    /// record.write(&area, &index, &mut work, Key { table: 1, key: 2 }, &[7; 8])?;
+    /// assert_eq!(record.left(), 20);
+    /// record.step(&mut area, &mut index, &work)?;
+    /// assert_eq!(record.left(), 19);
+    /// # Ok::<(), kurdavel::Refusal>(())
+    /// ```
     #[inline]
     pub fn step(
         &mut self,

@@ -3,7 +3,8 @@
 //! Every call is a function on slices and a [`Record`] that is copied in and handed
 //! back. None of the calls allocates, and none panics: what it cannot accept it
 //! refuses with a [`Refusal`], whose number is that of 01's table. The book, the
-//! checker of the index rule and the dump are aids for comparison and do allocate.
+//! checker of the index rule, the dump and the generators of tests are aids for
+//! comparison and do allocate.
 //!
 //! The modules follow the sections of 01.
 
@@ -28,6 +29,7 @@ pub mod rules;
 pub mod segment;
 pub mod slot_map;
 pub mod step;
+pub mod testing;
 mod versions;
 
 pub use cleaning::clean;

@@ -54,15 +54,15 @@ returns : tie.Need-returns
 unfolding edition1 toldBy valueBy
 returns c =
     let h = inside c in
-    value-crossed (c .before .before .before .before .before .decode .ensures) (c .before .before .before .find .ensures) (c .before .entry .given .1) refl refl (omega arith)
+    value-crossed (c .before .before .before .before .before .decode .ensures) (c .before .before .before .find .ensures) (c .before .entry .given .1) refl refl (omega arith) (λ refused. absurd (refused refl))
 
 returns-2 : tie.Need-returns-2
 unfolding toldBy valueBy
-returns-2 c = value-crossed (c .before .before .before .before .decode .ensures) (c .before .before .find .ensures) (c .enum-told .given .1) refl refl (omega arith)
+returns-2 c = value-crossed (c .before .before .before .before .decode .ensures) (c .before .before .find .ensures) (c .enum-told .given .1) refl refl (omega arith) (λ _. (refl, refl))
 
 returns-3 : tie.Need-returns-3
 unfolding toldBy valueBy
-returns-3 c = value-crossed (c .before .before .before .before .decode .ensures) (c .before .before .find .ensures) (c .enum-told2 .given .1) refl refl (omega arith)
+returns-3 c = value-crossed (c .before .before .before .before .decode .ensures) (c .before .before .find .ensures) (c .enum-told2 .given .1) refl refl (omega arith) (λ _. (refl, refl))
 
 pub kurdavel-read-value-spec : {M : Type 1} → statement M
 kurdavel-read-value-spec =

@@ -9,8 +9,8 @@ use Rattle.kurdavel.proofs.kurdavel_step.Tie as tie
 decode-requires : tie.Need-decode-requires
 decode-requires c κs = search needs
 
-step-requires : tie.Need-step-requires
-step-requires c κs = search needs
+step-held-requires : tie.Need-step-held-requires
+step-held-requires c κs = search needs
 
 keep-requires : tie.Need-keep-requires
 keep-requires c κs = ok-long _ (c .before .before .before .before .before .before .before .before .before .before .decode .ensures)
@@ -39,7 +39,7 @@ same-length-3 c = search needs
 returns : tie.Need-returns
 unfolding leftAfter toldAfter
 returns c =
-    step-crossed (c .before .before .before .before .before .before .before .before .before .before .before .before .before .before .before .before .before .decode .ensures) (c .before .before .before .before .before .before .before .before .before .before .before .before .before .step .ensures) (c .before .before .before .before .before .before .keep .ensures) (c .before .before .answer .given .1) (c .number .ensures) refl refl
+    step-crossed (c .before .before .before .before .before .before .before .before .before .before .before .before .before .before .before .before .before .decode .ensures) (c .before .before .before .before .before .before .before .before .before .before .before .before .before .step-held .ensures) (c .before .before .before .before .before .before .keep .ensures) (c .before .before .answer .given .1) (c .number .ensures) refl refl
 
 same-length-4 : tie.Need-same-length-4
 same-length-4 c = search needs
@@ -53,7 +53,7 @@ same-length-6 c = search needs
 returns-2 : tie.Need-returns-2
 unfolding leftAfter toldAfter
 returns-2 c =
-    step-crossed (c .before .before .before .before .before .before .before .before .before .before .before .before .before .before .before .before .decode .ensures) (c .before .before .before .before .before .before .before .before .before .before .before .before .step .ensures) (c .before .before .before .before .before .keep .ensures) (c .before .answer2 .given .1) refl refl refl
+    step-crossed (c .before .before .before .before .before .before .before .before .before .before .before .before .before .before .before .before .decode .ensures) (c .before .before .before .before .before .before .before .before .before .before .before .before .step-held .ensures) (c .before .before .before .before .before .keep .ensures) (c .before .answer2 .given .1) refl refl refl
 
 same-length-7 : tie.Need-same-length-7
 same-length-7 c = search needs
@@ -67,14 +67,14 @@ same-length-9 c = search needs
 returns-3 : tie.Need-returns-3
 unfolding leftAfter toldAfter
 returns-3 c =
-    step-crossed (c .before .before .before .before .before .before .before .before .before .before .before .before .before .before .before .before .decode .ensures) (c .before .before .before .before .before .before .before .before .before .before .before .before .step .ensures) (c .before .before .before .before .before .keep .ensures) (c .before .answer3 .given .1) refl refl refl
+    step-crossed (c .before .before .before .before .before .before .before .before .before .before .before .before .before .before .before .before .decode .ensures) (c .before .before .before .before .before .before .before .before .before .before .before .before .step-held .ensures) (c .before .before .before .before .before .keep .ensures) (c .before .answer3 .given .1) refl refl refl
 
 pub kurdavel-step-spec : {M : Type 1} → statement M
 kurdavel-step-spec =
     tie.close
     (tie.spec
     decode-requires
-    step-requires
+    step-held-requires
     keep-requires
     enum-known-answer
     number-requires

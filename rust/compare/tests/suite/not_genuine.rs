@@ -3,84 +3,11 @@
 //! answer 4; where a step is refused with 3 or 6, both do.
 
 use compare::guarded::Guarded;
-use compare::images::Shape;
 use compare::translate;
 use reference::rng::Rng;
-use reference::{DigestNumber, Key, Pending, Record, SlotMap, Version};
-
-fn number(rng: &mut Rng, likely: u32) -> u32 {
-    match rng.below(6) {
-        0 => rng.bits() as u32,
-        1 => u32::MAX - rng.below(3),
-        2 => rng.below(3),
-        _ => rng.below(likely.max(1)),
-    }
-}
-
-/// A pending operation, often one that a start could have given somewhere.
-fn pending(rng: &mut Rng, slots: u32) -> Pending {
-    let slot = number(rng, slots);
-    let length = match rng.below(3) {
-        0 => number(rng, 2048),
-        1 => *rng.pick(&[11, 19, 35, 67]),
-        _ => 13 + *rng.pick(&[0, 11, 19, 35, 67]),
-    };
-    let left = match rng.below(4) {
-        0 => 1,
-        1 => number(rng, 2049),
-        2 => length.saturating_add(rng.below(3)),
-        _ => 1 + rng.below(length.clamp(1, 2048)),
-    };
-    match rng.below(4) {
-        0 => Pending::None,
-        1 => Pending::Append { length, left },
-        2 => Pending::NewHead { slot, length, left },
-        _ => Pending::Clean {
-            slot,
-            length,
-            victims: SlotMap(rng.bits() as u32),
-            left,
-        },
-    }
-}
-
-/// A record like the given one, some fields of which are anything.
-fn forged(rng: &mut Rng, genuine: Record) -> Record {
-    let mut record = genuine;
-    for _ in 0..rng.below(4) {
-        match rng.below(9) {
-            0 => record.head = number(rng, record.slots),
-            1 => record.end = number(rng, record.slot_bytes),
-            2 => record.digest = DigestNumber(number(rng, u32::MAX)),
-            3 => record.map = SlotMap(rng.bits() as u32 | 1 << (record.head % 32)),
-            4 => record.next = Version(number(rng, u32::MAX)),
-            5 => record.keys = number(rng, record.cells),
-            6 => record.slots = number(rng, 33),
-            7 => record.slot_bytes = number(rng, 2049),
-            _ => record.cells = number(rng, 4097),
-        }
-    }
-    record.pending = pending(rng, genuine.slots);
-    record
-}
-
-fn forge_index(rng: &mut Rng, index: &mut [u32], area_bytes: u32) {
-    match rng.below(4) {
-        0 => {}
-        1 => index.fill(number(rng, area_bytes)),
-        2 => {
-            for cell in index.iter_mut() {
-                *cell = number(rng, area_bytes);
-            }
-        }
-        _ => {
-            for _ in 0..8 {
-                let cell = rng.below(index.len() as u32) as usize;
-                index[cell] = number(rng, area_bytes);
-            }
-        }
-    }
-}
+use reference::testing::forged;
+use reference::testing::images::Shape;
+use reference::{Key, Pending, Record};
 
 /// What is lent to the calls of one round.
 struct Lent {
@@ -190,7 +117,7 @@ fn forged_stores() {
         let Ok(genuine) = recovered else { continue };
         for _ in 0..16 {
             let mut index = index.clone();
-            forge_index(&mut rng, &mut index, image.area.len() as u32);
+            forged::spoil_index(&mut rng, &mut index, image.area.len() as u32);
             let mut area = image.area.clone();
             if rng.one_in(3) {
                 rng.fill(&mut area);
@@ -198,7 +125,7 @@ fn forged_stores() {
             let mut work = vec![0; image.slot_bytes as usize + 1 - rng.below(3) as usize];
             rng.fill(&mut work);
             let mut lent = Lent {
-                record: forged(&mut rng, genuine),
+                record: forged::record(&mut rng, genuine),
                 area: Guarded::new(&area, 1),
                 index: Guarded::new(&index, 3),
                 work: Guarded::new(&work, 1),

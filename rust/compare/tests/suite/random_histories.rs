@@ -4,7 +4,8 @@ use compare::pair::Pair;
 use compare::Fault;
 use reference::book::Operation;
 use reference::rng::Rng;
-use reference::{Key, SlotMap};
+use reference::testing::calls;
+use reference::Key;
 
 /// How many operations, cuts and refusals of each cause a run met.
 #[derive(Default)]
@@ -56,7 +57,9 @@ impl Player {
         pair.format(slots, slot_bytes)?
             .expect("the geometry is right");
         age(&mut rng, &mut pair);
-        let keys = (0..rng.within(2, 24)).map(|_| any_key(&mut rng)).collect();
+        let keys = (0..rng.within(2, 24))
+            .map(|_| calls::any_key(&mut rng))
+            .collect();
         pair.must_recover(&rng.order(slots))?;
         let clean_rarity = *rng.pick(&[4, 8, 30]);
         Ok(Player {
@@ -124,50 +127,16 @@ impl Player {
     }
 
     fn start(&mut self) -> Result<(), Fault> {
-        let operation = self.operation();
-        let lent = match self.rng.below(30) {
-            0 => self.rng.below(self.pair.slot_bytes()) as usize,
-            1 => self.pair.slot_bytes() as usize,
-            _ => self.pair.work_bytes(),
-        };
+        let (rng, record) = (&mut self.rng, self.pair.record());
+        let operation = calls::operation(rng, &self.keys, record, self.clean_rarity);
+        let lent = calls::lent(rng, self.pair.slot_bytes(), self.pair.work_bytes());
         let answer = self.pair.start(&operation, lent)?;
         self.tally.count(answer);
         Ok(())
     }
 
-    fn operation(&mut self) -> Operation {
-        let rng = &mut self.rng;
-        let key = *rng.pick(&self.keys);
-        if rng.one_in(self.clean_rarity) {
-            let map = self.pair.record().map.0;
-            return Operation::Clean(SlotMap(match rng.below(8) {
-                0 => map,
-                1 => rng.bits() as u32,
-                2 => 0,
-                3 => map & rng.bits() as u32,
-                4 => 1 << self.pair.record().head,
-                _ => 1 << rng.below(self.pair.slots()),
-            }));
-        }
-        if rng.one_in(3) {
-            return Operation::Delete(key);
-        }
-        let bytes = match rng.below(20) {
-            0 => rng.below(70) as usize,
-            _ => *rng.pick(&[8, 24, 56]),
-        };
-        let mut value = vec![0; bytes];
-        rng.fill(&mut value);
-        Operation::Write(key, value)
-    }
-
     fn few_steps(&mut self) -> Result<(), Fault> {
-        let left = self.pair.record().pending.left();
-        let steps = match self.rng.below(3) {
-            0 => 1,
-            1 => left.max(2) - 1,
-            _ => self.rng.below(left + 2),
-        };
+        let steps = calls::steps(&mut self.rng, self.pair.record().pending.left());
         for _ in 0..steps {
             if let Err(refusal) = self.pair.step()? {
                 self.tally.refused[refusal as usize] += 1;
@@ -213,19 +182,6 @@ fn age(rng: &mut Rng, pair: &mut Pair) {
     if rng.one_in(6) {
         let number = u32::MAX - rng.below(4);
         pair.age(1, &number.to_le_bytes());
-    }
-}
-
-fn any_key(rng: &mut Rng) -> Key {
-    match rng.below(3) {
-        0 => Key {
-            table: *rng.pick(&[0, 1, u16::MAX]),
-            key: *rng.pick(&[0, 1, u32::MAX]),
-        },
-        _ => Key {
-            table: rng.bits() as u16,
-            key: rng.bits() as u32,
-        },
     }
 }
 

@@ -6,7 +6,8 @@ use compare::translate;
 use kurdavel::{slices, Record, Refusal, WORDS};
 use reference::book::Operation;
 use reference::rng::Rng;
-use reference::{DigestNumber, Key, Pending, SlotMap, Version};
+use reference::testing::forged;
+use reference::Key;
 
 const KEY: Key = Key { table: 7, key: 9 };
 
@@ -25,46 +26,6 @@ fn store(rng: &mut Rng, pending: bool) -> Pair {
             .unwrap();
     }
     pair
-}
-
-/// A record that differs from a genuine one in one number, which is out of range.
-fn out_of_range(rng: &mut Rng, genuine: reference::Record) -> reference::Record {
-    let mut record = genuine;
-    let over = genuine.slot_bytes + 2;
-    match rng.below(13) {
-        0 => record.slots = *rng.pick(&[0, 3, 33, u32::MAX]),
-        1 => record.slot_bytes = *rng.pick(&[0, 255, 2049, u32::MAX]),
-        2 => record.cells = *rng.pick(&[0, 15, 4097, u32::MAX]),
-        3 => record.map = SlotMap(genuine.map.0 & !(1 << genuine.head)),
-        4 => record.map = SlotMap(u32::MAX >> (32 - genuine.slots)),
-        5 => record.head = *rng.pick(&[genuine.slots, 32, 64, u32::MAX]),
-        6 => record.end = *rng.pick(&[0, 12, genuine.slot_bytes + 1, u32::MAX]),
-        7 => record.digest = DigestNumber(0),
-        8 => record.next = Version(0),
-        9 => record.keys = *rng.pick(&[genuine.cells, u32::MAX]),
-        10 => {
-            record.pending = Pending::Append {
-                length: 19,
-                left: 0,
-            }
-        }
-        11 => {
-            record.pending = Pending::NewHead {
-                slot: 1,
-                length: 32,
-                left: over,
-            }
-        }
-        _ => {
-            record.pending = Pending::Clean {
-                slot: 1,
-                length: 13,
-                victims: SlotMap(1),
-                left: *rng.pick(&[0, over, u32::MAX]),
-            }
-        }
-    }
-    record
 }
 
 /// Every call that takes a record, on words that must be refused with 4.
@@ -145,7 +106,7 @@ fn records_that_are_none() {
         let mut words = genuine.to_vec();
         match round % 5 {
             0 => {
-                let record = out_of_range(&mut rng, pair.record());
+                let record = forged::out_of_range(&mut rng, pair.record());
                 words = translate::record(record).words().to_vec();
             }
             1 => area.truncate(area.len() - 1),

@@ -2,27 +2,7 @@
 
 use compare::pair::Pair;
 use compare::Fault;
-use reference::book::Operation;
-use reference::Key;
-
-const KEYS: [Key; 2] = [
-    Key { table: 0, key: 0 },
-    Key {
-        table: u16::MAX,
-        key: u32::MAX,
-    },
-];
-
-/// Orders that put each slot of four first and last once.
-const ORDERS: [[u8; 4]; 4] = [[0, 1, 2, 3], [3, 2, 1, 0], [1, 3, 0, 2], [2, 0, 3, 1]];
-
-/// An operation whose details depend on the store that it meets.
-#[derive(Clone, Copy, PartialEq, Eq, Debug)]
-enum Choice {
-    Write(Key, usize),
-    Delete(Key),
-    CleanAll,
-}
+use reference::testing::choices::{Choice, A, B, ORDERS};
 
 struct Explorer {
     choices: Vec<Choice>,
@@ -31,18 +11,6 @@ struct Explorer {
 }
 
 impl Explorer {
-    fn operation(&self, pair: &Pair, choice: Choice) -> Operation {
-        match choice {
-            Choice::Write(key, bytes) => {
-                let tag = pair.record().next.0 as u8;
-                let value = (0..bytes as u8).map(|i| i.wrapping_add(tag)).collect();
-                Operation::Write(key, value)
-            }
-            Choice::Delete(key) => Operation::Delete(key),
-            Choice::CleanAll => Operation::Clean(pair.record().map),
-        }
-    }
-
     /// All histories of up to `depth` further operations, with at most one cut.
     fn explore(&mut self, pair: &Pair, depth: u32, was_cut: bool) -> Result<(), Fault> {
         if depth == 0 {
@@ -51,7 +19,8 @@ impl Explorer {
         for choice in self.choices.clone() {
             let mut next = pair.clone();
             self.histories += 1;
-            let operation = self.operation(&next, choice);
+            let record = next.record();
+            let operation = choice.operation(record, record.next.0 as u8);
             let answer = next.begin(&operation)?;
             if was_cut {
                 next.finish()?;
@@ -88,7 +57,7 @@ impl Explorer {
 }
 
 fn check_reads(pair: &Pair) -> Result<(), Fault> {
-    for key in KEYS {
+    for key in [A, B] {
         let _ = pair.read(key)?;
     }
     Ok(())
@@ -99,10 +68,10 @@ fn explore_all(slot_bytes: u32, fill: u8, bytes: [usize; 2]) {
     let pair = Pair::fresh(4, slot_bytes, 16, &area).unwrap_or_else(|fault| panic!("{fault}"));
     let mut explorer = Explorer {
         choices: vec![
-            Choice::Write(KEYS[0], bytes[0]),
-            Choice::Write(KEYS[1], bytes[1]),
-            Choice::Delete(KEYS[0]),
-            Choice::Delete(KEYS[1]),
+            Choice::Write(A, bytes[0]),
+            Choice::Write(B, bytes[1]),
+            Choice::Delete(A),
+            Choice::Delete(B),
             Choice::CleanAll,
         ],
         histories: 0,

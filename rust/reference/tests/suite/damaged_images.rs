@@ -3,9 +3,9 @@
 
 use reference::index::rule_holds;
 use reference::rng::Rng;
+use reference::testing::images::{Image, Shape, Versions};
 use reference::{dump, read, read_value, recover, Record, Refusal};
 
-use crate::images::{Image, Shape, Versions};
 use crate::naive::{view, View};
 
 /// Recovers an image and holds the answer to the naive one. Gives the refusal's number.

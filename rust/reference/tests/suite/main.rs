@@ -4,7 +4,6 @@ mod cases;
 mod damaged_images;
 mod dump;
 mod fnv;
-mod images;
 mod index_rule;
 mod naive;
 mod not_genuine;

@@ -2,79 +2,11 @@
 //! runs on, a start stores nothing, and a step alters at most one byte of the area.
 
 use reference::rng::Rng;
+use reference::testing::forged;
+use reference::testing::images::Shape;
 use reference::{
-    clean, delete, next_store, read, read_value, recover, step, write, DigestNumber, Key, Pending,
-    Record, SlotMap, Version,
+    clean, delete, next_store, read, read_value, recover, step, write, Key, Record, SlotMap,
 };
-
-use crate::images::Shape;
-
-fn number(rng: &mut Rng, likely: u32) -> u32 {
-    match rng.below(6) {
-        0 => rng.bits() as u32,
-        1 => u32::MAX - rng.below(3),
-        2 => rng.below(3),
-        _ => rng.below(likely.max(1)),
-    }
-}
-
-fn pending(rng: &mut Rng) -> Pending {
-    let (slot, length) = (number(rng, 32), number(rng, 2048));
-    let left = match rng.below(3) {
-        0 => 1,
-        1 => length.saturating_add(rng.below(3)),
-        _ => number(rng, 2049),
-    };
-    match rng.below(4) {
-        0 => Pending::None,
-        1 => Pending::Append { length, left },
-        2 => Pending::NewHead { slot, length, left },
-        _ => Pending::Clean {
-            slot,
-            length,
-            victims: SlotMap(rng.bits() as u32),
-            left,
-        },
-    }
-}
-
-/// A record like the given one, some fields of which are anything.
-fn forged(rng: &mut Rng, genuine: Record) -> Record {
-    let mut record = genuine;
-    for _ in 0..rng.below(4) {
-        match rng.below(9) {
-            0 => record.head = number(rng, record.slots),
-            1 => record.end = number(rng, record.slot_bytes),
-            2 => record.digest = DigestNumber(number(rng, u32::MAX)),
-            3 => record.map = SlotMap(rng.bits() as u32 | 1 << (record.head % 32)),
-            4 => record.next = Version(number(rng, u32::MAX)),
-            5 => record.keys = number(rng, record.cells),
-            6 => record.slots = number(rng, 33),
-            7 => record.slot_bytes = number(rng, 2049),
-            _ => record.cells = number(rng, 4097),
-        }
-    }
-    record.pending = pending(rng);
-    record
-}
-
-fn forge_index(rng: &mut Rng, index: &mut [u32], area_bytes: u32) {
-    match rng.below(4) {
-        0 => {}
-        1 => index.fill(number(rng, area_bytes)),
-        2 => {
-            for cell in index.iter_mut() {
-                *cell = number(rng, area_bytes);
-            }
-        }
-        _ => {
-            for _ in 0..8 {
-                let cell = rng.below(index.len() as u32) as usize;
-                index[cell] = number(rng, area_bytes);
-            }
-        }
-    }
-}
 
 /// Every call once on what was forged.
 fn call_all(rng: &mut Rng, record: Record, area: &mut [u8], index: &mut [u32], work: &mut [u8]) {
@@ -125,8 +57,8 @@ fn no_call_panics_or_alters_more_than_a_byte() {
         };
         for _ in 0..10 {
             rounds += 1;
-            let record = forged(&mut rng, genuine);
-            forge_index(&mut rng, &mut index, slots * slot_bytes);
+            let record = forged::record(&mut rng, genuine);
+            forged::spoil_index(&mut rng, &mut index, slots * slot_bytes);
             if rng.one_in(3) {
                 image.damage(&mut rng);
             }

@@ -2,9 +2,10 @@
 //! the right rules pass the same search.
 
 use reference::rules::{AsWritten, Rules};
+use reference::testing::choices::{Choice, A, B, ORDERS};
 
 use crate::rig::{Fault, Rig};
-use crate::short_histories::{cut_everywhere, Choice, A, B, ORDERS};
+use crate::short_histories::cut_everywhere;
 
 const CHOICES: [Choice; 6] = [
     Choice::Write(A, 56),

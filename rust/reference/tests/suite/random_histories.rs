@@ -1,13 +1,10 @@
 //! Random histories with cuts, refused calls and recoveries at any time, over many
 //! geometries. Every call is held to the book and to the naive reading of 01.
 
-use reference::book::Operation;
 use reference::rng::Rng;
 use reference::rules::AsWritten;
-use reference::{
-    clean, delete, format, read, step, write, DigestNumber, Key, Pending, Record, Refusal, SlotMap,
-    Version,
-};
+use reference::testing::{calls, forged};
+use reference::{clean, delete, format, read, step, write, Pending, Refusal, Version};
 
 use crate::rig::{same, Fault, Rig};
 
@@ -59,7 +56,9 @@ impl Player {
         format(slots, slot_bytes, &mut area).unwrap();
         let mut rig = Rig::unrecovered(slots, slot_bytes, cells as usize, area);
         age(&mut rng, &mut rig);
-        rig.keys = (0..rng.within(2, 24)).map(|_| any_key(&mut rng)).collect();
+        rig.keys = (0..rng.within(2, 24))
+            .map(|_| calls::any_key(&mut rng))
+            .collect();
         rig.strict = true;
         rig.must_recover(&rng.order(slots)).unwrap();
         let clean_rarity = *rng.pick(&[4, 8, 30]);
@@ -109,51 +108,16 @@ impl Player {
     }
 
     fn start(&mut self) -> Result<(), Fault> {
-        let operation = self.operation();
-        let enough = self.rig.work.len();
-        let lent = match self.rng.below(30) {
-            0 => self.rng.below(self.rig.slot_bytes) as usize,
-            1 => self.rig.slot_bytes as usize,
-            _ => enough,
-        };
+        let (rng, record) = (&mut self.rng, self.rig.record());
+        let operation = calls::operation(rng, &self.rig.keys, record, self.clean_rarity);
+        let lent = calls::lent(rng, self.rig.slot_bytes, self.rig.work.len());
         let answer = self.rig.start_with(&operation, lent)?;
         self.tally.count(answer);
         Ok(())
     }
 
-    fn operation(&mut self) -> Operation {
-        let rng = &mut self.rng;
-        let key = *rng.pick(&self.rig.keys);
-        if rng.one_in(self.clean_rarity) {
-            let map = self.rig.record().map.0;
-            return Operation::Clean(SlotMap(match rng.below(8) {
-                0 => map,
-                1 => rng.bits() as u32,
-                2 => 0,
-                3 => map & rng.bits() as u32,
-                4 => 1 << self.rig.record().head,
-                _ => 1 << rng.below(self.rig.slots),
-            }));
-        }
-        if rng.one_in(3) {
-            return Operation::Delete(key);
-        }
-        let bytes = match rng.below(20) {
-            0 => rng.below(70) as usize,
-            _ => *rng.pick(&[8, 24, 56]),
-        };
-        let mut value = vec![0; bytes];
-        rng.fill(&mut value);
-        Operation::Write(key, value)
-    }
-
     fn few_steps(&mut self) -> Result<(), Fault> {
-        let left = self.rig.record().pending.left();
-        let steps = match self.rng.below(3) {
-            0 => 1,
-            1 => left.max(2) - 1,
-            _ => self.rng.below(left + 2),
-        };
+        let steps = calls::steps(&mut self.rng, self.rig.record().pending.left());
         for _ in 0..steps {
             let answer = self.rig.step()?;
             if let Err(refusal) = answer {
@@ -194,7 +158,7 @@ impl Player {
     /// leave everything.
     fn misuse(&mut self) -> Result<(), Fault> {
         let genuine = self.rig.record();
-        let record = out_of_range(&mut self.rng, genuine);
+        let record = forged::out_of_range(&mut self.rng, genuine);
         let lent = self.rng.below(3);
         let record = if lent == 0 { record } else { genuine };
         let key = self.rig.keys[0];
@@ -237,58 +201,6 @@ fn age(rng: &mut Rng, rig: &mut Rig<AsWritten>) {
         let number = u32::MAX - rng.below(4);
         rig.area[1..5].copy_from_slice(&number.to_le_bytes());
     }
-}
-
-fn any_key(rng: &mut Rng) -> Key {
-    match rng.below(3) {
-        0 => Key {
-            table: *rng.pick(&[0, 1, u16::MAX]),
-            key: *rng.pick(&[0, 1, u32::MAX]),
-        },
-        _ => Key {
-            table: rng.bits() as u16,
-            key: rng.bits() as u32,
-        },
-    }
-}
-
-fn out_of_range(rng: &mut Rng, genuine: Record) -> Record {
-    let mut record = genuine;
-    let over = genuine.slot_bytes + 2;
-    match rng.below(13) {
-        0 => record.slots = *rng.pick(&[0, 3, 33, u32::MAX]),
-        1 => record.slot_bytes = *rng.pick(&[0, 255, 2049, u32::MAX]),
-        2 => record.cells = *rng.pick(&[0, 15, 4097, u32::MAX]),
-        3 => record.map = SlotMap(genuine.map.0 & !(1 << genuine.head)),
-        4 => record.map = SlotMap(u32::MAX >> (32 - genuine.slots)),
-        5 => record.head = *rng.pick(&[genuine.slots, 32, 64, u32::MAX]),
-        6 => record.end = *rng.pick(&[0, 12, genuine.slot_bytes + 1, u32::MAX]),
-        7 => record.digest = DigestNumber(0),
-        8 => record.next = Version(0),
-        9 => record.keys = *rng.pick(&[genuine.cells, u32::MAX]),
-        10 => {
-            record.pending = Pending::Append {
-                length: 19,
-                left: 0,
-            }
-        }
-        11 => {
-            record.pending = Pending::NewHead {
-                slot: 1,
-                length: 32,
-                left: over,
-            }
-        }
-        _ => {
-            record.pending = Pending::Clean {
-                slot: 1,
-                length: 13,
-                victims: SlotMap(1),
-                left: *rng.pick(&[0, over, u32::MAX]),
-            }
-        }
-    }
-    record
 }
 
 fn play_all(seeds: std::ops::Range<u64>, actions: u32) {

@@ -2,40 +2,14 @@
 
 use reference::book::Operation;
 use reference::rules::{AsWritten, Rules};
-use reference::{Key, SlotMap};
+use reference::testing::choices::{Choice, A, B, ORDERS};
 
 use crate::rig::{Fault, Rig};
 
-pub const A: Key = Key { table: 0, key: 0 };
-pub const B: Key = Key {
-    table: u16::MAX,
-    key: u32::MAX,
-};
-
-/// An operation whose details depend on the store that it meets.
-#[derive(Clone, Copy, PartialEq, Eq, Debug)]
-pub enum Choice {
-    Write(Key, usize),
-    Delete(Key),
-    CleanAll,
-    CleanHead,
-}
-
 /// The choice as an operation on this store. Each written value is unlike the others.
 pub fn operation<R: Rules>(rig: &Rig<R>, choice: Choice) -> Operation {
-    match choice {
-        Choice::Write(key, bytes) => {
-            let tag = rig.events.len() as u8;
-            Operation::Write(key, (0..bytes as u8).map(|i| i.wrapping_add(tag)).collect())
-        }
-        Choice::Delete(key) => Operation::Delete(key),
-        Choice::CleanAll => Operation::Clean(rig.record().map),
-        Choice::CleanHead => Operation::Clean(SlotMap(1 << rig.record().head)),
-    }
+    choice.operation(rig.record(), rig.events.len() as u8)
 }
-
-/// Orders that put each slot of four first and last once.
-pub const ORDERS: [[u8; 4]; 4] = [[0, 1, 2, 3], [3, 2, 1, 0], [1, 3, 0, 2], [2, 0, 3, 1]];
 
 /// Runs one operation; before and after each store, cuts a copy and recovers it in the
 /// given orders. Hands each recovered copy on.

@@ -1,6 +1,7 @@
 //! Images made without the store: valid ones in many shapes, and ways to damage them.
 
-use reference::rng::Rng;
+use crate::rng::Rng;
+use crate::Key;
 
 /// How an image's versions are chosen.
 #[derive(Clone, Copy, PartialEq, Eq, Debug)]
@@ -13,20 +14,29 @@ pub enum Versions {
     Stride(u32),
 }
 
+/// An area with what is known of it.
 pub struct Image {
+    /// N.
     pub slots: u32,
+    /// S.
     pub slot_bytes: u32,
+    /// The bytes.
     pub area: Vec<u8>,
     /// Offsets in the area at which the entries start.
     pub entries: Vec<usize>,
+    /// Slot of the head.
     pub head: u32,
 }
 
 /// The shape of an image to be made.
 pub struct Shape {
+    /// N.
     pub slots: u32,
+    /// S.
     pub slot_bytes: u32,
+    /// How many keys the entries are of, at the most.
     pub keys: u32,
+    /// How the versions are chosen.
     pub versions: Versions,
     /// Kinds to choose from.
     pub kinds: Vec<u8>,
@@ -35,6 +45,7 @@ pub struct Shape {
 }
 
 impl Shape {
+    /// Any shape.
     pub fn random(rng: &mut Rng) -> Shape {
         Shape {
             slots: *rng.pick(&[4, 4, 5, 7, 16, 31, 32]),
@@ -58,6 +69,7 @@ impl Shape {
         }
     }
 
+    /// A valid image of this shape, with random bytes where none count.
     pub fn make(&self, rng: &mut Rng) -> Image {
         let mut area = vec![0; (self.slots * self.slot_bytes) as usize];
         rng.fill(&mut area);
@@ -148,6 +160,22 @@ impl Shape {
 }
 
 impl Image {
+    /// A key of an entry, or one that is likely absent.
+    pub fn some_key(&self, rng: &mut Rng) -> Key {
+        if self.entries.is_empty() || rng.one_in(6) {
+            return Key {
+                table: rng.below(4) as u16,
+                key: rng.below(3000),
+            };
+        }
+        let at = *rng.pick(&self.entries);
+        let bytes = &self.area[at..];
+        Key {
+            table: u16::from_le_bytes([bytes[1], bytes[2]]),
+            key: u32::from_le_bytes([bytes[3], bytes[4], bytes[5], bytes[6]]),
+        }
+    }
+
     /// Gives one entry the version of another, if there are two.
     pub fn share_a_version(&mut self, rng: &mut Rng) {
         if self.entries.len() < 2 {

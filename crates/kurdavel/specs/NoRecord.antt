@@ -1,0 +1,91 @@
+-- Words that are no record, as the exported calls' contracts have it: every call answers 4, and nothing that is lent changes,
+-- but that a value's place and length are told as 0. Format takes no record, and recovery takes words only to write them: there
+-- only too few of them are refused.
+use Prim.Native.Nat.{ℕ, _<_}
+use mathlib.Core.Path.{_≡_, ap, _∙_, subst⁻¹}
+use mathlib.Core.Bool.{Bool, true, false, not}
+use mathlib.Core.List.{List}
+use native.Mathlib.Omega.{arith}
+use lib.ListN.{length}
+use Rattle.segment.specs.Layout.{edition1}
+use Rattle.segment.specs.declared.Key.{Key}
+use Rattle.record.specs.Answers.{blank, readSaid, startSaid, stepSaid}
+use Rattle.record.specs.Range.{fitsLent}
+use Rattle.record.specs.RangeLaws.{blank-unfit}
+use Rattle.record.specs.declared.Refusal.the-variants.{BadRecord}
+use Rattle.record.specs.declared.ReadAnswer.{ReadAnswer}
+use Rattle.record.specs.declared.StartAnswer.{StartAnswer}
+use Rattle.record.specs.declared.Stepped.{Stepped}
+use Rattle.record.specs.declared.StepAnswer.{StepAnswer}
+use Rattle.record.specs.declared.Store.{Store}
+use Rattle.model.specs.Operations.{Operation}
+use Rattle.model.specs.Promises.{Begun, begun}
+use Rattle.laws.specs.CauseLaws.{cause-first}
+use Rattle.words.specs.Words.{recordWords, isRecord, decoded}
+use Rattle.words.specs.WordLaws.{decoded-none}
+use Rattle.words.specs.declared.Decoded.{Decoded}
+use Rattle.kurdavel.specs.Crossing.{RecoverCrossed, ReadCrossed, versionAfter, kindAfter, ValueCrossed, storesAfter, StartCrossed, keptWords, StepCrossed, leftAfter, toldAfter}
+
+-- such words say the blank record, which fails the tests of 4 whatever is lent
+not-ok : (words : List ℕ) → isRecord words ≡ false → decoded words .ok ≡ false
+not-ok words f = ap (λ (d : Decoded). d .ok) (decoded-none words f)
+
+unfit : (words : List ℕ) → isRecord words ≡ false → (a i : ℕ) → not (fitsLent edition1 (decoded words .store) a i) ≡ true
+unfit words f a i =
+    let says : decoded words .store ≡ blank = ap (λ (d : Decoded). d .store) (decoded-none words f) in
+    subst⁻¹ (λ (r : Store). not (fitsLent edition1 r a i) ≡ true) says (rw (blank-unfit edition1 a i))
+
+-- and stay as they are
+kept-none : (words words′ : List ℕ) (r : Store) → isRecord words ≡ false → words′ ≡ keptWords (decoded words .ok) words r → words′ ≡ words
+unfolding keptWords
+kept-none words words′ r f w = w ∙ ap (λ (ok : Bool). keptWords ok words r) (not-ok words f)
+
+pub recover-too-few : {n s : ℕ} {order area cells cells′ words words′ : List ℕ} {number : ℕ} → length words < recordWords
+    → RecoverCrossed n s order area cells cells′ words words′ number → (number ≡ 4) × (cells′ ≡ cells) × (words′ ≡ words)
+recover-too-few h x = let t = x .short h in (t .numbered, t .index-same, t .words-same)
+
+pub read-none : {words area cells : List ℕ} {k : Key} {version kind version′ kind′ number : ℕ} → isRecord words ≡ false
+    → ReadCrossed words area cells k version kind version′ kind′ number → (number ≡ 4) × (version′ ≡ version) × (kind′ ≡ kind)
+unfolding versionAfter kindAfter
+read-none {words = words} {version = version} {kind = kind} f x =
+    let e : x .reading .answer ≡ ReadAnswer.Refused BadRecord = x .promised .unfit (unfit words f _ _) in (
+      x .numbered ∙ ap (λ (a : ReadAnswer). readSaid a .refused) e,
+      x .version-told ∙ ap (λ (a : ReadAnswer). versionAfter a version) e,
+      x .kind-told ∙ ap (λ (a : ReadAnswer). kindAfter a kind) e,
+    )
+
+pub value-none : {words area cells : List ℕ} {k : Key} {place bytes number : ℕ} → isRecord words ≡ false
+    → ValueCrossed words area cells k place bytes number → (number ≡ 4) × (place ≡ 0) × (bytes ≡ 0)
+value-none {words = words} f x =
+    let e : x .reading .answer ≡ ReadAnswer.Refused BadRecord = x .promised .unfit (unfit words f _ _) in
+    let four = x .numbered ∙ ap (λ (a : ReadAnswer). readSaid a .refused) e in
+    let empty = x .nowhere (λ zero. omega arith) in
+    (four, empty .0, empty .1)
+
+pub start-none : {o : Operation} {words words′ area cells work work′ : List ℕ} {stores stores′ number : ℕ} → isRecord words ≡ false
+    → StartCrossed o words words′ area cells work work′ stores stores′ number
+    → (number ≡ 4) × (words′ ≡ words) × (work′ ≡ work) × (stores′ ≡ stores)
+unfolding begun storesAfter
+start-none {words = words} {words′ = words′} {stores = stores} f x =
+    let b = x .promised .unfit (unfit words f _ _) in
+    let e : x .start .answer ≡ StartAnswer.Refused BadRecord = ap (λ (y : Begun). y .start .answer) b in (
+      x .handed .numbered ∙ ap (λ (a : StartAnswer). startSaid a .refused) e,
+      kept-none words words′ (x .start .store) f (x .handed .says),
+      ap (λ (y : Begun). y .work) b,
+      x .handed .told ∙ ap (λ (a : StartAnswer). storesAfter a stores) e,
+    )
+
+pub step-none : {words words′ area area′ cells cells′ work : List ℕ} {left left′ version version′ number : ℕ} → isRecord words ≡ false
+    → StepCrossed words words′ area area′ cells cells′ work left left′ version version′ number
+    → (number ≡ 4) × (words′ ≡ words) × (area′ ≡ area) × (cells′ ≡ cells) × (left′ ≡ left) × (version′ ≡ version)
+unfolding leftAfter toldAfter
+step-none {words = words} {words′ = words′} {left = left} {version = version} f x =
+    let t = x .promised .refused BadRecord (cause-first _ _ (unfit words f _ _)) in
+    let e : x .stepped .answer ≡ StepAnswer.Refused BadRecord = ap (λ (y : Stepped). y .answer) (t .answers) in (
+      x .numbered ∙ ap (λ (a : StepAnswer). stepSaid a .refused) e,
+      kept-none words words′ (x .stepped .store) f (x .says),
+      t .area-same,
+      t .index-same,
+      x .left-told ∙ ap (λ (a : StepAnswer). leftAfter a left) e,
+      x .version-told ∙ ap (λ (a : StepAnswer). toldAfter a version) e,
+    )

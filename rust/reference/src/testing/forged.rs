@@ -1,0 +1,120 @@
+//! Records and indexes that no recovery gave.
+
+use crate::rng::Rng;
+use crate::{DigestNumber, Pending, Record, SlotMap, Version};
+
+fn number(rng: &mut Rng, likely: u32) -> u32 {
+    match rng.below(6) {
+        0 => rng.bits() as u32,
+        1 => u32::MAX - rng.below(3),
+        2 => rng.below(3),
+        _ => rng.below(likely.max(1)),
+    }
+}
+
+/// A pending operation, often one that a start could have given somewhere.
+fn pending(rng: &mut Rng, slots: u32) -> Pending {
+    let slot = number(rng, slots);
+    let length = match rng.below(3) {
+        0 => number(rng, 2048),
+        1 => *rng.pick(&[11, 19, 35, 67]),
+        _ => 13 + *rng.pick(&[0, 11, 19, 35, 67]),
+    };
+    let left = match rng.below(4) {
+        0 => 1,
+        1 => number(rng, 2049),
+        2 => length.saturating_add(rng.below(3)),
+        _ => 1 + rng.below(length.clamp(1, 2048)),
+    };
+    match rng.below(4) {
+        0 => Pending::None,
+        1 => Pending::Append { length, left },
+        2 => Pending::NewHead { slot, length, left },
+        _ => Pending::Clean {
+            slot,
+            length,
+            victims: SlotMap(rng.bits() as u32),
+            left,
+        },
+    }
+}
+
+/// A record like the given one, some fields of which are anything.
+pub fn record(rng: &mut Rng, genuine: Record) -> Record {
+    let mut record = genuine;
+    for _ in 0..rng.below(4) {
+        match rng.below(9) {
+            0 => record.head = number(rng, record.slots),
+            1 => record.end = number(rng, record.slot_bytes),
+            2 => record.digest = DigestNumber(number(rng, u32::MAX)),
+            3 => record.map = SlotMap(rng.bits() as u32 | 1 << (record.head % 32)),
+            4 => record.next = Version(number(rng, u32::MAX)),
+            5 => record.keys = number(rng, record.cells),
+            6 => record.slots = number(rng, 33),
+            7 => record.slot_bytes = number(rng, 2049),
+            _ => record.cells = number(rng, 4097),
+        }
+    }
+    record.pending = pending(rng, genuine.slots);
+    record
+}
+
+/// A record that differs from a genuine one in one number, which is out of range.
+pub fn out_of_range(rng: &mut Rng, genuine: Record) -> Record {
+    let mut record = genuine;
+    let over = genuine.slot_bytes + 2;
+    match rng.below(13) {
+        0 => record.slots = *rng.pick(&[0, 3, 33, u32::MAX]),
+        1 => record.slot_bytes = *rng.pick(&[0, 255, 2049, u32::MAX]),
+        2 => record.cells = *rng.pick(&[0, 15, 4097, u32::MAX]),
+        3 => record.map = SlotMap(genuine.map.0 & !(1 << genuine.head)),
+        4 => record.map = SlotMap(u32::MAX >> (32 - genuine.slots)),
+        5 => record.head = *rng.pick(&[genuine.slots, 32, 64, u32::MAX]),
+        6 => record.end = *rng.pick(&[0, 12, genuine.slot_bytes + 1, u32::MAX]),
+        7 => record.digest = DigestNumber(0),
+        8 => record.next = Version(0),
+        9 => record.keys = *rng.pick(&[genuine.cells, u32::MAX]),
+        kind => record.pending = spent_or_over(rng, kind, over),
+    }
+    record
+}
+
+/// A pending operation with no store left, or with more than there may be.
+fn spent_or_over(rng: &mut Rng, kind: u32, over: u32) -> Pending {
+    match kind {
+        10 => Pending::Append {
+            length: 19,
+            left: 0,
+        },
+        11 => Pending::NewHead {
+            slot: 1,
+            length: 32,
+            left: over,
+        },
+        _ => Pending::Clean {
+            slot: 1,
+            length: 13,
+            victims: SlotMap(1),
+            left: *rng.pick(&[0, over, u32::MAX]),
+        },
+    }
+}
+
+/// Puts numbers into cells of an index: into none, one into all, or another into each or some.
+pub fn spoil_index(rng: &mut Rng, index: &mut [u32], area_bytes: u32) {
+    match rng.below(4) {
+        0 => {}
+        1 => index.fill(number(rng, area_bytes)),
+        2 => {
+            for cell in index.iter_mut() {
+                *cell = number(rng, area_bytes);
+            }
+        }
+        _ => {
+            for _ in 0..8 {
+                let cell = rng.below(index.len() as u32) as usize;
+                index[cell] = number(rng, area_bytes);
+            }
+        }
+    }
+}
