@@ -6,6 +6,7 @@ use segment::Version;
 pub mod head;
 pub mod scan;
 pub mod slots;
+pub mod suspects;
 pub mod versions;
 
 // The head's slot and digest, or that no slot has a digest.
