@@ -5,3 +5,4 @@ pub mod Extents
 pub mod Suspects
 pub mod Counts
 pub mod Filter
+pub mod Surveys

@@ -2,6 +2,7 @@
 // scattered. A filter of bits has one for each version modulo their number. While an entry's bit is not set, no entry
 // passed has its version; where it is set, the version is a suspect. The stack has 2 KiB of filter and 1 KiB of suspects.
 use crate::Next;
+use crate::filter::mark;
 use crate::scan::next;
 use crate::slots::cut;
 use crate::slots::is_named;
@@ -11,7 +12,7 @@ use segment::Version;
 use segment::layout::DIGEST_SIZE;
 ghost use Prim.Native.Nat.{_≤_};
 ghost use mathlib.Core.Path.{_≡_};
-ghost use mathlib.Core.Bool.{false};
+ghost use mathlib.Core.Bool.{true, false};
 ghost use lib.ListN.{length};
 ghost use Rattle.segment.specs.Layout.{edition1};
 ghost use Rattle.slot_map.specs.Bit.{named};
@@ -21,19 +22,6 @@ ghost use Rattle.laws.specs.Versions.{count};
 ghost use Rattle.log.specs.Shape.{Shape};
 ghost use Rattle.log.specs.Suspects.{Suspects, Suspecting};
 ghost use Rattle.log.specs.Filter.{isMarked, markedWith, Entering, Sifted};
-
-// Sets a version's bit, and answers whether it was set. Each word has the bits of 32 versions.
-fn mark(filter: &mut [u32], version: Version) -> bool
-    requires { ⌜ length (now filter) ≡ 512 ⌝ }
-    ensures was { λ r. ⌜ r ≡ isMarked (now (filter .entry)) (version .0) ⌝ }
-    ensures now { λ _. ⌜ now (filter .exit) ≡ markedWith (now (filter .entry)) (version .0) ⌝ }
-{
-    let word = version.0 as usize / 32 % 512;
-    let bit = version.0 % 32;
-    let old = filter[word];
-    filter[word] = slot_map::with_slot(old, bit);
-    slot_map::has_slot(old, bit)
-}
 
 // Marks the version of an entry, which is a suspect if its bit was set, and answers whether a version was found to be shared.
 fn pass(
@@ -92,8 +80,8 @@ fn sift(
     }
 }
 
-// Whether two entries of the log have one version.
-pub fn version_shared(n: usize, s: usize, area: &[u8], map: u32) -> bool
+// Whether two entries of the log have one version, by a walk of their own.
+fn search_shared(n: usize, s: usize, area: &[u8], map: u32) -> bool
     requires { ⌜ Shape n s (now area) ⌝ }
     requires { ⌜ logDamaged (viewsOf edition1 (now area) s) (named map) n ≡ false ⌝ }
     ensures { λ r. ⌜ r ≡ versionShared (logOf (viewsOf edition1 (now (area .entry)) s) (named map) n) ⌝ }
@@ -112,4 +100,17 @@ pub fn version_shared(n: usize, s: usize, area: &[u8], map: u32) -> bool
         }
     }
     suspect_shared(n, s, area, map, &table)
+}
+
+// Whether two entries of the log have one version. Where a survey told all versions apart, none have.
+pub fn version_shared(n: usize, s: usize, area: &[u8], map: u32, apart: bool) -> bool
+    requires { ⌜ Shape n s (now area) ⌝ }
+    requires { ⌜ logDamaged (viewsOf edition1 (now area) s) (named map) n ≡ false ⌝ }
+    requires { ⌜ (apart ≡ true → versionShared (logOf (viewsOf edition1 (now area) s) (named map) n) ≡ false) ⌝ }
+    ensures { λ r. ⌜ r ≡ versionShared (logOf (viewsOf edition1 (now (area .entry)) s) (named map) n) ⌝ }
+{
+    if apart {
+        return false;
+    }
+    search_shared(n, s, area, map)
 }
