@@ -5,6 +5,7 @@ use segment::layout::HEAD_SIZE;
 use word::fnv::key_hash;
 use word::number::read16;
 use word::number::read32;
+use word::remainder::remainder;
 ghost use Prim.Native.Nat.{_+_, _%_, _<_};
 ghost use mathlib.Core.Path.{_≡_};
 ghost use Rattle.segment.specs.Layout.{edition1};
@@ -31,7 +32,7 @@ fn first_cell(hash: u32, m: usize) -> usize
     requires { ⌜ 0 < m ⌝ }
     ensures { λ r. ⌜ r ≡ hash % m ⌝ }
 {
-    hash as usize % m
+    remainder(hash as usize, m)
 }
 
 // The next of m cells, going round.

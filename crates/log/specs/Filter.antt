@@ -6,20 +6,21 @@ use mathlib.Core.List.{List, [], _∷_, _++_, append-nil, append-assoc}
 use native.Mathlib.Omega.{arith}
 use native.Mathlib.Decide.{decLe}
 use lib.Dec.{eqb, ltb}
-use lib.ListN.{length, getD, set, length-set}
+use lib.ListN.{length, getD, set, replicate, length-set}
 use lib.Seq.{getD-set-same, getD-set-other}
-use borrow.Author.Tests.{eq-eqb, eqb-true, eqb-false, ltb-true, ltb-false}
-use Rattle.segment.specs.Choice.{pick, pick-true, pick-false, both, both-right, both-false-left}
+use borrow.Author.Tests.{eq-eqb, eqb-true, eqb-false}
+use Rattle.segment.specs.Choice.{pick, pick-true, pick-false}
 use Rattle.segment.specs.Layout.{Layout, digestSize}
 use Rattle.segment.specs.Entry.{end, damage, entryAt}
 use Rattle.slot_map.specs.Bit.{bit, named, withBit}
 use Rattle.slot_map.specs.BitLaws.{bit-with-same, bit-with-other, named-true, set-named}
-use Rattle.model.specs.Log.{View, Item, Scan, damaged, scanned, scan, itemsOf, endOf, isDamaged, placedIn, Placed, logOf, versionShared}
+use Rattle.model.specs.Log.{View, Item, Scan, damaged, scanned, scan, itemsOf, endOf, isDamaged, placedIn, Placed, viewsOf, logOf, versionShared}
 use Rattle.model.specs.Recovery.{logDamaged}
 use Rattle.laws.specs.Scans.{item-first}
 use Rattle.laws.specs.Members.{clash, total}
-use Rattle.laws.specs.Versions.{counted, count, count-append, shared-count, count-shared}
+use Rattle.laws.specs.Versions.{counted, count, count-append, count-shared}
 use Rattle.log.specs.Extents.{Meets, restOf, rest-whole, rest-entry, rest-end, rest-damage, log-take, log-skip, damaged-slot}
+use Rattle.log.specs.Suspects.{isSuspect, occupied, hits, empty-new, log-positive, Suspects, suspects-none, Suspecting, look-shared, look-alone}
 
 -- ---- the bit of a version
 
@@ -76,35 +77,41 @@ module _ (filter : List ℕ) (size : length filter ≡ 512) (v : ℕ) where
           (λ e. eqb-false (v / 32 % 512) (u / 32 % 512) p (sym e)))
           ∙ was
 
--- the exact count is taken only where the bit was set
-pub repeats-not : (t m b : Bool) → t ≡ m → t ≡ false → false ≡ both m b
-repeats-not t m b e p = sym (both-false-left m b (sym e ∙ p))
-
-pub repeats : (t m : Bool) (k l : ℕ) → t ≡ m → t ≡ true → k ≡ l → ltb 1 k ≡ both m (ltb 1 l)
-unfolding both
-repeats t m k l e p q = ap (ltb 1) q ∙ ap (λ (a : Bool). both a (ltb 1 l)) (sym (sym e ∙ p))
-
 -- ---- what has passed
 
--- No version stands twice in the log, and the bit of each is set.
-pub record Sieved (log : List Placed) (filter : List ℕ) : Type 0 where
-  pub once : (v : ℕ) → count v log ≤ 1
-  pub marks : (v : ℕ) → 1 ≤ count v log → isMarked filter v ≡ true
+-- Of the entries passed, no version but a suspect's stands twice, and the bit of each is set; the suspects are those of the
+-- whole log.
+pub record Sieved (log past : List Placed) (filter table : List ℕ) : Type 0 where
+  pub once : (v : ℕ) → isSuspect table v ≡ false → count v past ≤ 1
+  pub marks : (v : ℕ) → 1 ≤ count v past → isMarked filter v ≡ true
+  pub suspects : Suspects log table
 
-pub sieved-none : (v : ℕ → View) (p : ℕ → Bool) (filter : List ℕ) → Sieved (logOf v p 0) filter
+pub sieved-none : (L : Layout) (area : List ℕ) (s : ℕ) (p : ℕ → Bool) (n : ℕ) (filter : List ℕ)
+    → Sieved (logOf (viewsOf L area s) p n) (logOf (viewsOf L area s) p 0) filter (replicate 256 0)
 unfolding logOf total
-sieved-none v p filter = record { once = λ u. omega arith; marks = λ u h. absurd (omega arith) }
+sieved-none L area s p n filter =
+    record {
+      once = λ u e. omega arith;
+      marks = λ u h. absurd (omega arith);
+      suspects = suspects-none (logOf (viewsOf L area s) p n) (log-positive L area s p n) (replicate 256 0) empty-new;
+    }
 
--- an entry whose version has not passed
-module _ (past : List Placed) (x : Placed) (filter : List ℕ) (size : length filter ≡ 512) (sieved : Sieved past filter) where
+-- An entry more, whose version w is a suspect if its bit was set.
+module _ (log past : List Placed) (x : Placed) (filter table : List ℕ) (size : length filter ≡ 512) (sieved : Sieved log past filter table)
+    (inside : (u : ℕ) → count u past ≤ count u log) where
   count-one : (u : ℕ) → count u (past ++ (x ∷ [])) ≡ count u past + counted u (x .entry)
   unfolding total
   count-one u = omega (arith, count-append u past (x ∷ []))
 
-  sieved-more : (w : ℕ) → x .entry .version ≡ w → count w past ≡ 0 → Sieved (past ++ (x ∷ [])) (markedWith filter w)
+  sieved-more : (w : ℕ) → x .entry .version ≡ w → (more : List ℕ) → Suspecting log table w (isMarked filter w) false more
+      → Sieved log (past ++ (x ∷ [])) (markedWith filter w) more
   unfolding counted
-  sieved-more w its alone =
-      record { once = λ u. once u (eqb (x .entry .version) u) refl; marks = λ u. marks u (eqb (x .entry .version) u) refl }
+  sieved-more w its more h =
+      record {
+        once = λ u q. once u q (eqb (x .entry .version) u) refl;
+        marks = λ u. marks u (eqb (x .entry .version) u) refl;
+        suspects = h .suspects refl;
+      }
     where
       other : (u : ℕ) → eqb (x .entry .version) u ≡ false → counted u (x .entry) ≡ 0
       other u p = pick-false {A = ℕ} (eqb (x .entry .version) u) 1 0 p
@@ -112,15 +119,26 @@ module _ (past : List Placed) (x : Placed) (filter : List ℕ) (size : length fi
       same : (u : ℕ) → eqb (x .entry .version) u ≡ true → w ≡ u
       same u p = sym its ∙ eqb-true (x .entry .version) u p
 
-      once : (u : ℕ) (t : Bool) → eqb (x .entry .version) u ≡ t → count u (past ++ (x ∷ [])) ≤ 1
-      once u true p =
+      -- a version that is no suspect now
+      before : (u : ℕ) → isSuspect more u ≡ false → (t : Bool) → isSuspect table u ≡ t → count u past ≤ 1
+      before u q true p = omega (arith, h .let-go refl u q p, inside u)
+      before u q false p = sieved .once u p
+
+      -- the entry's own version: no suspect, so its bit was not set, and it has not passed
+      alone : isSuspect more w ≡ false → Dec (1 ≤ count w past) → count w past ≡ 0
+      alone q (yes l) = absurd (clash (isSuspect more w) (h .has refl (sieved .marks w l)) q)
+      alone q (no l) = omega arith
+
+      once : (u : ℕ) → isSuspect more u ≡ false → (t : Bool) → eqb (x .entry .version) u ≡ t → count u (past ++ (x ∷ [])) ≤ 1
+      once u q true p =
           omega (
             arith,
             count-one u,
             ap (λ (k : ℕ). count k past) (same u p),
+            alone (ap (isSuspect more) (same u p) ∙ q) (decLe 1 (count w past)),
             pick-true {A = ℕ} (eqb (x .entry .version) u) 1 0 p,
           )
-      once u false p = omega (arith, count-one u, other u p, sieved .once u)
+      once u q false p = omega (arith, count-one u, other u p, before u q (isSuspect table u) refl)
 
       marks : (u : ℕ) (t : Bool) → eqb (x .entry .version) u ≡ t → 1 ≤ count u (past ++ (x ∷ [])) → isMarked (markedWith filter w) u ≡ true
       marks u true p h = ap (isMarked (markedWith filter w)) (sym (same u p)) ∙ mark-own filter size w
@@ -129,43 +147,43 @@ module _ (past : List Placed) (x : Placed) (filter : List ℕ) (size : length fi
 -- ---- the entries of one slot
 
 -- What the filter needs before the entries of slot i: the log below it has passed, and the slot is one of the log, undamaged.
-pub record Entering (v : ℕ → View) (p : ℕ → Bool) (i n : ℕ) (filter : List ℕ) : Type 0 where
+pub record Entering (v : ℕ → View) (p : ℕ → Bool) (i n : ℕ) (filter table : List ℕ) : Type 0 where
   pub below : i < n
   pub picked : p i ≡ true
   pub undamaged : isDamaged (v i .scan) ≡ false
   pub size : length filter ≡ 512
-  pub sieved : Sieved (logOf v p i) filter
+  pub sieved : Sieved (logOf v p n) (logOf v p i) filter table
 
 -- What the answer r after them means: a version is shared, or the log with slot i has passed.
-pub record Sifted (v : ℕ → View) (p : ℕ → Bool) (i n : ℕ) (r : Bool) (filter : List ℕ) : Type 0 where
+pub record Sifted (v : ℕ → View) (p : ℕ → Bool) (i n : ℕ) (r : Bool) (filter table : List ℕ) : Type 0 where
   pub shared : r ≡ true → versionShared (logOf v p n) ≡ true
-  pub sieved : r ≡ false → Sieved (logOf v p (i + 1)) filter
+  pub sieved : r ≡ false → Sieved (logOf v p n) (logOf v p (i + 1)) filter table
 
-module _ {v : ℕ → View} {p : ℕ → Bool} {i n : ℕ} (filter : List ℕ) where
-  pub sifted-hit : versionShared (logOf v p n) ≡ true → Sifted v p i n true filter
+module _ {v : ℕ → View} {p : ℕ → Bool} {i n : ℕ} (filter table : List ℕ) where
+  pub sifted-hit : versionShared (logOf v p n) ≡ true → Sifted v p i n true filter table
   sifted-hit h = record { shared = λ e. h; sieved = λ e. absurd (clash true refl e) }
 
-  pub sifted-past : Sieved (logOf v p (i + 1)) filter → Sifted v p i n false filter
+  pub sifted-past : Sieved (logOf v p n) (logOf v p (i + 1)) filter table → Sifted v p i n false filter table
   sifted-past h = record { shared = λ e. absurd (clash false e refl); sieved = λ e. h }
 
 -- Between two entries of the slot whose bytes are s: those before have passed, and the scan goes on from here.
-pub record Sieving (L : Layout) (s : List ℕ) (i : ℕ) (after : List Placed) (at : ℕ) (filter : List ℕ) : Type 0 where
+pub record Sieving (L : Layout) (s : List ℕ) (i : ℕ) (log after : List Placed) (at : ℕ) (filter table : List ℕ) : Type 0 where
   pub size : length filter ≡ 512
   pub past : List Placed
   pub rest : List Item
   pub stop : ℕ
   pub scans : restOf L s at ≡ scanned rest stop
   pub splits : after ≡ past ++ placedIn i rest
-  pub sieved : Sieved past filter
+  pub sieved : Sieved log past filter table
 
 sound-scanned : (r : Scan) → isDamaged r ≡ false → r ≡ scanned (itemsOf r) (endOf r)
 unfolding isDamaged itemsOf endOf
 sound-scanned damaged e = let z : _≡_ {A = ℕ} 0 1 = cc in absurd (omega arith)
 sound-scanned (scanned is k) e = refl
 
-pub sieve-start : (L : Layout) (v : ℕ → View) (p : ℕ → Bool) (i n : ℕ) (filter s : List ℕ) → Entering v p i n filter → v i .scan ≡ scan L s
-    → Sieving L s i (logOf v p (i + 1)) (digestSize L) filter
-sieve-start L v p i n filter s h e =
+pub sieve-start : (L : Layout) (v : ℕ → View) (p : ℕ → Bool) (i n : ℕ) (filter table s : List ℕ) → Entering v p i n filter table → v i .scan ≡ scan L s
+    → Sieving L s i (logOf v p n) (logOf v p (i + 1)) (digestSize L) filter table
+sieve-start L v p i n filter table s h e =
     record {
       size = h .size;
       past = logOf v p i;
@@ -176,66 +194,61 @@ sieve-start L v p i n filter s h e =
       sieved = h .sieved;
     }
 
-module _ (L : Layout) (s : List ℕ) (i : ℕ) (after : List Placed) (at : ℕ) (filter : List ℕ) (so-far : Sieving L s i after at filter) where
-  -- log is the whole log; r is whether the entry's bit was set and its version stands there more than once
-  module _ (log : List Placed) (inside : (u : ℕ) → count u after ≤ count u log) {w len : ℕ} (m : Meets L s at w len) (r : Bool)
-      (told : r ≡ both (isMarked filter w) (ltb 1 (count w log))) where
+module _ (L : Layout) (s : List ℕ) (i : ℕ) (log after : List Placed) (at : ℕ) (filter table : List ℕ) (so-far : Sieving L s i log after at filter table) where
+  module _ (inside : (u : ℕ) → count u after ≤ count u log) {w len : ℕ} (m : Meets L s at w len) where
     abbrev here : Placed
     here = record { slot = i; offset = at; entry = m .met }
 
-    pub sieve-hit : r ≡ true → versionShared log ≡ true
-    sieve-hit e = go (versionShared log) refl
-      where
-        twice : 1 < count w log
-        twice = ltb-true 1 (count w log) (both-right (isMarked filter w) (ltb 1 (count w log)) (sym told ∙ e))
+    -- the entry and those after it
+    pub record Ahead : Type 0 where
+      pub later : List Item
+      pub on : restOf L s (at + len) ≡ scanned later (so-far .stop)
+      pub whole : after ≡ so-far .past ++ (here ∷ placedIn i later)
 
-        go : (t : Bool) → versionShared log ≡ t → versionShared log ≡ true
-        go true p = p
-        go false p = absurd (omega (arith, shared-count log p w, twice))
-
-    -- the entry's version has not passed
-    alone : r ≡ false → (js : List Item) → after ≡ so-far .past ++ (here ∷ placedIn i js) → count w (so-far .past) ≡ 0
-    unfolding total counted both
-    alone e js whole = go (isMarked filter w) refl (decLe 1 (count w (so-far .past)))
-      where
-        counts : count w after ≡ count w (so-far .past) + (counted w (m .met) + count w (placedIn i js))
-        counts = ap (count w) whole ∙ count-append w (so-far .past) (here ∷ placedIn i js)
-
-        own : counted w (m .met) ≡ 1
-        own = pick-true {A = ℕ} (eqb (m .met .version) w) 1 0 (eq-eqb (m .met .version) w (m .its-version))
-
-        go : (t : Bool) → isMarked filter w ≡ t → Dec (1 ≤ count w (so-far .past)) → count w (so-far .past) ≡ 0
-        go t p (no h) = omega arith
-        go true p (yes h) =
-            let few : ltb 1 (count w log) ≡ false = ap (λ (t : Bool). both t (ltb 1 (count w log))) (sym p) ∙ sym told ∙ e in
-            absurd (omega (arith, ltb-false 1 (count w log) few, inside w, counts, own))
-        go false p (yes h) = absurd (clash (isMarked filter w) (so-far .sieved .marks w h) p)
-
-    pub sieve-turn : r ≡ false → (filter₁ : List ℕ) → filter₁ ≡ markedWith filter w → Sieving L s i after (at + len) filter₁
+    ahead : Ahead
     unfolding placedIn
-    sieve-turn e filter₁ q =
+    ahead =
         let (js, on, all) = item-first (restOf L s (at + len)) (sym (rest-entry L s at m) ∙ so-far .scans) in
-        let whole : after ≡ so-far .past ++ (here ∷ placedIn i js) =
-        so-far .splits ∙ ap (λ (l : List Item). so-far .past ++ placedIn i l) (sym all) in
+        record { later = js; on = on; whole = so-far .splits ∙ ap (λ (l : List Item). so-far .past ++ placedIn i l) (sym all) }
+
+    counts : (u : ℕ) → count u after ≡ count u (so-far .past) + (counted u (m .met) + count u (placedIn i (ahead .later)))
+    unfolding total
+    counts u = ap (count u) (ahead .whole) ∙ count-append u (so-far .past) (here ∷ placedIn i (ahead .later))
+
+    -- the entry's version is one of the log
+    pub sieve-stands : 1 ≤ count w log
+    unfolding counted
+    sieve-stands =
+        omega (
+          arith,
+          counts w,
+          inside w,
+          pick-true {A = ℕ} (eqb (m .met .version) w) 1 0 (eq-eqb (m .met .version) w (m .its-version)),
+        )
+
+    pub sieve-turn : (r : Bool) (filter₁ table₁ : List ℕ) → Suspecting log table w (isMarked filter w) r table₁ → r ≡ false → filter₁ ≡ markedWith filter w
+        → Sieving L s i log after (at + len) filter₁ table₁
+    sieve-turn r filter₁ table₁ h e q =
         record {
           size = ap length q ∙ length-marked filter w ∙ so-far .size;
           past = so-far .past ++ (here ∷ []);
-          rest = js;
+          rest = ahead .later;
           stop = so-far .stop;
-          scans = on;
-          splits = whole ∙ sym (append-assoc (so-far .past) (here ∷ []) (placedIn i js));
+          scans = ahead .on;
+          splits = ahead .whole ∙ sym (append-assoc (so-far .past) (here ∷ []) (placedIn i (ahead .later)));
           sieved =
-              subst (λ (f : List ℕ). Sieved (so-far .past ++ (here ∷ [])) f) (sym q)
-              (sieved-more (so-far .past) here filter (so-far .size) (so-far .sieved) w (m .its-version) (alone e js whole));
+              subst (λ (f : List ℕ). Sieved log (so-far .past ++ (here ∷ [])) f table₁) (sym q)
+              (sieved-more log (so-far .past) here filter table (so-far .size) (so-far .sieved) (λ u. omega (arith, counts u, inside u)) w
+              (m .its-version) table₁ (subst (λ (t : Bool). Suspecting log table w (isMarked filter w) t table₁) e h));
         }
 
-  pub sieve-end : entryAt L s at ≡ end → Sieved after filter
+  pub sieve-end : entryAt L s at ≡ end → Sieved log after filter table
   unfolding placedIn
   sieve-end e =
       let none : so-far .rest ≡ [] = cc (rest-end L s at e, so-far .scans) in
       let same : so-far .past ≡ after =
       sym (so-far .splits ∙ ap (λ (l : List Item). so-far .past ++ placedIn i l) none ∙ append-nil (so-far .past)) in
-      subst (λ (l : List Placed). Sieved l filter) same (so-far .sieved)
+      subst (λ (l : List Placed). Sieved log l filter table) same (so-far .sieved)
 
   pub sieve-damage : entryAt L s at ≡ damage → ⊥
   sieve-damage e = let z : _≡_ {A = ℕ} 0 1 = cc (rest-damage L s at e, so-far .scans) in omega arith
@@ -261,17 +274,28 @@ module _ (v : ℕ → View) (p : ℕ → Bool) where
   pub slot-inside-log : (i n : ℕ) → i < n → (u : ℕ) → count u (logOf v p (i + 1)) ≤ count u (logOf v p n)
   slot-inside-log i n h u = log-inside u (i + 1) n (omega arith)
 
-  pub sieved-skip : (i : ℕ) (filter : List ℕ) → Sieved (logOf v p i) filter → p i ≡ false → Sieved (logOf v p (i + 1)) filter
-  sieved-skip i filter h q = subst (λ (l : List Placed). Sieved l filter) (sym (log-skip v p i q)) h
+  pub sieved-skip : (i n : ℕ) (filter table : List ℕ) → Sieved (logOf v p n) (logOf v p i) filter table → p i ≡ false
+      → Sieved (logOf v p n) (logOf v p (i + 1)) filter table
+  sieved-skip i n filter table h q = subst (λ (l : List Placed). Sieved (logOf v p n) l filter table) (sym (log-skip v p i q)) h
 
-  pub enters : (i n : ℕ) (filter : List ℕ) → logDamaged v p n ≡ false → i < n → p i ≡ true → length filter ≡ 512 → Sieved (logOf v p i) filter
-      → Entering v p i n filter
-  enters i n filter sound below picked size sieved =
+  pub enters : (i n : ℕ) (filter table : List ℕ) → logDamaged v p n ≡ false → i < n → p i ≡ true → length filter ≡ 512
+      → Sieved (logOf v p n) (logOf v p i) filter table → Entering v p i n filter table
+  enters i n filter table sound below picked size sieved =
       record { below = below; picked = picked; undamaged = go (isDamaged (v i .scan)) refl; size = size; sieved = sieved }
     where
       go : (t : Bool) → isDamaged (v i .scan) ≡ t → isDamaged (v i .scan) ≡ false
       go true e = absurd (clash (logDamaged v p n) (damaged-slot v p i n below picked e) sound)
       go false e = e
 
-  pub sieved-all : (n : ℕ) (filter : List ℕ) → Sieved (logOf v p n) filter → false ≡ versionShared (logOf v p n)
-  sieved-all n filter h = sym (count-shared (logOf v p n) (h .once))
+-- the last look at the suspects decides
+pub sieved-all : (log : List Placed) (filter table : List ℕ) → Sieved log log filter table → (r : Bool) → r ≡ ltb (occupied table) (hits table log)
+    → r ≡ versionShared log
+sieved-all log filter table h r told = go r refl
+  where
+    one : (u : ℕ) (t : Bool) → isSuspect table u ≡ t → r ≡ false → count u log ≤ 1
+    one u true p e = look-alone log table (h .suspects) r told e u p
+    one u false p e = h .once u p
+
+    go : (t : Bool) → r ≡ t → r ≡ versionShared log
+    go true e = e ∙ sym (look-shared log table (h .suspects) r told e)
+    go false e = e ∙ sym (count-shared log (λ u. one u (isSuspect table u) refl e))

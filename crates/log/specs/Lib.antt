@@ -2,5 +2,7 @@
 pub mod Shape
 pub mod Heads
 pub mod Extents
+pub mod Suspects
 pub mod Counts
 pub mod Filter
+pub mod Surveys

@@ -3,9 +3,12 @@
 use segment::Digest;
 use segment::Version;
 
+mod filter;
 pub mod head;
 pub mod scan;
 pub mod slots;
+pub mod survey;
+mod suspects;
 pub mod versions;
 
 // The head's slot and digest, or that no slot has a digest.
@@ -21,14 +24,10 @@ pub enum Next {
     Damage,
 }
 
-// A segment's entries: damaged, or where they end and their highest version, 0 where there are none.
-pub enum Extent {
-    Damaged,
-    Sound { end: usize, highest: Version },
-}
-
-// The log of a map: damaged, or its highest version, 0 where it is empty.
-pub enum Survey {
-    Damaged,
-    Sound { highest: Version },
+// What a walk of the log has passed: whether it was undamaged, its highest version, 0 where it is empty, and whether the filter
+// told all versions apart.
+pub struct Passed {
+    pub sound: bool,
+    pub highest: Version,
+    pub apart: bool,
 }

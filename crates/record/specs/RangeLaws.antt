@@ -3,7 +3,7 @@ use Prim.Native.Nat.{ℕ, _+_, _*_, _-_, _^_, _≤_, _<_}
 use mathlib.Core.Path.{_≡_, refl, sym, _∙_}
 use mathlib.Core.Bool.{Bool, true, false, not}
 use native.Mathlib.Omega.{arith}
-use native.Mathlib.Nat.{lt-of-not-le, add-sub-of-le}
+use native.Mathlib.Nat.{lt-of-not-le}
 use lib.Dec.{eqb, ltb, leb}
 use borrow.Author.Tests.{ltb-true, leb-true, eqb-true, eqb-false, not-true, not-false, lt-ltb, le-leb, eq-eqb, ne-eqb}
 use Rattle.segment.specs.Choice.{both, both-left, both-right, both-true}
@@ -11,7 +11,6 @@ use Rattle.segment.specs.Layout.{Layout, digestSize}
 use Rattle.slot_map.specs.Bit.{named, namesBelow}
 use Rattle.slot_map.specs.BitLaws.{bit-above, below-true, named-true, clear-named}
 use Rattle.slot_map.specs.Count.{used}
-use Rattle.slot_map.specs.CountLaws.{used-wide}
 use Rattle.record.specs.Answers.{storesLeft, withPending, blank}
 use Rattle.record.specs.Range.{between, slotsGood, sizeGood, cellsGood, mapGood, leftGood, inRange, lengthsOwn, fitsLent}
 use Rattle.record.specs.declared.Pending.{Pending}
@@ -111,12 +110,9 @@ map-in n head map e =
       some-free = ltb-true (used n map) n (both-right _ _ (both-right _ _ e));
     }
 
--- the code looks at the head's bit only where the head is one of the n slots, and counts the ones of all 32
+-- the code looks at the head's bit only where the head is one of the n slots
 pub past-slots : (n head map : ℕ) → namesBelow n map ≡ true → n ≤ head → named map head ≡ false
 past-slots n head map e past = clear-named map head (bit-above map n head (below-true n map e) past)
-
-pub used-all : (n map : ℕ) → n ≤ 32 → namesBelow n map ≡ true → used 32 map ≡ used n map
-used-all n map fits e = rw (← add-sub-of-le fits) (used-wide n (32 - n) map (below-true n map e))
 
 -- ---- the test of a record in the code's parts: limits, map, counters, stores left
 

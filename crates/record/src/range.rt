@@ -48,7 +48,7 @@ pub fn map_good(slots: u32, head: u32, map: u32) -> bool
     if slots <= head {
         return false;
     }
-    slot_map::has_slot(map, head) && slot_map::used_slots(map) < slots
+    slot_map::has_slot(map, head) && slot_map::leaves_free(slots, map)
 }
 
 // Whether a pending operation has as many stores left as one can have.

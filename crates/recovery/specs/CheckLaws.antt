@@ -6,7 +6,7 @@ use mathlib.Core.List.{List, [], _∷_}
 use mathlib.Core.Option.{Option, none, some}
 use native.Mathlib.Omega.{arith}
 use lib.ListN.{length}
-use Rattle.segment.specs.Choice.{pick, either}
+use Rattle.segment.specs.Choice.{either}
 use Rattle.segment.specs.Layout.{Layout}
 use Rattle.segment.specs.declared.Digest.{Digest}
 use Rattle.segment.specs.declared.Version.{Version}
@@ -14,7 +14,7 @@ use Rattle.record.specs.Range.{cellsGood, mapGood}
 use Rattle.record.specs.declared.Pending.the-variants.{Idle}
 use Rattle.record.specs.declared.Refusal.{Refusal}
 use Rattle.record.specs.declared.Refusal.the-variants.{Geometry, Cells, BadOrder, NoDigest, BadDigest, DamagedLog, SharedVersion}
-use Rattle.model.specs.Log.{View, Head, Scan, damaged, scanned, scan, endOf, segmentOf, headOf, logOf, highest, versionShared}
+use Rattle.model.specs.Log.{View, Head, Scan, damaged, scanned, scan, endOf, segmentOf, headOf, highest, versionShared}
 use Rattle.model.specs.Causes.{Cause, when, firstCause}
 use Rattle.model.specs.Recovery.{geometryBad, orderBad, noHead, headElse, mapBad, digestBad, logDamaged, logSlots, logUnder, imageCauses}
 use Rattle.laws.specs.CauseLaws.{cause-first, cause-skip, cause-none}
@@ -22,10 +22,7 @@ use Rattle.laws.specs.Scans.{scan-scans, scans-high}
 use Rattle.laws.specs.Stores.{length-segment}
 use Rattle.laws.specs.RecoverLaws.{map-bad-good}
 use Rattle.log.specs.Heads.{told, untold, untold-told}
-use Rattle.log.specs.Extents.{extentFrom, extentOf, surveyOf}
-use Rattle.log.specs.declared.Extent.{Extent}
 use Rattle.log.specs.declared.HeadFound.{HeadFound}
-use Rattle.log.specs.declared.Survey.{Survey}
 use Rattle.recovery.specs.Recovering.{lentFirst, checkedAs, imageFor, imageOf, imageUnder, storeWith}
 use Rattle.recovery.specs.declared.Checked.{Checked}
 use Rattle.recovery.specs.declared.Image.{Image}
@@ -150,35 +147,6 @@ told-none o e = sym (untold-told o) ∙ ap untold e
 pub told-some : (o : Option Head) (i : ℕ) (d : Digest) → told o ≡ HeadFound.At i d → o ≡ some (record { slot = i; digest = d })
 unfolding untold
 told-some o i d e = sym (untold-told o) ∙ ap untold e
-
-module _ (v : ℕ → View) (p : ℕ → Bool) (n : ℕ) where
-  pub survey-damaged : surveyOf v p n ≡ Survey.Damaged → logDamaged v p n ≡ true
-  unfolding surveyOf pick
-  survey-damaged e = go (logDamaged v p n) e
-    where
-      go : (t : Bool) → pick t Survey.Damaged (Survey.Sound (record { 0 = highest (logOf v p n) })) ≡ Survey.Damaged → t ≡ true
-      go true q = refl
-      go false q = let z : _≡_ {A = ℕ} 0 1 = cc in absurd (omega arith)
-
-  pub survey-sound : (top : Version) → surveyOf v p n ≡ Survey.Sound top → (logDamaged v p n ≡ false) × (top ≡ record { 0 = highest (logOf v p n) })
-  unfolding surveyOf pick
-  survey-sound top e = go (logDamaged v p n) e
-    where
-      go : (t : Bool) → pick t Survey.Damaged (Survey.Sound (record { 0 = highest (logOf v p n) })) ≡ Survey.Sound top
-          → (t ≡ false) × (top ≡ record { 0 = highest (logOf v p n) })
-      go true q = let z : _≡_ {A = ℕ} 0 1 = cc in absurd (omega arith)
-      go false q = (refl, cc)
-
--- the end of a segment's entries
-pub extent-damaged : (r : Scan) → extentOf r ≡ Extent.Damaged → 0 ≡ endOf r
-unfolding extentFrom endOf
-extent-damaged damaged e = refl
-extent-damaged (scanned is k) e = let z : _≡_ {A = ℕ} 0 1 = cc in absurd (omega arith)
-
-pub extent-sound : (r : Scan) (k : ℕ) (top : Version) → extentOf r ≡ Extent.Sound k top → k ≡ endOf r
-unfolding extentFrom endOf
-extent-sound damaged k top e = let z : _≡_ {A = ℕ} 0 1 = cc in absurd (omega arith)
-extent-sound (scanned is j) k top e = cc
 
 -- ---- the record
 

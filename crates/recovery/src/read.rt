@@ -2,7 +2,6 @@
 use crate::Lookup;
 use index::Found;
 use index::search::search;
-use log::slots::cut;
 use record::ReadAnswer;
 use record::Reading;
 use record::Refusal;
@@ -12,19 +11,31 @@ use segment::Key;
 use segment::Read;
 use segment::layout::HEAD_SIZE;
 use segment::reader;
-ghost use Prim.Native.Nat.{_+_, _*_, _/_, _≤_, _<_};
+use word::remainder::remainder;
+ghost use Prim.Native.Nat.{_+_, _*_, _/_, _%_, _≤_, _<_};
 ghost use mathlib.Core.Path.{_≡_};
 ghost use lib.ListN.{length};
 ghost use Rattle.segment.specs.Layout.{edition1};
+ghost use Rattle.model.specs.Log.{segmentOf};
 ghost use Rattle.model.specs.Promises.{ReadPromise, ValuePromise};
 ghost use Rattle.recovery.specs.Lookups.{standsAt, lookupOf, lookedUp, toldBy};
+
+// The segment in which a place lies, from the place's offset in it: the offset alone needs a division, or none.
+fn around(s: usize, area: &[u8], place: usize, offset: usize) -> &[u8]
+    requires { ⌜ (offset ≡ place % s) × (0 < s) × (place / s * s + s ≤ length (now area)) ⌝ }
+    ensures { λ r. ⌜ now r ≡ segmentOf (now (area .entry)) s (place / s) ⌝ }
+{
+    let start = place - offset;
+    &area[start..start + s]
+}
 
 // What stands at a place of the area, read in its slot's segment.
 fn look(s: usize, area: &[u8], place: usize) -> Lookup
     requires { ⌜ (0 < s) × (place / s * s + s ≤ length (now area)) ⌝ }
     ensures { λ r. ⌜ r ≡ lookupOf place (standsAt edition1 s (now (area .entry)) place) ⌝ }
 {
-    match reader::read(cut(s, area, place / s), place % s) {
+    let offset = remainder(place, s);
+    match reader::read(around(s, area, place, offset), offset) {
         Read::Object {
             key: _,
             version,

@@ -4,15 +4,13 @@ use crate::Image;
 use crate::format::geometry_bad;
 use index::Built;
 use index::build::build;
-use log::Extent;
 use log::HeadFound;
-use log::Survey;
 use log::head::find_head;
 use log::head::names_no_digest;
 use log::head::shared_number;
-use log::scan::extent;
-use log::scan::survey;
+use log::scan::end_of;
 use log::slots::cut;
+use log::survey::survey;
 use log::versions::version_shared;
 use record::Pending;
 use record::RecoverAnswer;
@@ -33,7 +31,7 @@ ghost use lib.Dec.{eqb, ltb};
 ghost use lib.ListN.{length};
 ghost use Rattle.segment.specs.Choice.{either};
 ghost use Rattle.segment.specs.Layout.{edition1};
-ghost use Rattle.model.specs.Log.{viewsOf, scan, endOf};
+ghost use Rattle.model.specs.Log.{viewsOf};
 ghost use Rattle.model.specs.Recovery.{orderBad, sharing, digestBad};
 ghost use Rattle.model.specs.Promises.{RecoverPromise};
 ghost use Rattle.log.specs.Shape.{Shape};
@@ -135,18 +133,18 @@ fn look_under(n: usize, s: usize, area: &[u8], slot: usize, digest: Digest) -> I
         return Image::Refused(Refusal::BadDigest);
     }
     let map = digest.map;
-    match survey(n, s, area, map) {
-        Survey::Damaged => Image::Refused(Refusal::DamagedLog),
-        Survey::Sound { highest } => {
-            if version_shared(n, s, area, map) {
-                return Image::Refused(Refusal::SharedVersion);
-            }
-            Image::Sound {
-                slot,
-                digest,
-                highest,
-            }
-        }
+    let passed = survey(n, s, area, map);
+    if !passed.sound {
+        return Image::Refused(Refusal::DamagedLog);
+    }
+    if version_shared(n, s, area, map, passed.apart) {
+        return Image::Refused(Refusal::SharedVersion);
+    }
+    let highest = passed.highest;
+    Image::Sound {
+        slot,
+        digest,
+        highest,
     }
 }
 
@@ -158,16 +156,6 @@ fn look_at(n: usize, s: usize, area: &[u8]) -> Image
     match find_head(n, s, area) {
         HeadFound::Nothing => Image::Refused(Refusal::NoDigest),
         HeadFound::At { slot, digest } => look_under(n, s, area, slot, digest),
-    }
-}
-
-// The end of a segment's entries; 0 in a damaged one.
-fn end_of(part: &[u8]) -> usize
-    ensures { λ r. ⌜ r ≡ endOf (scan edition1 (now (part .entry))) ⌝ }
-{
-    match extent(part) {
-        Extent::Damaged => 0,
-        Extent::Sound { end, highest: _ } => end,
     }
 }
 

@@ -4,9 +4,10 @@ use mathlib.Core.Logic.{_≢_, _⊎_, inl, inr}
 use mathlib.Core.Bool.{true}
 use Prim.Native.Nat.{ℕ, zero, suc, _+_, _-_, _/_, _%_, _^_, _≤_, _<_}
 use native.Mathlib.Nat.{eq-or-lt-of-le, pow-suc, add-zero, add-suc}
-use native.Mathlib.Decide.{ℕ-discrete}
+use native.Mathlib.Decide.{ℕ-discrete, decLt}
 use native.Mathlib.Omega.{arith}
 use lib.Count.{ones, onesIn, ones-step}
+use lib.Pow.{pow-pos}
 use Rattle.slot_map.specs.Bit.{bit, withBit, withoutBit, less, within}
 use Rattle.slot_map.specs.BitLaws.{bit-zero, bit-suc, bit-le, bit-cases, bit-with-same, bit-with-other, bit-without-same, bit-without-other, bit-less, bit-of-zero, bit-above, with-clear, bit-sub, less-within, within-le, within-sub-le}
 use Rattle.slot_map.specs.Count.{used}
@@ -147,6 +148,21 @@ unfolding ones onesIn
 used-ones zero m h = let e : m ≡ 0 = omega arith in used-none m ∙ ap ones (sym e)
 used-ones (suc n) m h =
     omega (arith, used-step n m, ones-step m, used-ones n (m / 2) (omega (arith, pow-suc 2 n)))
+
+-- the map of all n slots, and every lower one
+pub all-named : (n m : ℕ) → m ≡ 2 ^ n - 1 → used n m ≡ n
+all-named zero m e = used-none m
+all-named (suc n) m e =
+    let half : m / 2 ≡ 2 ^ n - 1 = omega (arith, pow-suc 2 n, pow-pos n, e) in
+    omega (arith, used-step n m, all-named n (m / 2) half, pow-suc 2 n, pow-pos n, e)
+
+pub not-all : (n m : ℕ) → m < 2 ^ n - 1 → used n m < n
+not-all zero m b = absurd (omega arith)
+not-all (suc n) m b = go (decLt (m / 2) (2 ^ n - 1)) (not-all n (m / 2))
+  where
+    go : Dec (m / 2 < 2 ^ n - 1) → (m / 2 < 2 ^ n - 1 → used n (m / 2) < n) → used (suc n) m < suc n
+    go (yes k) rest = omega (arith, used-step n m, rest k)
+    go (no k) rest = omega (arith, used-step n m, used-le n (m / 2), pow-suc 2 n, pow-pos n)
 
 -- ---- the map of a new head: the victims v go and the slot i, which was free, comes
 

@@ -2,6 +2,7 @@
 // division and remainder, and the code goes by shifts and masks.
 ghost use mathlib.Core.Path.{_≡_};
 ghost use Prim.Native.Nat.{_^_, _≤_, _<_};
+ghost use lib.Dec.{ltb};
 ghost use Rattle.slot_map.specs.Bit.{named, withBit, withoutBit, less, namesBelow, within};
 ghost use Rattle.slot_map.specs.Count.{used, free};
 ghost use Rattle.slot_map.specs.Next.{nextFree};
@@ -52,11 +53,12 @@ pub fn names_below(n: u32, map: u32) -> bool
     map <= 0xffff_ffff >> (32 - n)
 }
 
-// How many slots the map names.
-pub fn used_slots(map: u32) -> u32
-    ensures { λ r. ⌜ r ≡ used 32 map ⌝ }
+// Whether a map of slots below n leaves one of them free: whether it is below the map of all n.
+pub fn leaves_free(n: u32, map: u32) -> bool
+    requires { ⌜ (1 ≤ n) × (n ≤ 32) × (map < 2 ^ n) ⌝ }
+    ensures { λ r. ⌜ r ≡ ltb (used n map) n ⌝ }
 {
-    u32::count_ones(map)
+    map < 0xffff_ffff >> (32 - n)
 }
 
 // How many of n slots a map of slots below n leaves free.

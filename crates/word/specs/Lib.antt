@@ -1,3 +1,4 @@
 pub mod Number
 pub mod Fnv
 pub mod Laws
+pub mod Mask

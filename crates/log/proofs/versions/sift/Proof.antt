@@ -1,4 +1,4 @@
--- `log::versions::sift` meets its contract. The invariant: the entries passed share no version, and their bits are set.
+-- `log::versions::sift` meets its contract. The invariant: the entries passed share no version but a suspect's, and their bits are set.
 use Prim.Native.Nat.{ℕ, _+_, _-_, _≤_}
 use mathlib.Core.Path.{sym, _∙_, ap}
 use mathlib.Core.List.{List}
@@ -11,31 +11,28 @@ use Rattle.model.specs.Log.{viewsOf, scan, logOf, Placed}
 use Rattle.laws.specs.Versions.{count}
 use Rattle.log.specs.Shape.{inside}
 use Rattle.log.specs.Extents.{Meets, meets, meets-end, meets-damage}
-use Rattle.log.specs.Filter.{Sieving, sieve-start, sifted-hit, sifted-past, sieve-hit, sieve-turn, sieve-end, sieve-damage, slot-inside-log}
+use Rattle.log.specs.Filter.{Sieving, sieve-start, sifted-hit, sifted-past, sieve-stands, sieve-turn, sieve-end, sieve-damage, slot-inside-log}
 use Rattle.log.proofs.versions.sift.Statement.{statement}
 use Rattle.log.proofs.versions.sift.Tie as tie
 
 abbrev Inv-loop : tie.InvT-loop
-Inv-loop n s area map slot filter₀ part at₀ filter at = Sieving edition1 part slot (logOf (viewsOf edition1 area s) (named map) (slot + 1)) at filter
+Inv-loop n s area map slot filter₀ table₀ part at₀ filter table at = Sieving edition1 part slot (logOf (viewsOf edition1 area s) (named map) n) (logOf (viewsOf edition1 area s) (named map) (slot + 1)) at filter table
 
 abbrev μ-loop : tie.MeasureT-loop
-μ-loop n s area map slot filter₀ part at₀ filter at = length part - at
+μ-loop n s area map slot filter₀ table₀ part at₀ filter table at = length part - at
 
 cut-requires : tie.Need-cut-requires Inv-loop μ-loop
-cut-requires c κs = inside (c .before .before .pre .0) _ (c .before .before .pre .1 .below)
+cut-requires c κs = inside (c .before .before .before .pre .0) _ (c .before .before .before .pre .1 .below)
 
 loop-holds : tie.Need-loop-holds Inv-loop μ-loop
 unfolding edition1
-loop-holds c = sieve-start edition1 _ _ _ _ _ _ (c .before .before .before .pre .1) (ap (scan edition1) (sym (c .cut .ensures)))
+loop-holds c = sieve-start edition1 _ _ _ _ _ _ _ (c .before .before .before .before .pre .1) (ap (scan edition1) (sym (c .cut .ensures)))
 
 next-requires : tie.Need-next-requires Inv-loop μ-loop
 next-requires c κs = search needs
 
 enum-known-version : tie.Need-enum-known-version Inv-loop μ-loop
 enum-known-version c = search needs
-
-is-repeated-requires : tie.Need-is-repeated-requires Inv-loop μ-loop
-is-repeated-requires c κs = (c .before .before .before .before .before .before .before .before .before .pre .0, c .before .before .before .before .before .loop .inv .size)
 
 -- the log of the slots below k
 abbrev below : tie.Start Inv-loop μ-loop → ℕ → List Placed
@@ -49,43 +46,53 @@ met : (c : tie.After-version Inv-loop μ-loop)
     → Meets edition1 (c .before .before .before .before .cut .result .now) (c .before .before .before .loop .at) (c .version .given .0 .0 .0) (c .version .given .0 .1 .0)
 met c = meets edition1 _ _ _ (c .before .before .next .ensures) _ _ (c .version .given .1)
 
+pass-requires : tie.Need-pass-requires Inv-loop μ-loop
+pass-requires c κs = (
+  c .before .before .before .before .before .before .before .before .before .before .before .pre .0,
+  (c .before .before .before .before .before .before .loop .inv .size, (c .before .before .before .before .before .before .loop .inv .sieved .suspects, sieve-stands edition1 _ _ _ _ _ _ _ (c .before .before .before .before .before .before .loop .inv) (within (c .before .before .before .before .before .before .before .before .before .before .before)) (met (c .before .before .before)))),
+)
+
 same-length : tie.Need-same-length Inv-loop μ-loop
-same-length c = c .before .before .before .is-repeated .kept .1 .1 .1 .1 .0 ∙ c .before .before .before .before .before .before .before .before .before .loop .inv .size ∙ sym (c .before .before .before .before .before .before .before .before .before .before .before .before .before .pre .1 .size)
+same-length c = c .before .before .before .before .before .pass .kept .1 .1 .1 .1 .0 ∙ c .before .before .before .before .before .before .before .before .before .before .before .before .loop .inv .size ∙ sym (c .before .before .before .before .before .before .before .before .before .before .before .before .before .before .before .before .before .pre .1 .size)
+
+same-length-2 : tie.Need-same-length-2 Inv-loop μ-loop
+same-length-2 c = c .before .before .before .before .before .pass .kept .1 .1 .1 .1 .1 .0 ∙ c .before .before .before .before .before .before .before .before .before .before .before .before .loop .inv .sieved .suspects .size ∙ sym (c .before .before .before .before .before .before .before .before .before .before .before .before .before .before .before .before .before .pre .1 .sieved .suspects .size)
 
 returns : tie.Need-returns Inv-loop μ-loop
-returns c =
-    let start = c .before .before .before .before .before .before .before .before .before .before .before .before .before in
-    sifted-hit _ (sieve-hit edition1 _ _ _ _ _ (c .before .before .before .before .before .before .before .before .before .loop .inv) (below start (start .args .n)) (within start) (met (c .before .before .before .before .before .before)) _ (c .before .before .before .is-repeated .ensures .0) (c .if1 .taken))
+returns c = sifted-hit _ _ (c .before .before .before .before .before .pass .ensures .0 .shared (c .if1 .taken))
 
 add-at : tie.Need-add-at Inv-loop μ-loop
-add-at c = omega (arith, met (c .before .before .before .before .before .before))
+add-at c = omega (arith, met (c .before .before .before .before .before .before .before .before .before))
 
 loop-less : tie.Need-loop-less Inv-loop μ-loop
-loop-less c = omega (arith, met (c .before .before .before .before .before .before))
+loop-less c = omega (arith, met (c .before .before .before .before .before .before .before .before .before))
 
 loop-again : tie.Need-loop-again Inv-loop μ-loop
-loop-again c =
-    let start = c .before .before .before .before .before .before .before .before .before .before .before .before .before in
-    sieve-turn edition1 _ _ _ _ _ (c .before .before .before .before .before .before .before .before .before .loop .inv) (below start (start .args .n)) (within start) (met (c .before .before .before .before .before .before)) _ (c .before .before .before .is-repeated .ensures .0) (c .if1 .left) _
-    (c .before .before .before .is-repeated .ensures .1)
+loop-again c = sieve-turn edition1 _ _ _ _ _ _ _ (c .before .before .before .before .before .before .before .before .before .before .before .before .loop .inv) (within (c .before .before .before .before .before .before .before .before .before .before .before .before .before .before .before .before .before)) (met (c .before .before .before .before .before .before .before .before .before)) _ _ _ (c .before .before .before .before .before .pass .ensures .0) (c .if1 .left) (c .before .before .before .before .before .pass .ensures .1)
 
 enum-told : tie.Need-enum-told Inv-loop μ-loop
 enum-told c = search needs
 
-same-length-2 : tie.Need-same-length-2 Inv-loop μ-loop
-same-length-2 c = c .before .before .before .loop .inv .size ∙ sym (c .before .before .before .before .before .before .before .pre .1 .size)
+same-length-3 : tie.Need-same-length-3 Inv-loop μ-loop
+same-length-3 c = c .before .before .before .loop .inv .size ∙ sym (c .before .before .before .before .before .before .before .before .pre .1 .size)
+
+same-length-4 : tie.Need-same-length-4 Inv-loop μ-loop
+same-length-4 c = c .before .before .before .loop .inv .sieved .suspects .size ∙ sym (c .before .before .before .before .before .before .before .before .pre .1 .sieved .suspects .size)
 
 returns-2 : tie.Need-returns-2 Inv-loop μ-loop
-returns-2 c = sifted-past _ (sieve-end edition1 _ _ _ _ _ (c .before .before .before .loop .inv) (meets-end edition1 _ _ _ (c .before .before .next .ensures) (c .enum-told .given .1)))
+returns-2 c = sifted-past _ _ (sieve-end edition1 _ _ _ _ _ _ _ (c .before .before .before .loop .inv) (meets-end edition1 _ _ _ (c .before .before .next .ensures) (c .enum-told .given .1)))
 
 enum-told-2 : tie.Need-enum-told-2 Inv-loop μ-loop
 enum-told-2 c = search needs
 
-same-length-3 : tie.Need-same-length-3 Inv-loop μ-loop
-same-length-3 c = c .before .before .before .loop .inv .size ∙ sym (c .before .before .before .before .before .before .before .pre .1 .size)
+same-length-5 : tie.Need-same-length-5 Inv-loop μ-loop
+same-length-5 c = c .before .before .before .loop .inv .size ∙ sym (c .before .before .before .before .before .before .before .before .pre .1 .size)
+
+same-length-6 : tie.Need-same-length-6 Inv-loop μ-loop
+same-length-6 c = c .before .before .before .loop .inv .sieved .suspects .size ∙ sym (c .before .before .before .before .before .before .before .before .pre .1 .sieved .suspects .size)
 
 returns-3 : tie.Need-returns-3 Inv-loop μ-loop
-returns-3 c = absurd (sieve-damage edition1 _ _ _ _ _ (c .before .before .before .loop .inv) (meets-damage edition1 _ _ _ (c .before .before .next .ensures) (c .enum-told2 .given .1)))
+returns-3 c = absurd (sieve-damage edition1 _ _ _ _ _ _ _ (c .before .before .before .loop .inv) (meets-damage edition1 _ _ _ (c .before .before .next .ensures) (c .enum-told2 .given .1)))
 
 pub sift-spec : {M : Type 1} → statement M
 sift-spec =
@@ -97,15 +104,18 @@ sift-spec =
     loop-holds
     next-requires
     enum-known-version
-    is-repeated-requires
+    pass-requires
     same-length
+    same-length-2
     returns
     add-at
     loop-less
     loop-again
     enum-told
-    same-length-2
+    same-length-3
+    same-length-4
     returns-2
     enum-told-2
-    same-length-3
+    same-length-5
+    same-length-6
     returns-3)

@@ -1,84 +1,17 @@
--- `log::versions::version_shared` meets its contract. The invariant: the entries of the slots passed share no version, and their bits are set.
-use Prim.Native.Nat.{_-_, _≤_}
-use mathlib.Core.Path.{_≡_, refl, sym, _∙_}
-use native.Mathlib.Omega.{arith}
-use borrow.Author.Tests.{not-true, not-false}
-use lib.ListN.{length}
-use Rattle.segment.specs.Layout.{edition1}
-use Rattle.slot_map.specs.Bit.{named}
-use Rattle.model.specs.Log.{viewsOf, logOf}
-use Rattle.log.specs.Extents.{meets}
-use Rattle.log.specs.Filter.{Sieved, sieved-none, sieved-skip, enters, sieved-all}
+-- `log::versions::version_shared` meets its contract.
+use mathlib.Core.Path.{sym}
+use borrow.Author.Needs.{needs}
 use Rattle.log.proofs.versions.version_shared.Statement.{statement}
 use Rattle.log.proofs.versions.version_shared.Tie as tie
 
-abbrev Inv-loop : tie.InvT-loop
-Inv-loop n s area map filter₀ i₀ filter i = (i ≤ n) × (length filter ≡ 512) × Sieved (logOf (viewsOf edition1 area s) (named map) i) filter
+returns : tie.Need-returns
+returns c = sym (c .before .before .pre .1 .1 (c .if1 .taken))
 
-abbrev μ-loop : tie.MeasureT-loop
-μ-loop n s area map filter₀ i₀ filter i = n - i
+search-shared-requires : tie.Need-search-shared-requires
+search-shared-requires c κs = search needs
 
-loop-holds : tie.Need-loop-holds Inv-loop μ-loop
-loop-holds c = (omega arith, refl, sieved-none _ _ _)
-
-add-i : tie.Need-add-i Inv-loop μ-loop
-add-i c = omega arith
-
-is-named-requires : tie.Need-is-named-requires Inv-loop μ-loop
-is-named-requires c κs = omega (arith, c .before .before .before .pre .0)
-
-loop-less : tie.Need-loop-less Inv-loop μ-loop
-loop-less c = omega arith
-
-loop-again : tie.Need-loop-again Inv-loop μ-loop
-loop-again c = (
-  omega arith,
-  c .before .before .before .loop .inv .1,
-  sieved-skip _ _ _ _ (c .before .before .before .loop .inv .2) (sym (c .before .is-named .ensures) ∙ not-true _ (c .if1 .taken)),
-)
-
-slice-aggregate-sift : tie.Need-slice-aggregate-sift Inv-loop μ-loop
-slice-aggregate-sift c = sym (c .before .before .before .before .loop .inv .1)
-
-sift-requires : tie.Need-sift-requires Inv-loop μ-loop
-sift-requires c κs = (
-  c .before .before .before .before .before .before .pre .0,
-  enters _ _ _ _ _ (c .before .before .before .before .before .before .pre .1) (c .before .before .before .loop-test .taken) (sym (c .before .before .is-named .ensures) ∙ not-false _ (c .before .if1 .left)) (c .before .before .before .before .loop .inv .1)
-      (c .before .before .before .before .loop .inv .2),
-)
-
-returns : tie.Need-returns Inv-loop μ-loop
-returns c = sym (c .before .before .sift .ensures .shared (c .if2 .taken))
-
-loop-less-2 : tie.Need-loop-less-2 Inv-loop μ-loop
-loop-less-2 c = omega arith
-
-loop-again-2 : tie.Need-loop-again-2 Inv-loop μ-loop
-loop-again-2 c = (
-  omega arith,
-  c .before .before .sift .kept .1 .1 .1 .1 .1 .0 ∙ c .before .before .before .before .before .before .before .loop .inv .1,
-  c .before .before .sift .ensures .sieved (c .if2 .left),
-)
-
-returns-2 : tie.Need-returns-2 Inv-loop μ-loop
-returns-2 c =
-    let e : c .before .loop .i ≡ c .before .before .before .args .n = omega arith in
-    rw (← e) (sieved-all _ _ _ _ (c .before .loop .inv .2))
+returns-2 : tie.Need-returns-2
+returns-2 c = search needs
 
 pub version-shared-spec : {M : Type 1} → statement M
-version-shared-spec =
-    tie.close
-    (tie.spec
-    Inv-loop
-    μ-loop
-    loop-holds
-    add-i
-    is-named-requires
-    loop-less
-    loop-again
-    slice-aggregate-sift
-    sift-requires
-    returns
-    loop-less-2
-    loop-again-2
-    returns-2)
+version-shared-spec = tie.close (tie.spec returns search-shared-requires returns-2)

@@ -1,12 +1,11 @@
 -- `record::range::map_good` meets its contract.
-use Prim.Native.Nat.{ℕ}
-use mathlib.Core.Path.{sym, ap, _∙_}
+use mathlib.Core.Path.{sym, _∙_}
 use borrow.Author.Needs.{needs}
 use borrow.Author.Tests.{not-false}
-use lib.Dec.{ltb}
 use Rattle.segment.specs.Choice.{both-false-left}
+use Rattle.slot_map.specs.BitLaws.{below-true}
 use Rattle.record.specs.Range.{mapGood}
-use Rattle.record.specs.RangeLaws.{past-slots, used-all, stop, go, ends, goes}
+use Rattle.record.specs.RangeLaws.{past-slots, stop, go, ends, goes}
 use Rattle.record.proofs.range.map_good.Statement.{statement}
 use Rattle.record.proofs.range.map_good.Tie as tie
 
@@ -22,15 +21,20 @@ returns-2 c =
     let f = c .before .if1 .left in
     go _ e f (sym (both-false-left _ _ (past-slots (a .slots) (a .head) (a .map) (sym e ∙ not-false _ f) (c .if2 .taken))))
 
+leaves-free-requires : tie.Need-leaves-free-requires
+leaves-free-requires c κs =
+    let e = c .before .before .before .before .names-below .ensures in
+    let f = c .before .before .before .if1 .left in
+    (search needs, search needs, below-true _ _ (sym e ∙ not-false _ f))
+
 returns-3 : tie.Need-returns-3
 unfolding mapGood
 returns-3 c =
-    let a = c .before .before .before .before .before .before .args in
     let e = c .before .before .before .before .before .names-below .ensures in
     let f = c .before .before .before .before .if1 .left in
     go _ e f
     (goes _ (c .before .before .has-slot .ensures) (c .before .if3 .taken)
-    (ap (λ (k : ℕ). ltb k (a .slots)) (c .used-slots .ensures ∙ used-all (a .slots) (a .map) (search needs) (sym e ∙ not-false _ f))))
+    (c .leaves-free .ensures))
 
 returns-4 : tie.Need-returns-4
 unfolding mapGood
@@ -46,6 +50,6 @@ map-good-spec =
     returns
     returns-2
     (λ c κs. search needs)
-    (λ c κs. search needs)
+    leaves-free-requires
     returns-3
     returns-4)

@@ -1,6 +1,6 @@
 -- `recovery::read::look` meets its contract: an arm for each answer of the reader.
-use Prim.Native.Nat.{ℕ, _%_}
-use mathlib.Core.Path.{_≡_, sym, _∙_, ap}
+use Prim.Native.Nat.{ℕ}
+use mathlib.Core.Path.{_≡_, sym, _∙_, ap, ap₂}
 use mathlib.Core.List.{List}
 use Rattle.segment.specs.Layout.{edition1}
 use Rattle.segment.specs.Entry.{entryAt, answer}
@@ -11,19 +11,18 @@ use Rattle.recovery.proofs.read.look.Tie as tie
 
 -- what the reader says
 stands : (c : tie.After-read)
-    → let a = c .before .before .before .args in c .read .result ≡ standsAt edition1 (a .s) (a .area .now) (a .place)
+    → let a = c .before .before .before .before .args in c .read .result ≡ standsAt edition1 (a .s) (a .area .now) (a .place)
 stands c =
-    let a = c .before .before .before .args in
-    c .read .ensures ∙ ap (λ (l : List ℕ). answer edition1 (entryAt edition1 l (a .place % a .s))) (c .before .cut .ensures)
+    let a = c .before .before .before .before .args in
+    c .read .ensures
+    ∙ ap₂ (λ (l : List ℕ) (at : ℕ). answer edition1 (entryAt edition1 l at)) (c .before .around .ensures)
+    (c .before .before .remainder .ensures)
 
-div-cut : tie.Need-div-cut
-div-cut c = search needs
+remainder-requires : tie.Need-remainder-requires
+remainder-requires c κs = search needs
 
-cut-requires : tie.Need-cut-requires
-cut-requires c κs = search needs
-
-rem-read : tie.Need-rem-read
-rem-read c = search needs
+around-requires : tie.Need-around-requires
+around-requires c κs = search needs
 
 read-requires : tie.Need-read-requires
 read-requires c κs = search needs
@@ -60,9 +59,8 @@ pub look-spec : {M : Type 1} → statement M
 look-spec =
     tie.close
     (tie.spec
-    div-cut
-    cut-requires
-    rem-read
+    remainder-requires
+    around-requires
     read-requires
     enum-known-version
     enum-told

@@ -1,12 +1,12 @@
--- `log::versions::mark` meets its contract.
+-- `log::filter::mark` meets its contract.
 use Prim.Native.Nat.{_/_, _%_}
 use mathlib.Core.Path.{ap}
 use borrow.Author.Needs.{needs}
 use lib.ListN.{set}
 use Rattle.log.specs.Extents.{meets}
 use Rattle.log.specs.Filter.{isMarked, markedWith}
-use Rattle.log.proofs.versions.mark.Statement.{statement}
-use Rattle.log.proofs.versions.mark.Tie as tie
+use Rattle.log.proofs.filter.mark.Statement.{statement}
+use Rattle.log.proofs.filter.mark.Tie as tie
 
 cast-word : tie.Need-cast-word
 cast-word c = search needs

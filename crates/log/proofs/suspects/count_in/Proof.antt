@@ -1,0 +1,87 @@
+-- `log::suspects::count_in` meets its contract. The invariant: counting on from here gives the whole count.
+use Prim.Native.Nat.{_+_, _-_}
+use mathlib.Core.Path.{ap}
+use native.Mathlib.Omega.{arith}
+use borrow.Author.Needs.{needs}
+use lib.ListN.{length}
+use Rattle.segment.specs.Layout.{edition1}
+use Rattle.log.specs.Extents.{Meets, meets, meets-end, meets-damage, rest-whole}
+use Rattle.log.specs.Counts.{countFrom, Counting, count-turn, count-end, count-damage}
+use Rattle.log.proofs.suspects.count_in.Statement.{statement}
+use Rattle.log.proofs.suspects.count_in.Tie as tie
+
+abbrev Inv-loop : tie.InvT-loop
+Inv-loop part table at₀ count₀ at count = Counting edition1 part table at count
+
+abbrev μ-loop : tie.MeasureT-loop
+μ-loop part table at₀ count₀ at count = length part - at
+
+loop-holds : tie.Need-loop-holds Inv-loop μ-loop
+unfolding edition1
+loop-holds c = record { whole = ap (countFrom _ 0) (rest-whole edition1 _); passed = omega arith }
+
+next-requires : tie.Need-next-requires Inv-loop μ-loop
+next-requires c κs = search needs
+
+enum-known-version : tie.Need-enum-known-version Inv-loop μ-loop
+enum-known-version c = search needs
+
+is-suspect-requires : tie.Need-is-suspect-requires Inv-loop μ-loop
+is-suspect-requires c κs = search needs
+
+one-requires : tie.Need-one-requires Inv-loop μ-loop
+one-requires c κs = search needs
+
+-- the entry that the turn passes, and the count with it
+met : (c : tie.After-version Inv-loop μ-loop)
+    → Meets edition1 (c .before .before .before .before .before .before .args .part .now) (c .before .before .before .loop .at) (c .version .given .0 .0 .0) (c .version .given .0 .1 .0)
+met c = meets edition1 _ _ _ (c .before .before .next .ensures) _ _ (c .version .given .1)
+
+turned : (c : tie.After-one Inv-loop μ-loop)
+    → Counting edition1 (c .before .before .before .before .before .before .before .before .before .args .part .now) (c .before .before .before .before .before .before .before .before .before .args .table .now) (c .before .before .before .before .before .before .loop .at + c .before .before .before .version .given .0 .1 .0)
+    (c .before .before .before .before .before .before .loop .count + c .one .result)
+turned c = count-turn edition1 _ _ _ _ (c .before .before .before .before .before .before .loop .inv) (met (c .before .before .before)) _ (c .before .is-suspect .ensures) _ (c .one .ensures)
+
+add-count : tie.Need-add-count Inv-loop μ-loop
+add-count c = omega (arith, met (c .before .before .before), turned c)
+
+add-at : tie.Need-add-at Inv-loop μ-loop
+add-at c = omega (arith, met (c .before .before .before))
+
+loop-less : tie.Need-loop-less Inv-loop μ-loop
+loop-less c = omega (arith, met (c .before .before .before))
+
+loop-again : tie.Need-loop-again Inv-loop μ-loop
+loop-again c = turned c
+
+enum-told : tie.Need-enum-told Inv-loop μ-loop
+enum-told c = search needs
+
+returns : tie.Need-returns Inv-loop μ-loop
+returns c = count-end edition1 _ _ _ _ (c .before .before .before .loop .inv) (meets-end edition1 _ _ _ (c .before .before .next .ensures) (c .enum-told .given .1))
+
+enum-told-2 : tie.Need-enum-told-2 Inv-loop μ-loop
+enum-told-2 c = search needs
+
+returns-2 : tie.Need-returns-2 Inv-loop μ-loop
+returns-2 c = count-damage edition1 _ _ _ _ (c .before .before .before .loop .inv) (meets-damage edition1 _ _ _ (c .before .before .next .ensures) (c .enum-told2 .given .1))
+
+pub count-in-spec : {M : Type 1} → statement M
+count-in-spec =
+    tie.close
+    (tie.spec
+    Inv-loop
+    μ-loop
+    loop-holds
+    next-requires
+    enum-known-version
+    is-suspect-requires
+    one-requires
+    add-count
+    add-at
+    loop-less
+    loop-again
+    enum-told
+    returns
+    enum-told-2
+    returns-2)

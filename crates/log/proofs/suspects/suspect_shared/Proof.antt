@@ -1,0 +1,21 @@
+-- `log::suspects::suspect_shared` meets its contract.
+use mathlib.Core.Path.{sym, _∙_}
+use borrow.Author.Needs.{needs}
+use Rattle.log.specs.Suspects.{look-none}
+use Rattle.log.proofs.suspects.suspect_shared.Statement.{statement}
+use Rattle.log.proofs.suspects.suspect_shared.Tie as tie
+
+occupied-requires : tie.Need-occupied-requires
+occupied-requires c κs = search needs
+
+returns : tie.Need-returns
+returns c = look-none _ _ (c .before .before .before .before .pre .1) (sym (c .before .occupied .ensures) ∙ c .if1 .taken)
+
+count-requires : tie.Need-count-requires
+count-requires c κs = search needs
+
+returns-2 : tie.Need-returns-2
+returns-2 c = cc (c .before .before .occupied .ensures, c .count .ensures)
+
+pub suspect-shared-spec : {M : Type 1} → statement M
+suspect-shared-spec = tie.close (tie.spec occupied-requires returns count-requires returns-2)

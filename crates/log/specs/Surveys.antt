@@ -1,0 +1,235 @@
+-- What a walk of the log tells: damage, the highest version, and whether the filter tells all versions apart.
+use Prim.Native.Nat.{ℕ, _+_, _≤_, _<_, max}
+use mathlib.Core.Path.{_≡_, refl, sym, _∙_, ap, subst}
+use mathlib.Core.Bool.{Bool, true, false}
+use mathlib.Core.List.{List, [], _∷_, _++_, append-nil, append-assoc}
+use native.Mathlib.Omega.{arith}
+use native.Mathlib.Decide.{decLe}
+use lib.Dec.{eqb}
+use lib.ListN.{length}
+use borrow.Author.Tests.{eqb-true}
+use Rattle.segment.specs.Choice.{pick, both-false-left, both-false-right}
+use Rattle.segment.specs.Layout.{Layout, digestSize}
+use Rattle.segment.specs.Entry.{end, damage, entryAt}
+use Rattle.model.specs.Log.{View, Item, Placed, Scan, damaged, scanned, itemFirst, scan, itemsOf, isDamaged, placedIn, logOf, highest, versionShared}
+use Rattle.model.specs.Recovery.{logDamaged}
+use Rattle.laws.specs.Members.{clash, total}
+use Rattle.laws.specs.Scans.{itemAt}
+use Rattle.laws.specs.LogLaws.{placedAt, placed-append}
+use Rattle.laws.specs.Versions.{counted, count, count-append, count-shared, highest-append}
+use Rattle.log.specs.Extents.{Meets, restOf, rest-whole, rest-entry, rest-end, rest-damage, log-take, log-skip, sound-slot, damaged-slot}
+use Rattle.log.specs.Filter.{isMarked, markedWith, length-marked, mark-own, mark-keeps}
+
+-- What has been passed: its highest version, and, as long as the versions are apart, none stands twice and the bit of each is set.
+pub record Told (log : List Placed) (top : ℕ) (apart : Bool) (filter : List ℕ) : Type 0 where
+  pub highest-is : top ≡ highest log
+  pub size : length filter ≡ 512
+  pub once : apart ≡ true → (v : ℕ) → count v log ≤ 1
+  pub marks : apart ≡ true → (v : ℕ) → 1 ≤ count v log → isMarked filter v ≡ true
+
+pub told-none : (v : ℕ → View) (p : ℕ → Bool) (filter : List ℕ) → length filter ≡ 512 → Told (logOf v p 0) 0 true filter
+unfolding logOf highest total
+told-none v p filter size =
+    record { highest-is = refl; size = size; once = λ e u. omega arith; marks = λ e u h. absurd (omega arith) }
+
+-- one entry more
+module _ (log : List Placed) (x : Placed) (top : ℕ) (apart : Bool) (filter : List ℕ) (so-far : Told log top apart filter) where
+  count-more : (u : ℕ) → count u (log ++ (x ∷ [])) ≡ count u log + counted u (x .entry)
+  unfolding total
+  count-more u = omega (arith, count-append u log (x ∷ []))
+
+  module _ (w : ℕ) (its : x .entry .version ≡ w) where
+    -- only an entry of that version adds to its count
+    its-count : (u : ℕ) (t : Bool) → eqb (x .entry .version) u ≡ t → counted u (x .entry) ≡ pick t 1 0
+    unfolding counted
+    its-count u t e = ap (λ (b : Bool). pick b 1 0) e
+
+    fresh : isMarked filter w ≡ false → apart ≡ true → Dec (1 ≤ count w log) → count w log ≡ 0
+    fresh unset a (yes l) = absurd (clash (isMarked filter w) (so-far .marks a w l) unset)
+    fresh unset a (no l) = omega arith
+
+    once-more : isMarked filter w ≡ false → apart ≡ true → (u : ℕ) → count u (log ++ (x ∷ [])) ≤ 1
+    unfolding pick
+    once-more unset a u = go (eqb (x .entry .version) u) refl
+      where
+        go : (t : Bool) → eqb (x .entry .version) u ≡ t → count u (log ++ (x ∷ [])) ≤ 1
+        go true e =
+            let same : w ≡ u = sym its ∙ eqb-true (x .entry .version) u e in
+            omega (arith, count-more u, its-count u true e, ap (λ (k : ℕ). count k log) same, fresh unset a (decLe 1 (count w log)))
+        go false e = omega (arith, count-more u, its-count u false e, so-far .once a u)
+
+    marks-more : apart ≡ true → (u : ℕ) → 1 ≤ count u (log ++ (x ∷ [])) → isMarked (markedWith filter w) u ≡ true
+    unfolding pick
+    marks-more a u l = go (eqb (x .entry .version) u) refl
+      where
+        go : (t : Bool) → eqb (x .entry .version) u ≡ t → isMarked (markedWith filter w) u ≡ true
+        go true e =
+            let same : w ≡ u = sym its ∙ eqb-true (x .entry .version) u e in
+            ap (isMarked (markedWith filter w)) (sym same) ∙ mark-own filter (so-far .size) w
+        go false e = mark-keeps filter (so-far .size) w u (so-far .marks a u (omega (arith, count-more u, its-count u false e)))
+
+    -- both the old versions are apart and the bit was not set
+    still : (t : Bool) → isMarked filter w ≡ t → pick t false apart ≡ true → (isMarked filter w ≡ false) × (apart ≡ true)
+    unfolding pick
+    still true e q = absurd (clash true refl (sym q))
+    still false e q = (e, q)
+
+    pub told-more : (top₁ : ℕ) → top₁ ≡ max top w → (apart₁ : Bool) → apart₁ ≡ pick (isMarked filter w) false apart → (filter₁ : List ℕ)
+        → filter₁ ≡ markedWith filter w → Told (log ++ (x ∷ [])) top₁ apart₁ filter₁
+    unfolding highest
+    told-more top₁ t apart₁ a filter₁ f =
+        record {
+          highest-is = omega (arith, t, its, so-far .highest-is, highest-append log (x ∷ []));
+          size = ap length f ∙ length-marked filter w ∙ so-far .size;
+          once = λ e. let (unset, was) = still (isMarked filter w) refl (sym a ∙ e) in once-more unset was;
+          marks =
+              λ e u l. let (unset, was) = still (isMarked filter w) refl (sym a ∙ e) in
+              ap (λ (g : List ℕ). isMarked g u) f ∙ marks-more was u l;
+        }
+
+-- ---- the entries of one slot
+
+-- a scan after some items
+unfoldable pub after : List Item → Scan → Scan
+after is damaged = damaged
+after is (scanned js e) = scanned (is ++ js) e
+
+after-none : (r : Scan) → after [] r ≡ r
+unfolding after
+after-none damaged = refl
+after-none (scanned js e) = refl
+
+after-first : (is : List Item) (x : Item) (r : Scan) → after is (itemFirst x r) ≡ after (is ++ (x ∷ [])) r
+unfolding after itemFirst
+after-first is x damaged = refl
+after-first is x (scanned js e) = ap (λ (l : List Item). scanned l e) (sym (append-assoc is (x ∷ []) js))
+
+-- Between two entries of the slot i whose bytes are s, after the entries of the log before it.
+pub record Telling (L : Layout) (s : List ℕ) (i : ℕ) (before : List Placed) (at top : ℕ) (apart : Bool) (filter : List ℕ) : Type 0 where
+  pub items : List Item
+  pub splits : scan L s ≡ after items (restOf L s at)
+  pub told : Told (before ++ placedIn i items) top apart filter
+
+-- What the answer after them means.
+pub record SlotTold (v : ℕ → View) (p : ℕ → Bool) (i : ℕ) (sound : Bool) (top : ℕ) (apart : Bool) (filter : List ℕ) : Type 0 where
+  pub damage : sound ≡ false → isDamaged (v i .scan) ≡ true
+  pub undamaged : sound ≡ true → isDamaged (v i .scan) ≡ false
+  pub told : sound ≡ true → Told (logOf v p (i + 1)) top apart filter
+
+module _ (L : Layout) (s : List ℕ) (i : ℕ) (before : List Placed) where
+  pub telling-start : (top : ℕ) (apart : Bool) (filter : List ℕ) → Told before top apart filter → Telling L s i before (digestSize L) top apart filter
+  unfolding placedIn
+  telling-start top apart filter h =
+      record {
+        items = [];
+        splits = sym (after-none (restOf L s (digestSize L)) ∙ rest-whole L s);
+        told = subst (λ (l : List Placed). Told l top apart filter) (sym (append-nil before)) h;
+      }
+
+  module _ (at top : ℕ) (apart : Bool) (filter : List ℕ) (so-far : Telling L s i before at top apart filter) where
+    pub telling-turn : {w len : ℕ} → Meets L s at w len → (top₁ : ℕ) → top₁ ≡ max top w → (apart₁ : Bool)
+        → apart₁ ≡ pick (isMarked filter w) false apart → (filter₁ : List ℕ) → filter₁ ≡ markedWith filter w
+        → Telling L s i before (at + len) top₁ apart₁ filter₁
+    unfolding placedIn
+    telling-turn {w} {len} m top₁ t apart₁ a filter₁ f =
+        record {
+          items = so-far .items ++ (itemAt at (m .met) ∷ []);
+          splits =
+              so-far .splits ∙ ap (after (so-far .items)) (rest-entry L s at m)
+              ∙ after-first (so-far .items) (itemAt at (m .met)) (restOf L s (at + len));
+          told =
+              subst (λ (l : List Placed). Told l top₁ apart₁ filter₁) (sym longer)
+              (told-more (before ++ placedIn i (so-far .items)) (placedAt i (itemAt at (m .met))) top apart filter (so-far .told) w
+              (m .its-version) top₁ t apart₁ a filter₁ f);
+        }
+      where
+        longer : before ++ placedIn i (so-far .items ++ (itemAt at (m .met) ∷ []))
+            ≡ (before ++ placedIn i (so-far .items)) ++ (placedAt i (itemAt at (m .met)) ∷ [])
+        longer =
+            ap (λ (l : List Placed). before ++ l) (placed-append i (so-far .items) (itemAt at (m .met) ∷ []))
+            ∙ sym (append-assoc before (placedIn i (so-far .items)) (placedAt i (itemAt at (m .met)) ∷ []))
+
+    pub telling-end : (v : ℕ → View) (p : ℕ → Bool) → v i .scan ≡ scan L s → before ≡ logOf v p i → p i ≡ true → entryAt L s at ≡ end
+        → SlotTold v p i true top apart filter
+    unfolding after isDamaged itemsOf
+    telling-end v p own log picked e =
+        record {
+          damage = λ q. absurd (clash true refl q);
+          undamaged = λ q. ap isDamaged whole;
+          told = λ q. subst (λ (l : List Placed). Told l top apart filter) (sym all) (so-far .told);
+        }
+      where
+        whole : v i .scan ≡ scanned (so-far .items) at
+        whole =
+            own ∙ so-far .splits ∙ ap (after (so-far .items)) (rest-end L s at e)
+            ∙ ap (λ (l : List Item). scanned l at) (append-nil (so-far .items))
+
+        all : logOf v p (i + 1) ≡ before ++ placedIn i (so-far .items)
+        all =
+            log-take v p i picked ∙ ap (λ (l : List Placed). l ++ placedIn i (itemsOf (v i .scan))) (sym log)
+            ∙ ap (λ (r : Scan). before ++ placedIn i (itemsOf r)) whole
+
+    pub telling-damage : (v : ℕ → View) (p : ℕ → Bool) → v i .scan ≡ scan L s → entryAt L s at ≡ damage → SlotTold v p i false top apart filter
+    unfolding after isDamaged
+    telling-damage v p own e =
+        record {
+          damage = λ q. ap isDamaged (own ∙ so-far .splits ∙ ap (after (so-far .items)) (rest-damage L s at e));
+          undamaged = λ q. absurd (clash false q refl);
+          told = λ q. absurd (clash false q refl);
+        }
+
+-- ---- the log
+
+-- What the survey of the log means.
+pub record Surveyed (v : ℕ → View) (p : ℕ → Bool) (n : ℕ) (sound : Bool) (top : ℕ) (apart : Bool) : Type 0 where
+  pub damage : sound ≡ false → logDamaged v p n ≡ true
+  pub undamaged : sound ≡ true → logDamaged v p n ≡ false
+  pub highest-is : sound ≡ true → top ≡ highest (logOf v p n)
+  pub unshared : sound ≡ true → apart ≡ true → versionShared (logOf v p n) ≡ false
+
+-- The slots below i that p picks are undamaged, and this was told of them.
+pub record Surveying (v : ℕ → View) (p : ℕ → Bool) (i : ℕ) (sound : Bool) (top : ℕ) (apart : Bool) (filter : List ℕ) : Type 0 where
+  pub is-sound : sound ≡ true
+  pub undamaged : logDamaged v p i ≡ false
+  pub told : Told (logOf v p i) top apart filter
+
+pub survey-none : (v : ℕ → View) (p : ℕ → Bool) (filter : List ℕ) → length filter ≡ 512 → Surveying v p 0 true 0 true filter
+unfolding logDamaged
+survey-none v p filter size = record { is-sound = refl; undamaged = refl; told = told-none v p filter size }
+
+module _ (v : ℕ → View) (p : ℕ → Bool) (i : ℕ) (sound : Bool) (top : ℕ) (apart : Bool) (filter : List ℕ) (so-far : Surveying v p i sound top apart filter) where
+  pub survey-skip : p i ≡ false → Surveying v p (i + 1) sound top apart filter
+  survey-skip q =
+      record {
+        is-sound = so-far .is-sound;
+        undamaged = sound-slot v p i (both-false-left (p i) (isDamaged (v i .scan)) q) (so-far .undamaged);
+        told = subst (λ (l : List Placed). Told l top apart filter) (sym (log-skip v p i q)) (so-far .told);
+      }
+
+  pub survey-take : (sound₁ : Bool) (top₁ : ℕ) (apart₁ : Bool) (filter₁ : List ℕ) → SlotTold v p i sound₁ top₁ apart₁ filter₁ → sound₁ ≡ true
+      → Surveying v p (i + 1) sound₁ top₁ apart₁ filter₁
+  survey-take sound₁ top₁ apart₁ filter₁ h e =
+      record {
+        is-sound = e;
+        undamaged = sound-slot v p i (both-false-right (p i) (isDamaged (v i .scan)) (h .undamaged e)) (so-far .undamaged);
+        told = h .told e;
+      }
+
+  pub survey-end : Surveyed v p i sound top apart
+  survey-end =
+      record {
+        damage = λ e. absurd (clash sound (so-far .is-sound) e);
+        undamaged = λ e. so-far .undamaged;
+        highest-is = λ e. so-far .told .highest-is;
+        unshared = λ e a. count-shared (logOf v p i) (so-far .told .once a);
+      }
+
+pub survey-damaged : (v : ℕ → View) (p : ℕ → Bool) (i n : ℕ) → i < n → p i ≡ true → (sound : Bool) (top : ℕ) (apart : Bool) (filter : List ℕ)
+    → SlotTold v p i sound top apart filter → sound ≡ false → Surveyed v p n sound top apart
+survey-damaged v p i n h q sound top apart filter told e =
+    record {
+      damage = λ f. damaged-slot v p i n h q (told .damage e);
+      undamaged = λ f. absurd (clash sound f e);
+      highest-is = λ f. absurd (clash sound f e);
+      unshared = λ f a. absurd (clash sound f e);
+    }
