@@ -305,6 +305,9 @@ module _ (log : List Placed) (table : List ℕ) (h : Suspects log table) where
   pub look-none : occupied table ≡ 0 → false ≡ ltb (occupied table) (hits table log)
   look-none e = rw (e, h .none e)
 
+  pub look-some : (k d : ℕ) → k ≡ occupied table → d ≡ hits table log → ltb k d ≡ ltb (occupied table) (hits table log)
+  look-some k d p q = ap (λ (j : ℕ). ltb j d) p ∙ ap (ltb (occupied table)) q
+
   module _ (r : Bool) (told : r ≡ ltb (occupied table) (hits table log)) where
     pub look-shared : r ≡ true → versionShared log ≡ true
     look-shared e = h .shared (ltb-true (occupied table) (hits table log) (sym told ∙ e))

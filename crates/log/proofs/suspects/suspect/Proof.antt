@@ -46,7 +46,7 @@ returns-2 : tie.Need-returns-2
 returns-2 c = suspect-put _ _ (held (c .before .before .before .before .before .before .before .before)) _ (stands (c .before .before .before .before .before .before .before .before)) (sym (c .before .before .before .before .is-suspect .ensures) ∙ c .before .before .before .if1 .left) _ (c .before .room .ensures) (c .if2 .taken)
 
 suspect-shared-requires : tie.Need-suspect-shared-requires
-suspect-shared-requires c κs = search needs
+suspect-shared-requires c κs = (c .before .before .before .before .before .before .before .before .before .pre .0, held (c .before .before .before .before .before .before .before .before .before))
 
 same-length-3 : tie.Need-same-length-3
 same-length-3 c = search needs

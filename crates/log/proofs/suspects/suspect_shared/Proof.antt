@@ -1,7 +1,7 @@
 -- `log::suspects::suspect_shared` meets its contract.
 use mathlib.Core.Path.{sym, _∙_}
 use borrow.Author.Needs.{needs}
-use Rattle.log.specs.Suspects.{look-none}
+use Rattle.log.specs.Suspects.{look-none, look-some}
 use Rattle.log.proofs.suspects.suspect_shared.Statement.{statement}
 use Rattle.log.proofs.suspects.suspect_shared.Tie as tie
 
@@ -15,7 +15,7 @@ count-requires : tie.Need-count-requires
 count-requires c κs = search needs
 
 returns-2 : tie.Need-returns-2
-returns-2 c = cc (c .before .before .occupied .ensures, c .count .ensures)
+returns-2 c = look-some _ _ (c .before .before .before .before .before .pre .1) _ _ (c .before .before .occupied .ensures) (c .count .ensures)
 
 pub suspect-shared-spec : {M : Type 1} → statement M
 suspect-shared-spec = tie.close (tie.spec occupied-requires returns count-requires returns-2)
