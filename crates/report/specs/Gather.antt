@@ -7,7 +7,7 @@ use mathlib.Core.Option.{Option, none, some}
 use native.Mathlib.Omega.{arith}
 use lib.Dec.{eqb}
 use lib.ListN.{length, getD, drop, length-take}
-use borrow.Author.Tests.{eqb-true, eqb-false, ne-eqb, eq-eqb}
+use borrow.Author.Tests.{ne-eqb, eq-eqb}
 use Rattle.word.specs.Number.{Bytes}
 use Rattle.word.specs.Laws.{bytes-take, bytes-drop}
 use Rattle.segment.specs.Choice.{pick, pick-true, pick-false}
@@ -24,10 +24,10 @@ use Rattle.model.specs.Log.{Placed, placeOf, segmentOf, viewsOf, latest, object
 use Rattle.model.specs.Index.{IsLatest, HasCell}
 use Rattle.model.specs.Operations.{logNow, TypedKey}
 use Rattle.model.specs.Promises.{Genuine}
-use Rattle.laws.specs.Members.{In, Same}
+use Rattle.laws.specs.Members.{In}
 use Rattle.laws.specs.Latest.{latest-some, same-key}
 use Rattle.laws.specs.LogLaws.{log-in}
-use Rattle.laws.specs.Stores.{slot-inside, length-segment}
+use Rattle.laws.specs.Stores.{slot-inside}
 use Rattle.index.specs.Area.{place-back}
 use Rattle.index.specs.Finds.{held}
 use Rattle.recovery.specs.Lookups.{standsAt}

@@ -9,7 +9,6 @@ use lib.ListN.{length, getD, take, drop, drop-of-length-le}
 use lib.Seq.{length-take-le}
 use Rattle.segment.specs.Layout.{Layout}
 use Rattle.segment.specs.declared.Key.{Key}
-use Rattle.segment.specs.declared.Version.{Version}
 use Rattle.record.specs.declared.Store.{Store}
 use Rattle.model.specs.Log.{Placed, present}
 use Rattle.model.specs.Operations.{logNow, TypedKey}
@@ -41,12 +40,6 @@ line-found L area r cells k found ready e =
     go none = unfold lineFound lookupFor lineOf in refl
     go (some x) = unfold lineFound lookupFor lineOf in refl
 
-pub within-same : {out out′ : List ℕ} {at end room : ℕ} {s t : List ℕ} → s ≡ t → PutWithin out out′ at end s room → PutWithin out out′ at end t room
-within-same {out} {out′} {at} {end} {room} same p = subst (λ (text : List ℕ). PutWithin out out′ at end text room) same p
-
-pub within-none : (out : List ℕ) (at room : ℕ) → PutWithin out out at at [] room
-within-none out at room = record { put = put-none out at; within = omega arith }
-
 -- ---- the keys one after the other
 
 -- the key at a place of a list of keys
@@ -66,11 +59,12 @@ key-at (k ∷ ks) (suc i) h =
 -- To put what is left of the text at `end` is to have put the whole of it at `at`.
 pub record LinesLeft (L : Layout) (log : List Placed) (ks : List Key) (out₀ : List ℕ) (at : ℕ) (out : List ℕ) (end i : ℕ) : Type 0 where
   pub long : length out ≡ length out₀
+  pub inside : i ≤ length (ranks ks)
   pub within : end ≤ at + 44 * i
   pub finishes : (out′ : List ℕ) (r : ℕ) → Put out out′ end r (linesOf L log (drop i ks)) → Put out₀ out′ at r (linesOf L log ks)
 
 pub lines-start : (L : Layout) (log : List Placed) (ks : List Key) (out : List ℕ) (at : ℕ) → LinesLeft L log ks out at out at 0
-lines-start L log ks out at = record { long = refl; within = omega arith; finishes = λ out′ r p. p }
+lines-start L log ks out at = record { long = refl; inside = omega arith; within = omega arith; finishes = λ out′ r p. p }
 
 -- their ranks, one after the other
 module _ (ks : List Key) (xs : List ℕ) (same : xs ≡ ranks ks) (typed : AllTyped ks) (i : ℕ) (h : i < length xs) where
@@ -102,9 +96,13 @@ length-ranks (k ∷ ks) = ap suc (length-ranks ks)
 
 module _ (L : Layout) (log : List Placed) (ks : List Key) (xs : List ℕ) (same : xs ≡ ranks ks) (out₀ : List ℕ) (at : ℕ) (out : List ℕ) (end i : ℕ)
     (left : LinesLeft L log ks out₀ at out end i) where
-  pub lines-end : length xs ≤ i → Put out₀ out at end (linesOf L log ks)
+  pub lines-end : length xs ≤ i → PutWithin out₀ out at end (linesOf L log ks) (44 * length xs)
   unfolding linesOf
-  lines-end h = left .finishes out end (subst (λ (js : List Key). Put out out end end (linesOf L log js)) (sym none-left) (put-none out end))
+  lines-end h =
+      record {
+        put = left .finishes out end (subst (λ (js : List Key). Put out out end end (linesOf L log js)) (sym none-left) (put-none out end));
+        within = omega (arith, left .within, left .inside, ap length same);
+      }
     where
       none-left : drop i ks ≡ []
       none-left = drop-of-length-le ks {i = i} (omega (arith, ap length same, length-ranks ks))
@@ -114,6 +112,7 @@ module _ (L : Layout) (log : List Placed) (ks : List Key) (xs : List ℕ) (same 
   lines-turn typed h key its out₁ e long p =
       record {
         long = long ∙ left .long;
+        inside = omega (arith, ap length same);
         within = omega (arith, p .within, left .within);
         finishes = λ out′ r q.
             left .finishes out′ r (subst (Put out out′ end r) (next-line ks xs same typed i h L log key its) (put-then (p .put) q));

@@ -1,5 +1,5 @@
 -- The present keys by their ranks: a key's rank is one number that goes by table and then key.
-use Prim.Native.Nat.{ℕ, _+_, _*_, _^_, _<_, _≤_, _/_, _%_}
+use Prim.Native.Nat.{ℕ, _+_, _*_, _<_, _/_, _%_}
 use mathlib.Core.Path.{_≡_, refl, sym, _∙_, ap, subst}
 use mathlib.Core.Logic.{_⊎_, inl, inr}
 use mathlib.Core.Bool.{Bool, true, false}
@@ -7,7 +7,6 @@ use mathlib.Core.List.{List, [], _∷_, map, List·Memᴰ·head, List·Memᴰ·t
 use mathlib.Core.Option.{Option, none, some}
 use native.Mathlib.Omega.{arith}
 use lib.Dec.{eqb, ltb}
-use lib.ListN.{length}
 use borrow.Author.Tests.{ltb-true, ltb-false, lt-ltb, le-ltb, eqb-true, eqb-false}
 use Rattle.segment.specs.Choice.{pick, pick-true, pick-false, both, either}
 use Rattle.segment.specs.Layout.{Layout, isTombstone}
@@ -17,7 +16,7 @@ use Rattle.model.specs.Operations.{TypedKey}
 use Rattle.model.specs.Refused.{isAbsent, keyAbsent}
 use Rattle.laws.specs.Members.{In, first, Within, Once, empty, more, clash}
 use Rattle.laws.specs.Latest.{latest-has}
-use Rattle.laws.specs.Keys.{key-listed, listed-key, keys-once}
+use Rattle.laws.specs.Keys.{key-listed, keys-once}
 use Rattle.report.specs.Listing.{before, inOrder, ascending, presentOf, presentKeys}
 use Rattle.report.specs.Ascent.{carried, Ascending, none-left, then-higher, ascending-under, ascending-rest, carried-only, carried-new, carried-old, carried-ascending, carried-least, carried-behind}
 

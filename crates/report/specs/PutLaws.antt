@@ -1,11 +1,11 @@
 -- Text that is put within so many bytes.
 use Prim.Native.Nat.{ℕ, _+_, _^_, _≤_, _<_}
-use mathlib.Core.Path.{_≡_}
+use mathlib.Core.Path.{_≡_, subst}
 use mathlib.Core.List.{List, [], _++_}
 use native.Mathlib.Omega.{arith}
-use lib.ListN.{length, length-append}
+use lib.ListN.{length}
 use Rattle.text.specs.Digits.{digits, digits-length}
-use Rattle.text.specs.Put.{Put, put-then}
+use Rattle.text.specs.Put.{Put, put-none, put-then}
 use Rattle.report.specs.Report.{field}
 
 pub record PutWithin (out out′ : List ℕ) (at end : ℕ) (text : List ℕ) (room : ℕ) : Type 0 where
@@ -30,3 +30,9 @@ within-put p = record { put = p; within = omega (arith, p .end) }
 
 pub within-more : {out out′ : List ℕ} {at end a b : ℕ} {text : List ℕ} → a ≤ b → PutWithin out out′ at end text a → PutWithin out out′ at end text b
 within-more l p = record { put = p .put; within = omega (arith, p .within) }
+
+pub within-same : {out out′ : List ℕ} {at end room : ℕ} {s t : List ℕ} → s ≡ t → PutWithin out out′ at end s room → PutWithin out out′ at end t room
+within-same {out} {out′} {at} {end} {room} same p = subst (λ (text : List ℕ). PutWithin out out′ at end text room) same p
+
+pub within-none : (out : List ℕ) (at room : ℕ) → PutWithin out out at at [] room
+within-none out at room = record { put = put-none out at; within = omega arith }

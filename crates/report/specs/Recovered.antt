@@ -9,7 +9,7 @@ use lib.Dec.{eqb, leb}
 use lib.ListN.{length, take}
 use borrow.Author.Tests.{leb-true, eqb-true, eqb-false, not-true}
 use Rattle.word.specs.Number.{Bytes}
-use Rattle.segment.specs.Choice.{pick, both, either, both-left, both-right, both-false-left}
+use Rattle.segment.specs.Choice.{both, either, both-left, both-right, both-false-left}
 use Rattle.segment.specs.Layout.{Layout}
 use Rattle.record.specs.Range.{between, slotsGood, sizeGood, fitsLent}
 use Rattle.record.specs.declared.Recovery.{Recovery}
@@ -19,8 +19,8 @@ use Rattle.record.specs.declared.Store.{Store}
 use Rattle.model.specs.Causes.{Cause, when, firstCause}
 use Rattle.model.specs.Index.{IndexRule}
 use Rattle.model.specs.Operations.{logNow}
-use Rattle.model.specs.Promises.{Genuine, RecoverPromise, IndexAfter}
-use Rattle.model.specs.Recovery.{lists, listsBelow, orderBad, geometryBad, areaCauses, recoverCauses, ifNone, storeOf, recovered, recoveryFor, recovery}
+use Rattle.model.specs.Promises.{RecoverPromise, IndexAfter}
+use Rattle.model.specs.Recovery.{lists, listsBelow, orderBad, geometryBad, areaCauses, ifNone, storeOf, recovered, recoveryFor, recovery}
 use Rattle.laws.specs.CauseLaws.{cause-first}
 use Rattle.laws.specs.RecoverLaws.{order-free, recovered-fits}
 use Rattle.report.specs.Report.{refusedLine, storeText, cellsUsed, textUnless, areaText}

@@ -5,7 +5,7 @@ use segment::Read;
 use segment::reader::read;
 ghost use Prim.Native.Nat.{_+_, _*_, _-_, _/_, _<_, _≤_};
 ghost use mathlib.Core.Path.{_≡_};
-ghost use lib.ListN.{length, take};
+ghost use lib.ListN.{length};
 ghost use Rattle.segment.specs.Layout.{edition1};
 ghost use Rattle.report.specs.Inserting.{Adds, Gathered};
 ghost use Rattle.report.specs.Gather.{cellRank, CellsInside};

@@ -9,10 +9,10 @@ use word::number::read16;
 ghost use Prim.Native.Nat.{_≤_, min};
 ghost use mathlib.Core.Path.{_≡_};
 ghost use lib.ListN.{length, take};
-ghost use Rattle.text.specs.Put.{Put};
 ghost use Rattle.segment.specs.Layout.{edition1};
 ghost use Rattle.model.specs.Promises.{RecoverPromise};
 ghost use Rattle.report.specs.Report.{areaText, dumpText, textRoom, textWithin};
+ghost use Rattle.report.specs.PutLaws.{PutWithin};
 ghost use Rattle.report.specs.Recovered.{slotsInOrder};
 
 pub mod gather;
@@ -56,7 +56,8 @@ fn recover_area(n: u32, s: u32, area: &[u8], index: &mut [u32]) -> Recovery
 // The text for N, S and an area.
 fn put_area(n: u32, s: u32, area: &[u8], out: &mut [u8]) -> usize
     requires { ⌜ textRoom ≤ length (now out) ⌝ }
-    ensures { λ r. ⌜ Put (now (out .entry)) (now (out .exit)) 0 r (areaText edition1 n s (now (area .entry))) ⌝ }
+    ensures { λ r.
+        ⌜ PutWithin (now (out .entry)) (now (out .exit)) 0 r (areaText edition1 n s (now (area .entry))) textRoom ⌝ }
 {
     let mut index = [0; CELLS];
     let recovery = recover_area(n, s, area, &mut index);
@@ -72,7 +73,8 @@ fn put_area(n: u32, s: u32, area: &[u8], out: &mut [u8]) -> usize
 // In a buffer of less than ROOM bytes nothing is put.
 pub fn dump(input: &[u8], out: &mut [u8]) -> usize
     ensures { λ r.
-        ⌜ Put (now (out .entry)) (now (out .exit)) 0 r (textWithin (length (now (out .entry))) (dumpText (now (input .entry)))) ⌝ }
+        ⌜ PutWithin (now (out .entry)) (now (out .exit)) 0 r
+        (textWithin (length (now (out .entry))) (dumpText (now (input .entry)))) (length (now (out .entry))) ⌝ }
 {
     if out.len() < ROOM {
         return 0;

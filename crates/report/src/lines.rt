@@ -6,7 +6,6 @@ use text::put;
 use text::put_number;
 ghost use Prim.Native.Nat.{_+_, _≤_};
 ghost use lib.ListN.{length};
-ghost use Rattle.text.specs.Put.{Put};
 ghost use Rattle.report.specs.Report.{field, refusedLine, headLine, keyLine};
 ghost use Rattle.report.specs.PutLaws.{PutWithin};
 
@@ -23,7 +22,7 @@ fn put_field(out: &mut [u8], at: usize, n: u32, word: &[u8]) -> usize
 // A refusal's number.
 pub fn put_refused(out: &mut [u8], cause: Refusal) -> usize
     requires { ⌜ 64 ≤ length (now out) ⌝ }
-    ensures { λ r. ⌜ Put (now (out .entry)) (now (out .exit)) 0 r (refusedLine cause) ⌝ }
+    ensures { λ r. ⌜ PutWithin (now (out .entry)) (now (out .exit)) 0 r (refusedLine cause) 64 ⌝ }
 {
     let at = put(out, 0, b"refused ");
     put_field(out, at, number(cause), b"\n")

@@ -10,7 +10,6 @@ use segment::Key;
 ghost use Prim.Native.Nat.{_+_, _*_, _≤_};
 ghost use mathlib.Core.Path.{_≡_};
 ghost use lib.ListN.{length};
-ghost use Rattle.text.specs.Put.{Put};
 ghost use Rattle.segment.specs.Layout.{edition1};
 ghost use Rattle.model.specs.Log.{present};
 ghost use Rattle.model.specs.Operations.{logNow};
@@ -50,7 +49,8 @@ fn put_lines(
         × (now ranks ≡ presentRanks edition1 (now area) store)
         × (at + 44 * length (now ranks) ≤ length (now out)) ⌝ }
     ensures { λ r.
-        ⌜ Put (now (out .entry)) (now (out .exit)) at r (presentLines edition1 (now (area .entry)) store) ⌝ }
+        ⌜ PutWithin (now (out .entry)) (now (out .exit)) at r (presentLines edition1 (now (area .entry)) store)
+        (44 * length (now (ranks .entry))) ⌝ }
 {
     let mut end = at;
     let mut i = 0;
@@ -65,7 +65,7 @@ fn put_lines(
 pub fn put_store(store: Store, area: &[u8], index: &[u32], out: &mut [u8]) -> usize
     requires { ⌜ Ready edition1 (now area) store (now index) × (textRoom ≤ length (now out)) ⌝ }
     ensures { λ r.
-        ⌜ Put (now (out .entry)) (now (out .exit)) 0 r (storeText edition1 (now (area .entry)) store) ⌝ }
+        ⌜ PutWithin (now (out .entry)) (now (out .exit)) 0 r (storeText edition1 (now (area .entry)) store) textRoom ⌝ }
 {
     let number = store.number;
     let next = store.next;

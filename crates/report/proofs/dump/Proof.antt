@@ -1,13 +1,13 @@
 -- `report::dump` meets its contract.
 use native.Mathlib.Omega.{arith}
-use Rattle.text.specs.Put.{put-same, put-none}
+use Rattle.report.specs.PutLaws.{within-same, within-none, within-more}
 use Rattle.report.specs.DumpLaws.{text-none, text-short, text-area}
 use borrow.Author.Needs.{needs}
 use Rattle.report.proofs.dump.Statement.{statement}
 use Rattle.report.proofs.dump.Tie as tie
 
 returns : tie.Need-returns
-returns c = put-same (text-none _ _ (c .if1 .taken)) (put-none _ _)
+returns c = within-same (text-none _ _ (c .if1 .taken)) (within-none _ _ _)
 
 put-refused-requires : tie.Need-put-refused-requires
 put-refused-requires c κs = search needs
@@ -16,7 +16,7 @@ same-length : tie.Need-same-length
 same-length c = search needs
 
 returns-2 : tie.Need-returns-2
-returns-2 c = put-same (text-short _ _ (c .before .before .before .before .before .if1 .left) (c .before .before .before .before .if2 .taken)) (c .before .before .put-refused .ensures)
+returns-2 c = within-more (omega arith) (within-same (text-short _ _ (c .before .before .before .before .before .if1 .left) (c .before .before .before .before .if2 .taken)) (c .before .before .put-refused .ensures))
 
 shared-slice-read-n : tie.Need-shared-slice-read-n
 shared-slice-read-n c = search needs
@@ -46,7 +46,7 @@ same-length-2 : tie.Need-same-length-2
 same-length-2 c = search needs
 
 returns-3 : tie.Need-returns-3
-returns-3 c = put-same (text-area _ _ (c .before .before .before .before .before .before .before .before .if1 .left) (c .before .before .before .before .before .before .before .if2 .left) _ (c .before .before .before .before .before .read16 .ensures)) (c .before .before .put-area .ensures)
+returns-3 c = within-more (omega arith) (within-same (text-area _ _ (c .before .before .before .before .before .before .before .before .if1 .left) (c .before .before .before .before .before .before .before .if2 .left) _ (c .before .before .before .before .before .read16 .ensures)) (c .before .before .put-area .ensures))
 
 pub dump-spec : {M : Type 1} → statement M
 dump-spec =

@@ -3,7 +3,7 @@ use mathlib.Core.Path.{refl}
 use native.Mathlib.Omega.{arith}
 use Rattle.word.specs.Number.{Bytes}
 use Rattle.segment.specs.Layout.{edition1}
-use Rattle.text.specs.Put.{put-same}
+use Rattle.report.specs.PutLaws.{within-same, within-more}
 use Rattle.report.specs.Recovered.{text-refused, text-recovered, recovered-ready}
 use borrow.Author.Needs.{needs}
 use Rattle.report.proofs.put_area.Statement.{statement}
@@ -40,13 +40,15 @@ same-length : tie.Need-same-length
 same-length c = search needs
 
 returns : tie.Need-returns
-returns c = put-same (text-refused edition1 _ _ _ _ _ _ refl (c .before .before .before .before .before .before .before .before .before .recover-area .ensures) _ (c .before .before .before .before .before .answer .given .1)) (c .before .before .put-refused .ensures)
+returns c =
+    within-more (omega arith)
+    (within-same (text-refused edition1 _ _ _ _ _ _ refl (c .before .before .before .before .before .before .before .before .before .recover-area .ensures) _ (c .before .before .before .before .before .answer .given .1)) (c .before .before .put-refused .ensures))
 
 same-length-2 : tie.Need-same-length-2
 same-length-2 c = search needs
 
 returns-2 : tie.Need-returns-2
-returns-2 c = put-same (text-recovered edition1 _ _ _ _ _ _ refl (c .before .before .before .before .before .before .before .before .before .recover-area .ensures) (c .before .before .before .before .before .enum-told .given .1)) (c .before .before .put-store .ensures)
+returns-2 c = within-same (text-recovered edition1 _ _ _ _ _ _ refl (c .before .before .before .before .before .before .before .before .before .recover-area .ensures) (c .before .before .before .before .before .enum-told .given .1)) (c .before .before .put-store .ensures)
 
 pub put-area-spec : {M : Type 1} → statement M
 put-area-spec =

@@ -1,6 +1,5 @@
 -- `text::spell` meets its contract. The invariant: the digits of what is left of the number, with those that stand behind
 -- them, are the number's.
-use Prim.Native.Nat.{_≤_}
 use mathlib.Core.Path.{refl}
 use native.Mathlib.Omega.{arith}
 use borrow.Author.Needs.{needs}

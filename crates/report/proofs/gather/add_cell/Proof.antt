@@ -1,7 +1,6 @@
 -- `report::gather::add_cell` meets its contract.
 use mathlib.Core.Path.{_≡_, _∙_, ap, sym}
 use mathlib.Core.Option.{some}
-use native.Mathlib.Omega.{arith}
 use borrow.Author.Needs.{needs}
 use Rattle.segment.specs.Layout.{edition1}
 use Rattle.report.specs.Gather.{cellRank, rankRead, cell-free, cell-read}

@@ -1,5 +1,4 @@
 -- `report::lines::put_key` meets its contract.
-use native.Mathlib.Omega.{arith}
 use Rattle.report.specs.PutLaws.{within-then}
 use borrow.Author.Needs.{needs}
 use Rattle.report.proofs.lines.put_key.Statement.{statement}

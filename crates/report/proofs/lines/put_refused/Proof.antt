@@ -2,8 +2,9 @@
 use Prim.Native.Nat.{ℕ}
 use mathlib.Core.Path.{ap}
 use Rattle.text.specs.Ascii.{ascii}
-use Rattle.text.specs.Put.{put-then, put-same}
+use native.Mathlib.Omega.{arith}
 use Rattle.report.specs.Report.{field}
+use Rattle.report.specs.PutLaws.{within-put, within-same, within-then, within-more}
 use borrow.Author.Needs.{needs}
 use Rattle.report.proofs.lines.put_refused.Statement.{statement}
 use Rattle.report.proofs.lines.put_refused.Tie as tie
@@ -28,8 +29,9 @@ same-length c = search needs
 
 returns : tie.Need-returns
 returns c =
-    put-then (c .before .before .before .before .before .before .before .before .put .ensures)
-    (put-same (ap (λ (n : ℕ). field n (ascii "\n")) (c .before .before .before .before .number .ensures)) (c .before .before .put-field .ensures .put))
+    within-more (omega arith)
+    (within-then (within-put (c .before .before .before .before .before .before .before .before .put .ensures))
+    (within-same (ap (λ (n : ℕ). field n (ascii "\n")) (c .before .before .before .before .number .ensures)) (c .before .before .put-field .ensures)))
 
 pub put-refused-spec : {M : Type 1} → statement M
 put-refused-spec =

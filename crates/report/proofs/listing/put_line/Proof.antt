@@ -4,7 +4,8 @@ use Rattle.segment.specs.Layout.{edition1}
 use Rattle.model.specs.Log.{present}
 use Rattle.model.specs.Operations.{logNow}
 use Rattle.report.specs.Report.{lineOf}
-use Rattle.report.specs.LineLaws.{lineFound, line-found, within-same, within-none}
+use Rattle.report.specs.LineLaws.{lineFound, line-found}
+use Rattle.report.specs.PutLaws.{within-same, within-none}
 use borrow.Author.Needs.{needs}
 use Rattle.report.proofs.listing.put_line.Statement.{statement}
 use Rattle.report.proofs.listing.put_line.Tie as tie

@@ -1,11 +1,11 @@
 -- `report::listing::put_store` meets its contract.
-use Prim.Native.Nat.{ℕ}
-use mathlib.Core.Path.{_≡_, sym, ap}
+use mathlib.Core.Path.{sym, ap}
 use native.Mathlib.Omega.{arith}
 use Rattle.segment.specs.Layout.{edition1}
-use Rattle.text.specs.Put.{put-then, put-same, put-length}
+use Rattle.text.specs.Put.{put-length}
 use Rattle.report.specs.Report.{headLine}
 use Rattle.report.specs.Gather.{size-some, cells-few, cells-inside}
+use Rattle.report.specs.PutLaws.{within-same, within-then, within-more}
 use Rattle.report.specs.LineLaws.{Listed, gathered-listed}
 use borrow.Author.Needs.{needs}
 use Rattle.report.proofs.listing.put_store.Statement.{statement}
@@ -52,7 +52,8 @@ same-length c = search needs
 returns : tie.Need-returns
 returns c =
     let g = listed (c .before .before .before .before .before .before .before .before .before .before) in
-    put-then (put-same (ap (headLine _ _) (g .counts)) (c .before .before .before .before .before .before .before .put-head .ensures .put)) (c .before .before .put-lines .ensures)
+    within-more (omega (arith, g .few, g .long))
+    (within-then (within-same (ap (headLine _ _) (g .counts)) (c .before .before .before .before .before .before .before .put-head .ensures)) (c .before .before .put-lines .ensures))
 
 pub put-store-spec : {M : Type 1} → statement M
 put-store-spec =
