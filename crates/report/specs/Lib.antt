@@ -1,6 +1,7 @@
--- What the program that prints an area writes.
+-- What the program that prints an area writes, and the laws that its code is proved by.
 pub mod Listing
 pub mod Report
+pub mod Example
 pub mod PutLaws
 pub mod Ascent
 pub mod Inserting
@@ -9,4 +10,3 @@ pub mod Gather
 pub mod LineLaws
 pub mod Recovered
 pub mod DumpLaws
-pub mod Example

@@ -1,4 +1,5 @@
 // The lines of the present keys, and the whole text of a store.
+use crate::CELLS;
 use crate::gather::gather;
 use crate::lines::put_head;
 use crate::lines::put_key;
@@ -69,7 +70,7 @@ pub fn put_store(store: Store, area: &[u8], index: &[u32], out: &mut [u8]) -> us
 {
     let number = store.number;
     let next = store.next;
-    let mut ranks = [0; 4096];
+    let mut ranks = [0; CELLS];
     let keys = gather(store.size as usize, area, index, &mut ranks);
     let at = put_head(out, next.0, number.0, keys as u32);
     put_lines(store, area, index, &ranks[..keys], out, at)

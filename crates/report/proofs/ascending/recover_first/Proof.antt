@@ -1,4 +1,4 @@
--- `report::recover_first` meets its contract.
+-- `report::ascending::recover_first` meets its contract.
 use Prim.Native.Nat.{ℕ}
 use mathlib.Core.Path.{sym, ap}
 use native.Mathlib.Omega.{arith}
@@ -6,8 +6,8 @@ use lib.ListN.{take}
 use lib.Seq.{length-take-le}
 use Rattle.report.specs.Recovered.{order-same}
 use borrow.Author.Needs.{needs}
-use Rattle.report.proofs.recover_first.Statement.{statement}
-use Rattle.report.proofs.recover_first.Tie as tie
+use Rattle.report.proofs.ascending.recover_first.Statement.{statement}
+use Rattle.report.proofs.ascending.recover_first.Tie as tie
 
 slots-of-requires : tie.Need-slots-of-requires
 slots-of-requires c κs = search needs
