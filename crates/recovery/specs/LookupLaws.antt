@@ -138,7 +138,7 @@ lookupFor L S (some x) = Lookup.Object (placeOf S x) (record { 0 = x .entry .ver
 
 -- a place and the slot and offset that it stands for
 module _ (S i at : ℕ) (inside : at < S) where
-  place-slot : (i * S + at) / S ≡ i
+  pub place-slot : (i * S + at) / S ≡ i
   place-slot = mul-add-div-right (omega arith) i at ∙ ap (λ (q : ℕ). i + q) (div-eq-of-lt inside) ∙ add-zero i
 
   place-offset : (i * S + at) % S ≡ at
@@ -165,7 +165,7 @@ module _ (L : Layout) (r : Store) (area cells : List ℕ) (k : Key) (genuine : G
   abbrev log : List Placed
   log = logNow L area r
 
-  scans : AllScanned (viewsOf L area S) (named (r .map)) (r .slots)
+  pub scans : AllScanned (viewsOf L area S) (named (r .map)) (r .slots)
   scans =
       recovered-case L (r .slots) S (r .cells) area (λ (q : Store). AllScanned (viewsOf L area S) (named (q .map)) (r .slots))
       (λ h a f. f .scans) (withPending r Idle) (genuine .recovers)
@@ -175,7 +175,7 @@ module _ (L : Layout) (r : Store) (area cells : List ℕ) (k : Key) (genuine : G
       let l = lent L r (length area) (length cells) fit in
       omega (arith, recovered-keys L (r .slots) S (r .cells) area (withPending r Idle) (genuine .recovers))
 
-  at-place : (x : Placed) → In x log → standsAt L S area (placeOf S x) ≡ answer L (entry (x .entry))
+  pub at-place : (x : Placed) → In x log → standsAt L S area (placeOf S x) ≡ answer L (entry (x .entry))
   at-place x m =
       let s : List ℕ = segmentOf area S (x .slot) in
       let found = log-stands L area S (named (r .map)) (r .slots) scans x m in

@@ -1,0 +1,84 @@
+-- 01, the last lines of "Values to hold it to": what the program prints for an input of N (1 byte), S (2 bytes) and the area,
+-- with M 4,096. Every line ends in one newline.
+use Prim.Native.Nat.{ℕ, _+_, _*_}
+use mathlib.Core.List.{List, [], _∷_, _++_}
+use mathlib.Core.Option.{Option, none, some}
+use lib.Dec.{ltb}
+use lib.ListN.{length, getD, take, drop}
+use Rattle.word.specs.Number.{numberOf}
+use Rattle.segment.specs.Choice.{pick}
+use Rattle.segment.specs.Layout.{Layout, edition1}
+use Rattle.segment.specs.declared.Key.{Key}
+use Rattle.record.specs.Refusals.{numberOfRefusal}
+use Rattle.record.specs.declared.Refusal.{Refusal}
+use Rattle.record.specs.declared.Store.{Store}
+use Rattle.model.specs.Log.{Placed, present}
+use Rattle.model.specs.Causes.{firstCause}
+use Rattle.model.specs.Recovery.{areaCauses, storeOf}
+use Rattle.model.specs.Operations.{logNow}
+use Rattle.text.specs.Ascii.{ascii}
+use Rattle.text.specs.Digits.{digits}
+use Rattle.report.specs.Listing.{presentKeys}
+
+-- a number and a word behind it
+abbrev pub field : ℕ → List ℕ → List ℕ
+field n word = digits n ++ word
+
+-- A refusal: one line, with its number.
+abbrev pub refusedLine : Refusal → List ℕ
+refusedLine c = ascii "refused " ++ field (numberOfRefusal c) (ascii "\n")
+
+-- Next version, digest number and the number of present keys.
+abbrev pub headLine : ℕ → ℕ → ℕ → List ℕ
+headLine next digest keys = ascii "next " ++ field next (ascii " digest ") ++ field digest (ascii " keys ") ++ field keys (ascii "\n")
+
+-- A present key: table, key, version, kind.
+abbrev pub keyLine : Key → ℕ → ℕ → List ℕ
+keyLine k version kind =
+    field (k .table) (ascii " ") ++ field (k .key) (ascii " ") ++ field version (ascii " ") ++ field kind (ascii "\n")
+
+-- the line of a key that has this object; a key that has none has no line
+unfoldable pub lineOf : Key → Option Placed → List ℕ
+lineOf k none = []
+lineOf k (some x) = keyLine k (x .entry .version) (x .entry .kind)
+
+unfoldable pub linesOf : Layout → List Placed → List Key → List ℕ
+linesOf L log [] = []
+linesOf L log (k ∷ ks) = lineOf k (present L log k) ++ linesOf L log ks
+
+abbrev pub presentLines : Layout → List ℕ → Store → List ℕ
+presentLines L area r = linesOf L (logNow L area r) (presentKeys L (logNow L area r))
+
+-- The text for a store: the head line, then a line for each present key of its log.
+abbrev pub storeText : Layout → List ℕ → Store → List ℕ
+storeText L area r =
+    headLine (r .next .0) (r .number .0) (length (presentKeys L (logNow L area r))) ++ presentLines L area r
+
+-- M
+abbrev pub cellsUsed : ℕ
+cellsUsed = 4096
+
+unfoldable pub textUnless : Option Refusal → List ℕ → List ℕ
+textUnless none text = text
+textUnless (some c) text = refusedLine c
+
+-- The text for N, S and an area: of the store that recovery gives, or of its refusal.
+unfoldable pub areaText : Layout → ℕ → ℕ → List ℕ → List ℕ
+areaText L n s area = textUnless (firstCause (areaCauses L n s cellsUsed area)) (storeText L area (storeOf L n s cellsUsed area))
+
+-- An input too short to hold N and S is of a wrong length, like one whose area is not N × S bytes long.
+unfoldable pub dumpText : List ℕ → List ℕ
+dumpText input =
+    pick (ltb (length input) 3) (refusedLine Refusal.Geometry)
+    (areaText edition1 (getD input 0 0) (numberOf (take 2 (drop 1 input))) (drop 3 input))
+
+-- ---- what is left in a caller's buffer
+
+-- No text is longer: a number has at most ten digits, so a head line is at most 50 bytes long, and the line of a key at most
+-- 44; there are fewer than M keys.
+abbrev pub textRoom : ℕ
+textRoom = 64 + 44 * cellsUsed
+
+-- In a buffer that may be too short nothing is put.
+unfoldable pub textWithin : ℕ → List ℕ → List ℕ
+textWithin room text = pick (ltb room textRoom) [] text

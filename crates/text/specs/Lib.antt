@@ -1,0 +1,6 @@
+-- Words and numbers as text.
+pub mod Ascii
+pub mod Digits
+pub mod Spelled
+pub mod Put
+pub mod Examples
