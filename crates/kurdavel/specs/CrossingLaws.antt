@@ -81,16 +81,20 @@ recover-crossed {words = words} {x = x} h p e m w =
 
 -- ---- read
 
-pub read-crossed : {words area cells : List ℕ} {k : Key} {version kind version′ kind′ number : ℕ} {d : Decoded} {x : Reading} {b : ReadAnswer}
-    → d ≡ decoded words → ReadPromise edition1 (d .store) area cells k x → x .answer ≡ b → number ≡ readSaid b .refused
+pub looked-crossed : (words area cells : List ℕ) (k : Key) {d : Decoded} {x : Lookup} → d ≡ decoded words
+    → x ≡ lookedUp edition1 (d .store) area cells k → x ≡ lookedUp edition1 (decoded words .store) area cells k
+looked-crossed words area cells k f l = l ∙ ap (λ (a : Decoded). lookedUp edition1 (a .store) area cells k) f
+
+pub read-crossed : {words area cells : List ℕ} {k : Key} {version kind version′ kind′ number : ℕ} {x : Lookup} {a b : ReadAnswer}
+    → x ≡ lookedUp edition1 (decoded words .store) area cells k → a ≡ toldBy x → a ≡ b → number ≡ readSaid b .refused
     → version′ ≡ versionAfter b version → kind′ ≡ kindAfter b kind → ReadCrossed words area cells k version kind version′ kind′ number
-read-crossed {area = area} {cells = cells} {k = k} {version = version} {kind = kind} {x = x} f p e m v w =
+read-crossed {words} {area} {cells} {k} {version} {kind} {x = x} {a = a} l t e m v w =
     record {
-      reading = x;
-      promised = rw (ap (λ (a : Decoded). a .store) f) at p;
-      numbered = m ∙ ap (λ (a : ReadAnswer). readSaid a .refused) (sym e);
-      version-told = v ∙ ap (λ (a : ReadAnswer). versionAfter a version) (sym e);
-      kind-told = w ∙ ap (λ (a : ReadAnswer). kindAfter a kind) (sym e);
+      reading = record { answer = a; store = decoded words .store };
+      promised = read-promise edition1 (decoded words .store) area cells k x a l t;
+      numbered = m ∙ ap (λ (c : ReadAnswer). readSaid c .refused) (sym e);
+      version-told = v ∙ ap (λ (c : ReadAnswer). versionAfter c version) (sym e);
+      kind-told = w ∙ ap (λ (c : ReadAnswer). kindAfter c kind) (sym e);
     }
 
 -- a record that an object was looked up with fits what is lent, which is at most the largest area
@@ -105,13 +109,12 @@ found-small r area cells k e = go (fitsLent edition1 r (length area) (length cel
         let most : r .slots * r .size ≤ 32 * 2048 = mul-le-mul (l .slots-high) (l .size-high) in
         omega arith
 
-pub value-crossed : {words area cells : List ℕ} {k : Key} {place bytes number : ℕ} {d : Decoded} {x b : Lookup} → d ≡ decoded words
-    → x ≡ lookedUp edition1 (d .store) area cells k → x ≡ b → number ≡ readSaid (toldBy b) .refused
+pub value-crossed : {words area cells : List ℕ} {k : Key} {place bytes number : ℕ} {x b : Lookup}
+    → x ≡ lookedUp edition1 (decoded words .store) area cells k → x ≡ b → number ≡ readSaid (toldBy b) .refused
     → take bytes (drop place area) ≡ valueBy edition1 area b → place + bytes ≤ length area
     → ((number ≡ 0 → ⊥) → (place ≡ 0) × (bytes ≡ 0)) → ValueCrossed words area cells k place bytes number
-value-crossed {words} {area} {cells} {k} {place} {bytes} {b = b} f l e m v i w =
-    let found : b ≡ lookedUp edition1 (decoded words .store) area cells k =
-    sym e ∙ l ∙ ap (λ (a : Decoded). lookedUp edition1 (a .store) area cells k) f in
+value-crossed {words} {area} {cells} {k} {place} {bytes} {b = b} l e m v i w =
+    let found : b ≡ lookedUp edition1 (decoded words .store) area cells k = sym e ∙ l in
     record {
       reading = record { answer = toldBy b; store = decoded words .store };
       promised = read-promise edition1 (decoded words .store) area cells k b (toldBy b) found refl;
