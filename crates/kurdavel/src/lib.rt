@@ -27,13 +27,11 @@ ghost use Prim.Native.Nat.{_≤_};
 ghost use mathlib.Core.Path.{_≡_};
 ghost use mathlib.Core.Bool.{true};
 ghost use lib.ListN.{length};
-ghost use Rattle.segment.specs.Choice.{pick};
-ghost use Rattle.record.specs.Answers.{startSaid};
 ghost use Rattle.model.specs.Operations.{write, delete, clean};
 ghost use Rattle.segment.specs.Layout.{edition1};
 ghost use Rattle.recovery.specs.Lookups.{lookedUp};
 ghost use Rattle.words.specs.Words.{recordWords, decoded};
-ghost use Rattle.kurdavel.specs.Crossing.{FormatCrossed, RecoverCrossed, ReadCrossed, ValueCrossed, StartCrossed, StepCrossed, keptWords, storesAfter, Handed};
+ghost use Rattle.kurdavel.specs.Crossing.{FormatCrossed, RecoverCrossed, ReadCrossed, ValueCrossed, StartCrossed, StepCrossed, keptWords, Handed};
 
 #[no_mangle]
 pub extern "C" fn kurdavel_format(slots: u32, size: u32, area: &mut [u8]) -> u32
@@ -81,6 +79,9 @@ fn looked_up(words: &[u32], area: &[u8], index: &[u32], key: Key) -> Lookup
         ⌜ r ≡ lookedUp edition1 (decoded (now (words .entry)) .store) (now (area .entry)) (now (index .entry)) key ⌝ }
 {
     let decoded = decode(words);
+    if !decoded.ok {
+        return Lookup::Bad;
+    }
     let store = decoded.store;
     find(store, area, index, key)
 }
