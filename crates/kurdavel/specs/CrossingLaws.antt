@@ -2,37 +2,37 @@
 -- the answer that a `match` found.
 use Prim.Native.Nat.{ℕ, _+_, _*_, _≤_, _<_}
 use mathlib.Core.Path.{_≡_, refl, sym, ap, _∙_}
-use mathlib.Core.Bool.{Bool, true, false}
+use mathlib.Core.Bool.{Bool, true, false, not}
 use mathlib.Core.List.{List}
 use native.Mathlib.Nat.{mul-le-mul}
 use native.Mathlib.Omega.{arith}
 use lib.ListN.{length, take, drop}
 use lib.Seq.{sets}
+use borrow.Author.Tests.{not-true}
 use Rattle.segment.specs.Layout.{edition1}
 use Rattle.segment.specs.declared.Key.{Key}
 use Rattle.segment.specs.declared.Version.{Version}
-use Rattle.record.specs.Answers.{formatSaid, recoverSaid, readSaid, startSaid, stepSaid}
+use Rattle.record.specs.Answers.{blank, formatSaid, recoverSaid, readSaid, startSaid, stepSaid}
 use Rattle.record.specs.Range.{fitsLent}
-use Rattle.record.specs.RangeLaws.{lent}
+use Rattle.record.specs.RangeLaws.{lent, blank-unfit}
 use Rattle.record.specs.declared.Store.{Store}
 use Rattle.record.specs.declared.FormatAnswer.{FormatAnswer}
 use Rattle.record.specs.declared.Recovery.{Recovery}
 use Rattle.record.specs.declared.RecoverAnswer.{RecoverAnswer}
-use Rattle.record.specs.declared.Reading.{Reading}
 use Rattle.record.specs.declared.ReadAnswer.{ReadAnswer}
 use Rattle.record.specs.declared.Start.{Start}
 use Rattle.record.specs.declared.StartAnswer.{StartAnswer}
 use Rattle.record.specs.declared.Stepped.{Stepped}
 use Rattle.record.specs.declared.StepAnswer.{StepAnswer}
 use Rattle.model.specs.Operations.{Operation}
-use Rattle.model.specs.Promises.{FormatPromise, RecoverPromise, ReadPromise, ValuePromise, StartPromise, StepPromise}
+use Rattle.model.specs.Promises.{FormatPromise, RecoverPromise, StartPromise, StepPromise}
 use Rattle.recovery.specs.Lookups.{lookedUp, toldBy, valueBy}
 use Rattle.recovery.specs.LookupLaws.{looked-unfit, read-promise, value-promise}
 use Rattle.recovery.specs.declared.Lookup.{Lookup}
 use Rattle.words.specs.Words.{recordWords, wordsOf, isRecord, decoded}
-use Rattle.words.specs.WordLaws.{record-long, decoded-none}
+use Rattle.words.specs.WordLaws.{record-long, decoded-record, decoded-none}
 use Rattle.words.specs.declared.Decoded.{Decoded}
-use Rattle.kurdavel.specs.Crossing.{FormatCrossed, Recovers, RecoverCrossed, wordsAfter, ReadCrossed, versionAfter, kindAfter, ValueCrossed, Handed, storesAfter, StartCrossed, keptWords, StepCrossed, leftAfter, toldAfter}
+use Rattle.kurdavel.specs.Crossing.{FormatCrossed, RecoverCrossed, wordsAfter, ReadCrossed, versionAfter, kindAfter, ValueCrossed, Handed, storesAfter, StartCrossed, keptWords, StepCrossed, leftAfter, toldAfter}
 
 -- words that decode to a record are enough of them
 pub ok-long : (words : List ℕ) {d : Decoded} → d ≡ decoded words → d .ok ≡ true → recordWords ≤ length words
@@ -81,16 +81,36 @@ recover-crossed {words = words} {x = x} h p e m w =
 
 -- ---- read
 
-pub read-crossed : {words area cells : List ℕ} {k : Key} {version kind version′ kind′ number : ℕ} {d : Decoded} {x : Reading} {b : ReadAnswer}
-    → d ≡ decoded words → ReadPromise edition1 (d .store) area cells k x → x .answer ≡ b → number ≡ readSaid b .refused
+pub looked-crossed : (words area cells : List ℕ) (k : Key) {d : Decoded} {x : Lookup} → d ≡ decoded words
+    → x ≡ lookedUp edition1 (d .store) area cells k → x ≡ lookedUp edition1 (decoded words .store) area cells k
+looked-crossed words area cells k f l = l ∙ ap (λ (a : Decoded). lookedUp edition1 (a .store) area cells k) f
+
+-- words that are no record say the blank one, which is bad
+pub looked-none : (words area cells : List ℕ) (k : Key) {d : Decoded} → d ≡ decoded words → not (d .ok) ≡ true
+    → Lookup.Bad ≡ lookedUp edition1 (decoded words .store) area cells k
+looked-none words area cells k {d} f off = go (isRecord words) refl
+  where
+    go : (t : Bool) → isRecord words ≡ t → Lookup.Bad ≡ lookedUp edition1 (decoded words .store) area cells k
+    go true e =
+        let yes : decoded words .ok ≡ true = ap (λ (a : Decoded). a .ok) (decoded-record words e) in
+        let no : decoded words .ok ≡ false = sym (ap (λ (a : Decoded). a .ok) f) ∙ not-true (d .ok) off in
+        let z : _≡_ {A = ℕ} 0 1 = cc in
+        absurd (omega arith)
+    go false e =
+        let says : decoded words .store ≡ blank = ap (λ (a : Decoded). a .store) (decoded-none words e) in
+        sym (ap (λ (r : Store). lookedUp edition1 r area cells k) says
+        ∙ looked-unfit edition1 blank area cells k (blank-unfit edition1 (length area) (length cells)))
+
+pub read-crossed : {words area cells : List ℕ} {k : Key} {version kind version′ kind′ number : ℕ} {x : Lookup} {a b : ReadAnswer}
+    → x ≡ lookedUp edition1 (decoded words .store) area cells k → a ≡ toldBy x → a ≡ b → number ≡ readSaid b .refused
     → version′ ≡ versionAfter b version → kind′ ≡ kindAfter b kind → ReadCrossed words area cells k version kind version′ kind′ number
-read-crossed {area = area} {cells = cells} {k = k} {version = version} {kind = kind} {x = x} f p e m v w =
+read-crossed {words} {area} {cells} {k} {version} {kind} {x = x} {a = a} l t e m v w =
     record {
-      reading = x;
-      promised = rw (ap (λ (a : Decoded). a .store) f) at p;
-      numbered = m ∙ ap (λ (a : ReadAnswer). readSaid a .refused) (sym e);
-      version-told = v ∙ ap (λ (a : ReadAnswer). versionAfter a version) (sym e);
-      kind-told = w ∙ ap (λ (a : ReadAnswer). kindAfter a kind) (sym e);
+      reading = record { answer = a; store = decoded words .store };
+      promised = read-promise edition1 (decoded words .store) area cells k x a l t;
+      numbered = m ∙ ap (λ (c : ReadAnswer). readSaid c .refused) (sym e);
+      version-told = v ∙ ap (λ (c : ReadAnswer). versionAfter c version) (sym e);
+      kind-told = w ∙ ap (λ (c : ReadAnswer). kindAfter c kind) (sym e);
     }
 
 -- a record that an object was looked up with fits what is lent, which is at most the largest area
@@ -105,13 +125,12 @@ found-small r area cells k e = go (fitsLent edition1 r (length area) (length cel
         let most : r .slots * r .size ≤ 32 * 2048 = mul-le-mul (l .slots-high) (l .size-high) in
         omega arith
 
-pub value-crossed : {words area cells : List ℕ} {k : Key} {place bytes number : ℕ} {d : Decoded} {x b : Lookup} → d ≡ decoded words
-    → x ≡ lookedUp edition1 (d .store) area cells k → x ≡ b → number ≡ readSaid (toldBy b) .refused
+pub value-crossed : {words area cells : List ℕ} {k : Key} {place bytes number : ℕ} {x b : Lookup}
+    → x ≡ lookedUp edition1 (decoded words .store) area cells k → x ≡ b → number ≡ readSaid (toldBy b) .refused
     → take bytes (drop place area) ≡ valueBy edition1 area b → place + bytes ≤ length area
     → ((number ≡ 0 → ⊥) → (place ≡ 0) × (bytes ≡ 0)) → ValueCrossed words area cells k place bytes number
-value-crossed {words} {area} {cells} {k} {place} {bytes} {b = b} f l e m v i w =
-    let found : b ≡ lookedUp edition1 (decoded words .store) area cells k =
-    sym e ∙ l ∙ ap (λ (a : Decoded). lookedUp edition1 (a .store) area cells k) f in
+value-crossed {words} {area} {cells} {k} {place} {bytes} {b = b} l e m v i w =
+    let found : b ≡ lookedUp edition1 (decoded words .store) area cells k = sym e ∙ l in
     record {
       reading = record { answer = toldBy b; store = decoded words .store };
       promised = read-promise edition1 (decoded words .store) area cells k b (toldBy b) found refl;

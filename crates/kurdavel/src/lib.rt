@@ -14,7 +14,7 @@ use record::number;
 use recovery::Lookup;
 use recovery::format::format;
 use recovery::read::find;
-use recovery::read::read;
+use recovery::read::told;
 use recovery::recover::recover;
 use segment::Key;
 use segment::layout::HEAD_SIZE;
@@ -27,11 +27,11 @@ ghost use Prim.Native.Nat.{_≤_};
 ghost use mathlib.Core.Path.{_≡_};
 ghost use mathlib.Core.Bool.{true};
 ghost use lib.ListN.{length};
-ghost use Rattle.segment.specs.Choice.{pick};
-ghost use Rattle.record.specs.Answers.{startSaid};
 ghost use Rattle.model.specs.Operations.{write, delete, clean};
-ghost use Rattle.words.specs.Words.{recordWords};
-ghost use Rattle.kurdavel.specs.Crossing.{FormatCrossed, RecoverCrossed, ReadCrossed, ValueCrossed, StartCrossed, StepCrossed, keptWords, storesAfter, Handed};
+ghost use Rattle.segment.specs.Layout.{edition1};
+ghost use Rattle.recovery.specs.Lookups.{lookedUp};
+ghost use Rattle.words.specs.Words.{recordWords, decoded};
+ghost use Rattle.kurdavel.specs.Crossing.{FormatCrossed, RecoverCrossed, ReadCrossed, ValueCrossed, StartCrossed, StepCrossed, keptWords, Handed};
 
 #[no_mangle]
 pub extern "C" fn kurdavel_format(slots: u32, size: u32, area: &mut [u8]) -> u32
@@ -73,6 +73,19 @@ pub extern "C" fn kurdavel_recover(
     }
 }
 
+// What the index says of a key, by the record that the words say: the one search behind both reads.
+fn looked_up(words: &[u32], area: &[u8], index: &[u32], key: Key) -> Lookup
+    ensures { λ r.
+        ⌜ r ≡ lookedUp edition1 (decoded (now (words .entry)) .store) (now (area .entry)) (now (index .entry)) key ⌝ }
+{
+    let decoded = decode(words);
+    if !decoded.ok {
+        return Lookup::Bad;
+    }
+    let store = decoded.store;
+    find(store, area, index, key)
+}
+
 #[no_mangle]
 pub extern "C" fn kurdavel_read(
     words: &[u32],
@@ -89,10 +102,7 @@ pub extern "C" fn kurdavel_read(
         (now (version .entry)) (now (kind .entry)) (now (version .exit)) (now (kind .exit)) r
         ⌝ }
 {
-    let decoded = decode(words);
-    let store = decoded.store;
-    let reading = read(store, area, index, Key { table, key });
-    let answer = reading.answer;
+    let answer = told(looked_up(words, area, index, Key { table, key }));
     match answer {
         ReadAnswer::Refused(cause) => number(cause),
         ReadAnswer::Present {
@@ -122,11 +132,9 @@ pub extern "C" fn kurdavel_read_value(
         (now (place .exit)) (now (bytes .exit)) r
         ⌝ }
 {
-    let decoded = decode(words);
-    let store = decoded.store;
     *place = 0;
     *bytes = 0;
-    match find(store, area, index, Key { table, key }) {
+    match looked_up(words, area, index, Key { table, key }) {
         Lookup::Object {
             place: entry,
             version: _,

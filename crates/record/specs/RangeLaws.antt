@@ -1,16 +1,18 @@
 -- What the range-and-length test says, as plain facts, and the test in the parts in which the code makes it.
 use Prim.Native.Nat.{ℕ, _+_, _*_, _-_, _^_, _≤_, _<_}
-use mathlib.Core.Path.{_≡_, refl, sym, _∙_}
+use mathlib.Core.Path.{_≡_, refl, sym, _∙_, ap, ap₂}
 use mathlib.Core.Bool.{Bool, true, false, not}
 use native.Mathlib.Omega.{arith}
+use native.Mathlib.Decide.{decLt}
 use native.Mathlib.Nat.{lt-of-not-le}
 use lib.Dec.{eqb, ltb, leb}
-use borrow.Author.Tests.{ltb-true, leb-true, eqb-true, eqb-false, not-true, not-false, lt-ltb, le-leb, eq-eqb, ne-eqb}
-use Rattle.segment.specs.Choice.{both, both-left, both-right, both-true}
+use borrow.Author.Tests.{ltb-true, leb-true, eqb-true, eqb-false, not-true, not-false, lt-ltb, le-ltb, le-leb, eq-eqb, ne-eqb}
+use Rattle.segment.specs.Choice.{both, both-left, both-right, both-true, both-false-right}
 use Rattle.segment.specs.Layout.{Layout, digestSize}
-use Rattle.slot_map.specs.Bit.{named, namesBelow}
-use Rattle.slot_map.specs.BitLaws.{bit-above, below-true, named-true, clear-named}
-use Rattle.slot_map.specs.Count.{used}
+use Rattle.slot_map.specs.Bit.{named}
+use Rattle.slot_map.specs.BitLaws.{bit-above, named-true, clear-named}
+use Rattle.slot_map.specs.Count.{used, allSlots}
+use Rattle.slot_map.specs.CountLaws.{not-all, all-named}
 use Rattle.record.specs.Answers.{storesLeft, withPending, blank}
 use Rattle.record.specs.Range.{between, slotsGood, sizeGood, cellsGood, mapGood, leftGood, inRange, lengthsOwn, fitsLent}
 use Rattle.record.specs.declared.Pending.{Pending}
@@ -110,9 +112,33 @@ map-in n head map e =
       some-free = ltb-true (used n map) n (both-right _ _ (both-right _ _ e));
     }
 
--- the code looks at the head's bit only where the head is one of the n slots
-pub past-slots : (n head map : ℕ) → namesBelow n map ≡ true → n ≤ head → named map head ≡ false
-past-slots n head map e past = clear-named map head (bit-above map n head (below-true n map e) past)
+both-last : (t : Bool) → both true (both t true) ≡ both true t
+unfolding both
+both-last true = refl
+both-last false = refl
+
+-- the test in the code's order: first that the map is below the map of all n slots, then the head
+pub map-test : (n head map : ℕ) → both (ltb map (allSlots n)) (named map head) ≡ mapGood n head map
+unfolding mapGood both
+map-test n head map = go (decLt map (allSlots n)) (decLt map (2 ^ n))
+  where
+    go : Dec (map < allSlots n) → Dec (map < 2 ^ n) → both (ltb map (allSlots n)) (named map head) ≡ mapGood n head map
+    go (yes h) b =
+        ap (λ (t : Bool). both t (named map head)) (lt-ltb map (allSlots n) h)
+        ∙ sym (ap₂ (λ (t u : Bool). both t (both (named map head) u)) (lt-ltb map (2 ^ n) (omega arith)) (lt-ltb (used n map) n (not-all n map h))
+        ∙ both-last (named map head))
+    go (no h) (yes b) =
+        let all : map ≡ allSlots n = omega arith in
+        ap (λ (t : Bool). both t (named map head)) (le-ltb map (allSlots n) (omega arith))
+        ∙ sym (ap (λ (u : Bool). both (ltb map (2 ^ n)) (both (named map head) u)) (le-ltb (used n map) n (omega (arith, all-named n map all)))
+        ∙ both-false-right (ltb map (2 ^ n)) (both (named map head) false) (both-false-right (named map head) false refl))
+    go (no h) (no b) =
+        ap (λ (t : Bool). both t (named map head)) (le-ltb map (allSlots n) (omega arith))
+        ∙ sym (ap (λ (t : Bool). both t (both (named map head) (ltb (used n map) n))) (le-ltb map (2 ^ n) (omega arith)))
+
+-- a head that is none of the n slots is not looked for
+pub past-slots : (n head map : ℕ) → ltb map (allSlots n) ≡ true → n ≤ head → named map head ≡ false
+past-slots n head map e past = clear-named map head (bit-above map n head (omega (arith, ltb-true map (allSlots n) e)) past)
 
 -- ---- the test of a record in the code's parts: limits, map, counters, stores left
 

@@ -42,13 +42,13 @@ pub fn map_good(slots: u32, head: u32, map: u32) -> bool
     requires { ⌜ (1 ≤ slots) × (slots ≤ 32) ⌝ }
     ensures { λ r. ⌜ r ≡ mapGood slots head map ⌝ }
 {
-    if !slot_map::names_below(slots, map) {
+    if !slot_map::leaves_free(slots, map) {
         return false;
     }
     if slots <= head {
         return false;
     }
-    slot_map::has_slot(map, head) && slot_map::leaves_free(slots, map)
+    slot_map::has_slot(map, head)
 }
 
 // Whether a pending operation has as many stores left as one can have.

@@ -72,7 +72,7 @@ pub fn find(store: Store, area: &[u8], index: &[u32], key: Key) -> Lookup
 }
 
 // The read's answer.
-fn told(found: Lookup) -> ReadAnswer
+pub fn told(found: Lookup) -> ReadAnswer
     ensures { λ r. ⌜ r ≡ toldBy found ⌝ }
 {
     match found {

@@ -10,7 +10,7 @@ use lib.Count.{ones, onesIn, ones-step}
 use lib.Pow.{pow-pos}
 use Rattle.slot_map.specs.Bit.{bit, withBit, withoutBit, less, within}
 use Rattle.slot_map.specs.BitLaws.{bit-zero, bit-suc, bit-le, bit-cases, bit-with-same, bit-with-other, bit-without-same, bit-without-other, bit-less, bit-of-zero, bit-above, with-clear, bit-sub, less-within, within-le, within-sub-le}
-use Rattle.slot_map.specs.Count.{used}
+use Rattle.slot_map.specs.Count.{used, allSlots}
 
 pub used-none : (m : ℕ) → used 0 m ≡ 0
 unfolding used
@@ -150,13 +150,13 @@ used-ones (suc n) m h =
     omega (arith, used-step n m, ones-step m, used-ones n (m / 2) (omega (arith, pow-suc 2 n)))
 
 -- the map of all n slots, and every lower one
-pub all-named : (n m : ℕ) → m ≡ 2 ^ n - 1 → used n m ≡ n
+pub all-named : (n m : ℕ) → m ≡ allSlots n → used n m ≡ n
 all-named zero m e = used-none m
 all-named (suc n) m e =
     let half : m / 2 ≡ 2 ^ n - 1 = omega (arith, pow-suc 2 n, pow-pos n, e) in
     omega (arith, used-step n m, all-named n (m / 2) half, pow-suc 2 n, pow-pos n, e)
 
-pub not-all : (n m : ℕ) → m < 2 ^ n - 1 → used n m < n
+pub not-all : (n m : ℕ) → m < allSlots n → used n m < n
 not-all zero m b = absurd (omega arith)
 not-all (suc n) m b = go (decLt (m / 2) (2 ^ n - 1)) (not-all n (m / 2))
   where

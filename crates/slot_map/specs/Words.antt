@@ -2,16 +2,14 @@
 use mathlib.Core.Path.{_≡_, sym, ap, _∙_}
 use Prim.Native.Nat.{ℕ, zero, suc, _+_, _-_, _*_, _/_, _%_, _^_, _≤_, _<_}
 use native.Mathlib.Nat.{pow-suc, one-mul, mod-eq-of-lt, mod-lt, add-sub-of-le}
-use native.Mathlib.Decide.{decLt, ℕ-discrete}
+use native.Mathlib.Decide.{ℕ-discrete}
 use native.Mathlib.Omega.{arith}
 use lib.Arith.{mod-mul}
-use lib.Dec.{leb, ltb, lit<}
-use borrow.Author.Tests.{le-leb, lt-leb, lt-ltb, le-ltb}
+use lib.Dec.{ltb, lit<}
 use lib.Bits.{bitAnd, bitOr, and-mask, and-le-l}
 use lib.Pow.{pow-pos, pow-lt, ones-split, ones-lt, high}
-use Rattle.slot_map.specs.Bit.{bit, withBit, withoutBit, less, namesBelow}
-use Rattle.slot_map.specs.Count.{used}
-use Rattle.slot_map.specs.CountLaws.{not-all, all-named}
+use Rattle.slot_map.specs.Bit.{bit, withBit, withoutBit, less}
+use Rattle.slot_map.specs.Count.{allSlots}
 use Rattle.slot_map.specs.BitLaws.{bit-zero, bit-suc, bit-le, bit-and, bit-or, bit-less, bit-cons-zero, bit-cons-suc, bit-with-same, bit-with-other, bit-without-same, bit-without-other, bit-pow-same, bit-pow-other, same-bits, all-bits, less-le}
 
 -- `(m >> i) & 1`
@@ -68,23 +66,9 @@ slot-mask k n l =
     ap (λ (x : ℕ). (2 ^ x - 1) / 2 ^ (k - n)) (sym (add-sub-of-le l))
     ∙ ap (λ (x : ℕ). x / 2 ^ (k - n)) (ones-split n (k - n)) ∙ high (2 ^ n - 1) (k - n) (ones-lt (k - n))
 
--- `m <= 0xffff_ffff >> (k - n)`
-pub names-below : (k n m : ℕ) → n ≤ k → leb m ((2 ^ k - 1) / 2 ^ (k - n)) ≡ namesBelow n m
-names-below k n m l = ap (leb m) (slot-mask k n l) ∙ go (decLt m (2 ^ n))
-  where
-    go : Dec (m < 2 ^ n) → leb m (2 ^ n - 1) ≡ ltb m (2 ^ n)
-    go (yes h) = le-leb m (2 ^ n - 1) (omega arith) ∙ sym (lt-ltb m (2 ^ n) h)
-    go (no h) = lt-leb m (2 ^ n - 1) (omega (arith, pow-pos n)) ∙ sym (le-ltb m (2 ^ n) (omega arith))
-
 -- `m < 0xffff_ffff >> (k - n)`
-pub leaves-free : (k n m : ℕ) → n ≤ k → m < 2 ^ n → ltb m ((2 ^ k - 1) / 2 ^ (k - n)) ≡ ltb (used n m) n
-leaves-free k n m l h = ap (ltb m) (slot-mask k n l) ∙ go (decLt m (2 ^ n - 1))
-  where
-    go : Dec (m < 2 ^ n - 1) → ltb m (2 ^ n - 1) ≡ ltb (used n m) n
-    go (yes b) = lt-ltb m (2 ^ n - 1) b ∙ sym (lt-ltb (used n m) n (not-all n m b))
-    go (no b) =
-        let all : m ≡ 2 ^ n - 1 = omega arith in
-        le-ltb m (2 ^ n - 1) (omega arith) ∙ sym (le-ltb (used n m) n (omega (arith, all-named n m all)))
+pub leaves-free : (k n m : ℕ) → n ≤ k → ltb m ((2 ^ k - 1) / 2 ^ (k - n)) ≡ ltb m (allSlots n)
+leaves-free k n m l = ap (ltb m) (slot-mask k n l)
 
 low-digits : (m n : ℕ) → m % 2 ^ suc n ≡ m / 2 % 2 ^ n * 2 + m % 2
 low-digits m n = ap (λ (x : ℕ). m % x) (pow-suc 2 n) ∙ mod-mul m (pow-pos n) (lit< tt)

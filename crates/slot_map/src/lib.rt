@@ -3,8 +3,8 @@
 ghost use mathlib.Core.Path.{_≡_};
 ghost use Prim.Native.Nat.{_^_, _≤_, _<_};
 ghost use lib.Dec.{ltb};
-ghost use Rattle.slot_map.specs.Bit.{named, withBit, withoutBit, less, namesBelow, within};
-ghost use Rattle.slot_map.specs.Count.{used, free};
+ghost use Rattle.slot_map.specs.Bit.{named, withBit, withoutBit, less, within};
+ghost use Rattle.slot_map.specs.Count.{free, allSlots};
 ghost use Rattle.slot_map.specs.Next.{nextFree};
 
 // Whether the map names slot i.
@@ -45,18 +45,10 @@ pub fn is_within(victims: u32, map: u32) -> bool
     victims & map == victims
 }
 
-// Whether every slot that the map names is below n.
-pub fn names_below(n: u32, map: u32) -> bool
-    requires { ⌜ (1 ≤ n) × (n ≤ 32) ⌝ }
-    ensures { λ r. ⌜ r ≡ namesBelow n map ⌝ }
-{
-    map <= 0xffff_ffff >> (32 - n)
-}
-
-// Whether a map of slots below n leaves one of them free: whether it is below the map of all n.
+// Whether a map names only slots below n and leaves one of them free: it is then below the map of all n.
 pub fn leaves_free(n: u32, map: u32) -> bool
-    requires { ⌜ (1 ≤ n) × (n ≤ 32) × (map < 2 ^ n) ⌝ }
-    ensures { λ r. ⌜ r ≡ ltb (used n map) n ⌝ }
+    requires { ⌜ (1 ≤ n) × (n ≤ 32) ⌝ }
+    ensures { λ r. ⌜ r ≡ ltb map (allSlots n) ⌝ }
 {
     map < 0xffff_ffff >> (32 - n)
 }

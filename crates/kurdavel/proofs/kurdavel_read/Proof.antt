@@ -6,11 +6,11 @@ use borrow.Author.Needs.{needs}
 use Rattle.kurdavel.proofs.kurdavel_read.Statement.{statement}
 use Rattle.kurdavel.proofs.kurdavel_read.Tie as tie
 
-decode-requires : tie.Need-decode-requires
-decode-requires c κs = search needs
+looked-up-requires : tie.Need-looked-up-requires
+looked-up-requires c κs = search needs
 
-read-requires : tie.Need-read-requires
-read-requires c κs = search needs
+told-requires : tie.Need-told-requires
+told-requires c κs = search needs
 
 enum-known-answer : tie.Need-enum-known-answer
 enum-known-answer c = search needs
@@ -26,18 +26,18 @@ cast-kind c = search needs
 
 returns : tie.Need-returns
 unfolding versionAfter kindAfter
-returns c = read-crossed (c .before .before .before .before .before .before .decode .ensures) (c .before .before .before .before .read .ensures) (c .before .before .answer .given .1) (c .number .ensures) refl refl
+returns c = read-crossed (c .before .before .before .before .before .looked-up .ensures) (c .before .before .before .before .told .ensures) (c .before .before .answer .given .1) (c .number .ensures) refl refl
 
 returns-2 : tie.Need-returns-2
 unfolding versionAfter kindAfter
-returns-2 c = read-crossed (c .before .before .before .before .before .decode .ensures) (c .before .before .before .read .ensures) (c .before .answer2 .given .1) refl refl refl
+returns-2 c = read-crossed (c .before .before .before .before .looked-up .ensures) (c .before .before .before .told .ensures) (c .before .answer2 .given .1) refl refl refl
 
 pub kurdavel-read-spec : {M : Type 1} → statement M
 kurdavel-read-spec =
     tie.close
     (tie.spec
-    decode-requires
-    read-requires
+    looked-up-requires
+    told-requires
     enum-known-answer
     number-requires
     enum-known-answer-2

@@ -13,17 +13,14 @@ use Rattle.kurdavel.proofs.kurdavel_read_value.Tie as tie
 
 -- the entry of an object that was found lies in the area, whose length is a record's
 inside : (c : tie.After-known-told)
-    → ObjectInside edition1 (c .before .before .before .before .before .before .before .before .before .args .area .now) (c .before .entry .given .0 .0) (c .before .entry .given .0 .1 .1 .1 .0)
-inside c = object-inside edition1 _ _ _ _ _ _ _ _ (sym (c .before .before .before .find .ensures) ∙ c .before .entry .given .1)
+    → ObjectInside edition1 (c .before .before .before .before .before .before .before .args .area .now) (c .before .entry .given .0 .0) (c .before .entry .given .0 .1 .1 .1 .0)
+inside c = object-inside edition1 _ _ _ _ _ _ _ _ (sym (c .before .before .before .looked-up .ensures) ∙ c .before .entry .given .1)
 
-small : (c : tie.After-known-told) → length (c .before .before .before .before .before .before .before .before .before .args .area .now) ≤ 65536
-small c = found-small _ _ _ _ (sym (c .before .before .before .find .ensures) ∙ c .before .entry .given .1)
+small : (c : tie.After-known-told) → length (c .before .before .before .before .before .before .before .args .area .now) ≤ 65536
+small c = found-small _ _ _ _ (sym (c .before .before .before .looked-up .ensures) ∙ c .before .entry .given .1)
 
-decode-requires : tie.Need-decode-requires
-decode-requires c κs = search needs
-
-find-requires : tie.Need-find-requires
-find-requires c κs = search needs
+looked-up-requires : tie.Need-looked-up-requires
+looked-up-requires c κs = search needs
 
 enum-known-entry : tie.Need-enum-known-entry
 enum-known-entry c = search needs
@@ -54,22 +51,21 @@ returns : tie.Need-returns
 unfolding edition1 toldBy valueBy
 returns c =
     let h = inside c in
-    value-crossed (c .before .before .before .before .before .decode .ensures) (c .before .before .before .find .ensures) (c .before .entry .given .1) refl refl (omega arith) (λ refused. absurd (refused refl))
+    value-crossed (c .before .before .before .looked-up .ensures) (c .before .entry .given .1) refl refl (omega arith) (λ refused. absurd (refused refl))
 
 returns-2 : tie.Need-returns-2
 unfolding toldBy valueBy
-returns-2 c = value-crossed (c .before .before .before .before .decode .ensures) (c .before .before .find .ensures) (c .enum-told .given .1) refl refl (omega arith) (λ _. (refl, refl))
+returns-2 c = value-crossed (c .before .before .looked-up .ensures) (c .enum-told .given .1) refl refl (omega arith) (λ _. (refl, refl))
 
 returns-3 : tie.Need-returns-3
 unfolding toldBy valueBy
-returns-3 c = value-crossed (c .before .before .before .before .decode .ensures) (c .before .before .find .ensures) (c .enum-told2 .given .1) refl refl (omega arith) (λ _. (refl, refl))
+returns-3 c = value-crossed (c .before .before .looked-up .ensures) (c .enum-told2 .given .1) refl refl (omega arith) (λ _. (refl, refl))
 
 pub kurdavel-read-value-spec : {M : Type 1} → statement M
 kurdavel-read-value-spec =
     tie.close
     (tie.spec
-    decode-requires
-    find-requires
+    looked-up-requires
     enum-known-entry
     add-place
     cast-place

@@ -11,7 +11,7 @@ shr-result : tie.Need-shr-result
 shr-result c = search needs
 
 returns : tie.Need-returns
-returns c = leaves-free 32 (c .args .n) (c .args .map) (c .pre .1) (c .pre .2)
+returns c = leaves-free 32 (c .args .n) (c .args .map) (c .pre .1)
 
 pub leaves-free-spec : {M : Type 1} → statement M
 leaves-free-spec = tie.close (tie.spec sub-result shr-result returns)
