@@ -2,7 +2,8 @@
  * Kurdavel: a parameter store for a drive's firmware, in one log that may be cut anywhere.
  *
  * Link with libkurdavel.a, which `rt staticlib kurdavel` writes to target/staticlib/ (x86-64).
- * The library keeps nothing from call to call, allocates nothing, and calls nothing but memset.
+ * The library keeps nothing from call to call, allocates nothing, and calls nothing but memset. Recovery takes some
+ * 3.5 KiB of stack, every other call less than 1 KiB.
  *
  * Memory that the caller lends
  *   area    N slots of S bytes each, exactly N * S bytes; N from 4 to 32, S from 256 to 2,048.
