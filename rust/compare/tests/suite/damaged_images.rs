@@ -3,7 +3,7 @@
 use compare::pair::Pair;
 use compare::Fault;
 use reference::rng::Rng;
-use reference::testing::images::{Image, Shape, Versions};
+use reference::testing::images::{Image, Shape};
 
 /// Recovers an image with both. Gives 0 or the refusal.
 fn recover(rng: &mut Rng, image: &Image, cells: usize) -> Result<u32, Fault> {
@@ -107,21 +107,7 @@ fn shared_versions_in_full_areas() {
     let mut rng = Rng::new(4);
     let mut met = [0; 21];
     for round in 0..300 {
-        let shape = Shape {
-            slots: 32,
-            slot_bytes: rng.within(1900, 2048),
-            keys: 3000,
-            versions: *rng.pick(&[
-                Versions::InARow,
-                Versions::Random,
-                Versions::Stride(8192),
-                Versions::Stride(2048),
-                Versions::Stride(1),
-            ]),
-            kinds: vec![4, 4, 4, 1],
-            full: true,
-        };
-        let mut image = shape.make(&mut rng);
+        let mut image = Image::crowded(&mut rng);
         if round % 2 == 0 {
             image.share_a_version(&mut rng);
         }

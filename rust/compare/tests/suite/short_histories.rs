@@ -2,7 +2,7 @@
 
 use compare::pair::Pair;
 use compare::Fault;
-use reference::testing::choices::{Choice, A, B, ORDERS};
+use reference::testing::choices::{two_keys, Choice, A, B, ORDERS};
 
 struct Explorer {
     choices: Vec<Choice>,
@@ -67,13 +67,7 @@ fn explore_all(slot_bytes: u32, fill: u8, bytes: [usize; 2]) {
     let area = vec![fill; 4 * slot_bytes as usize];
     let pair = Pair::fresh(4, slot_bytes, 16, &area).unwrap_or_else(|fault| panic!("{fault}"));
     let mut explorer = Explorer {
-        choices: vec![
-            Choice::Write(A, bytes[0]),
-            Choice::Write(B, bytes[1]),
-            Choice::Delete(A),
-            Choice::Delete(B),
-            Choice::CleanAll,
-        ],
+        choices: two_keys(bytes),
         histories: 0,
         cuts: 0,
     };

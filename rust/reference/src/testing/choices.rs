@@ -41,3 +41,14 @@ impl Choice {
         }
     }
 }
+
+/// Writes of so many bytes under two keys, their deletes, and a cleaning of the log.
+pub fn two_keys(bytes: [usize; 2]) -> Vec<Choice> {
+    vec![
+        Choice::Write(A, bytes[0]),
+        Choice::Write(B, bytes[1]),
+        Choice::Delete(A),
+        Choice::Delete(B),
+        Choice::CleanAll,
+    ]
+}

@@ -160,6 +160,27 @@ impl Shape {
 }
 
 impl Image {
+    /// A full area of many keys, whose versions may all meet in a filter by their low bits.
+    pub fn crowded(rng: &mut Rng) -> Image {
+        let shape = Shape {
+            slots: 32,
+            slot_bytes: rng.within(1900, 2048),
+            keys: 3000,
+            versions: *rng.pick(&[
+                Versions::InARow,
+                Versions::Random,
+                Versions::Stride(65536),
+                Versions::Stride(16384),
+                Versions::Stride(8192),
+                Versions::Stride(2048),
+                Versions::Stride(1),
+            ]),
+            kinds: vec![4, 4, 4, 1],
+            full: true,
+        };
+        shape.make(rng)
+    }
+
     /// A key of an entry, or one that is likely absent.
     pub fn some_key(&self, rng: &mut Rng) -> Key {
         if self.entries.is_empty() || rng.one_in(6) {

@@ -2,7 +2,7 @@
 
 use reference::book::Operation;
 use reference::rules::{AsWritten, Rules};
-use reference::testing::choices::{Choice, A, B, ORDERS};
+use reference::testing::choices::{two_keys, Choice, A, B, ORDERS};
 
 use crate::rig::{Fault, Rig};
 
@@ -82,13 +82,7 @@ fn explore_all(slot_bytes: u32, fill: u8, bytes: [usize; 2]) {
     let mut rig = Rig::<AsWritten>::new(4, slot_bytes, 16, area);
     rig.keys = vec![A, B];
     let mut explorer = Explorer {
-        choices: vec![
-            Choice::Write(A, bytes[0]),
-            Choice::Write(B, bytes[1]),
-            Choice::Delete(A),
-            Choice::Delete(B),
-            Choice::CleanAll,
-        ],
+        choices: two_keys(bytes),
         histories: 0,
     };
     if let Err((history, fault)) = explorer.explore(&rig, 4, false) {
