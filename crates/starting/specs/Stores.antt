@@ -1,8 +1,9 @@
 -- 01, "Operations, store by store": how many stores a commit and a new head take.
-use Prim.Native.Nat.{ℕ, _+_, _≤_, _<_}
+use Prim.Native.Nat.{ℕ, suc, _+_, _≤_, _<_}
 use mathlib.Core.Path.{_≡_, refl, sym, _∙_, ap}
 use mathlib.Core.Bool.{Bool, true, false}
-use mathlib.Core.List.{List}
+use mathlib.Core.List.{List, _∷_}
+use native.Mathlib.Numerals.{add-one}
 use native.Mathlib.Omega.{arith}
 use lib.Dec.{ltb}
 use lib.ListN.{length}
@@ -37,6 +38,9 @@ module _ (S offset n : ℕ) where
       go true d = (omega arith, omega arith)
       go false d = (omega arith, omega arith)
 
+pub head-most : (S n : ℕ) {k : ℕ} → k ≡ headStores S n → k ≤ n + 2
+head-most S n e = let most = stores-most S 0 n refl in omega arith
+
 -- they are as many as the plan's
 pub commit-stores : (S i offset n : ℕ) (bytes : List ℕ) → length bytes ≡ n → 0 < n → length (commit S i offset bytes) ≡ commitStores S offset n
 commit-stores S i offset n bytes e h = go (ltb (offset + length bytes) S) refl
@@ -48,3 +52,7 @@ commit-stores S i offset n bytes e h = go (ltb (offset + length bytes) S) refl
     go false p =
         let l = ltb-false (offset + length bytes) S p in
         length-commit-full S i offset bytes (omega arith) l ∙ e ∙ stores-full S offset n (omega arith)
+
+pub head-stores :
+    (S i n : ℕ) (first : ℕ × ℕ) (bytes : List ℕ) → length bytes ≡ n → 0 < n → length (first ∷ commit S i 0 bytes) ≡ headStores S n
+head-stores S i n first bytes e h = ap suc (commit-stores S i 0 n bytes e h) ∙ sym (add-one (commitStores S 0 n))

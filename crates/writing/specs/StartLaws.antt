@@ -20,7 +20,6 @@ use Rattle.record.specs.RangeLaws.{Lent, lent}
 use Rattle.record.specs.declared.Refusal.{Refusal}
 use Rattle.record.specs.declared.Refusal.the-variants.{BadRecord, Absent, VersionsSpent, KeysFull}
 use Rattle.record.specs.declared.Start.{Start}
-use Rattle.record.specs.declared.StartAnswer.{StartAnswer}
 use Rattle.record.specs.declared.Store.{Store}
 use Rattle.model.specs.Log.{Placed}
 use Rattle.model.specs.Causes.{Cause, when, firstCause}
@@ -32,11 +31,14 @@ use Rattle.laws.specs.RecoverLaws.{no-cause, cause-passed}
 use Rattle.laws.specs.Entering.{Roomy}
 use Rattle.index.specs.Search.{searchFor}
 use Rattle.index.specs.declared.Found.{Found}
-use Rattle.writing.specs.declared.Check.{Check}
+use Rattle.starting.specs.declared.Check.{Check}
+use Rattle.starting.specs.Checks.{checked, lentTests}
+use Rattle.starting.specs.CheckLaws.{checked-some, checked-none}
+use Rattle.starting.specs.NewHead.{NumberLeft}
+use Rattle.starting.specs.Answer.{refusedStart}
 use Rattle.writing.specs.declared.Presence.{Presence}
-use Rattle.writing.specs.Tests.{checked, isAt, isFull, lentTests, valueTests, keyTests, roomTests, writeTests, presenceFor, isMissing, isBad, presentTests, deleteTests}
-use Rattle.writing.specs.TestLaws.{checked-some, checked-none}
-use Rattle.writing.specs.Laying.{laidBegun, Ready, NumberLeft}
+use Rattle.writing.specs.Tests.{isAt, isFull, valueTests, keyTests, roomTests, writeTests, presenceFor, isMissing, isBad, presentTests, deleteTests}
+use Rattle.writing.specs.Laying.{laidBegun, Ready}
 use Rattle.writing.specs.Known.{genuine-known, genuine-presents}
 
 -- ---- any start
@@ -104,12 +106,12 @@ module _ (L : Layout) (o : Operation) (r : Store) (area cells work : List ℕ) (
 
     -- refused: nothing changes
     start-refused :
-        (c : Refusal) → Check.Refused c ≡ checked (firstCause tests) →
-        StartPromise L o r area cells work work (record { answer = StartAnswer.Refused c; store = r })
+        (c : Refusal) → Check.Refused c ≡ checked (firstCause tests) → (a : Start) → a ≡ refusedStart r c →
+        StartPromise L o r area cells work work a
     unfolding begun
-    start-refused c e =
-        start-promise work (record { answer = StartAnswer.Refused c; store = r })
-        (sym (ap (begun L r [] o work) (checked-some (firstCause tests) c e)))
+    start-refused c e a is =
+        start-promise work a
+        (ap (λ (s : Start). record { start = s; work = work }) is ∙ sym (ap (begun L r [] o work) (checked-some (firstCause tests) c e)))
 
     -- accepted: the entry is laid down
     start-laid :
@@ -181,10 +183,10 @@ module _ (L : Layout) (r : Store) (area cells work : List ℕ) (k : Key) (value 
       firstCause (front ++ (when (both (not b) (eqb (r .keys) (r .cells - 1))) KeysFull ∷ roomTests r (entrySize L (length value))))) (w .has)
 
   pub write-refused :
-      (c : Refusal) → Check.Refused c ≡ writes →
-      StartPromise L (write k value) r area cells work work (record { answer = StartAnswer.Refused c; store = r })
+      (c : Refusal) → Check.Refused c ≡ writes → (a : Start) → a ≡ refusedStart r c →
+      StartPromise L (write k value) r area cells work work a
   unfolding writeTests
-  write-refused c e = start-refused L (write k value) r area cells work ofWrite (length value) write-free write-agrees c e
+  write-refused c e a is = start-refused L (write k value) r area cells work ofWrite (length value) write-free write-agrees c e a is
 
   module _ (passed : Check.Passed ≡ writes) where
     write-room : Roomy L → digestSize L + entrySize L (length value) ≤ 256
@@ -235,10 +237,10 @@ module _ (L : Layout) (r : Store) (area cells work : List ℕ) (k : Key) where
       ∙ ap (λ (b : Bool). firstCause (front ++ (when b Absent ∷ when (versionsSpent L r) VersionsSpent ∷ roomTests r (entrySize L 0)))) (w .missing)
 
   pub delete-refused :
-      (c : Refusal) → Check.Refused c ≡ deletes →
-      StartPromise L (delete k) r area cells work work (record { answer = StartAnswer.Refused c; store = r })
+      (c : Refusal) → Check.Refused c ≡ deletes → (a : Start) → a ≡ refusedStart r c →
+      StartPromise L (delete k) r area cells work work a
   unfolding deleteTests
-  delete-refused c e = start-refused L (delete k) r area cells work (presentTests L r seen) 0 delete-free delete-agrees c e
+  delete-refused c e a is = start-refused L (delete k) r area cells work (presentTests L r seen) 0 delete-free delete-agrees c e a is
 
   module _ (passed : Check.Passed ≡ deletes) where
     pub delete-ready : Roomy L → Ready L r 0 (length work)
