@@ -29,7 +29,6 @@ use Rattle.model.specs.Causes.{Cause, when, firstCause}
 use Rattle.model.specs.Operations.{clean, newSlot, newDigest}
 use Rattle.model.specs.Refused.{Lengths, victimsBad, numbersSpent}
 use Rattle.model.specs.Promises.{lentLengths, StartPromise}
-use Rattle.laws.specs.RecoverLaws.{NoCause, no-cause}
 use Rattle.starting.specs.declared.Check.{Check}
 use Rattle.starting.specs.Stores.{headStores}
 use Rattle.starting.specs.Checks.{checked, lentTests}
@@ -41,6 +40,7 @@ use Rattle.cleaning.specs.KeptModel.{splitOf}
 use Rattle.cleaning.specs.Copied.{Copied}
 use Rattle.cleaning.specs.Begun.{Ready, Room, cleaningWith, begunWith, ownTests, causesWith, cleaned-promise}
 use Rattle.cleaning.specs.declared.Split.{Split}
+use Rattle.laws.specs.CauseLaws.{NoCause, no-cause}
 
 -- ---- single tests
 

@@ -4,9 +4,7 @@ use mathlib.Core.Path.{_≡_, refl, sym, _∙_, ap}
 use mathlib.Core.Bool.{Bool, true, false, not}
 use mathlib.Core.List.{List, [], _∷_, _++_}
 use mathlib.Core.Option.{Option, none, some}
-use lib.Dec.{ltb}
 use borrow.Author.Tests.{lt-ltb, le-ltb, not-false, ltb-false}
-use Rattle.segment.specs.Choice.{pick}
 use Rattle.segment.specs.Layout.{Layout}
 use Rattle.record.specs.Range.{fitsLent}
 use Rattle.record.specs.RangeLaws.{Lent, lent}
@@ -17,8 +15,7 @@ use Rattle.record.specs.declared.Refusal.the-variants.{WorkShort, BadRecord, Bu
 use Rattle.record.specs.declared.Store.{Store}
 use Rattle.model.specs.Causes.{Cause, firstCause}
 use Rattle.model.specs.Refused.{Lengths, isPending}
-use Rattle.laws.specs.CauseLaws.{cause-first, cause-skip}
-use Rattle.laws.specs.RecoverLaws.{NoCause, no-cause}
+use Rattle.laws.specs.CauseLaws.{cause-first, cause-skip, NoCause, no-cause, first-some, first-none}
 use Rattle.starting.specs.declared.Check.{Check}
 use Rattle.starting.specs.Checks.{checked, lentTests}
 
@@ -36,26 +33,6 @@ unfolding checked firstCause
 passed = refl
 
 -- ---- one list of tests after the other
-
-first-some : (a b : List Cause) (c : Refusal) → firstCause a ≡ some c → firstCause (a ++ b) ≡ some c
-unfolding firstCause pick
-first-some [] b c e = cc
-first-some (x ∷ a) b c e = go (x .holds) e (λ d. first-some a b c d)
-  where
-    go : (t : Bool) → pick t (some (x .refusal)) (firstCause a) ≡ some c → (firstCause a ≡ some c → firstCause (a ++ b) ≡ some c) →
-        pick t (some (x .refusal)) (firstCause (a ++ b)) ≡ some c
-    go true d ih = d
-    go false d ih = ih d
-
-first-none : (a b : List Cause) → firstCause a ≡ none → firstCause (a ++ b) ≡ firstCause b
-unfolding firstCause pick
-first-none [] b e = refl
-first-none (x ∷ a) b e = go (x .holds) e (λ d. first-none a b d)
-  where
-    go : (t : Bool) → pick t (some (x .refusal)) (firstCause a) ≡ none → (firstCause a ≡ none → firstCause (a ++ b) ≡ firstCause b) →
-        pick t (some (x .refusal)) (firstCause (a ++ b)) ≡ firstCause b
-    go true d ih = cc
-    go false d ih = ih d
 
 pub checked-some : (o : Option Refusal) (c : Refusal) → Check.Refused c ≡ checked o → o ≡ some c
 unfolding checked

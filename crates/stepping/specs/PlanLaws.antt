@@ -2,8 +2,8 @@
 use Prim.Native.Nat.{ℕ, zero, suc, _+_, _*_, _-_, _≤_, _<_}
 use mathlib.Core.Path.{_≡_, refl, sym, _∙_, ap, subst}
 use mathlib.Core.Bool.{Bool, true, false}
-use mathlib.Core.List.{List, [], _∷_, _++_}
-use mathlib.Core.Option.{none, some}
+use mathlib.Core.List.{List, _∷_, _++_}
+use mathlib.Core.Option.{some}
 use native.Mathlib.Decide.{ℕ-discrete}
 use native.Mathlib.Omega.{arith}
 use lib.Dec.{ltb}
@@ -22,15 +22,15 @@ use Rattle.record.specs.RangeLaws.{Lent, lent}
 use Rattle.record.specs.declared.Pending.the-variants.{Append, NewHead, Clean}
 use Rattle.record.specs.declared.Store.{Store}
 use Rattle.model.specs.Log.{Placed}
-use Rattle.model.specs.Operations.{Operation, write, delete, clean, Laid, laid, laidEntry, laidClean, logNow, newSlot, newDigest, fitsHead, kept, allEncoded, writtenEntry, tombstoneEntry, planOf, planFor, commit, stored}
+use Rattle.model.specs.Operations.{Operation, write, delete, clean, Laid, laid, laidEntry, laidClean, logNow, newSlot, newDigest, fitsHead, kept, allEncoded, writtenEntry, tombstoneEntry, planOf, planFor, commit}
 use Rattle.model.specs.Promises.{Started}
-use Rattle.laws.specs.Stores.{slot-inside, length-stored, length-commit-within, length-commit-full, commit-byte, commit-end, commit-last}
+use Rattle.laws.specs.Stores.{slot-inside, length-stored, commit-byte, commit-end, commit-last}
 use Rattle.laws.specs.Operated.{Accepted, StoreLaws}
 use Rattle.starting.specs.Stores.{commitStores, stores-within, stores-full, commit-stores}
 use Rattle.stepping.specs.Next.{commitStore, slotStore, slotNext, pendingNext, nextStore}
 use Rattle.stepping.specs.NextLaws.{Fit, slot-fits, store-last, store-byte, store-end, next-at}
 use Rattle.stepping.specs.declared.NextStore.{NextStore}
-use Rattle.stepping.specs.declared.NextStore.the-variants.{At, Bad}
+use Rattle.stepping.specs.declared.NextStore.the-variants.{At}
 
 -- a store of a plan as the next one
 abbrev pub atOf : ℕ × ℕ → NextStore

@@ -7,7 +7,7 @@ ghost use Prim.Native.Nat.{_+_, _*_, _≤_, _<_};
 ghost use mathlib.Core.Path.{_≡_};
 ghost use lib.ListN.{length};
 ghost use Rattle.starting.specs.Stores.{commitStores};
-ghost use Rattle.stepping.specs.Next.{commitStore, fitsSlot, fitsLeft, slotStore, slotNext, nextStore};
+ghost use Rattle.stepping.specs.Next.{commitStore, fitsSlot, slotNext, nextStore};
 
 // The store that comes after `done` others, where the first `count` bytes of the work buffer come to an offset of the slot that
 // begins at `base`.

@@ -6,7 +6,6 @@ use mathlib.Core.List.{List, [], _∷_, _++_}
 use mathlib.Core.Option.{Option, none, some}
 use lib.Dec.{eqb, leb}
 use lib.ListN.{length}
-use lib.Seq.{length-sets}
 use borrow.Author.Tests.{eqb-false, ltb-false, not-false}
 use Rattle.segment.specs.Choice.{both}
 use Rattle.segment.specs.Layout.{Layout, objectKind, entrySize, digestSize, numberLimit}
@@ -23,12 +22,12 @@ use Rattle.record.specs.declared.Start.{Start}
 use Rattle.record.specs.declared.Store.{Store}
 use Rattle.model.specs.Log.{Placed}
 use Rattle.model.specs.Causes.{Cause, when, firstCause}
-use Rattle.model.specs.Operations.{Operation, write, delete, clean, logNow, kindElse, writtenEntry, tombstoneEntry, Laid, laid, laidEntry}
+use Rattle.model.specs.Operations.{Operation, write, delete, logNow, kindElse, writtenEntry, tombstoneEntry, Laid, laid, laidEntry}
 use Rattle.model.specs.Refused.{Lengths, recordBad, versionsSpent, startCauses, isNone}
 use Rattle.model.specs.Promises.{Genuine, Begun, begun, lentLengths, StartPromise}
-use Rattle.laws.specs.CauseLaws.{cause-first, none-left, none-right}
-use Rattle.laws.specs.RecoverLaws.{no-cause, cause-passed}
+use Rattle.laws.specs.CauseLaws.{cause-first, none-left, none-right, no-cause, cause-passed}
 use Rattle.laws.specs.Entering.{Roomy}
+use Rattle.laws.specs.Starts.{begun-length, start-bad}
 use Rattle.index.specs.Search.{searchFor}
 use Rattle.index.specs.declared.Found.{Found}
 use Rattle.starting.specs.declared.Check.{Check}
@@ -43,12 +42,6 @@ use Rattle.writing.specs.Known.{genuine-known, genuine-presents}
 
 -- ---- any start
 
-begun-length : (L : Layout) (r : Store) (log : List Placed) (o : Operation) (work : List ℕ) (c : Option Refusal) →
-    length (begun L r log o work c .work) ≡ length work
-unfolding begun
-begun-length L r log o work none = length-sets work 0 (laid L r log o .bytes)
-begun-length L r log o work (some c) = refl
-
 -- What is laid down for the operation does not go by the log.
 abbrev LogFree : Layout → Store → Operation → Type 0
 LogFree L r o = (log : List Placed) → laid L r [] o ≡ laid L r log o
@@ -58,13 +51,6 @@ begun-free : (L : Layout) (r : Store) (o : Operation) → LogFree L r o → (log
 unfolding begun laidBegun
 begun-free L r o free log work none = ap (λ x. laidBegun r x work) (free log)
 begun-free L r o free log work (some c) = refl
-
-start-bad : (L : Layout) (r : Store) (log : List Placed) (l : Lengths) (o : Operation) → recordBad L r l ≡ true →
-    firstCause (startCauses L r log l o) ≡ some BadRecord
-unfolding startCauses
-start-bad L r log l (write k value) h = cause-first _ _ h
-start-bad L r log l (delete k) h = cause-first _ _ h
-start-bad L r log l (clean victims) h = cause-first _ _ h
 
 -- A start whose tests are 4, 3 and 5, some of its own, and 12 and 10 for an entry with a value of n bytes.
 module _ (L : Layout) (o : Operation) (r : Store) (area cells work : List ℕ) (own : List Cause) (n : ℕ) where
