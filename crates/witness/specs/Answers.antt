@@ -7,7 +7,6 @@ use mathlib.Core.Option.{Option, none, some}
 use native.Mathlib.Omega.{arith}
 use lib.Dec.{eqb}
 use lib.ListN.{length, replicate, length-replicate}
-use lib.Seq.{length-sets}
 use Rattle.segment.specs.Choice.{pick}
 use Rattle.segment.specs.Layout.{Layout}
 use Rattle.segment.specs.declared.Key.{Key}
@@ -17,13 +16,12 @@ use Rattle.record.specs.declared.Reading.{Reading}
 use Rattle.record.specs.declared.Recovery.{Recovery}
 use Rattle.record.specs.declared.RecoverAnswer.{RecoverAnswer}
 use Rattle.record.specs.declared.Refusal.{Refusal}
-use Rattle.record.specs.declared.Refusal.the-variants.{BadRecord}
 use Rattle.record.specs.declared.Store.{Store}
-use Rattle.model.specs.Log.{Placed, present}
+use Rattle.model.specs.Log.{present}
 use Rattle.model.specs.Causes.{firstCause}
-use Rattle.model.specs.Operations.{Operation, write, delete, clean, logNow, laid}
+use Rattle.model.specs.Operations.{Operation, logNow}
 use Rattle.model.specs.Recovery.{recovery, recoveryFor, recoverCauses, storeOf}
-use Rattle.model.specs.Refused.{Lengths, recordBad, readCauses, startCauses}
+use Rattle.model.specs.Refused.{readCauses, startCauses}
 use Rattle.model.specs.Promises.{IndexAfter, RecoverPromise, readAnswer, readLengths, ReadPromise, valueAnswer, ValuePromise, Begun, begun, lentLengths, StartPromise}
 use Rattle.laws.specs.CauseLaws.{cause-first}
 use Rattle.laws.specs.RecoverLaws.{recovery-order, recovery-recovered, recovered-facts}
