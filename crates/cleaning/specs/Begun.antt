@@ -1,5 +1,5 @@
 -- What a start of a cleaning answers and leaves, by the bytes that it keeps; and that this is the promise of a start.
-use Prim.Native.Nat.{ℕ, suc, _+_, _-_, _≤_, _<_}
+use Prim.Native.Nat.{ℕ, _+_, _*_, _-_, _≤_}
 use mathlib.Core.Path.{_≡_, refl, sym, _∙_, ap}
 use mathlib.Core.Bool.{Bool, true, false, not}
 use mathlib.Core.Option.{Option, none, some}
@@ -8,28 +8,29 @@ use native.Mathlib.Omega.{arith}
 use lib.Dec.{eqb, ltb}
 use lib.ListN.{length, length-append}
 use lib.Seq.{sets, length-sets}
-use borrow.Author.Tests.{lt-ltb, le-ltb, ltb-true, ltb-false, not-false}
+use borrow.Author.Tests.{not-false}
 use Rattle.word.specs.Number.{Bytes}
-use Rattle.segment.specs.Choice.{pick, pick-true, pick-false, either-false-right}
-use Rattle.segment.specs.Layout.{Layout, digestSize, numberLimit}
+use Rattle.segment.specs.Choice.{pick, either-false-right}
+use Rattle.segment.specs.Layout.{Layout, digestSize}
 use Rattle.segment.specs.Digest.{encodedDigest}
 use Rattle.segment.specs.DigestLaws.{length-encodedDigest}
 use Rattle.slot_map.specs.Bit.{within}
-use Rattle.slot_map.specs.Count.{used}
-use Rattle.record.specs.Answers.{withPending}
+use Rattle.record.specs.RangeLaws.{Lent}
 use Rattle.record.specs.declared.Pending.the-variants.{Clean}
 use Rattle.record.specs.declared.Refusal.{Refusal}
 use Rattle.record.specs.declared.Refusal.the-variants.{BadRecord, WorkShort, Busy, BadVictims, KeptTooLong, NumbersSpent}
 use Rattle.record.specs.declared.Start.{Start}
-use Rattle.record.specs.declared.StartAnswer.{StartAnswer}
 use Rattle.record.specs.declared.Store.{Store}
 use Rattle.model.specs.Log.{Placed}
 use Rattle.model.specs.Causes.{Cause, when, firstCause}
-use Rattle.model.specs.Operations.{clean, logNow, newSlot, newDigest, kept, allEncoded, laid, commit, planOf}
+use Rattle.model.specs.Operations.{clean, logNow, newSlot, newDigest, kept, allEncoded, laid, planOf}
 use Rattle.model.specs.Refused.{Lengths, recordBad, workShort, isPending, victimsBad, numbersSpent, startCauses}
 use Rattle.model.specs.Promises.{Begun, begun, Genuine, lentLengths, StartPromise}
 use Rattle.laws.specs.CauseLaws.{cause-first}
-use Rattle.laws.specs.Stores.{length-commit-within, length-commit-full}
+use Rattle.starting.specs.Stores.{headStores, head-stores}
+use Rattle.starting.specs.Checks.{lentTests}
+use Rattle.starting.specs.NewHead.{NumberLeft}
+use Rattle.starting.specs.Answer.{startedWith, refusedStart}
 use Rattle.cleaning.specs.Entries.{Shape}
 use Rattle.cleaning.specs.Kept.{keptBytes}
 use Rattle.cleaning.specs.KeptModel.{splitOf, bytes-kept}
@@ -37,15 +38,13 @@ use Rattle.cleaning.specs.declared.Split.{Split}
 
 -- ---- what the parts of a start ask
 
--- The record has a free slot for the new head, a digest number left, and the victims are slots of the log.
-pub record Ready (r : Store) (victims : ℕ) : Type 0 where
-  pub slots-low : 1 ≤ r .slots
-  pub slots-high : r .slots ≤ 32
-  pub size-high : r .size ≤ 2048
-  pub head-below : r .head < r .slots
-  pub some-free : used (r .slots) (r .map) < r .slots
+-- A record in range whose log has the victims, and a digest number left.
+pub record Ready (L : Layout) (r : Store) (victims : ℕ) : Type 0 where
+  pub areaLength : ℕ
+  pub indexLength : ℕ
+  pub lent : Lent L r areaLength indexLength
   pub all-named : within victims (r .map) ≡ true
-  pub number-left : r .number .0 < numberLimit
+  pub number-left : NumberLeft r
 
 -- The new head's bytes fit a segment, and the work buffer.
 pub record Room (L : Layout) (r : Store) (split : Split) (area cells work : List ℕ) : Type 0 where
@@ -55,69 +54,33 @@ pub record Room (L : Layout) (r : Store) (split : Split) (area cells work : List
 
 -- ---- the answer
 
--- the stores of a new head that is n bytes long
-unfoldable pub storesOf : ℕ → ℕ → ℕ
-storesOf S n = pick (ltb n S) (n + 2) (n + 1)
-
-abbrev pub startedWith : Store → ℕ → ℕ → ℕ → Start
-startedWith r victims slot n =
-    record { answer = StartAnswer.Started (storesOf (r .size) n); store = withPending r (Clean slot victims n (storesOf (r .size) n)) }
-
-abbrev pub refusedStart : Store → Refusal → Start
-refusedStart r c = record { answer = StartAnswer.Refused c; store = r }
+-- the cleaning pending, with a new head of n bytes
+abbrev pub cleaningWith : Store → ℕ → ℕ → ℕ → Start
+cleaningWith r victims slot n = startedWith r (Clean slot victims n (headStores (r .size) n)) (headStores (r .size) n)
 
 -- a cleaning that keeps these bytes
 unfoldable pub begunWith : Layout → Store → ℕ → List ℕ → List ℕ → Option Refusal → Begun
 begunWith L r victims work bytes none =
     record {
-      start = startedWith r victims (newSlot r) (digestSize L + length bytes);
+      start = cleaningWith r victims (newSlot r) (digestSize L + length bytes);
       work = sets work 0 (encodedDigest L (newDigest r victims) ++ bytes);
     }
 begunWith L r victims work bytes (some c) = record { start = refusedStart r c; work = work }
 
--- Clean: 4, 3, 5, 13, 14, 10.
-abbrev pub causesWith : Layout → Store → Lengths → List ℕ → ℕ → List Cause
-causesWith L r l bytes victims =
-    when (recordBad L r l) BadRecord
-    ∷ when (workShort r l) WorkShort
-    ∷ when (isPending (r .pending)) Busy
-    ∷ when (victimsBad r victims) BadVictims
+-- 13, 14 and 10
+abbrev pub ownTests : Layout → Store → List ℕ → ℕ → List Cause
+ownTests L r bytes victims =
+    when (victimsBad r victims) BadVictims
     ∷ when (ltb (r .size) (digestSize L + length bytes)) KeptTooLong
     ∷ when (numbersSpent r) NumbersSpent
     ∷ []
 
+-- Clean: 4, 3, 5, 13, 14, 10.
+unfoldable pub causesWith : Layout → Store → Lengths → List ℕ → ℕ → List Cause
+causesWith L r l bytes victims = lentTests L r l ++ ownTests L r bytes victims
+
 abbrev pub cleanedWith : Layout → Store → ℕ → Lengths → List ℕ → List ℕ → Begun
 cleanedWith L r victims l work bytes = begunWith L r victims work bytes (firstCause (causesWith L r l bytes victims))
-
--- ---- the number of stores
-
-module _ (r : Store) (slot victims n k : ℕ) (bytes : List ℕ) (some-byte : 0 < length bytes) where
-  plan-length : length (planOf r (Clean slot victims n k) bytes) ≡ storesOf (r .size) (length bytes)
-  unfolding planOf storesOf
-  plan-length = go (ltb (length bytes) (r .size)) refl
-    where
-      go : (t : Bool) → ltb (length bytes) (r .size) ≡ t →
-          suc (length (commit (r .size) slot 0 bytes)) ≡ pick (ltb (length bytes) (r .size)) (length bytes + 2) (length bytes + 1)
-      go true e =
-          omega (
-            arith,
-            length-commit-within (r .size) slot 0 bytes some-byte (omega (arith, ltb-true (length bytes) (r .size) e)),
-            pick-true (ltb (length bytes) (r .size)) (length bytes + 2) (length bytes + 1) e,
-          )
-      go false e =
-          omega (
-            arith,
-            length-commit-full (r .size) slot 0 bytes some-byte (omega (arith, ltb-false (length bytes) (r .size) e)),
-            pick-false (ltb (length bytes) (r .size)) (length bytes + 2) (length bytes + 1) e,
-          )
-
-pub stores-within : (S n : ℕ) → n < S → n + 2 ≡ storesOf S n
-unfolding storesOf
-stores-within S n h = sym (pick-true (ltb n S) (n + 2) (n + 1) (lt-ltb n S h))
-
-pub stores-full : (S n : ℕ) → S ≤ n → n + 1 ≡ storesOf S n
-unfolding storesOf
-stores-full S n h = sym (pick-false (ltb n S) (n + 2) (n + 1) (le-ltb n S h))
 
 -- ---- with the bytes that the model keeps it is the model's start
 
@@ -131,26 +94,17 @@ module _ (L : Layout) (r : Store) (log : List Placed) (victims : ℕ) (work : Li
       ∙ ap (λ (k : ℕ). k + length model-bytes) (length-encodedDigest L (newDigest r victims))
 
   begun-same : (o : Option Refusal) → begunWith L r victims work model-bytes o ≡ begun L r log (clean victims) work o
-  unfolding begunWith begun laid
+  unfolding begunWith begun laid planOf
   begun-same (some c) = refl
   begun-same none =
+      let n = digestSize L + length model-bytes in
       let bytes = encodedDigest L (newDigest r victims) ++ model-bytes in
-      let e : storesOf (r .size) (digestSize L + length model-bytes)
-      ≡ length (planOf r (Clean (newSlot r) victims (digestSize L + length model-bytes) 0) bytes) =
-      sym (plan-length r (newSlot r) victims (digestSize L + length model-bytes) 0 bytes (omega (arith, model-length)) ∙ ap (storesOf (r .size)) model-length) in
-      λ i.
-      record {
-        start =
-            record {
-              answer = StartAnswer.Started (e i);
-              store = withPending r (Clean (newSlot r) victims (digestSize L + length model-bytes) (e i));
-            };
-        work = sets work 0 bytes;
-      }
+      let e = sym (head-stores (r .size) (newSlot r) n (newSlot r * r .size, 0) bytes model-length (omega arith)) in
+      λ i. record { start = startedWith r (Clean (newSlot r) victims n (e i)) (e i); work = sets work 0 bytes }
 
   cleaned-same : (l : Lengths) → cleanedWith L r victims l work model-bytes ≡
       begun L r log (clean victims) work (firstCause (startCauses L r log l (clean victims)))
-  unfolding startCauses
+  unfolding startCauses lentTests causesWith
   cleaned-same l = begun-same (firstCause (causesWith L r l model-bytes victims))
 
 -- ---- the promise
@@ -163,7 +117,7 @@ module _ (L : Layout) (r : Store) (victims : ℕ) (l : Lengths) (work : List ℕ
 
   -- where the victims are bad, the bytes do not matter
   bad-alike : (a b : List ℕ) → victimsBad r victims ≡ true → cleanedWith L r victims l work a ≡ cleanedWith L r victims l work b
-  unfolding begunWith firstCause pick
+  unfolding begunWith firstCause pick lentTests causesWith
   bad-alike a b e = rw e (go (recordBad L r l) (workShort r l) (isPending (r .pending)))
     where
       tests : List ℕ → (t u w : Bool) → Begun
@@ -185,7 +139,7 @@ module _ (L : Layout) (area cells : List ℕ) (r : Store) (victims : ℕ) (work 
 
   pub cleaned-promise : Bytes area → record { start = a; work = work′ } ≡ cleanedWith L r victims lengths work code-bytes →
       StartPromise L (clean victims) r area cells work work′ a
-  unfolding begunWith begun
+  unfolding begunWith begun lentTests causesWith
   cleaned-promise bytes e =
       record {
         same-length =

@@ -2,10 +2,10 @@
 use crate::Header;
 use crate::Next;
 use crate::Split;
-use crate::entries::cut;
-use crate::entries::is_named;
 use crate::entries::next;
 use crate::kept::is_kept;
+use log::slots::cut;
+use log::slots::is_named;
 use segment::layout::DIGEST_SIZE;
 use segment::writer::copy_into;
 ghost use Prim.Native.Nat.{_+_, _≤_, _<_};
@@ -59,7 +59,7 @@ fn copy_slot(
         ⌜ Copied (keptSlot edition1 (now (area .entry)) (now (cells .entry)) split slot) (now (work .entry)) from (now (work .exit)) r ⌝ }
 {
     let size = split.size;
-    let s = cut(area, size, slot);
+    let s = cut(size, area, slot);
     let mut at = DIGEST_SIZE;
     let mut to = from;
     loop {

@@ -2,12 +2,12 @@
 use crate::Header;
 use crate::Next;
 use crate::Split;
-use crate::entries::cut;
-use crate::entries::is_named;
 use crate::entries::next;
 use crate::outside::object_outside;
 use index::Found;
 use index::search::search;
+use log::slots::cut;
+use log::slots::is_named;
 use segment::Key;
 use segment::layout::DIGEST_SIZE;
 ghost use Prim.Native.Nat.{_+_, _*_, _≤_, _<_};
@@ -66,7 +66,7 @@ fn measure_slot(area: &[u8], cells: &[u32], split: Split, slot: usize) -> usize
     ensures { λ r. ⌜ (r ≡ length (keptSlot edition1 (now (area .entry)) (now (cells .entry)) split slot)) × (r ≤ 2048) ⌝ }
 {
     let size = split.size;
-    let s = cut(area, size, slot);
+    let s = cut(size, area, slot);
     let mut at = DIGEST_SIZE;
     let mut total = 0;
     loop {

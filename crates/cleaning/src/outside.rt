@@ -2,9 +2,9 @@
 use crate::Header;
 use crate::Next;
 use crate::Split;
-use crate::entries::cut;
-use crate::entries::is_named;
 use crate::entries::next;
+use log::slots::cut;
+use log::slots::is_named;
 use segment::Key;
 use segment::layout::DIGEST_SIZE;
 ghost use Prim.Native.Nat.{_<_};
@@ -58,7 +58,7 @@ fn slot_holds(area: &[u8], split: Split, key: Key, slot: usize) -> bool
     if !is_named(split.outside, slot) {
         return false;
     }
-    holds_object(cut(area, split.size, slot), key)
+    holds_object(cut(split.size, area, slot), key)
 }
 
 // Whether a log slot outside the victims holds an object of the key.

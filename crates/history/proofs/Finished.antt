@@ -1,14 +1,14 @@
 -- What the last store of an operation does to the record is what it does to the book.
-use Prim.Native.Nat.{ℕ, zero, suc, _+_, _<_}
+use Prim.Native.Nat.{ℕ, _+_, _<_}
 use native.Mathlib.Omega.{arith}
-use mathlib.Core.Path.{_≡_, refl, sym, ap, _∙_}
+use mathlib.Core.Path.{_≡_, refl, sym, ap}
 use mathlib.Core.Bool.{Bool, true, false}
-use mathlib.Core.List.{List, [], _∷_}
+use mathlib.Core.List.{List}
 use mathlib.Core.Option.{Option, none, some}
 use lib.Dec.{eqb}
 use lib.ListN.{length}
 use borrow.Author.Tests.{eqb-true}
-use Rattle.segment.specs.Choice.{pick, both, both-left, both-right}
+use Rattle.segment.specs.Choice.{pick, both-left, both-right}
 use Rattle.segment.specs.Layout.{Layout, objectKind}
 use Rattle.segment.specs.Entry.{Entry}
 use Rattle.segment.specs.declared.Key.{Key}
@@ -16,7 +16,7 @@ use Rattle.record.specs.declared.Store.{Store}
 use Rattle.model.specs.Log.{Placed, sameKey}
 use Rattle.model.specs.Operations.{Operation, write, delete, clean, logNow, kindElse, writtenEntry, tombstoneEntry, fitsHead, appendedStore, headedStore, finishedStore, toldVersion}
 use Rattle.laws.specs.Operated.{mapAfter}
-use Rattle.history.specs.Book.{Kept, Book, finish, versionFor, sameKeys, withKey}
+use Rattle.history.specs.Book.{Kept, Book, finish, versionFor, sameKeys}
 use Rattle.history.proofs.Invariant.{bookEntry}
 
 -- nothing is pending once an operation is finished

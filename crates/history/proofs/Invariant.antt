@@ -1,9 +1,8 @@
 -- The invariant: the area recovers to the book; if a record is held it is genuine; a pending operation is started, and its stores left
 -- are the book's.
-use Prim.Native.Nat.{ℕ, zero, suc, _+_, _-_, _≤_, _<_, max}
-use mathlib.Core.Path.{_≡_, refl, sym, ap, _∙_, subst}
-use mathlib.Core.Bool.{Bool, true, false}
-use mathlib.Core.List.{List, [], _∷_, _++_}
+use Prim.Native.Nat.{ℕ, _-_, _<_}
+use mathlib.Core.Path.{_≡_, sym, ap, _∙_, subst}
+use mathlib.Core.List.{List}
 use mathlib.Core.Option.{Option, none, some}
 use lib.ListN.{length}
 use Rattle.word.specs.Number.{Bytes}
@@ -20,7 +19,7 @@ use Rattle.model.specs.Recovery.{recovered, storeOf, ifNone, areaCauses}
 use Rattle.model.specs.Operations.{logNow, kindElse, storesFor}
 use Rattle.model.specs.Promises.{Genuine, Started}
 use Rattle.laws.specs.MapLaws.{valueAt}
-use Rattle.history.specs.Book.{Kept, Awaited, Book}
+use Rattle.history.specs.Book.{Kept, Book}
 use Rattle.history.specs.Runs.{Held, World}
 
 -- the entry by which a log holds what the book holds of a key

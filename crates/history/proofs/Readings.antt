@@ -1,10 +1,10 @@
 -- A read keeps the invariant, and tells a version below the next.
-use Prim.Native.Nat.{ℕ, zero, suc, _<_, max}
+use Prim.Native.Nat.{ℕ, _<_, max}
 use native.Mathlib.Nat.{max-zero}
 use native.Mathlib.Omega.{arith}
-use mathlib.Core.Path.{_≡_, refl, sym, ap, _∙_, subst, subst⁻¹}
-use mathlib.Core.Bool.{Bool, true, false, not}
-use mathlib.Core.List.{List, [], _∷_}
+use mathlib.Core.Path.{_≡_, refl, sym, _∙_, subst⁻¹}
+use mathlib.Core.Bool.{Bool, true, false}
+use mathlib.Core.List.{List}
 use mathlib.Core.Option.{Option, none, some}
 use Rattle.segment.specs.Choice.{pick}
 use Rattle.segment.specs.Layout.{Layout}
@@ -14,7 +14,6 @@ use Rattle.record.specs.declared.Pending.the-variants.{Idle}
 use Rattle.record.specs.declared.Reading.{Reading}
 use Rattle.record.specs.declared.ReadAnswer.{ReadAnswer}
 use Rattle.record.specs.declared.Refusal.{Refusal}
-use Rattle.record.specs.declared.Store.{Store}
 use Rattle.model.specs.Log.{Placed, present}
 use Rattle.model.specs.Causes.{firstCause}
 use Rattle.model.specs.Recovery.{recovered}
@@ -22,10 +21,9 @@ use Rattle.model.specs.Operations.{logNow}
 use Rattle.model.specs.Refused.{readCauses}
 use Rattle.model.specs.Promises.{ReadPromise, readAnswer, presentAnswer, readLengths}
 use Rattle.laws.specs.Operated.{StoreLaws}
-use Rattle.history.specs.Book.{Call, reads, readsValue, Event, called, accepted, Book, feed, feedCall, toldBy}
+use Rattle.history.specs.Book.{reads, readsValue, called, accepted, Book, feed, feedCall, toldBy}
 use Rattle.history.specs.Runs.{Held}
-use Rattle.history.specs.Demand3.{EventAgrees}
-use Rattle.history.proofs.Invariant.{Inv, Holding, HeldGood, next-of, with-geometry}
+use Rattle.history.proofs.Invariant.{Inv, Holding, next-of, with-geometry}
 
 pub pick-same : {A : Type 0} (t : Bool) (a : A) → pick t a a ≡ a
 unfolding pick

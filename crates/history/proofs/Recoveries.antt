@@ -1,36 +1,30 @@
 -- A recovery and a cut keep the invariant.
-use Prim.Native.Nat.{ℕ, zero, suc, _<_, max}
+use Prim.Native.Nat.{ℕ, max}
 use native.Mathlib.Nat.{max-zero}
-use native.Mathlib.Omega.{arith}
-use mathlib.Core.Path.{_≡_, refl, sym, ap, _∙_, subst, subst⁻¹}
-use mathlib.Core.Bool.{Bool, true, false, not}
-use mathlib.Core.List.{List, [], _∷_, _++_}
+use mathlib.Core.Path.{_≡_, refl, ap, subst, subst⁻¹}
+use mathlib.Core.Bool.{Bool, true, false}
+use mathlib.Core.List.{List, []}
 use mathlib.Core.Option.{Option, none, some}
 use lib.Dec.{eqb}
 use lib.ListN.{length}
-use Rattle.segment.specs.Choice.{pick, pick-true, pick-false}
+use Rattle.segment.specs.Choice.{pick}
 use Rattle.segment.specs.Layout.{Layout}
-use Rattle.segment.specs.declared.Key.{Key}
-use Rattle.record.specs.Answers.{recoverSaid, refusal, blank}
+use Rattle.record.specs.Answers.{recoverSaid, blank}
 use Rattle.record.specs.Refusals.{numberOfRefusal}
-use Rattle.record.specs.declared.Pending.the-variants.{Idle}
 use Rattle.record.specs.declared.Recovery.{Recovery}
 use Rattle.record.specs.declared.RecoverAnswer.{RecoverAnswer}
 use Rattle.record.specs.declared.Refusal.{Refusal}
-use Rattle.record.specs.declared.Refusal.the-variants.{BadOrder}
 use Rattle.record.specs.declared.Store.{Store}
-use Rattle.model.specs.Log.{viewsOf, headOf}
-use Rattle.model.specs.Causes.{Cause, when, firstCause}
-use Rattle.model.specs.Recovery.{recovered, storeOf, ifNone, areaCauses, recoverCauses, lentCauses, imageCauses, keyCauses, orderBad, recovery, recoveryFor}
+use Rattle.model.specs.Causes.{firstCause}
+use Rattle.model.specs.Recovery.{recovered, storeOf, recoverCauses, recovery, recoveryFor}
 use Rattle.model.specs.Index.{IndexRule}
 use Rattle.model.specs.Operations.{logNow}
 use Rattle.model.specs.Promises.{RecoverPromise, IndexAfter}
 use Rattle.laws.specs.CauseLaws.{refusal-number}
 use Rattle.laws.specs.RecoverLaws.{recovery-recovered}
-use Rattle.laws.specs.Operated.{StoreLaws}
-use Rattle.history.specs.Book.{recovers, Event, called, cut, accepted, Book, feed, feedCall, withoutPending, toldBy}
+use Rattle.history.specs.Book.{recovers, called, cut, Book, feed, feedCall, withoutPending, toldBy}
 use Rattle.history.specs.Runs.{Held, World, recoveredWorld}
-use Rattle.history.proofs.Invariant.{Inv, Agrees, Holding, HeldGood, Phase, calm, rebuilt}
+use Rattle.history.proofs.Invariant.{Inv, Holding, HeldGood, calm, rebuilt}
 
 -- where recovery is accepted, the area recovers to its record
 pub accepted-recovers :

@@ -1,20 +1,19 @@
 -- A start keeps the invariant: refused it changes nothing, accepted it is pending with its stores.
-use Prim.Native.Nat.{ℕ, zero, suc, _+_, _-_, _≤_, _<_, max}
+use Prim.Native.Nat.{ℕ, _-_, _≤_, max}
 use native.Mathlib.Nat.{sub-zero, max-zero}
 use native.Mathlib.Omega.{arith}
-use mathlib.Core.Path.{_≡_, refl, sym, ap, _∙_, subst, subst⁻¹}
-use mathlib.Core.Bool.{Bool, true, false, not}
-use mathlib.Core.List.{List, [], _∷_, _++_}
+use mathlib.Core.Path.{_≡_, refl, ap, _∙_, subst⁻¹}
+use mathlib.Core.Bool.{false}
+use mathlib.Core.List.{List, _∷_}
 use mathlib.Core.Option.{Option, none, some}
-use lib.Dec.{eqb, ltb}
-use lib.ListN.{length, take, drop}
+use lib.Dec.{eqb}
+use lib.ListN.{length}
 use lib.Seq.{sets}
 use borrow.Author.Tests.{ltb-false}
-use Rattle.word.specs.Number.{Bytes}
 use Rattle.word.specs.Laws.{taken-sets}
 use Rattle.segment.specs.Choice.{pick, pick-false}
 use Rattle.segment.specs.Layout.{Layout}
-use Rattle.record.specs.Answers.{Said, startSaid, withPending, refusal}
+use Rattle.record.specs.Answers.{startSaid, refusal}
 use Rattle.record.specs.Refusals.{numberOfRefusal}
 use Rattle.record.specs.declared.Pending.{Pending}
 use Rattle.record.specs.declared.Pending.the-variants.{Idle, Append, NewHead, Clean}
@@ -24,16 +23,16 @@ use Rattle.record.specs.declared.StartAnswer.{StartAnswer}
 use Rattle.record.specs.declared.Store.{Store}
 use Rattle.model.specs.Log.{Placed}
 use Rattle.model.specs.Causes.{Cause, firstCause}
-use Rattle.model.specs.Recovery.{recovered, storeOf}
-use Rattle.model.specs.Operations.{Operation, write, delete, clean, Typed, logNow, laid, planFor, storesFor, startedStore, stored}
+use Rattle.model.specs.Recovery.{recovered}
+use Rattle.model.specs.Operations.{Operation, write, delete, clean, Typed, logNow, laid, storesFor, startedStore, stored}
 use Rattle.model.specs.Refused.{Lengths, recordBad, workShort, isPending, startCauses}
-use Rattle.model.specs.Promises.{Genuine, Started, StartPromise, Begun, begun, lentLengths}
+use Rattle.model.specs.Promises.{Started, StartPromise, Begun, begun, lentLengths}
 use Rattle.laws.specs.CauseLaws.{cause-false, cause-rest, refusal-number}
 use Rattle.laws.specs.Operated.{Accepted, StoreLaws}
-use Rattle.history.specs.Book.{starts, Event, called, Book, feed, feedCall, toldBy}
-use Rattle.history.specs.Runs.{Held, World, heldAfter}
+use Rattle.history.specs.Book.{starts, called, Book, feed, feedCall, toldBy}
+use Rattle.history.specs.Runs.{Held, heldAfter}
 use Rattle.history.specs.Demand3.{EventAgrees}
-use Rattle.history.proofs.Invariant.{idle-same, Inv, Holding, HeldGood, Phase, calm, busy}
+use Rattle.history.proofs.Invariant.{idle-same, Inv, HeldGood, calm, busy}
 
 -- ---- what an accepted start has tested first
 

@@ -1,10 +1,10 @@
 -- A step keeps the invariant, and answers what the book says.
-use Prim.Native.Nat.{ℕ, zero, suc, _+_, _-_, _≤_, _<_, max}
+use Prim.Native.Nat.{ℕ, zero, suc, _-_, _<_, max}
 use native.Mathlib.Nat.{max-zero}
 use native.Mathlib.Omega.{arith}
 use mathlib.Core.Path.{_≡_, refl, sym, ap, _∙_, subst, subst⁻¹}
-use mathlib.Core.Bool.{Bool, true, false, not}
-use mathlib.Core.List.{List, [], _∷_, _++_}
+use mathlib.Core.Bool.{Bool, true, false}
+use mathlib.Core.List.{List}
 use mathlib.Core.Option.{Option, none, some}
 use lib.Dec.{eqb}
 use lib.ListN.{length, take}
@@ -16,26 +16,25 @@ use Rattle.segment.specs.Layout.{Layout}
 use Rattle.segment.specs.declared.Key.{Key}
 use Rattle.record.specs.Answers.{stepSaid, withPending, refusal}
 use Rattle.record.specs.Refusals.{numberOfRefusal}
-use Rattle.record.specs.declared.Pending.{Pending}
 use Rattle.record.specs.declared.Pending.the-variants.{Idle}
 use Rattle.record.specs.declared.Refusal.{Refusal}
 use Rattle.record.specs.declared.Stepped.{Stepped}
 use Rattle.record.specs.declared.StepAnswer.{StepAnswer}
 use Rattle.record.specs.declared.Store.{Store}
 use Rattle.model.specs.Log.{Placed}
-use Rattle.model.specs.Causes.{Cause, firstCause}
-use Rattle.model.specs.Recovery.{recovered, storeOf}
+use Rattle.model.specs.Causes.{firstCause}
+use Rattle.model.specs.Recovery.{recovered}
 use Rattle.model.specs.Index.{IndexRule}
-use Rattle.model.specs.Operations.{Operation, logNow, laid, planFor, storesFor, stored, finishedStore, toldVersion}
-use Rattle.model.specs.Refused.{Lengths, isPending, stepCauses}
-use Rattle.model.specs.Promises.{Genuine, Started, StepPromise, StepRefused, StepExact, stepped, IndexStepped, leftAfter, lentLengths}
+use Rattle.model.specs.Operations.{logNow, laid, storesFor, stored, finishedStore, toldVersion}
+use Rattle.model.specs.Refused.{isPending, stepCauses}
+use Rattle.model.specs.Promises.{Started, StepPromise, StepExact, stepped, IndexStepped, leftAfter, lentLengths}
 use Rattle.laws.specs.CauseLaws.{cause-false, cause-rest, refusal-number}
 use Rattle.laws.specs.MapLaws.{valueAt}
 use Rattle.laws.specs.Operated.{Accepted, StoreLaws, planAt}
-use Rattle.history.specs.Book.{steps, Event, called, Awaited, Book, feed, feedCall, takeOne, oneOff, finish, versionFor, toldBy}
-use Rattle.history.specs.Runs.{Held, World}
+use Rattle.history.specs.Book.{steps, called, Awaited, Book, feed, feedCall, takeOne, oneOff, finish, versionFor, toldBy}
+use Rattle.history.specs.Runs.{Held}
 use Rattle.history.specs.Demand3.{EventAgrees, StepAgrees}
-use Rattle.history.proofs.Invariant.{Inv, Holding, HeldGood, Phase, calm, busy, baseCells, recovered-is, next-of, log-of, calm-of, slots-of, size-of, cells-of, idle-same, with-geometry, own-geometry, rebuilt, bookEntry}
+use Rattle.history.proofs.Invariant.{Inv, Holding, HeldGood, Phase, calm, busy, next-of, log-of, calm-of, slots-of, size-of, cells-of, idle-same, with-geometry, own-geometry, rebuilt, bookEntry}
 use Rattle.history.proofs.Finished.{finish-calm, finished-next, told-same, told-below, next-grows, finished-map}
 
 module _ (L : Layout) (laws : StoreLaws L) (n s : ℕ) where

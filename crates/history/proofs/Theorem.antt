@@ -1,9 +1,9 @@
 -- Demand 3, from the laws of the store.
-use Prim.Native.Nat.{ℕ, zero, suc, _≤_, _<_, max}
-use native.Mathlib.Nat.{max-zero, zero-max}
+use Prim.Native.Nat.{ℕ, max}
+use native.Mathlib.Nat.{max-zero}
 use native.Mathlib.Omega.{arith}
-use mathlib.Core.Path.{_≡_, refl, sym, ap, _∙_, subst, subst⁻¹}
-use mathlib.Core.Bool.{Bool, true, false, not}
+use mathlib.Core.Path.{_≡_, refl, ap, _∙_, subst, subst⁻¹}
+use mathlib.Core.Bool.{false, not}
 use mathlib.Core.List.{List, [], _∷_}
 use mathlib.Core.Option.{Option, none, some}
 use lib.Dec.{leb}
@@ -11,31 +11,29 @@ use lib.ListN.{length}
 use borrow.Author.Tests.{leb-true}
 use Rattle.word.specs.Number.{Bytes}
 use Rattle.segment.specs.Choice.{pick, both, both-left}
-use Rattle.segment.specs.Layout.{Layout, edition1, objectKind}
+use Rattle.segment.specs.Layout.{Layout, edition1}
 use Rattle.segment.specs.Entry.{Entry}
 use Rattle.segment.specs.declared.Key.{Key}
-use Rattle.record.specs.Range.{between, cellsGood, fitsLent}
+use Rattle.record.specs.Range.{between, fitsLent}
 use Rattle.record.specs.declared.FormatAnswer.{FormatAnswer}
-use Rattle.record.specs.declared.Reading.{Reading}
 use Rattle.record.specs.declared.ReadAnswer.{ReadAnswer}
 use Rattle.record.specs.declared.Recovery.{Recovery}
-use Rattle.record.specs.declared.RecoverAnswer.{RecoverAnswer}
 use Rattle.record.specs.declared.Refusal.{Refusal}
 use Rattle.record.specs.declared.Refusal.the-variants.{BadRecord, Absent, Geometry}
 use Rattle.record.specs.declared.Store.{Store}
 use Rattle.model.specs.Log.{Placed, present, latest, objectOnly}
-use Rattle.model.specs.Causes.{Cause, when, firstCause}
-use Rattle.model.specs.Recovery.{recovered, storeOf, orderBad, geometryBad, recovery, recoveryFor, recoverCauses}
-use Rattle.model.specs.Operations.{logNow, TypedKey, kindElse, formatted}
+use Rattle.model.specs.Causes.{when, firstCause}
+use Rattle.model.specs.Recovery.{recovered, storeOf, orderBad, geometryBad, recovery, recoveryFor}
+use Rattle.model.specs.Operations.{logNow, formatted}
 use Rattle.model.specs.Refused.{recordBad, keyAbsent, isAbsent, readCauses, formatCauses}
-use Rattle.model.specs.Promises.{Genuine, FormatPromise, RecoverPromise, ReadPromise, ValuePromise, IndexAfter, formatAnswer, areaUnless, readAnswer, presentAnswer, readLengths, valueAnswer, valuePart}
-use Rattle.laws.specs.CauseLaws.{cause-skip, cause-first, cause-none, cause-false}
+use Rattle.model.specs.Promises.{Genuine, FormatPromise, RecoverPromise, IndexAfter, formatAnswer, areaUnless, readAnswer, presentAnswer, readLengths, valueAnswer, valuePart}
+use Rattle.laws.specs.CauseLaws.{cause-skip, cause-false}
 use Rattle.laws.specs.MapLaws.{valueAt, entryOf}
 use Rattle.laws.specs.Operated.{StoreLaws}
 use Rattle.laws.specs.RecoverLaws.{recovered-recovery}
 use Rattle.laws.specs.StoreKept.{edition1-laws}
-use Rattle.history.specs.Book.{Event, called, cut, Kept, Book, freshBook, feed, bookAfter, bookOf, toldBy, highestTold}
-use Rattle.history.specs.Runs.{Held, World, freshWorld, Moves, start, step, read, readValue, recover, cuts, Run, stop, go}
+use Rattle.history.specs.Book.{Event, Kept, Book, freshBook, feed, bookAfter, bookOf, toldBy, highestTold}
+use Rattle.history.specs.Runs.{World, freshWorld, Moves, start, step, read, readValue, recover, cuts, Run, stop, go}
 use Rattle.history.specs.Demand3.{LargeEnough, bookAnswer, bookValue, GivesBook, EventAgrees, StepsAgree, Holds, Demand3For, Demand3}
 use Rattle.history.proofs.Invariant.{Inv, HeldGood, baseCells, bookEntry, own-geometry}
 use Rattle.history.proofs.Starts.{start-keeps}

@@ -1,7 +1,7 @@
 -- Demand 3, as one claim about a whole list of calls and cuts. Each phrase of the demand stands beside the part that renders it.
-use Prim.Native.Nat.{ℕ, zero, suc, _-_, _≤_, _<_}
+use Prim.Native.Nat.{ℕ, _-_, _≤_, _<_}
 use mathlib.Core.Path.{_≡_}
-use mathlib.Core.Bool.{Bool, true, false}
+use mathlib.Core.Bool.{true, false}
 use mathlib.Core.List.{List, [], _∷_}
 use mathlib.Core.Option.{Option, none, some}
 use lib.ListN.{length}
@@ -19,7 +19,7 @@ use Rattle.record.specs.declared.Refusal.{Refusal}
 use Rattle.model.specs.Operations.{TypedKey, kindElse}
 use Rattle.model.specs.Recovery.{orderBad}
 use Rattle.model.specs.Promises.{FormatPromise, RecoverPromise, ReadPromise, ValuePromise}
-use Rattle.history.specs.Book.{Call, starts, steps, reads, readsValue, recovers, Event, called, cut, accepted, Kept, Awaited, Book, freshBook, feed, bookOf, versionFor, highestTold}
+use Rattle.history.specs.Book.{starts, steps, reads, readsValue, recovers, Event, called, cut, accepted, Kept, Awaited, Book, freshBook, feed, bookOf, versionFor, highestTold}
 use Rattle.history.specs.Runs.{World, freshWorld, Run}
 
 -- "its index as large as at the last accepted one": within the limits, and no smaller; before the first, any within the limits

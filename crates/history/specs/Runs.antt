@@ -2,7 +2,7 @@
 -- promise of the call, so whatever is proved of runs is proved of what the contracts say.
 use Prim.Native.Nat.{ℕ}
 use mathlib.Core.Path.{_≡_}
-use mathlib.Core.Bool.{Bool, true, false}
+use mathlib.Core.Bool.{true}
 use mathlib.Core.List.{List, [], _∷_}
 use mathlib.Core.Option.{Option, none, some}
 use lib.Dec.{eqb}
@@ -10,7 +10,7 @@ use lib.ListN.{length}
 use Rattle.segment.specs.Choice.{pick}
 use Rattle.segment.specs.Layout.{Layout}
 use Rattle.segment.specs.declared.Key.{Key}
-use Rattle.record.specs.Answers.{Said, recoverSaid, readSaid, startSaid, stepSaid, refusal}
+use Rattle.record.specs.Answers.{recoverSaid, readSaid, startSaid, stepSaid, refusal}
 use Rattle.record.specs.declared.Store.{Store}
 use Rattle.record.specs.declared.Recovery.{Recovery}
 use Rattle.record.specs.declared.Reading.{Reading}
@@ -19,7 +19,7 @@ use Rattle.record.specs.declared.Stepped.{Stepped}
 use Rattle.model.specs.Operations.{Operation, Typed, TypedKey}
 use Rattle.model.specs.Refused.{isPending}
 use Rattle.model.specs.Promises.{RecoverPromise, ReadPromise, ValuePromise, StartPromise, StepPromise}
-use Rattle.history.specs.Book.{Call, starts, steps, reads, readsValue, recovers, Event, called, cut, accepted}
+use Rattle.history.specs.Book.{starts, steps, reads, readsValue, recovers, Event, called, cut, accepted}
 
 -- What the firmware holds from an accepted recovery to the next cut: the newest record, the index of that recovery, and the work
 -- buffer that the last accepted start filled.

@@ -1,5 +1,5 @@
 -- What two corollaries of demand 3 speak of: when an event finishes a write of a key, and what a finished operation was told.
-use Prim.Native.Nat.{ℕ, _-_}
+use Prim.Native.Nat.{_-_}
 use mathlib.Core.Path.{_≡_}
 use mathlib.Core.Bool.{Bool, true, false, not}
 use mathlib.Core.List.{List, [], _∷_}
@@ -9,7 +9,7 @@ use Rattle.segment.specs.Choice.{both}
 use Rattle.segment.specs.declared.Key.{Key}
 use Rattle.record.specs.Answers.{Said}
 use Rattle.model.specs.Operations.{Operation, write, delete, clean}
-use Rattle.history.specs.Book.{Call, starts, steps, reads, readsValue, recovers, Event, called, cut, accepted, Awaited, Book, sameKeys, feed}
+use Rattle.history.specs.Book.{starts, steps, reads, readsValue, recovers, Event, called, cut, accepted, Awaited, Book, sameKeys, feed}
 
 -- a write of that key
 unfoldable pub isWriteOf : Key → Operation → Bool

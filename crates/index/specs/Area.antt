@@ -1,22 +1,18 @@
 -- What ties the entries of a log to the bytes of an area: an entry's fields stand at its place.
-use Prim.Native.Nat.{ℕ, _+_, _-_, _≤_, _<_}
+use Prim.Native.Nat.{ℕ, _+_, _-_, _≤_}
 use mathlib.Core.Path.{_≡_, _∙_, ap}
-use mathlib.Core.Bool.{false}
 use mathlib.Core.List.{List}
-use mathlib.Core.Option.{some}
 use native.Mathlib.Omega.{arith}
 use lib.ListN.{length, getD}
 use borrow.Author.Tests.{le-leb}
 use Rattle.segment.specs.Choice.{both}
 use Rattle.segment.specs.Layout.{Layout, entrySize}
 use Rattle.segment.specs.declared.Key.{Key}
-use Rattle.model.specs.Log.{Placed, placeOf, sameKey, latest, hasKey, keysOf}
-use Rattle.model.specs.Index.{HasCell, IndexRule}
+use Rattle.model.specs.Log.{Placed, placeOf, sameKey}
+use Rattle.model.specs.Index.{HasCell}
 use Rattle.laws.specs.Members.{In}
-use Rattle.laws.specs.Latest.{latest-no-key}
-use Rattle.index.specs.Search.{tableAt, keyAt, versionAt, hasKeyAt, cellHas, searchFor}
-use Rattle.index.specs.Finds.{Picks, FreeCell, search-known, search-new}
-use Rattle.index.specs.declared.Found.{Found}
+use Rattle.index.specs.Search.{tableAt, keyAt, versionAt, hasKeyAt, cellHas}
+use Rattle.index.specs.Finds.{Picks}
 
 pub record InArea (L : Layout) (area : List ℕ) (S : ℕ) (x : Placed) : Type 0 where
   pub fits : placeOf S x + entrySize L 0 ≤ length area
@@ -44,14 +40,3 @@ module _ (L : Layout) (area : List ℕ) (S : ℕ) where
   pub cell-version : (cells : List ℕ) (y : Placed) → InArea L area S y → (c : HasCell S cells y) → versionAt L area (getD cells (c .cell) 0 - 1) ≡ y .entry .version
   cell-version cells y a c =
       ap (λ (v : ℕ). versionAt L area (v - 1)) (c .holds) ∙ ap (versionAt L area) (place-back (placeOf S y)) ∙ a .version-there
-
--- ---- the search for a key in an area that holds the log
-
-module _ (L : Layout) (area : List ℕ) (S : ℕ) (log : List Placed) (cells : List ℕ) (rule : IndexRule S log cells) (there : AllIn L area S log) (k : Key) where
-  -- the cell of the key's latest entry
-  pub finds-latest : (x : Placed) → latest log k ≡ some x → (c : HasCell S cells x) × (searchFor L area cells k ≡ Found.At (c .cell))
-  finds-latest x l = search-known S log cells rule (cellHas L area k) k (area-picks L area S log k there) x l
-
-  -- or a free one
-  pub finds-free : hasKey log k ≡ false → length (keysOf log) < length cells → (c : FreeCell cells k) × (searchFor L area cells k ≡ Found.Free (c .cell))
-  finds-free e few = search-new S log cells rule (cellHas L area k) k (area-picks L area S log k there) (latest-no-key log k e) few

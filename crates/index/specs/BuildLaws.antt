@@ -68,7 +68,7 @@ listed-in (x ∷ order) i e = go (eqb x i) refl e (λ d. listed-in order i d)
     go true p d ih = List·Memᴰ·head (sym (eqb-true x i p))
     go false p d ih = List·Memᴰ·tail (ih d)
 
-below-listed : (order : List ℕ) (n : ℕ) → listsBelow order n ≡ true → (i : ℕ) → i < n → lists order i ≡ true
+pub below-listed : (order : List ℕ) (n : ℕ) → listsBelow order n ≡ true → (i : ℕ) → i < n → lists order i ≡ true
 unfolding listsBelow
 below-listed order zero e i h = absurd (omega arith)
 below-listed order (suc n) e i h = go (ℕ-discrete i n) (λ l. below-listed order n (both-left (listsBelow order n) (lists order n) e) i l)
@@ -76,6 +76,11 @@ below-listed order (suc n) e i h = go (ℕ-discrete i n) (λ l. below-listed ord
     go : Dec (i ≡ n) → (i < n → lists order i ≡ true) → lists order i ≡ true
     go (yes p) ih = ap (lists order) p ∙ both-right (listsBelow order n) (lists order n) e
     go (no p) ih = ih (omega arith)
+
+pub all-listed : (order : List ℕ) (n : ℕ) → ((i : ℕ) → i < n → lists order i ≡ true) → listsBelow order n ≡ true
+unfolding listsBelow
+all-listed order zero h = refl
+all-listed order (suc n) h = both-true (listsBelow order n) (lists order n) (all-listed order n (λ i l. h i (omega arith))) (h n (omega arith))
 
 pub order-lists : (n : ℕ) (order : List ℕ) → orderBad n order ≡ false → (i : ℕ) → i < n → In i order
 order-lists n order e i h =

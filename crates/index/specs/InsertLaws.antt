@@ -9,20 +9,20 @@ use native.Mathlib.Omega.{arith}
 use lib.Dec.{eqb, ltb}
 use lib.ListN.{length, getD, set, replicate, length-set, length-replicate, getD-replicate}
 use borrow.Author.Tests.{lt-ltb, le-ltb, ltb-true, ltb-false, eqb-true, eqb-false}
-use Rattle.segment.specs.Choice.{pick, pick-true, pick-false}
+use Rattle.segment.specs.Choice.{pick-true, pick-false}
 use Rattle.segment.specs.Layout.{Layout}
 use Rattle.segment.specs.Entry.{keyOf}
 use Rattle.segment.specs.declared.Key.{Key}
 use Rattle.model.specs.Log.{Placed, placeOf, sameKey, latest, hasKey, keysOf}
 use Rattle.model.specs.Index.{HasCell, IndexRule}
-use Rattle.laws.specs.Members.{clash, In, first, Within, Same, same-sym, same-trans, Added, added-same, added-between}
-use Rattle.laws.specs.Latest.{Newest, latest-some, latest-none, latest-has, key-none, has-key-within, Apart, apart-same}
-use Rattle.laws.specs.Keys.{keys-same, keys-within}
+use Rattle.laws.specs.Members.{clash, first, Within, Same, same-sym, same-trans, added-same, added-between}
+use Rattle.laws.specs.Latest.{Newest, latest-some, latest-none, latest-has, key-none, Apart, apart-same}
+use Rattle.laws.specs.Keys.{keys-same}
 use Rattle.index.specs.Search.{versionAt, cellHas, searchFor}
 use Rattle.index.specs.Finds.{Picks, FreeCell, search-known, search-new}
 use Rattle.index.specs.Front.{latest-again}
 use Rattle.index.specs.Puts.{rule-latest, rule-same, target-known, target-new, put-newest, put-older}
-use Rattle.index.specs.Area.{AllIn, area-picks, cell-version, finds-latest, finds-free}
+use Rattle.index.specs.Area.{AllIn, area-picks, cell-version}
 use Rattle.index.specs.Insert.{Insertion, insertedAt, inserted, Tally, counted, over, tallied, insertNext, insertAll}
 use Rattle.index.specs.declared.Found.{Found}
 use Rattle.index.specs.declared.Inserted.{Inserted}
@@ -291,64 +291,3 @@ tells-log L area S m items log h e there apart =
     let same : Same (w .0) log =
     same-trans (same-sym (w .1)) (same-trans (record { to = λ y i. rw (append-nil items) at i; from = λ y i. rw (append-nil items) i }) e) in
     tells-same S m (w .0) log same (apart-same (same-sym same) apart) (insertAll L area S items (counted (replicate m 0) 0)) (w .2)
-
--- ---- one entry that joins a log
-
-tallied-rule : (S m : ℕ) (log : List Placed) → length (keysOf log) < m → (r : Inserted) (cells : List ℕ) (n : ℕ) → Tells S m log (tallied r cells n) → IndexRule S log cells
-unfolding Tells tallied
-tallied-rule S m log few Inserted.New cells n w = go (ltb (n + 1) (length cells)) refl
-  where
-    go : (t : Bool) → ltb (n + 1) (length cells) ≡ t → IndexRule S log cells
-    go true e =
-        let told : Tells S m log (counted cells (n + 1)) = rw (tally-new cells n (ltb-true (n + 1) (length cells) e)) at w in
-        told .rule
-    go false e =
-        let told : Tells S m log over = rw (tally-over cells n (ltb-false (n + 1) (length cells) e)) at w in
-        absurd (omega arith)
-tallied-rule S m log few Inserted.Newer cells n w = w .rule
-tallied-rule S m log few Inserted.Older cells n w = w .rule
-tallied-rule S m log few Inserted.Full cells n w = absurd (omega arith)
-
-module _ (L : Layout) (area : List ℕ) (S : ℕ) (log : List Placed) (cells : List ℕ) (rule : IndexRule S log cells) (x : Placed) (after : List Placed)
-    (added : Added log x after) (there : AllIn L area S after) (few : length (keysOf after) < length cells) where
-  joined : Same (x ∷ log) after
-  joined = added-same added
-
-  few-before : length (keysOf log) < length cells
-  few-before = omega (arith, keys-within log after (λ k e. has-key-within log after k (added .old) e))
-
-  pub insert-rule : Apart after → IndexRule S after (inserted L area cells (placeOf S x) (keyOf (x .entry)) (x .entry .version) .cells)
-  unfolding insertNext Tells
-  insert-rule apart =
-      let front : Apart (x ∷ log) = apart-same (same-sym joined) apart in
-      let i : Insertion = inserted L area cells (placeOf S x) (keyOf (x .entry)) (x .entry .version) in
-      rule-same S (x ∷ log) after (i .cells) joined front
-      (tallied-rule S (length cells) (x ∷ log) (omega (arith, keys-same (x ∷ log) after joined)) (i .answer) (i .cells) (length (keysOf log))
-      (tells-next L area S (length cells) log x (λ y m. there y (joined .to y m)) front (counted cells (length (keysOf log)))
-      (record { rule = rule; keys = refl; few = few-before; long = refl })))
-
-  -- the answer tells whether its key is new, if it is newer than every entry of its key
-  pub insert-answer :
-      ((y : Placed) → In y log → sameKey (keyOf (x .entry)) (y .entry) ≡ true → y .entry .version < x .entry .version) →
-      inserted L area cells (placeOf S x) (keyOf (x .entry)) (x .entry .version) .answer ≡
-      pick (hasKey log (keyOf (x .entry))) Inserted.Newer Inserted.New
-  insert-answer top = go (latest log (keyOf (x .entry))) refl
-    where
-      old : AllIn L area S log
-      old y m = there y (added .old y m)
-
-      go : (o : Option Placed) → latest log (keyOf (x .entry)) ≡ o →
-          inserted L area cells (placeOf S x) (keyOf (x .entry)) (x .entry .version) .answer ≡
-          pick (hasKey log (keyOf (x .entry))) Inserted.Newer Inserted.New
-      go none l =
-          let e = key-none log (keyOf (x .entry)) (latest-none log (keyOf (x .entry)) l) in
-          let f = finds-free L area S log cells rule old (keyOf (x .entry)) e few-before in
-          ap (λ (i : Insertion). i .answer) (insert-new L area cells (placeOf S x) (keyOf (x .entry)) (x .entry .version) (f .0 .cell) (f .1))
-          ∙ sym (pick-false (hasKey log (keyOf (x .entry))) Inserted.Newer Inserted.New e)
-      go (some y) l =
-          let n = latest-some log (keyOf (x .entry)) y l in
-          let f = finds-latest L area S log cells rule old (keyOf (x .entry)) y l in
-          let v = cell-version L area S cells y (old y (n .member)) (f .0) in
-          ap (λ (i : Insertion). i .answer)
-          (insert-newer L area cells (placeOf S x) (keyOf (x .entry)) (x .entry .version) (f .0 .cell) (f .1) (omega (arith, v, top y (n .member) (n .of-key))))
-          ∙ sym (pick-true (hasKey log (keyOf (x .entry))) Inserted.Newer Inserted.New (latest-has log (keyOf (x .entry)) y l))

@@ -14,8 +14,8 @@ use Rattle.segment.specs.Entry.{keyOf}
 use Rattle.segment.specs.declared.Key.{Key}
 use Rattle.model.specs.Log.{Placed, placeOf, sameKey, latest}
 use Rattle.model.specs.Index.{around, startCell, Met, IsLatest, CellGood, HasCell, IndexRule}
-use Rattle.laws.specs.Members.{clash, In, first, Same, same-sym, Added, added-same}
-use Rattle.laws.specs.Latest.{same-key, key-same, own-key, latest-some, latest-same, Apart, apart-same}
+use Rattle.laws.specs.Members.{clash, In, first, Same}
+use Rattle.laws.specs.Latest.{same-key, key-same, own-key, latest-some, latest-same, Apart}
 use Rattle.index.specs.Finds.{Picks, FreeCell, held}
 use Rattle.index.specs.Front.{latest-other, latest-front, latest-behind}
 
@@ -215,14 +215,6 @@ module _ (S : ℕ) (log : List Placed) (cells : List ℕ) (rule : IndexRule S lo
       ((y : Placed) → In y log → sameKey (keyOf (x .entry)) (y .entry) ≡ true → y .entry .version ≤ x .entry .version) →
       IndexRule S (x ∷ log) (set cells i (placeOf S x + 1))
   put-newest h = put-latest (x ∷ log) (latest-front log x h) (latest-other log x)
-
-  -- the same for any log with exactly the members of the log and x
-  pub put-added :
-      (log′ : List Placed) → Added log x log′ → Apart log′ →
-      ((y : Placed) → In y log → sameKey (keyOf (x .entry)) (y .entry) ≡ true → y .entry .version ≤ x .entry .version) →
-      IndexRule S log′ (set cells i (placeOf S x + 1))
-  put-added log′ m d h =
-      rule-same S (x ∷ log) log′ (set cells i (placeOf S x + 1)) (added-same m) (apart-same (same-sym (added-same m)) d) (put-newest h)
 
 -- an older entry of a known key changes no cell
 pub put-older :

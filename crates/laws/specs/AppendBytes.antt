@@ -26,9 +26,6 @@ module _ (L : Layout) (S i e : ℕ) (area : List ℕ) (x : Entry) (formed : Well
   append-prefix-bytes h k =
       bytes-stored area (take k (commit S i e (encoded L x))) h (stores-bytes-take k (commit S i e (encoded L x)) stores)
 
-  pub append-bytes : Bytes area → Bytes (stored area (commit S i e (encoded L x)))
-  append-bytes h = bytes-stored area (commit S i e (encoded L x)) h stores
-
 -- the head is slot i, its items end at e, and the entry fits behind them
 module _ (L : Layout) (n S i : ℕ) (area : List ℕ) (is : List Item) (e : ℕ) (x : Entry) (whole : length area ≡ n * S) (below : i < n)
     (scans : scan L (segmentOf area S i) ≡ scanned is e) (formed : WellFormed L x) (fits : e + sizeOf L x ≤ S) where

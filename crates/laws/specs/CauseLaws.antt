@@ -1,6 +1,5 @@
 -- Laws of the first cause, and of the numbers of refusals.
-use Prim.Native.Nat.{ℕ}
-use mathlib.Core.Path.{_≡_, refl}
+use mathlib.Core.Path.{_≡_, refl, ap}
 use mathlib.Core.Bool.{Bool, true, false}
 use mathlib.Core.List.{List, [], _∷_, _++_}
 use mathlib.Core.Option.{Option, none, some}
@@ -9,7 +8,7 @@ use Rattle.segment.specs.Choice.{pick}
 use Rattle.record.specs.Refusals.{numberOfRefusal}
 use Rattle.record.specs.declared.Refusal.{Refusal}
 use Rattle.record.specs.declared.Refusal.the-variants.{Geometry, Cells, WorkShort, BadRecord, Busy, NonePending, ValueLength, Absent, VersionsSpent, NumbersSpent, KeysFull, NoRoom, BadVictims, KeptTooLong, BadOrder, NoDigest, BadDigest, DamagedLog, SharedVersion, TooManyKeys}
-use Rattle.model.specs.Causes.{Cause, when, firstCause}
+use Rattle.model.specs.Causes.{Cause, firstCause}
 
 -- ---- no cause holds
 
@@ -63,11 +62,51 @@ pub none-right : (a b : List Cause) → firstCause (a ++ b) ≡ none → firstCa
 none-right [] b e = e
 none-right (c ∷ cs) b e = none-right cs b (cause-rest c (cs ++ b) e)
 
-pub none-both : (a b : List Cause) → firstCause a ≡ none → firstCause b ≡ none → firstCause (a ++ b) ≡ none
-none-both [] b p q = q
-none-both (c ∷ cs) b p q = cause-none c (cs ++ b) (cause-false c cs p) (none-both cs b (cause-rest c cs p) q)
+-- all the tests of a list are false
+abbrev pub NoCause : List Cause → Type 0
+NoCause [] = Unit {0}
+NoCause (c ∷ cs) = (c .holds ≡ false) × NoCause cs
 
--- ---- 0 is no refusal's number, and only one refusal's number is 20
+pub no-cause : (cs : List Cause) → firstCause cs ≡ none → NoCause cs
+no-cause [] e = tt
+no-cause (c ∷ cs) e = (cause-false c cs e, no-cause cs (cause-rest c cs e))
+
+pub causes-none : (cs : List Cause) → NoCause cs → firstCause cs ≡ none
+unfolding firstCause
+causes-none [] f = refl
+causes-none (c ∷ cs) f = cause-none c cs (f .0) (causes-none cs (f .1))
+
+-- a cause that does not hold might as well be left out
+pub cause-passed : (before : List Cause) (c : Cause) (after : List Cause) → c .holds ≡ false
+    → firstCause (before ++ c ∷ after) ≡ firstCause (before ++ after)
+unfolding firstCause
+cause-passed [] c after e = cause-skip c after e
+cause-passed (b ∷ bs) c after e =
+    ap (λ (o : Option Refusal). pick (b .holds) (some (b .refusal)) o) (cause-passed bs c after e)
+
+-- ---- one list of causes after the other
+
+pub first-some : (a b : List Cause) (c : Refusal) → firstCause a ≡ some c → firstCause (a ++ b) ≡ some c
+unfolding firstCause pick
+first-some [] b c e = cc
+first-some (x ∷ a) b c e = go (x .holds) e (λ d. first-some a b c d)
+  where
+    go : (t : Bool) → pick t (some (x .refusal)) (firstCause a) ≡ some c → (firstCause a ≡ some c → firstCause (a ++ b) ≡ some c) →
+        pick t (some (x .refusal)) (firstCause (a ++ b)) ≡ some c
+    go true d ih = d
+    go false d ih = ih d
+
+pub first-none : (a b : List Cause) → firstCause a ≡ none → firstCause (a ++ b) ≡ firstCause b
+unfolding firstCause pick
+first-none [] b e = refl
+first-none (x ∷ a) b e = go (x .holds) e (λ d. first-none a b d)
+  where
+    go : (t : Bool) → pick t (some (x .refusal)) (firstCause a) ≡ none → (firstCause a ≡ none → firstCause (a ++ b) ≡ firstCause b) →
+        pick t (some (x .refusal)) (firstCause (a ++ b)) ≡ firstCause b
+    go true d ih = cc
+    go false d ih = ih d
+
+-- ---- 0 is no refusal's number
 
 pub refusal-number : (c : Refusal) → eqb (numberOfRefusal c) 0 ≡ false
 refusal-number Geometry = refl

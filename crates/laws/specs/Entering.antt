@@ -1,32 +1,31 @@
 -- What an accepted write or delete has tested: its entry is well formed, takes the next version, finds room in the index, and fits
 -- the head or a new one.
-use Prim.Native.Nat.{ℕ, zero, suc, _+_, _-_, _^_, _≤_, _<_}
+use Prim.Native.Nat.{ℕ, _+_, _-_, _≤_, _<_}
 use native.Mathlib.Omega.{arith}
-use native.Mathlib.Decide.{decLt}
-use mathlib.Core.Path.{_≡_, refl, sym, ap, _∙_, subst}
+use mathlib.Core.Path.{_≡_, refl, ap}
 use mathlib.Core.Bool.{Bool, true, false, not}
-use mathlib.Core.List.{List, [], _∷_}
+use mathlib.Core.List.{List}
 use mathlib.Core.Option.{Option, none, some}
-use lib.Dec.{eqb, ltb, leb}
+use lib.Dec.{eqb, ltb}
 use lib.ListN.{length}
-use borrow.Author.Tests.{eqb-false, ltb-false, not-false}
-use Rattle.word.specs.Number.{Bytes}
-use Rattle.segment.specs.Choice.{pick, both, pick-true, pick-false}
-use Rattle.segment.specs.Layout.{Layout, edition1, valueLength, objectKind, isTombstone, entrySize, digestSize, versionLimit, numberLimit, lookup}
+use borrow.Author.Tests.{eqb-false, ltb-false}
+use Rattle.segment.specs.Choice.{pick, both}
+use Rattle.segment.specs.Layout.{Layout, valueLength, objectKind, isTombstone, entrySize, digestSize, versionLimit, numberLimit}
 use Rattle.segment.specs.LayoutLaws.{object-kind, object-no-tombstone, tombstone-length, version-good}
-use Rattle.segment.specs.Entry.{Entry, WellFormed, sizeOf, keyOf}
+use Rattle.segment.specs.Entry.{Entry, WellFormed}
 use Rattle.segment.specs.declared.Key.{Key}
-use Rattle.slot_map.specs.Count.{used, free}
+use Rattle.slot_map.specs.Count.{used}
 use Rattle.record.specs.RangeLaws.{Lent, lent}
 use Rattle.record.specs.declared.Store.{Store}
 use Rattle.model.specs.Log.{Placed, hasKey, present, latest, objectOnly}
-use Rattle.model.specs.Recovery.{recovered}
-use Rattle.model.specs.Operations.{Operation, write, delete, clean, Typed, TypedKey, logNow, kindElse, writtenEntry, tombstoneEntry, fitsHead, countNew}
-use Rattle.model.specs.Refused.{Lengths, startCauses, writeCauses, deleteCauses, isNone, isAbsent}
+use Rattle.model.specs.Operations.{Operation, write, delete, logNow, kindElse, writtenEntry, tombstoneEntry, fitsHead, countNew}
+use Rattle.model.specs.Refused.{startCauses, writeCauses, deleteCauses, isNone, isAbsent}
 use Rattle.laws.specs.Latest.{latest-has}
-use Rattle.laws.specs.RecoverLaws.{NoCause, no-cause, recovered-fits, recovered-next, recovered-number}
+use Rattle.laws.specs.RecoverLaws.{recovered-fits, recovered-next, recovered-number}
 use Rattle.laws.specs.Appended.{Takes}
 use Rattle.laws.specs.Operated.{Accepted}
+use Rattle.laws.specs.CauseLaws.{NoCause, no-cause}
+use Rattle.laws.specs.LogLaws.{both-true-false}
 
 -- A layout of which every entry fits a fresh segment of the smallest size, and whose versions take a byte at least.
 pub record Roomy (L : Layout) : Type 0 where
@@ -53,11 +52,6 @@ module _ (L : Layout) (before : List ℕ) (idle : Store) (o : Operation) (a : Ac
   idle-number = recovered-number L (idle .slots) (idle .size) (idle .cells) before idle (a .recovers) (a .area-bytes)
 
 -- ---- tests taken apart
-
-both-split : (a b : Bool) → both a b ≡ false → a ≡ true → b ≡ false
-unfolding both
-both-split true b e t = e
-both-split false b e t = cc
 
 not-true-of : (t : Bool) → t ≡ false → not t ≡ true
 not-true-of t e = ap not e
@@ -111,8 +105,8 @@ module _ (L : Layout) (before : List ℕ) (idle : Store) (k : Key) where
               value-bytes = a .typed .1;
             };
         takes = record { version = refl; room = new-room (hasKey log k) (idle .keys) (idle .cells) (facts .keys-high) (tests .1 .1 .1 .1 .1 .0) };
-        two-free = λ f. free-two (idle .slots) (used (idle .slots) (idle .map)) (omega (arith, facts .some-free)) (both-split _ _ (tests .1 .1 .1 .1 .1 .1 .0) (not-true-of _ f));
-        number-left = λ f. number-below (idle .number .0) (idle-number L before idle (write k value) a) (both-split _ _ (tests .1 .1 .1 .1 .1 .1 .1 .0) (not-true-of _ f));
+        two-free = λ f. free-two (idle .slots) (used (idle .slots) (idle .map)) (omega (arith, facts .some-free)) (both-true-false _ _ (tests .1 .1 .1 .1 .1 .1 .0) (not-true-of _ f));
+        number-left = λ f. number-below (idle .number .0) (idle-number L before idle (write k value) a) (both-true-false _ _ (tests .1 .1 .1 .1 .1 .1 .1 .0) (not-true-of _ f));
       }
     where
       tests : NoCause (writeCauses L idle log (a .lengths) k value)
@@ -146,11 +140,11 @@ module _ (L : Layout) (before : List ℕ) (idle : Store) (k : Key) where
         two-free =
             λ f.
             free-two (idle .slots) (used (idle .slots) (idle .map)) (omega (arith, facts .some-free))
-            (both-split _ _ (tests .1 .1 .1 .1 .1 .0) (not-true-of _ f));
+            (both-true-false _ _ (tests .1 .1 .1 .1 .1 .0) (not-true-of _ f));
         number-left =
             λ f.
             number-below (idle .number .0) (idle-number L before idle (delete k) a)
-            (both-split _ _ (tests .1 .1 .1 .1 .1 .1 .0) (not-true-of _ f));
+            (both-true-false _ _ (tests .1 .1 .1 .1 .1 .1 .0) (not-true-of _ f));
       }
     where
       tests : NoCause (deleteCauses L idle log (a .lengths) k)

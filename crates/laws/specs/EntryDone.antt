@@ -1,39 +1,32 @@
 -- A finished write or delete: what recovery gives, and what reading by the rule of versions gives of every key.
-use Prim.Native.Nat.{ℕ, zero, suc, _+_, _-_, _*_, _^_, _≤_, _<_, max}
+use Prim.Native.Nat.{ℕ, _+_, _-_, _*_, _≤_, _<_}
 use native.Mathlib.Omega.{arith}
-use mathlib.Core.Path.{_≡_, refl, sym, ap, _∙_, subst, subst⁻¹}
-use mathlib.Core.Bool.{Bool, true, false, not}
-use mathlib.Core.List.{List, [], _∷_, _++_, List·Memᴰ}
-use mathlib.Core.Option.{Option, none, some}
-use lib.Dec.{leb}
+use mathlib.Core.Path.{_≡_, refl, ap, subst, subst⁻¹}
+use mathlib.Core.Bool.{Bool, true, false}
+use mathlib.Core.List.{List, [], _∷_, _++_}
+use mathlib.Core.Option.{some}
 use lib.ListN.{length}
 use borrow.Author.Tests.{leb-true}
 use Rattle.word.specs.Number.{Bytes}
 use Rattle.segment.specs.Choice.{pick}
-use Rattle.segment.specs.Layout.{Layout, digestSize, isTombstone, versionLimit, numberLimit, objectKind}
-use Rattle.segment.specs.LayoutLaws.{object-no-tombstone, version-fits}
-use Rattle.segment.specs.Entry.{Entry, WellFormed, encoded, sizeOf}
+use Rattle.segment.specs.Layout.{Layout, digestSize}
+use Rattle.segment.specs.Entry.{Entry, encoded, sizeOf}
 use Rattle.segment.specs.EntryLaws.{length-encoded}
 use Rattle.segment.specs.Digest.{encodedDigest}
-use Rattle.segment.specs.declared.Digest.{Digest}
 use Rattle.segment.specs.declared.Key.{Key}
-use Rattle.slot_map.specs.Bit.{named}
-use Rattle.slot_map.specs.BitLaws.{add-below}
-use Rattle.slot_map.specs.NextLaws.{next-clear}
-use Rattle.slot_map.specs.Count.{used, free}
 use Rattle.record.specs.RangeLaws.{Lent, lent}
 use Rattle.record.specs.declared.Store.{Store}
-use Rattle.model.specs.Log.{View, Item, Placed, scan, scanned, itemsOf, segmentOf, viewsOf, logOf, highest, versionShared, sameKey}
+use Rattle.model.specs.Log.{Item, scan, itemsOf, segmentOf, viewsOf, highest, sameKey}
 use Rattle.model.specs.Recovery.{recovered}
-use Rattle.model.specs.Operations.{Operation, logNow, fitsHead, newSlot, newDigest, allEncoded, laidAppend, laidHead, laidEntry, commit, planOf, stored, appendedStore, headedStore, entryStore}
+use Rattle.model.specs.Operations.{logNow, fitsHead, newSlot, newDigest, allEncoded, laidAppend, laidHead, laidEntry, commit, planOf, stored, appendedStore, headedStore, entryStore}
 use Rattle.laws.specs.Members.{Added}
 use Rattle.laws.specs.Versions.{below-highest}
 use Rattle.laws.specs.MapLaws.{valueAt, gives, Above, value-added}
-use Rattle.laws.specs.Stores.{length-stored, slot-inside}
+use Rattle.laws.specs.Stores.{length-stored}
 use Rattle.laws.specs.Scans.{itemAt, encoded-one}
 use Rattle.laws.specs.AppendBytes.{append-other, append-digest, append-scan}
 use Rattle.laws.specs.NewHeadBytes.{headPlan, formed-one, new-head-other, new-head-view}
-use Rattle.laws.specs.LogLaws.{Entered, entered-added}
+use Rattle.laws.specs.LogLaws.{entered-added}
 use Rattle.laws.specs.RecoverLaws.{recovered-fits, recovered-scan, recovered-highest, recovered-apart}
 use Rattle.laws.specs.Appended.{Appends, appended-entered, appended-recovered}
 use Rattle.laws.specs.Headed.{none-within, Heads, headed-entered, headed-recovered}

@@ -1,33 +1,31 @@
 -- A formatted area: recovery accepts it, with an empty log and next version 1.
-use Prim.Native.Nat.{ℕ, zero, suc, _+_, _-_, _*_, _^_, _≤_, _<_, max}
+use Prim.Native.Nat.{ℕ, _-_, _*_, _≤_, _<_}
 use native.Mathlib.Omega.{arith}
 use native.Mathlib.Decide.{ℕ-discrete}
-use mathlib.Core.Path.{_≡_, refl, sym, ap, _∙_, subst, subst⁻¹}
-use mathlib.Core.Bool.{Bool, true, false, not}
-use mathlib.Core.List.{List, [], _∷_, _++_}
+use mathlib.Core.Path.{_≡_, refl, sym, ap, _∙_}
+use mathlib.Core.Bool.{true, false}
+use mathlib.Core.List.{List, []}
 use mathlib.Core.Option.{Option, none, some}
-use lib.Dec.{eqb, leb, lit<}
+use lib.Dec.{eqb, lit<}
 use lib.Pow.{pow-mono}
 use lib.ListN.{length}
 use borrow.Author.Tests.{eqb-true, not-false}
-use Rattle.segment.specs.Choice.{pick, both, both-left, both-right}
+use Rattle.segment.specs.Choice.{both, both-left, both-right}
 use Rattle.segment.specs.Layout.{Layout, digestSize}
 use Rattle.segment.specs.LayoutLaws.{tombstone-length}
 use Rattle.segment.specs.declared.Digest.{Digest}
 use Rattle.slot_map.specs.Bit.{bit, named}
 use Rattle.slot_map.specs.BitLaws.{bit-above, clear-named}
 use Rattle.slot_map.specs.CountLaws.{used-free}
-use Rattle.record.specs.Range.{between, slotsGood, sizeGood, cellsGood}
+use Rattle.record.specs.Range.{slotsGood, sizeGood, cellsGood}
 use Rattle.record.specs.RangeLaws.{between-low}
-use Rattle.record.specs.declared.Store.{Store}
-use Rattle.model.specs.Log.{View, Head, Placed, scanned, viewsOf, headOf, logOf, placedIn, itemsOf, isDamaged, keysOf, versionShared, highest, nextVersion}
+use Rattle.model.specs.Log.{View, Head, Placed, scanned, viewsOf, headOf, placedIn, isDamaged, keysOf, versionShared, highest, nextVersion}
 use Rattle.model.specs.Recovery.{recovered, storeOf, storeUnder, headElse, geometryBad, logSlots, logUnder}
 use Rattle.model.specs.Operations.{logNow, firstDigest, formatted}
 use Rattle.laws.specs.Members.{clash}
 use Rattle.laws.specs.FormatBytes.{length-formatted, formatted-other, formatted-head}
-use Rattle.laws.specs.HeadLaws.{TopHead}
 use Rattle.laws.specs.LogLaws.{no-parts, partOf, part-picked, part-passed, items-scanned, scanned-undamaged}
-use Rattle.laws.specs.RecoverLaws.{Sound, Allowed, in-map, sound-head, sound-recovered}
+use Rattle.laws.specs.RecoverLaws.{Sound, in-map, sound-head, sound-recovered}
 use Rattle.laws.specs.Entering.{Roomy}
 
 -- map 1 names slot 0 alone

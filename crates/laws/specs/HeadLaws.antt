@@ -23,16 +23,6 @@ SameDigests n v v′ = (i : ℕ) → i < n → v′ i .digest ≡ v i .digest
 pub digests-same : {n : ℕ} {v v′ : ℕ → View} → SameViews n v v′ → SameDigests n v v′
 digests-same s i l = ap (λ (x : View). x .digest) (s i l)
 
-pub head-same : (n : ℕ) (v v′ : ℕ → View) → SameDigests n v v′ → headOf v′ n ≡ headOf v n
-unfolding headOf
-head-same zero v v′ s = refl
-head-same (suc n) v v′ s = cc (head-same n v v′ (λ i l. s i (omega arith)), s n (omega arith))
-
-pub sharing-same : (n : ℕ) (v v′ : ℕ → View) (k : ℕ) → SameDigests n v v′ → sharing v′ k n ≡ sharing v k n
-unfolding sharing
-sharing-same zero v v′ k s = refl
-sharing-same (suc n) v v′ k s = cc (sharing-same n v v′ k (λ i l. s i (omega arith)), s n (omega arith))
-
 -- ---- what the head is
 
 -- No digest below n has a higher number than the head's.
@@ -114,13 +104,6 @@ module _ (v : ℕ → View) (n : ℕ) where
   pub head-is : (h : Head) → headOf v n ≡ some h → IsHead v n h
   head-is h e = subst (HeadFacts v n) e (head-facts v n)
 
-  pub none-head : ((i : ℕ) → i < n → v i .digest ≡ none) → headOf v n ≡ none
-  none-head f = go (headOf v n) refl
-    where
-      go : (o : Option Head) → headOf v n ≡ o → o ≡ none
-      go none e = refl
-      go (some h) e = cc (head-is h e .own, f (h .slot) (head-is h e .below))
-
 -- ---- how many slots share a number
 
 has-number : (o : Option Digest) (d : Digest) (k : ℕ) → o ≡ some d → d .number .0 ≡ k → hasNumber o k ≡ 1
@@ -132,7 +115,7 @@ unfolding hasNumber
 lacks-number none k f = refl
 lacks-number (some d) k f = pick-false (eqb (d .number .0) k) 1 0 (ne-eqb (d .number .0) k (f d refl))
 
-number-le : (o : Option Digest) (k : ℕ) → hasNumber o k ≤ 1
+pub number-le : (o : Option Digest) (k : ℕ) → hasNumber o k ≤ 1
 unfolding hasNumber
 number-le none k = omega arith
 number-le (some d) k = pick-le (eqb (d .number .0) k)

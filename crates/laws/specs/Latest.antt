@@ -9,11 +9,10 @@ use lib.Dec.{eqb, ltb}
 use borrow.Author.Tests.{eq-eqb, eqb-true, ltb-true, ltb-false}
 use Rattle.segment.specs.Choice.{pick, both-left, both-right, both-true, either}
 use Rattle.segment.specs.Choice.{either-true-left, either-true-right}
-use Rattle.segment.specs.Layout.{Layout}
 use Rattle.segment.specs.Entry.{Entry, keyOf}
 use Rattle.segment.specs.declared.Key.{Key}
-use Rattle.model.specs.Log.{Placed, sameKey, laterOf, latest, objectOnly, present, hasKey}
-use Rattle.laws.specs.Members.{clash, fail-together, In, first, Within, Same}
+use Rattle.model.specs.Log.{Placed, sameKey, laterOf, latest, hasKey}
+use Rattle.laws.specs.Members.{clash, In, first, Within, Same}
 
 -- ---- the test of a key
 
@@ -143,10 +142,6 @@ latest-is-same s (found n) = found (newest-same s n)
 pub latest-same : (a b : List Placed) (k : Key) → Same a b → Apart a → latest a k ≡ latest b k
 latest-same a b k s d = sym (latest-unique b k (latest a k) (apart-same s d) (latest-is-same s (latest-is a k)))
 
-pub present-same : (L : Layout) (a b : List Placed) (k : Key) → Same a b → Apart a → present L a k ≡ present L b k
-unfolding present
-present-same L a b k s d = ap (objectOnly L) (latest-same a b k s d)
-
 -- ---- whether any entry has a key
 
 pub has-key : (log : List Placed) (k : Key) (x : Placed) → In x log → sameKey k (x .entry) ≡ true → hasKey log k ≡ true
@@ -165,13 +160,6 @@ key-had (y ∷ ys) k e = go (sameKey k (y .entry)) refl e (λ d. key-had ys k d)
     go true p d ih = (y, first, p)
     go false p d ih = let h = ih d in (h .0, List·Memᴰ·tail (h .1), h .2)
 
-pub no-key : (log : List Placed) (k : Key) → hasKey log k ≡ false → Keyless log k
-no-key log k e x m = go (sameKey k (x .entry)) refl
-  where
-    go : (t : Bool) → sameKey k (x .entry) ≡ t → sameKey k (x .entry) ≡ false
-    go true p = absurd (clash (hasKey log k) (has-key log k x m p) e)
-    go false p = p
-
 pub key-none : (log : List Placed) (k : Key) → Keyless log k → hasKey log k ≡ false
 key-none log k f = go (hasKey log k) refl
   where
@@ -182,18 +170,6 @@ key-none log k f = go (hasKey log k) refl
 pub has-key-within : (a b : List Placed) (k : Key) → Within a b → hasKey a k ≡ true → hasKey b k ≡ true
 has-key-within a b k w e = let h = key-had a k e in has-key b k (h .0) (w (h .0) (h .1)) (h .2)
 
-pub has-key-same : (a b : List Placed) (k : Key) → Same a b → hasKey a k ≡ hasKey b k
-has-key-same a b k s =
-    fail-together (hasKey a k) (hasKey b k) (λ e. key-none b k (λ x m. no-key a k e x (s .from x m)))
-    (λ e. key-none a k (λ x m. no-key b k e x (s .to x m)))
-
--- a log has a key exactly if the key has a latest entry
+-- a log has the key of which it has a latest entry
 pub latest-has : (log : List Placed) (k : Key) (x : Placed) → latest log k ≡ some x → hasKey log k ≡ true
 latest-has log k x e = let n = latest-some log k x e in has-key log k x (n .member) (n .of-key)
-
-pub latest-no-key : (log : List Placed) (k : Key) → hasKey log k ≡ false → latest log k ≡ none
-latest-no-key log k e = go (latest log k) (latest-is log k)
-  where
-    go : (o : Option Placed) → LatestIs log k o → o ≡ none
-    go none l = refl
-    go (some x) (found n) = absurd (clash (hasKey log k) (has-key log k x (n .member) (n .of-key)) e)

@@ -26,11 +26,6 @@ unfoldable pub anyBelow : (ℕ → Bool) → ℕ → Bool
 anyBelow g zero = false
 anyBelow g (suc n) = either (anyBelow g n) (g n)
 
-pub any-same : (n : ℕ) (g g′ : ℕ → Bool) → ((i : ℕ) → i < n → g′ i ≡ g i) → anyBelow g′ n ≡ anyBelow g n
-unfolding anyBelow
-any-same zero g g′ f = refl
-any-same (suc n) g g′ f = cc (any-same n g g′ (λ i l. f i (omega arith)), f n (omega arith))
-
 pub none-below : (n : ℕ) (g : ℕ → Bool) → ((i : ℕ) → i < n → g i ≡ false) → anyBelow g n ≡ false
 unfolding anyBelow
 none-below zero g f = refl
@@ -56,27 +51,6 @@ unfolding logDamaged anyBelow
 damaged-any v p zero = refl
 damaged-any v p (suc n) = cc (damaged-any v p n)
 
--- a test that looks only at picked slots, and has only views of those to look at
-picked-same : (t t′ : Bool) (a a′ : Bool) → t′ ≡ t → (t ≡ true → a′ ≡ a) → both t′ a′ ≡ both t a
-unfolding both
-picked-same true t′ a a′ e f = rw e (f refl)
-picked-same false t′ a a′ e f = rw e
-
-module _ (v v′ : ℕ → View) (p p′ : ℕ → Bool) (n : ℕ) (same-picks : (i : ℕ) → i < n → p′ i ≡ p i) where
-  pub names-same : ((i : ℕ) → i < n → p i ≡ true → v′ i .digest ≡ v i .digest) → namesNoDigest v′ p′ n ≡ namesNoDigest v p n
-  names-same f =
-      names-any v′ p′ n ∙
-      any-same n (λ i. both (p i) (noDigest (v i .digest))) (λ i. both (p′ i) (noDigest (v′ i .digest)))
-      (λ i l. picked-same (p i) (p′ i) (noDigest (v i .digest)) (noDigest (v′ i .digest)) (same-picks i l) (λ e. ap noDigest (f i l e))) ∙
-      sym (names-any v p n)
-
-  pub damaged-same : ((i : ℕ) → i < n → p i ≡ true → v′ i .scan ≡ v i .scan) → logDamaged v′ p′ n ≡ logDamaged v p n
-  damaged-same f =
-      damaged-any v′ p′ n ∙
-      any-same n (λ i. both (p i) (isDamaged (v i .scan))) (λ i. both (p′ i) (isDamaged (v′ i .scan)))
-      (λ i l. picked-same (p i) (p′ i) (isDamaged (v i .scan)) (isDamaged (v′ i .scan)) (same-picks i l) (λ e. ap isDamaged (f i l e))) ∙
-      sym (damaged-any v p n)
-
 -- ---- what the tests of every slot say
 
 -- Every slot that p picks has a digest, and its entries can all be read.
@@ -86,7 +60,7 @@ AllDigests v p n = (i : ℕ) → i < n → p i ≡ true → (d : Digest) × (v i
 abbrev pub AllScanned : (ℕ → View) → (ℕ → Bool) → ℕ → Type 0
 AllScanned v p n = (i : ℕ) → i < n → p i ≡ true → isDamaged (v i .scan) ≡ false
 
-both-true-false : (a b : Bool) → both a b ≡ false → a ≡ true → b ≡ false
+pub both-true-false : (a b : Bool) → both a b ≡ false → a ≡ true → b ≡ false
 unfolding both
 both-true-false true b e f = e
 both-true-false false b e f = cc

@@ -9,7 +9,7 @@ use native.Mathlib.Omega.{arith}
 use lib.Dec.{eqb}
 use lib.ListN.{length, length-append}
 use borrow.Author.Tests.{eq-eqb, eqb-true, not-true}
-use Rattle.segment.specs.Choice.{pick, pick-true, pick-false, both, both-left, both-right, both-true, either, either-true-left, either-true-right}
+use Rattle.segment.specs.Choice.{pick, pick-true, both, both-left, both-right, both-true, either, either-true-left, either-true-right}
 use Rattle.segment.specs.Layout.{Layout, isTombstone}
 use Rattle.segment.specs.Entry.{Entry, encoded, sizeOf, keyOf}
 use Rattle.segment.specs.declared.Key.{Key}
@@ -18,9 +18,9 @@ use Rattle.model.specs.Log.{Placed, sameKey, latest, objectOnly, present, keysO
 use Rattle.model.specs.Operations.{isVersion, isHighest, objectOutside, isKept, keptOf, kept, allEncoded, placedFrom}
 use Rattle.laws.specs.Members.{clash, In, Same, Added, entriesOf, entry-in, entry-of, those, in-those, those-in}
 use Rattle.laws.specs.Members.{total, total-those, total-split}
-use Rattle.laws.specs.Latest.{same-key, Newest, Keyless, LatestIs, absent, found, latest-is, Apart, apart-same}
-use Rattle.laws.specs.Latest.{newest-one, latest-unique, present-same, has-key, key-had}
-use Rattle.laws.specs.Versions.{counted, count, count-append, shared-fewer, shared-apart, highest-above, highest-least}
+use Rattle.laws.specs.Latest.{same-key, Newest, Keyless, LatestIs, absent, found, latest-is, Apart}
+use Rattle.laws.specs.Latest.{newest-one, latest-unique, has-key, key-had}
+use Rattle.laws.specs.Versions.{counted, count, count-append, shared-fewer, highest-above, highest-least}
 use Rattle.laws.specs.Keys.{KeysWithin, keys-within}
 
 -- ---- what a key has
@@ -48,9 +48,6 @@ value-some L log k x e = rw e (go (isTombstone L (x .entry .kind)))
 pub value-none : (L : Layout) (log : List Placed) (k : Key) → latest log k ≡ none → valueAt L log k ≡ none
 unfolding present objectOnly entryOf
 value-none L log k e = rw e
-
-pub value-same : (L : Layout) (a b : List Placed) (k : Key) → Same a b → Apart a → valueAt L a k ≡ valueAt L b k
-value-same L a b k s d = ap entryOf (present-same L a b k s d)
 
 -- ---- one entry more, with a version above all others
 
@@ -106,18 +103,6 @@ module _ (log : List Placed) (x : Placed) (after : List Placed) (w : Added log x
       go : (t : Bool) → latest after k ≡ pick t (some x) (latest log k) → valueAt L after k ≡ pick t (gives L (x .entry)) (valueAt L log k)
       go true e = value-some L after k x e
       go false e = unfold present in ap (λ (o : Option Placed). entryOf (objectOnly L o)) e
-
-  -- Setting: the key of an added object has that object; every other key has what it had.
-  pub log-set : (L : Layout) → Apart log → isTombstone L (x .entry .kind) ≡ false → (k : Key) →
-      valueAt L after k ≡ pick (sameKey k (x .entry)) (some (x .entry)) (valueAt L log k)
-  unfolding gives
-  log-set L d t k = value-added L d k ∙ rw (pick-false (isTombstone L (x .entry .kind)) none (some (x .entry)) t)
-
-  -- Deleting: the key of an added tombstone has nothing; every other key has what it had.
-  pub log-delete : (L : Layout) → Apart log → isTombstone L (x .entry .kind) ≡ true → (k : Key) →
-      valueAt L after k ≡ pick (sameKey k (x .entry)) none (valueAt L log k)
-  unfolding gives
-  log-delete L d t k = value-added L d k ∙ rw (pick-true (isTombstone L (x .entry .kind)) none (some (x .entry)) t)
 
 -- ---- what a cleaning keeps
 
@@ -364,15 +349,9 @@ module _ (L : Layout) (victims : ℕ) (log moved after : List Placed) (c : Clean
       (total-those (counted v) (isKept L victims log) (λ x. named victims (x .slot)) log (λ x m e. kept-victim L victims log x e)) in
       omega (arith, count-append v (outside victims log) moved, total-split (counted v) (λ x. named victims (x .slot)) log)
 
-  pub clean-shared : versionShared log ≡ false → versionShared (outside victims log ++ moved) ≡ false
-  clean-shared e = shared-fewer (outside victims log ++ moved) log clean-count e
-
-  -- the same for the log after in another order, whose counts are those
+  -- Versions: none comes to be shared, in whatever order the log after stands.
   pub clean-shared-any : ((v : ℕ) → count v after ≡ count v (outside victims log ++ moved)) → versionShared log ≡ false → versionShared after ≡ false
   clean-shared-any h e = shared-fewer after log (λ v. omega (arith, h v, clean-count v)) e
-
-  pub clean-apart : versionShared log ≡ false → Apart after
-  clean-apart e = apart-same (c .members) (shared-apart (outside victims log ++ moved) (clean-shared e))
 
   -- Keys: a cleaning adds none.
   pub clean-keys : KeysWithin after log

@@ -46,13 +46,6 @@ same-sym s = record { to = s .from; from = s .to }
 pub same-trans : {A : Type 0} {a b c : List A} → Same a b → Same b c → Same a c
 same-trans s t = record { to = λ x m. t .to x (s .to x m); from = λ x m. s .from x (t .from x m) }
 
--- the order of two parts is free
-pub same-swap : {A : Type 0} (a b : List A) → Same (a ++ b) (b ++ a)
-same-swap {A} a b = record { to = turn a b; from = turn b a }
-  where
-    turn : (a b : List A) → Within (a ++ b) (b ++ a)
-    turn a b x m = elim (List·Memᴰ·append-cases a m) [ inl p ↦ Memᴰ·append-right b p | inr q ↦ Memᴰ·append-left a q ]
-
 -- b has exactly the members of a, and x
 pub record Added {A : Type 0} (a : List A) (x : A) (b : List A) : Type 0 where
   pub old : Within a b

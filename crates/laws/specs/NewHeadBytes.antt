@@ -17,7 +17,7 @@ use Rattle.segment.specs.declared.Digest.{Digest}
 use Rattle.model.specs.Log.{scanned, scan, segmentOf, digestIn, viewOf, viewsOf}
 use Rattle.model.specs.Operations.{allEncoded, commit, stored}
 use Rattle.laws.specs.Stores.{StoresBytes, Within, one-store, Written, slot-inside, length-segment, first-own, bytes-stored, stores-bytes-take, stores-bytes-commit, within-take, within-other, within-front, prefix-within, commit-within, commit-written}
-use Rattle.laws.specs.Scans.{itemAt, itemsFrom, byte-alike, part-first, part-second, bytes-allEncoded, scans-scan, scans-encoded, no-digest, digest-begins}
+use Rattle.laws.specs.Scans.{itemsFrom, byte-alike, part-first, part-second, bytes-allEncoded, scans-scan, scans-encoded, no-digest, digest-begins}
 
 -- the bytes of a new head
 abbrev pub headBytes : Layout → Digest → List Entry → List ℕ
@@ -31,10 +31,6 @@ length-headBytes L d es =
     length-append (encodedDigest L d) (allEncoded L es) ∙ ap (λ (n : ℕ). n + length (allEncoded L es)) (length-encodedDigest L d)
 
 -- one entry in a new head
-pub items-one : (L : Layout) (at : ℕ) (x : Entry) → itemsFrom L at (x ∷ []) ≡ itemAt at x ∷ []
-unfolding itemsFrom
-items-one L at x = refl
-
 pub formed-one : (L : Layout) (x : Entry) → WellFormed L x → (y : Entry) → List·Memᴰ y (x ∷ []) → WellFormed L y
 formed-one L x f y m = subst (WellFormed L) (sym (List·Memᴰ·eq-of-singleton m)) f
 
@@ -126,6 +122,3 @@ module _ (L : Layout) (S i : ℕ) (area : List ℕ) (d : Digest) (es : List Entr
 
   pub new-head-prefix-bytes : Bytes area → (k : ℕ) → Bytes (stored area (take k (headPlan L S i d es)))
   new-head-prefix-bytes h k = bytes-stored area (take k (headPlan L S i d es)) h (stores-bytes-take k (headPlan L S i d es) stores)
-
-  pub new-head-bytes : Bytes area → Bytes (stored area (headPlan L S i d es))
-  new-head-bytes h = bytes-stored area (headPlan L S i d es) h stores

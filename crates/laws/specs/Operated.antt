@@ -1,9 +1,9 @@
 -- What an accepted operation does to the store: the statements. Each is proved in a file of its own, and together they are all that
 -- the promise about cuts needs of the log.
-use Prim.Native.Nat.{ℕ, zero, suc, _+_, _-_, _≤_, _<_}
+use Prim.Native.Nat.{ℕ, _-_, _≤_, _<_}
 use mathlib.Core.Path.{_≡_}
-use mathlib.Core.Bool.{Bool, true, false}
-use mathlib.Core.List.{List, [], _∷_}
+use mathlib.Core.Bool.{true, false}
+use mathlib.Core.List.{List, []}
 use mathlib.Core.Option.{Option, none, some}
 use lib.ListN.{length, take}
 use Rattle.word.specs.Number.{Bytes}
@@ -17,7 +17,7 @@ use Rattle.laws.specs.MapLaws.{valueAt}
 use Rattle.model.specs.Log.{Placed, present, sameKey}
 use Rattle.model.specs.Causes.{firstCause}
 use Rattle.model.specs.Recovery.{recovered, storeOf, geometryBad}
-use Rattle.model.specs.Operations.{Operation, write, delete, clean, Typed, logNow, writtenEntry, tombstoneEntry, laid, planFor, storesFor, stored, finishedStore, formatted}
+use Rattle.model.specs.Operations.{Operation, write, delete, clean, Typed, logNow, writtenEntry, tombstoneEntry, laid, planFor, stored, finishedStore, formatted}
 use Rattle.model.specs.Promises.{valuePart}
 use Rattle.model.specs.Refused.{Lengths, startCauses}
 

@@ -3,19 +3,17 @@
 use Prim.Native.Nat.{ℕ, zero, suc, _+_, _-_, _*_, _^_, _≤_, _<_}
 use native.Mathlib.Omega.{arith}
 use native.Mathlib.Decide.{decLt}
-use mathlib.Core.Path.{_≡_, refl, sym, ap, _∙_, subst, subst⁻¹}
-use mathlib.Core.Logic.{_⊎_, inl, inr}
-use mathlib.Core.Bool.{Bool, true, false, not}
+use mathlib.Core.Path.{_≡_, refl, ap, _∙_, subst}
+use mathlib.Core.Bool.{Bool, true, false}
 use mathlib.Core.List.{List, [], _∷_, _++_, List·Memᴰ}
-use mathlib.Core.Option.{Option, none, some}
-use lib.Dec.{ltb, leb}
+use mathlib.Core.Option.{some}
 use lib.ListN.{length, take}
 use lib.Pow.{pow-mono}
 use borrow.Author.Tests.{leb-true, ltb-false}
 use Rattle.word.specs.Number.{Bytes}
 use Rattle.word.specs.Laws.{bytes-take, bytes-drop}
 use Rattle.segment.specs.Choice.{pick}
-use Rattle.segment.specs.Layout.{Layout, digestSize, entrySize}
+use Rattle.segment.specs.Layout.{Layout, digestSize}
 use Rattle.segment.specs.Entry.{Entry, WellFormed, encoded, sizeOf}
 use Rattle.segment.specs.EntryLaws.{length-encoded}
 use Rattle.segment.specs.Digest.{encodedDigest}
@@ -26,20 +24,21 @@ use Rattle.slot_map.specs.CountLaws.{clear-sub}
 use Rattle.slot_map.specs.NextLaws.{next-below, next-clear}
 use Rattle.record.specs.RangeLaws.{Lent, lent}
 use Rattle.record.specs.declared.Store.{Store}
-use Rattle.model.specs.Log.{View, Placed, scan, scanned, itemsOf, segmentOf, viewsOf, logOf}
+use Rattle.model.specs.Log.{View, Placed, scan, itemsOf, segmentOf, viewsOf, logOf}
 use Rattle.model.specs.Recovery.{recovered}
-use Rattle.model.specs.Operations.{Operation, write, delete, clean, logNow, writtenEntry, tombstoneEntry, fitsHead, newSlot, newDigest, isKept, kept, allEncoded, Laid, laidAppend, laidHead, laidEntry, laid, commit, planOf, planFor, stored}
+use Rattle.model.specs.Operations.{Operation, write, delete, clean, logNow, writtenEntry, tombstoneEntry, fitsHead, newSlot, newDigest, isKept, kept, allEncoded, Laid, laidAppend, laidHead, laidEntry, laid, commit, planOf, stored}
 use Rattle.model.specs.Refused.{startCauses, cleanCauses}
-use Rattle.laws.specs.Members.{In, those, those-in, entry-of, entriesOf}
+use Rattle.laws.specs.Members.{In, those, those-in, entry-of}
 use Rattle.laws.specs.MapLaws.{kept-those}
-use Rattle.laws.specs.Stores.{length-commit-within, length-commit-full, length-stored, stored-none, slot-inside, length-segment}
+use Rattle.laws.specs.Stores.{length-commit-within, length-commit-full, length-stored}
 use Rattle.laws.specs.Scans.{encoded-one, scan-scans, scans-stands}
 use Rattle.laws.specs.AppendBytes.{append-prefix, append-prefix-bytes}
 use Rattle.laws.specs.NewHeadBytes.{headBytes, headPlan, length-headBytes, formed-one, new-head-prefix, new-head-other-prefix, new-head-prefix-bytes}
 use Rattle.laws.specs.LogLaws.{log-same, log-in, scan-whole}
-use Rattle.laws.specs.RecoverLaws.{NoCause, no-cause, recovered-case, recovered-facts, recovered-lent, recovered-fits, recovered-next, recovered-scan, views-recovered, cut-recovered, cut-log}
+use Rattle.laws.specs.RecoverLaws.{recovered-case, recovered-fits, recovered-next, recovered-scan, views-recovered, cut-recovered, cut-log}
 use Rattle.laws.specs.Operated.{Accepted, planAt}
 use Rattle.laws.specs.Entering.{Roomy, Entering, idle-lent, write-enters, delete-enters}
+use Rattle.laws.specs.CauseLaws.{NoCause, no-cause}
 
 -- Which plan it is, with what is known of its bytes.
 pub data Planned (L : Layout) (r : Store) : List ℕ → List (ℕ × ℕ) → Type 0 where

@@ -2,7 +2,7 @@
 use Prim.Native.Nat.{ℕ, _*_, _-_, _^_, _≤_, _<_}
 use mathlib.Core.Path.{_≡_, refl, sym, ap, subst, _∙_}
 use mathlib.Core.Bool.{Bool, true, false, not}
-use mathlib.Core.List.{List, [], _∷_, _++_}
+use mathlib.Core.List.{List, _++_}
 use mathlib.Core.Option.{Option, none, some}
 use native.Mathlib.Decide.{ℕ-discrete}
 use native.Mathlib.Omega.{arith}
@@ -16,7 +16,7 @@ use Rattle.segment.specs.Layout.{Layout, digestSize, versionLimit, numberLimit}
 use Rattle.segment.specs.LayoutLaws.{version-below}
 use Rattle.segment.specs.Entry.{Entry, entry, entryAt}
 use Rattle.segment.specs.EntryLaws.{found-accepted}
-use Rattle.segment.specs.DigestLaws.{digest-number-fits, digest-map-fits, digest-next-fits}
+use Rattle.segment.specs.DigestLaws.{digest-number-fits, digest-next-fits}
 use Rattle.segment.specs.Digest.{digestOf}
 use Rattle.segment.specs.declared.Digest.{Digest}
 use Rattle.slot_map.specs.Bit.{named}
@@ -32,7 +32,7 @@ use Rattle.model.specs.Log.{View, Head, Placed, scanned, itemsOf, scan, digestI
 use Rattle.model.specs.Causes.{Cause, when, firstCause}
 use Rattle.model.specs.Recovery.{noHead, headElse, sharing, mapBad, logSlots, logUnder, storeUnder, imageCauses, keyCauses, lentCauses, areaCauses, ifNone, storeOf, recovered, orderBad, recoveryFor, recovery, recoverCauses}
 use Rattle.model.specs.Operations.{logNow}
-use Rattle.laws.specs.CauseLaws.{cause-false, cause-rest, cause-none, cause-skip}
+use Rattle.laws.specs.CauseLaws.{NoCause, no-cause, causes-none, cause-passed}
 use Rattle.laws.specs.Members.{clash, In}
 use Rattle.laws.specs.Latest.{Apart}
 use Rattle.laws.specs.Versions.{shared-apart, highest-below, below-highest}
@@ -40,29 +40,6 @@ use Rattle.laws.specs.Stores.{slot-inside, length-segment}
 use Rattle.laws.specs.Scans.{scan-scans, scans-low, scans-high, scans-found}
 use Rattle.laws.specs.HeadLaws.{SameViews, digests-same, TopHead, head-is, is-top, top-head, top-alone, top-stays}
 use Rattle.laws.specs.LogLaws.{AllDigests, AllScanned, names-digests, digests-named, undamaged-scans, scans-undamaged, log-same, log-in, scan-whole}
-
--- ---- no cause holds
-
-abbrev pub NoCause : List Cause → Type 0
-NoCause [] = Unit {0}
-NoCause (c ∷ cs) = (c .holds ≡ false) × NoCause cs
-
-pub no-cause : (cs : List Cause) → firstCause cs ≡ none → NoCause cs
-no-cause [] e = tt
-no-cause (c ∷ cs) e = (cause-false c cs e, no-cause cs (cause-rest c cs e))
-
-pub causes-none : (cs : List Cause) → NoCause cs → firstCause cs ≡ none
-unfolding firstCause
-causes-none [] f = refl
-causes-none (c ∷ cs) f = cause-none c cs (f .0) (causes-none cs (f .1))
-
--- a cause that does not hold might as well be left out
-pub cause-passed : (before : List Cause) (c : Cause) (after : List Cause) → c .holds ≡ false
-    → firstCause (before ++ c ∷ after) ≡ firstCause (before ++ after)
-unfolding firstCause
-cause-passed [] c after e = cause-skip c after e
-cause-passed (b ∷ bs) c after e =
-    ap (λ (o : Option Refusal). pick (b .holds) (some (b .refusal)) o) (cause-passed bs c after e)
 
 -- ---- an image that recovery accepts
 
@@ -450,9 +427,6 @@ module _ (L : Layout) (n s m : ℕ) (area : List ℕ) (r : Store) (e : recovered
   pub recovered-below : r .head < n
   recovered-below = recovered-case L n s m area (λ (k : Store). k .head < n) (λ h l f. f .top .below) r e
 
-  pub recovered-map : mapGood n (r .head) (r .map) ≡ true
-  recovered-map = recovered-case L n s m area (λ (k : Store). mapGood n (k .head) (k .map) ≡ true) (λ h l f. f .map-good) r e
-
   -- the head's entries end where the record says, behind the digest and in the segment
   pub recovered-scan : scan L (segmentOf area s (r .head)) ≡ scanned (itemsOf (scan L (segmentOf area s (r .head)))) (r .end)
   recovered-scan =
@@ -467,11 +441,6 @@ module _ (L : Layout) (n s m : ℕ) (area : List ℕ) (r : Store) (e : recovered
       let scans = scan-scans L (segmentOf area s (r .head)) recovered-scan in
       let long = length-segment area s (r .head) (slot-inside area n s (r .head) (recovered-lent .long) recovered-below) in
       (scans-low scans, omega (arith, scans-high scans))
-
-  pub recovered-in-range : inRange L r ≡ true
-  recovered-in-range =
-      recovered-case L n s m area (λ (k : Store). (digestSize L ≤ k .end) × (k .end ≤ s) → inRange L k ≡ true)
-      (λ h l f. under-in-range L (viewsOf L area s) n s m h (length area) l f) r e recovered-ends
 
   pub recovered-fits : fitsLent L r (length area) m ≡ true
   recovered-fits =
@@ -492,11 +461,6 @@ module _ (L : Layout) (n s m : ℕ) (area : List ℕ) (r : Store) (e : recovered
           digest-number-fits L (segmentOf area s (h .slot)) (segment-bytes area s (h .slot) bytes),
           ap (λ (d : Digest). d .number .0) (own-digest h f),
         )) r e
-
-    pub recovered-map-fits : r .map < 256 ^ 4
-    recovered-map-fits =
-        recovered-case L n s m area (λ (k : Store). k .map < 256 ^ 4)
-        (λ h l f. rw (own-digest h f) (digest-map-fits L (segmentOf area s (h .slot)) (segment-bytes area s (h .slot) bytes))) r e
 
     log-version : (h : Head) → Sound (viewsOf L area s) n m h → (x : Placed) → In x (logUnder (viewsOf L area s) n h)
         → x .entry .version < versionLimit L

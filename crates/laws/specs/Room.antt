@@ -6,14 +6,14 @@ use native.Mathlib.Decide.{ℕ-discrete}
 use mathlib.Core.Path.{_≡_, refl, sym, ap, _∙_}
 use mathlib.Core.Bool.{Bool, true, false}
 use mathlib.Core.List.{List, [], _∷_, _++_, append-nil}
-use mathlib.Core.Option.{Option, none, some}
-use lib.Dec.{eqb, ltb}
+use mathlib.Core.Option.{some}
+use lib.Dec.{eqb}
 use lib.ListN.{length}
-use borrow.Author.Tests.{le-ltb, eq-eqb, ne-eqb, eqb-true}
-use Rattle.segment.specs.Choice.{both, both-true, both-false-right, both-right}
+use borrow.Author.Tests.{le-ltb, eq-eqb, ne-eqb}
+use Rattle.segment.specs.Choice.{both, both-true, both-false-right}
 use Rattle.segment.specs.Layout.{Layout, digestSize}
-use Rattle.slot_map.specs.Bit.{bit, named, within}
-use Rattle.slot_map.specs.BitLaws.{bit-pow-other, named-true, set-below, within-pow}
+use Rattle.slot_map.specs.Bit.{named, within}
+use Rattle.slot_map.specs.BitLaws.{bit-pow-other, named-true, set-below}
 use Rattle.slot_map.specs.NextLaws.{next-clear}
 use Rattle.slot_map.specs.Count.{used, free}
 use Rattle.slot_map.specs.CountLaws.{renewed-le, used-add}
@@ -23,7 +23,7 @@ use Rattle.model.specs.Log.{View, Item, Placed, scan, scanned, itemsOf, endOf, 
 use Rattle.model.specs.Recovery.{recovered}
 use Rattle.model.specs.Operations.{logNow, newSlot, newDigest, kept, allEncoded}
 use Rattle.model.specs.Refused.{keptTooLong}
-use Rattle.laws.specs.Members.{entriesOf, those}
+use Rattle.laws.specs.Members.{entriesOf}
 use Rattle.laws.specs.MapLaws.{inSlot, kept-size-one}
 use Rattle.laws.specs.Stores.{slot-inside, length-segment}
 use Rattle.laws.specs.Scans.{itemEntries, Scans, scan-scans, scans-total, scans-high}

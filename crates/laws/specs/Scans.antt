@@ -7,7 +7,7 @@ use native.Mathlib.Nat.{add-zero}
 use native.Mathlib.Omega.{arith}
 use lib.Dec.{eqb}
 use lib.ListN.{length, getD, take, drop, length-append, take-append-drop}
-use lib.Seq.{getD-take, take-take, take-add, take-length, take-append-seam, drop-append-seam, drop-drop}
+use lib.Seq.{getD-take, take-take, take-length, take-append-seam, drop-append-seam, drop-drop}
 use borrow.Author.Tests.{eq-eqb, ne-eqb}
 use Rattle.word.specs.Number.{Bytes}
 use Rattle.word.specs.Laws.{bytes-append}
@@ -100,14 +100,6 @@ module _ (a b l : List ℕ) where
       ∙ ap (take (length b)) (drop-append-seam a b)
       ∙ take-length b
 
-  pub parts-whole : take (length a) l ≡ a → take (length b) (drop (length a) l) ≡ b → take (length (a ++ b)) l ≡ a ++ b
-  parts-whole p q = rw (length-append a b, take-add (length a) (length b) l, p, q)
-
-getD-member {ℓ} : {A : Type ℓ} (l : List A) (k : ℕ) (z : A) → k < length l → List·Memᴰ (getD l k z) l
-getD-member [] k z h = absurd (omega arith)
-getD-member (x ∷ l) zero z h = List·Memᴰ·head refl
-getD-member (x ∷ l) (suc k) z h = List·Memᴰ·tail (getD-member l k z (omega arith))
-
 -- lists with one front have its bytes and its parts
 module _ (m : ℕ) (s t : List ℕ) (same : take m t ≡ take m s) where
   pub byte-alike : (k : ℕ) → k < m → getD t k 0 ≡ getD s k 0
@@ -127,36 +119,9 @@ module _ {L : Layout} {s : List ℕ} where
   scans-high (done {at} p) = found-end L s at p .0
   scans-high (more x p r) = scans-high r
 
-  -- the end: a 0, or that of the segment
-  pub scans-end : {at e : ℕ} {is : List Item} → Scans L s at is e → entryAt L s e ≡ end
-  scans-end (done p) = p
-  scans-end (more x p r) = scans-end r
-
   pub scans-found : {at e : ℕ} {is : List Item} {i : Item} → Scans L s at is e → List·Memᴰ i is → entryAt L s (i .offset) ≡ entry (i .entry)
   scans-found (more x p r) (List·Memᴰ·head q) = subst (λ (j : Item). entryAt L s (j .offset) ≡ entry (j .entry)) (sym q) p
   scans-found (more x p r) (List·Memᴰ·tail m) = scans-found r m
-
-  pub scans-from : {at e : ℕ} {is : List Item} {i : Item} → Scans L s at is e → List·Memᴰ i is → at ≤ i .offset
-  scans-from (more x p r) (List·Memᴰ·head q) = omega (arith, ap (λ (j : Item). j .offset) q)
-  scans-from (more x p r) (List·Memᴰ·tail m) = omega (arith, scans-from r m)
-
-  pub scans-to : {at e : ℕ} {is : List Item} {i : Item} → Scans L s at is e → List·Memᴰ i is → i .offset + sizeOf L (i .entry) ≤ e
-  scans-to {e = e} (more x p r) (List·Memᴰ·head q) = subst (λ (j : Item). j .offset + sizeOf L (j .entry) ≤ e) (sym q) (scans-low r)
-  scans-to (more x p r) (List·Memᴰ·tail m) = scans-to r m
-
-  -- an item ends at or before the place where a later one begins
-  pub scans-ascend : {at e : ℕ} {is : List Item} → Scans L s at is e → (z : Item) (j k : ℕ) → j < k → k < length is
-      → getD is j z .offset + sizeOf L (getD is j z .entry) ≤ getD is k z .offset
-  scans-ascend (done p) z j k h l = absurd (omega arith)
-  scans-ascend (more x p r) z j zero h l = absurd (omega arith)
-  scans-ascend (more {is = is} x p r) z zero (suc k) h l = scans-from r (getD-member is k z (omega arith))
-  scans-ascend (more x p r) z (suc j) (suc k) h l = scans-ascend r z j k (omega arith) (omega arith)
-
-  -- items of one offset are one
-  pub scans-alike : {at e : ℕ} {is : List Item} {i j : Item} → Scans L s at is e → List·Memᴰ i is → List·Memᴰ j is → i .offset ≡ j .offset → i ≡ j
-  scans-alike {i = i} {j = j} r m n q =
-      let same : i .entry ≡ j .entry = cc (scans-found r m, scans-found r n) in
-      λ k. record { offset = q k; entry = same k }
 
   -- of a segment of bytes, the items are entries of the layout, and their bytes are those that stand there
   pub scans-stands : {at e : ℕ} {is : List Item} {i : Item} → Bytes s → Scans L s at is e → List·Memᴰ i is → Stands L s (i .offset) (i .entry)
@@ -168,17 +133,6 @@ module _ {L : Layout} {s : List ℕ} where
   scans-total (done p) = add-zero _
   scans-total (more {is = is} x p r) =
       omega (arith, scans-total r, length-append (encoded L x) (allEncoded L (itemEntries is)), length-encoded L x)
-
-  pub scans-bytes : {at e : ℕ} {is : List Item} → Bytes s → Scans L s at is e
-      → take (length (allEncoded L (itemEntries is))) (drop at s) ≡ allEncoded L (itemEntries is)
-  unfolding allEncoded
-  scans-bytes h (done p) = refl
-  scans-bytes h (more {at} {is = is} x p r) =
-      parts-whole (encoded L x) (allEncoded L (itemEntries is)) (drop at s)
-      (ap (λ (n : ℕ). take n (drop at s)) (length-encoded L x) ∙ found-stands L s at x p h .same)
-      (ap (λ (l : List ℕ). take (length (allEncoded L (itemEntries is))) l)
-      (drop-drop (length (encoded L x)) at s ∙ ap (λ (n : ℕ). drop (at + n) s) (length-encoded L x))
-      ∙ scans-bytes h r)
 
 -- ---- on which bytes a scan depends
 
@@ -213,11 +167,6 @@ module _ (L : Layout) where
   unfolding placedIn placedFrom itemsFrom
   placed-items i at [] = refl
   placed-items i at (x ∷ xs) = rw (placed-items i (at + sizeOf L x) xs)
-
-  pub entries-items : (at : ℕ) (xs : List Entry) → itemEntries (itemsFrom L at xs) ≡ xs
-  unfolding itemsFrom
-  entries-items at [] = refl
-  entries-items at (x ∷ xs) = ap (λ (ys : List Entry). x ∷ ys) (entries-items (at + sizeOf L x) xs)
 
   pub encoded-one : (x : Entry) → allEncoded L (x ∷ []) ≡ encoded L x
   unfolding allEncoded
@@ -254,12 +203,6 @@ module _ (L : Layout) where
       (ap (λ (l : List ℕ). take (length (allEncoded L xs)) l)
       (sym (drop-drop (length (encoded L x)) at t ∙ ap (λ (n : ℕ). drop (at + n) t) (length-encoded L x)))
       ∙ part-second (encoded L x) (allEncoded L xs) (drop at t) own) z)
-
--- a scan's items are its entries, one behind the other
-pub scans-items : {L : Layout} {s : List ℕ} {at e : ℕ} {is : List Item} → Scans L s at is e → is ≡ itemsFrom L at (itemEntries is)
-unfolding itemsFrom
-scans-items (done p) = refl
-scans-items (more {at} x p r) = ap (λ (js : List Item). itemAt at x ∷ js) (scans-items r)
 
 -- ---- the view of a segment
 

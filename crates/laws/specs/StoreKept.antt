@@ -1,34 +1,29 @@
 -- All the laws that the promise about cuts needs, for every layout of which each entry fits a fresh segment.
-use Prim.Native.Nat.{ℕ, zero, suc, _+_, _-_, _*_, _^_, _≤_, _<_, max}
-use native.Mathlib.Nat.{add-assoc}
+use Prim.Native.Nat.{ℕ, _+_, _-_, _*_, _^_, _≤_, _<_}
 use native.Mathlib.Omega.{arith}
-use mathlib.Core.Path.{_≡_, refl, sym, ap, _∙_, subst, subst⁻¹}
-use mathlib.Core.Bool.{Bool, true, false, not}
-use mathlib.Core.List.{List, [], _∷_, _++_, List·Memᴰ}
+use mathlib.Core.Path.{_≡_, refl, sym, ap, _∙_, subst}
+use mathlib.Core.Bool.{Bool, true, false}
+use mathlib.Core.List.{List, List·Memᴰ}
 use mathlib.Core.Option.{Option, none, some}
-use lib.Dec.{eqb, ltb, leb, lit<, lit≤}
+use lib.Dec.{eqb, lit<, lit≤}
 use lib.ListN.{length, take, drop}
 use lib.Seq.{take-length}
-use borrow.Author.Tests.{not-false, eq-eqb, ltb-false, eqb-false, eqb-true}
-use Rattle.word.specs.Number.{Bytes}
-use Rattle.segment.specs.Choice.{pick, both, either, pick-true, pick-false, either-false-left, either-false-right}
-use Rattle.segment.specs.Packed.{field-at, length-part}
-use Rattle.segment.specs.Layout.{Layout, edition1, lookup, valueLength, digestSize, entrySize, isTombstone, versionLimit, numberLimit, objectKind}
-use Rattle.segment.specs.LayoutLaws.{object-no-tombstone}
-use Rattle.segment.specs.Entry.{Entry, WellFormed, encoded, decoded, sizeOf, entryAt, entry}
+use borrow.Author.Tests.{not-false, eq-eqb, ltb-false, eqb-false}
+use Rattle.segment.specs.Choice.{pick, pick-true, pick-false, either-false-left, either-false-right}
+use Rattle.segment.specs.Packed.{field-at}
+use Rattle.segment.specs.Layout.{Layout, edition1, lookup, valueLength, digestSize, entrySize, isTombstone, numberLimit}
+use Rattle.segment.specs.Entry.{Entry, WellFormed, sizeOf, entryAt, entry}
 use Rattle.segment.specs.EntryLaws as Found
 use Rattle.segment.specs.EntryLaws.{found-accepted}
-use Rattle.segment.specs.declared.Digest.{Digest}
 use Rattle.segment.specs.declared.Key.{Key}
 use Rattle.slot_map.specs.Bit.{named, within}
-use Rattle.record.specs.Range.{cellsGood}
 use Rattle.record.specs.RangeLaws.{Lent, lent}
 use Rattle.record.specs.declared.Store.{Store}
-use Rattle.model.specs.Log.{View, Item, Placed, placeOf, scan, scanned, itemsOf, segmentOf, viewsOf, logOf, present, latest, objectOnly, sameKey}
-use Rattle.model.specs.Recovery.{recovered, storeOf, geometryBad}
-use Rattle.model.specs.Operations.{Operation, write, delete, clean, logNow, kindElse, writtenEntry, tombstoneEntry, newSlot, newDigest, kept, allEncoded, placedFrom, laid, planOf, stored, cleanedStore, finishedStore, formatted}
+use Rattle.model.specs.Log.{Placed, placeOf, scan, segmentOf, viewsOf, present, latest, objectOnly, sameKey}
+use Rattle.model.specs.Recovery.{recovered, storeOf}
+use Rattle.model.specs.Operations.{Operation, write, delete, clean, logNow, writtenEntry, tombstoneEntry, newSlot, newDigest, kept, allEncoded, placedFrom, laid, planOf, stored, cleanedStore, finishedStore}
 use Rattle.model.specs.Promises.{valuePart}
-use Rattle.model.specs.Refused.{startCauses, writeCauses, cleanCauses, isNone}
+use Rattle.model.specs.Refused.{startCauses, cleanCauses}
 use Rattle.laws.specs.Members.{In}
 use Rattle.laws.specs.Latest.{latest-some}
 use Rattle.laws.specs.MapLaws.{valueAt, gives, log-clean}
@@ -38,13 +33,14 @@ use Rattle.laws.specs.NewHeadBytes.{headPlan, new-head-other, new-head-v
 use Rattle.laws.specs.FormatBytes.{bytes-formatted}
 use Rattle.laws.specs.Fresh.{format-recovers, format-log}
 use Rattle.laws.specs.LogLaws.{log-in, scan-whole}
-use Rattle.laws.specs.RecoverLaws.{NoCause, no-cause, recovered-case, recovered-fits, recovered-apart, recovered-above, recovered-more}
+use Rattle.laws.specs.RecoverLaws.{recovered-case, recovered-fits, recovered-apart, recovered-above, recovered-more}
 use Rattle.laws.specs.Headed.{Heads}
 use Rattle.laws.specs.Cleaned.{cleaned-cleaned, cleaned-recovered}
 use Rattle.laws.specs.Operated.{Accepted, planAt, mapAfter, StoreLaws}
 use Rattle.laws.specs.Entering.{Roomy, write-object, idle-lent, idle-number, write-enters, delete-enters}
 use Rattle.laws.specs.Planned.{log-formed, kept-in, planned, new-below, new-map-fits, new-next-fits, prefix-stays, prefix-bytes, plan-stores, plan-fits}
 use Rattle.laws.specs.EntryDone.{entry-done}
+use Rattle.laws.specs.CauseLaws.{NoCause, no-cause}
 
 -- ---- a finished cleaning
 

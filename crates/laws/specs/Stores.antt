@@ -85,11 +85,7 @@ unfolding stored
 stored-append area [] b = refl
 stored-append area (x ∷ a) b = stored-append (set area (x .0) (x .1)) a b
 
--- before the first store, after the last, and one store more
-pub stored-none : (area : List ℕ) → stored area [] ≡ area
-unfolding stored
-stored-none area = refl
-
+-- after the last store, and one store more
 pub stored-all : (area : List ℕ) (plan : List (ℕ × ℕ)) → stored area (take (length plan) plan) ≡ stored area plan
 stored-all area plan = ap (stored area) (take-length plan)
 
@@ -176,13 +172,6 @@ module _ {S i lo : ℕ} where
   pub within-lower : {plan : List (ℕ × ℕ)} (m : ℕ) → m ≤ lo → Within S i lo plan → Within S i m plan
   within-lower m l no-store = no-store
   within-lower m l (one-store j b h q w) = one-store j b (omega arith) q (within-lower m l w)
-
-  -- each place is one of the slot
-  pub within-place : {plan : List (ℕ × ℕ)} → Within S i lo plan → (k : ℕ) → k < length plan
-      → (i * S + lo ≤ getD plan k (0, 0) .0) × (getD plan k (0, 0) .0 < i * S + S)
-  within-place no-store k l = absurd (omega arith)
-  within-place (one-store j b h q w) zero l = (omega arith, omega arith)
-  within-place (one-store j b h q w) (suc k) l = within-place w k (omega arith)
 
   pub within-other : (area : List ℕ) {plan : List (ℕ × ℕ)} → Within S i lo plan → (k : ℕ) → (k ≡ i → ⊥)
       → segmentOf (stored area plan) S k ≡ segmentOf area S k
@@ -275,13 +264,6 @@ module _ (S i o : ℕ) (bytes : List ℕ) (some-byte : 0 < length bytes) where
 
   pub length-commit-full : S ≤ o + length bytes → length (commit S i o bytes) ≡ length bytes
   length-commit-full h = rw (no-end-stored S i o (length bytes) h) (simp length-append (omega (arith, length-run)))
-
-  pub commit-room : o + length bytes ≤ S → o + length (commit S i o bytes) ≤ S
-  commit-room fits = go (ltb (o + length bytes) S) refl
-    where
-      go : (t : Bool) → ltb (o + length bytes) S ≡ t → o + length (commit S i o bytes) ≤ S
-      go true p = let h = ltb-true (o + length bytes) S p in omega (arith, length-commit-within h)
-      go false p = let h = ltb-false (o + length bytes) S p in omega (arith, length-commit-full h)
 
   -- the bytes from the second on
   pub commit-byte : (k : ℕ) → k + 1 < length bytes → getD (commit S i o bytes) k (0, 0) ≡ (i * S + o + 1 + k, getD bytes (k + 1) 0)

@@ -11,7 +11,7 @@ use borrow.Author.Tests.{eq-eqb, eqb-true}
 use Rattle.segment.specs.Choice.{pick, pick-true, pick-false, either, either-false, either-false-left, either-false-right}
 use Rattle.segment.specs.Entry.{Entry}
 use Rattle.model.specs.Log.{Placed, hasVersion, versionShared, highest}
-use Rattle.laws.specs.Members.{fail-together, In, first, Within, Same, Added, added-same, entriesOf, entries-append, total, total-append}
+use Rattle.laws.specs.Members.{In, first, Within, Same, Added, added-same, entriesOf, entries-append, total, total-append}
 use Rattle.laws.specs.Latest.{Apart}
 
 -- ---- how many entries of the log have the version v
@@ -94,17 +94,9 @@ count-shared (x ∷ xs) h =
     (version-none xs (x .entry .version) (omega (arith, h (x .entry .version), counted-one (x .entry .version) (x .entry) refl)))
     (count-shared xs (λ v. omega (arith, h v)))
 
--- So the order of the log does not matter, and fewer entries share no more.
+-- So fewer entries share no more.
 pub shared-fewer : (a b : List Placed) → ((v : ℕ) → count v a ≤ count v b) → versionShared b ≡ false → versionShared a ≡ false
 shared-fewer a b h e = count-shared a (λ v. omega (arith, h v, shared-count b e v))
-
-pub shared-same : (a b : List Placed) → ((v : ℕ) → count v a ≡ count v b) → versionShared a ≡ versionShared b
-shared-same a b h =
-    fail-together (versionShared a) (versionShared b) (shared-fewer b a (λ v. omega (arith, h v)))
-    (shared-fewer a b (λ v. omega (arith, h v)))
-
-pub shared-swap : (a b : List Placed) → versionShared (a ++ b) ≡ versionShared (b ++ a)
-shared-swap a b = shared-same (a ++ b) (b ++ a) (λ v. omega (arith, count-append v a b, count-append v b a))
 
 -- Members of one version are one where no version is shared.
 pub shared-apart : (log : List Placed) → versionShared log ≡ false → Apart log
@@ -142,38 +134,6 @@ shared-append a b p q d =
         absurd (d (x .0) (y .0) (x .1) (y .1) (x .2 ∙ sym (y .2)))
     go v (yes i) (no j) = omega (arith, shared-count a p v)
     go v (no i) j = omega (arith, shared-count b q v)
-
--- One entry more, wherever it stands, with a version of its own.
-pub count-between : (v : ℕ) (a : List Placed) (x : Placed) (b : List Placed) → count v (a ++ x ∷ b) ≡ counted v (x .entry) + count v (a ++ b)
-unfolding total
-count-between v a x b = omega (arith, count-append v a (x ∷ b), count-append v a b)
-
-pub shared-added : (log : List Placed) (x : Placed) (after : List Placed) → ((v : ℕ) → count v after ≡ counted v (x .entry) + count v log) →
-    versionShared log ≡ false → ((y : Placed) → In y log → y .entry .version < x .entry .version) → versionShared after ≡ false
-unfolding total versionShared
-shared-added log x after h p above =
-    shared-fewer after (x ∷ log) (λ v. omega (arith, h v))
-    (either-false (hasVersion log (x .entry .version)) (versionShared log) (version-none log (x .entry .version) (none (decLe 1 (count (x .entry .version) log)))) p)
-  where
-    none : Dec (1 ≤ count (x .entry .version) log) → count (x .entry .version) log ≡ 0
-    none (yes i) = let y = count-found (x .entry .version) log i in absurd (omega (arith, above (y .0) (y .1), y .2))
-    none (no i) = omega arith
-
-pub shared-left : (a b : List Placed) → versionShared (a ++ b) ≡ false → versionShared a ≡ false
-shared-left a b = shared-fewer a (a ++ b) (λ v. omega (arith, count-append v a b))
-
-pub shared-right : (a b : List Placed) → versionShared (a ++ b) ≡ false → versionShared b ≡ false
-shared-right a b = shared-fewer b (a ++ b) (λ v. omega (arith, count-append v a b))
-
-pub shared-disjoint : (a b : List Placed) → versionShared (a ++ b) ≡ false → Disjoint a b
-shared-disjoint a b h x y m n e =
-    omega (
-      arith,
-      count-append (x .entry .version) a b,
-      shared-count (a ++ b) h (x .entry .version),
-      count-member (x .entry .version) m refl,
-      count-member (x .entry .version) n (sym e),
-    )
 
 -- ---- the highest version
 

@@ -14,11 +14,12 @@ use Rattle.segment.specs.Layout.{Layout, digestSize}
 use Rattle.segment.specs.Entry.{end, damage, entryAt}
 use Rattle.slot_map.specs.Bit.{bit, named, withBit}
 use Rattle.slot_map.specs.BitLaws.{bit-with-same, bit-with-other, named-true, set-named}
-use Rattle.model.specs.Log.{View, Item, Scan, damaged, scanned, scan, itemsOf, endOf, isDamaged, placedIn, Placed, viewsOf, logOf, versionShared}
+use Rattle.model.specs.Log.{View, Item, scanned, scan, itemsOf, endOf, isDamaged, placedIn, Placed, viewsOf, logOf, versionShared}
 use Rattle.model.specs.Recovery.{logDamaged}
 use Rattle.laws.specs.Scans.{item-first}
 use Rattle.laws.specs.Members.{clash, total}
 use Rattle.laws.specs.Versions.{counted, count, count-append, count-shared}
+use Rattle.laws.specs.LogLaws.{scan-whole}
 use Rattle.log.specs.Extents.{Meets, restOf, rest-whole, rest-entry, rest-end, rest-damage, log-take, log-skip, damaged-slot}
 use Rattle.log.specs.Suspects.{isSuspect, occupied, hits, empty-new, log-positive, Suspects, suspects-none, Suspecting, look-shared, look-alone}
 
@@ -96,13 +97,13 @@ sieved-none L area s p n filter =
       suspects = suspects-none (logOf (viewsOf L area s) p n) (log-positive L area s p n) (replicate 256 0) empty-new;
     }
 
+pub count-more : (log : List Placed) (x : Placed) (u : ℕ) → count u (log ++ (x ∷ [])) ≡ count u log + counted u (x .entry)
+unfolding total
+count-more log x u = omega (arith, count-append u log (x ∷ []))
+
 -- An entry more, whose version w is a suspect if its bit was set.
 module _ (log past : List Placed) (x : Placed) (filter table : List ℕ) (size : length filter ≡ 512) (sieved : Sieved log past filter table)
     (inside : (u : ℕ) → count u past ≤ count u log) where
-  count-one : (u : ℕ) → count u (past ++ (x ∷ [])) ≡ count u past + counted u (x .entry)
-  unfolding total
-  count-one u = omega (arith, count-append u past (x ∷ []))
-
   sieved-more : (w : ℕ) → x .entry .version ≡ w → (more : List ℕ) → Suspecting log table w (isMarked filter w) false more
       → Sieved log (past ++ (x ∷ [])) (markedWith filter w) more
   unfolding counted
@@ -133,16 +134,16 @@ module _ (log past : List Placed) (x : Placed) (filter table : List ℕ) (size :
       once u q true p =
           omega (
             arith,
-            count-one u,
+            count-more past x u,
             ap (λ (k : ℕ). count k past) (same u p),
             alone (ap (isSuspect more) (same u p) ∙ q) (decLe 1 (count w past)),
             pick-true {A = ℕ} (eqb (x .entry .version) u) 1 0 p,
           )
-      once u q false p = omega (arith, count-one u, other u p, before u q (isSuspect table u) refl)
+      once u q false p = omega (arith, count-more past x u, other u p, before u q (isSuspect table u) refl)
 
       marks : (u : ℕ) (t : Bool) → eqb (x .entry .version) u ≡ t → 1 ≤ count u (past ++ (x ∷ [])) → isMarked (markedWith filter w) u ≡ true
       marks u true p h = ap (isMarked (markedWith filter w)) (sym (same u p)) ∙ mark-own filter size w
-      marks u false p h = mark-keeps filter size w u (sieved .marks u (omega (arith, count-one u, other u p)))
+      marks u false p h = mark-keeps filter size w u (sieved .marks u (omega (arith, count-more past x u, other u p)))
 
 -- ---- the entries of one slot
 
@@ -176,11 +177,6 @@ pub record Sieving (L : Layout) (s : List ℕ) (i : ℕ) (log after : List Place
   pub splits : after ≡ past ++ placedIn i rest
   pub sieved : Sieved log past filter table
 
-sound-scanned : (r : Scan) → isDamaged r ≡ false → r ≡ scanned (itemsOf r) (endOf r)
-unfolding isDamaged itemsOf endOf
-sound-scanned damaged e = let z : _≡_ {A = ℕ} 0 1 = cc in absurd (omega arith)
-sound-scanned (scanned is k) e = refl
-
 pub sieve-start : (L : Layout) (v : ℕ → View) (p : ℕ → Bool) (i n : ℕ) (filter table s : List ℕ) → Entering v p i n filter table → v i .scan ≡ scan L s
     → Sieving L s i (logOf v p n) (logOf v p (i + 1)) (digestSize L) filter table
 sieve-start L v p i n filter table s h e =
@@ -189,7 +185,7 @@ sieve-start L v p i n filter table s h e =
       past = logOf v p i;
       rest = itemsOf (v i .scan);
       stop = endOf (v i .scan);
-      scans = rest-whole L s ∙ sym e ∙ sound-scanned (v i .scan) (h .undamaged);
+      scans = rest-whole L s ∙ sym e ∙ scan-whole (v i .scan) (h .undamaged);
       splits = log-take v p i (h .picked);
       sieved = h .sieved;
     }

@@ -8,7 +8,7 @@ use native.Mathlib.Numerals.{add-one}
 use native.Mathlib.Omega.{arith}
 use lib.Dec.{eqb, ltb}
 use borrow.Author.Tests.{lt-ltb, le-ltb, eq-eqb, ne-eqb, eqb-true, eqb-false}
-use Rattle.segment.specs.Choice.{pick, pick-true, pick-false, both, both-true, both-false-left, both-false-right, either-false, either-true-left, either-true-right}
+use Rattle.segment.specs.Choice.{pick-true, pick-false, both, both-true, both-false-left, both-false-right, either-false, either-true-left, either-true-right}
 use Rattle.segment.specs.Layout.{Layout}
 use Rattle.segment.specs.Digest.{digestOf, isDigest}
 use Rattle.segment.specs.declared.Digest.{Digest}
@@ -16,6 +16,7 @@ use Rattle.model.specs.Log.{View, Head, segmentOf, viewsOf, headOf, newer, dige
 use Rattle.model.specs.Recovery.{hasNumber, sharing, noDigest, namesNoDigest}
 use Rattle.log.specs.declared.HeadFound.{HeadFound}
 use Rattle.log.specs.declared.HeadFound.the-variants.{Nothing, At}
+use Rattle.laws.specs.HeadLaws.{number-le}
 
 -- the enum for a head, and the head that it says
 unfoldable pub told : Option Head → HeadFound
@@ -122,19 +123,10 @@ module _ (L : Layout) (area : List ℕ) (s i : ℕ) (part : List ℕ) (its : par
       ∙ ap (sharing (viewsOf L area s) k) (sym (add-one i))
 
 -- at most one for each slot
-has-le : (o : Option Digest) (k : ℕ) → hasNumber o k ≤ 1
-unfolding hasNumber pick
-has-le none k = omega arith
-has-le (some d) k = go (eqb (d .number .0) k)
-  where
-    go : (t : Bool) → pick t 1 0 ≤ 1
-    go true = omega arith
-    go false = omega arith
-
 pub sharing-le : (v : ℕ → View) (k n : ℕ) → sharing v k n ≤ n
 unfolding sharing
 sharing-le v k zero = omega arith
-sharing-le v k (suc n) = omega (arith, sharing-le v k n, has-le (v n .digest) k)
+sharing-le v k (suc n) = omega (arith, sharing-le v k n, number-le (v n .digest) k)
 
 -- ---- whether the map names a slot with no digest
 

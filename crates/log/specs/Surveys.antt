@@ -16,9 +16,9 @@ use Rattle.model.specs.Recovery.{logDamaged}
 use Rattle.laws.specs.Members.{clash, total}
 use Rattle.laws.specs.Scans.{itemAt}
 use Rattle.laws.specs.LogLaws.{placedAt, placed-append}
-use Rattle.laws.specs.Versions.{counted, count, count-append, count-shared, highest-append}
+use Rattle.laws.specs.Versions.{counted, count, count-shared, highest-append}
 use Rattle.log.specs.Extents.{Meets, restOf, rest-whole, rest-entry, rest-end, rest-damage, log-take, log-skip, sound-slot, damaged-slot}
-use Rattle.log.specs.Filter.{isMarked, markedWith, length-marked, mark-own, mark-keeps}
+use Rattle.log.specs.Filter.{isMarked, markedWith, length-marked, mark-own, mark-keeps, count-more}
 
 -- What has been passed: its highest version, and, as long as the versions are apart, none stands twice and the bit of each is set.
 pub record Told (log : List Placed) (top : ℕ) (apart : Bool) (filter : List ℕ) : Type 0 where
@@ -34,10 +34,6 @@ told-none v p filter size =
 
 -- one entry more
 module _ (log : List Placed) (x : Placed) (top : ℕ) (apart : Bool) (filter : List ℕ) (so-far : Told log top apart filter) where
-  count-more : (u : ℕ) → count u (log ++ (x ∷ [])) ≡ count u log + counted u (x .entry)
-  unfolding total
-  count-more u = omega (arith, count-append u log (x ∷ []))
-
   module _ (w : ℕ) (its : x .entry .version ≡ w) where
     -- only an entry of that version adds to its count
     its-count : (u : ℕ) (t : Bool) → eqb (x .entry .version) u ≡ t → counted u (x .entry) ≡ pick t 1 0
@@ -55,8 +51,8 @@ module _ (log : List Placed) (x : Placed) (top : ℕ) (apart : Bool) (filter : L
         go : (t : Bool) → eqb (x .entry .version) u ≡ t → count u (log ++ (x ∷ [])) ≤ 1
         go true e =
             let same : w ≡ u = sym its ∙ eqb-true (x .entry .version) u e in
-            omega (arith, count-more u, its-count u true e, ap (λ (k : ℕ). count k log) same, fresh unset a (decLe 1 (count w log)))
-        go false e = omega (arith, count-more u, its-count u false e, so-far .once a u)
+            omega (arith, count-more log x u, its-count u true e, ap (λ (k : ℕ). count k log) same, fresh unset a (decLe 1 (count w log)))
+        go false e = omega (arith, count-more log x u, its-count u false e, so-far .once a u)
 
     marks-more : apart ≡ true → (u : ℕ) → 1 ≤ count u (log ++ (x ∷ [])) → isMarked (markedWith filter w) u ≡ true
     unfolding pick
@@ -66,7 +62,7 @@ module _ (log : List Placed) (x : Placed) (top : ℕ) (apart : Bool) (filter : L
         go true e =
             let same : w ≡ u = sym its ∙ eqb-true (x .entry .version) u e in
             ap (isMarked (markedWith filter w)) (sym same) ∙ mark-own filter (so-far .size) w
-        go false e = mark-keeps filter (so-far .size) w u (so-far .marks a u (omega (arith, count-more u, its-count u false e)))
+        go false e = mark-keeps filter (so-far .size) w u (so-far .marks a u (omega (arith, count-more log x u, its-count u false e)))
 
     -- both the old versions are apart and the bit was not set
     still : (t : Bool) → isMarked filter w ≡ t → pick t false apart ≡ true → (isMarked filter w ≡ false) × (apart ≡ true)

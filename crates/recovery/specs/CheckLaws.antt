@@ -21,8 +21,6 @@ use Rattle.laws.specs.CauseLaws.{cause-first, cause-skip, cause-none}
 use Rattle.laws.specs.Scans.{scan-scans, scans-high}
 use Rattle.laws.specs.Stores.{length-segment}
 use Rattle.laws.specs.RecoverLaws.{map-bad-good}
-use Rattle.log.specs.Heads.{told, untold, untold-told}
-use Rattle.log.specs.declared.HeadFound.{HeadFound}
 use Rattle.recovery.specs.Recovering.{lentFirst, checkedAs, imageFor, imageOf, imageUnder, storeWith}
 use Rattle.recovery.specs.declared.Checked.{Checked}
 use Rattle.recovery.specs.declared.Image.{Image}
@@ -137,16 +135,6 @@ module _ (v : ℕ → View) (n : ℕ) where
         unfolding imageFor firstCause
         head-sound top e f =
             ap (Image.Sound (h .slot) (h .digest)) e ∙ ap (imageFor v n h) (sym (last ∙ cause-none shared [] f refl))
-
--- ---- what the callees of the log say
-
-pub told-none : (o : Option Head) → told o ≡ HeadFound.Nothing → o ≡ none
-unfolding untold
-told-none o e = sym (untold-told o) ∙ ap untold e
-
-pub told-some : (o : Option Head) (i : ℕ) (d : Digest) → told o ≡ HeadFound.At i d → o ≡ some (record { slot = i; digest = d })
-unfolding untold
-told-some o i d e = sym (untold-told o) ∙ ap untold e
 
 -- ---- the record
 

@@ -1,5 +1,5 @@
 -- 01, "Refused calls", cause 15: the test of an order list by the map of the slots that it names.
-use Prim.Native.Nat.{ℕ, zero, suc, _+_, _-_, _/_, _^_, _≤_, _<_}
+use Prim.Native.Nat.{ℕ, _+_, _-_, _/_, _^_, _≤_, _<_}
 use mathlib.Core.Path.{_≡_, refl, sym, _∙_, ap, subst}
 use mathlib.Core.Bool.{Bool, true, false, not}
 use mathlib.Core.List.{List, [], _∷_}
@@ -10,12 +10,13 @@ use lib.ListN.{length, getD, drop, drop-of-length-le}
 use lib.Pow.{pow-pos}
 use lib.Seq.{drop-cons}
 use borrow.Author.Tests.{eqb-true, eqb-false, eq-eqb, ne-eqb, ltb-true, ltb-false, lt-ltb, le-ltb}
-use Rattle.segment.specs.Choice.{pick, pick-true, pick-false, both, both-left, both-right, both-true, either, either-true-right}
+use Rattle.segment.specs.Choice.{pick, pick-true, pick-false, both, either, either-true-right}
 use Rattle.slot_map.specs.Bit.{bit, named, withBit}
 use Rattle.slot_map.specs.BitLaws.{bit-of-zero, bit-with-same, bit-with-other, named-true, set-named, clear-named, with-below, same-bits}
 use Rattle.slot_map.specs.Words.{bit-not, slot-mask}
 use Rattle.laws.specs.Members.{clash}
 use Rattle.model.specs.Recovery.{lists, listsBelow, orderBad}
+use Rattle.index.specs.BuildLaws.{below-listed, all-listed}
 
 -- the slots seen so far and one more, if it is one of the n
 unfoldable pub seeSlot : ℕ → ℕ → ℕ → ℕ
@@ -96,20 +97,6 @@ module _ (n i : ℕ) (below : i < n) where
 
 -- ---- all n slots are listed exactly if the map is that of all n
 
-all-below : (xs : List ℕ) (n : ℕ) → ((i : ℕ) → i < n → lists xs i ≡ true) → listsBelow xs n ≡ true
-unfolding listsBelow
-all-below xs zero h = refl
-all-below xs (suc n) h = both-true (listsBelow xs n) (lists xs n) (all-below xs n (λ i l. h i (omega arith))) (h n (omega arith))
-
-below-all : (xs : List ℕ) (n : ℕ) → listsBelow xs n ≡ true → (i : ℕ) → i < n → lists xs i ≡ true
-unfolding listsBelow
-below-all xs zero e i h = absurd (omega arith)
-below-all xs (suc n) e i h = go (eqb i n) refl (λ l. below-all xs n (both-left (listsBelow xs n) (lists xs n) e) i l)
-  where
-    go : (t : Bool) → eqb i n ≡ t → (i < n → lists xs i ≡ true) → lists xs i ≡ true
-    go true d ih = ap (lists xs) (eqb-true i n d) ∙ both-right (listsBelow xs n) (lists xs n) e
-    go false d ih = let apart = eqb-false i n d in ih (omega arith)
-
 -- every slot below n has its bit in the map of all n
 all-bit : (n i : ℕ) → i < n → bit (2 ^ n - 1) i ≡ 1
 all-bit n i h =
@@ -125,11 +112,11 @@ seen-all n xs = go (eqb (seenFrom n 0 xs) (2 ^ n - 1)) refl (listsBelow xs n) re
     whole : listsBelow xs n ≡ true → seenFrom n 0 xs ≡ 2 ^ n - 1
     whole e =
         same-bits n (seenFrom n 0 xs) (2 ^ n - 1) (seen-below n 0 xs (pow-pos n)) (omega (arith, pow-pos n))
-        (λ i h. named-true (seenFrom n 0 xs) i (seen-lists n i h xs ∙ below-all xs n e i h) ∙ sym (all-bit n i h))
+        (λ i h. named-true (seenFrom n 0 xs) i (seen-lists n i h xs ∙ below-listed xs n e i h) ∙ sym (all-bit n i h))
 
     go : (s : Bool) → eqb (seenFrom n 0 xs) (2 ^ n - 1) ≡ s → (t : Bool) → listsBelow xs n ≡ t → s ≡ t
     go true d true e = refl
-    go true d false e = absurd (clash (listsBelow xs n) (all-below xs n (listed (eqb-true (seenFrom n 0 xs) (2 ^ n - 1) d))) e)
+    go true d false e = absurd (clash (listsBelow xs n) (all-listed xs n (listed (eqb-true (seenFrom n 0 xs) (2 ^ n - 1) d))) e)
     go false d true e = absurd (eqb-false (seenFrom n 0 xs) (2 ^ n - 1) d (whole e))
     go false d false e = refl
 

@@ -1,7 +1,7 @@
 -- What recovery's parts give together is what it promises.
 use Prim.Native.Nat.{ℕ, _-_, _<_}
 use mathlib.Core.Path.{_≡_, refl, sym, _∙_, ap, subst}
-use mathlib.Core.Bool.{Bool, true, false, not}
+use mathlib.Core.Bool.{Bool, true, false}
 use mathlib.Core.List.{List, [], _∷_, _++_}
 use mathlib.Core.Option.{Option, none, some}
 use native.Mathlib.Omega.{arith}
@@ -29,10 +29,10 @@ use Rattle.model.specs.Recovery.{orderBad, headElse, digestBad, logDamaged, log
 use Rattle.model.specs.Index.{IndexRule}
 use Rattle.model.specs.Operations.{logNow}
 use Rattle.model.specs.Promises.{RecoverPromise, IndexAfter}
-use Rattle.laws.specs.CauseLaws.{cause-first, cause-none}
+use Rattle.laws.specs.CauseLaws.{cause-first, cause-none, NoCause, no-cause, first-some, first-none}
 use Rattle.laws.specs.Versions.{highest-below}
 use Rattle.laws.specs.LogLaws.{AllScanned, undamaged-scans}
-use Rattle.laws.specs.RecoverLaws.{NoCause, no-cause, map-bad-good}
+use Rattle.laws.specs.RecoverLaws.{map-bad-good}
 use Rattle.log.specs.Shape.{Shape}
 use Rattle.index.specs.Build.{Rebuilt, built}
 use Rattle.index.specs.BuildLaws.{Holds, built-rule, built-over}
@@ -42,27 +42,7 @@ use Rattle.recovery.specs.LookupLaws.{log-stands}
 use Rattle.recovery.specs.Recovering.{lentFirst, imageFor, imageOf, storeWith, refusedWith}
 use Rattle.recovery.specs.declared.Image.{Image}
 
--- ---- the first cause of two lists of causes
-
-first-left : (a b : List Cause) (c : Refusal) → firstCause a ≡ some c → firstCause (a ++ b) ≡ some c
-unfolding firstCause pick
-first-left [] b c e = let z : _≡_ {A = ℕ} 0 1 = cc in absurd (omega arith)
-first-left (x ∷ a) b c e = go (x .holds) e (λ q. first-left a b c q)
-  where
-    go : (t : Bool) → pick t (some (x .refusal)) (firstCause a) ≡ some c → (firstCause a ≡ some c → firstCause (a ++ b) ≡ some c)
-        → pick t (some (x .refusal)) (firstCause (a ++ b)) ≡ some c
-    go true q ih = q
-    go false q ih = ih q
-
-first-right : (a b : List Cause) → firstCause a ≡ none → firstCause (a ++ b) ≡ firstCause b
-unfolding firstCause pick
-first-right [] b e = refl
-first-right (x ∷ a) b e = go (x .holds) e (λ q. first-right a b q)
-  where
-    go : (t : Bool) → pick t (some (x .refusal)) (firstCause a) ≡ none → (firstCause a ≡ none → firstCause (a ++ b) ≡ firstCause b)
-        → pick t (some (x .refusal)) (firstCause (a ++ b)) ≡ firstCause b
-    go true q ih = let z : _≡_ {A = ℕ} 0 1 = cc in absurd (omega arith)
-    go false q ih = ih q
+-- ---- the first cause
 
 -- None of the causes is 20, at which alone the index changes.
 abbrev KeepsIndex : List Cause → Type 0
@@ -149,7 +129,7 @@ module _ (L : Layout) (n s : ℕ) (order area cells : List ℕ) where
       → RecoverPromise L n s order area cells cells r
   lent-promise c r e its =
       subst (RecoverPromise L n s order area cells cells) (sym its)
-      (refused-kept c (first-left (lentCauses n s m (length area) ++ (when (orderBad n order) BadOrder ∷ [])) _ c e)
+      (refused-kept c (first-some (lentCauses n s m (length area) ++ (when (orderBad n order) BadOrder ∷ [])) _ c e)
       (first-keeps (lentCauses n s m (length area) ++ (when (orderBad n order) BadOrder ∷ [])) (refl, (refl, (refl, tt))) c e))
 
   module _ (passed : lentFirst n s m (length area) order ≡ none) where
@@ -157,7 +137,7 @@ module _ (L : Layout) (n s : ℕ) (order area cells : List ℕ) where
     rest = imageCauses v n (headOf v n) ++ keyCauses v n m (headOf v n)
 
     on-image : cause ≡ firstCause rest
-    on-image = first-right (lentCauses n s m (length area) ++ (when (orderBad n order) BadOrder ∷ [])) rest passed
+    on-image = first-none (lentCauses n s m (length area) ++ (when (orderBad n order) BadOrder ∷ [])) rest passed
 
     lent-clear : NoCause (lentCauses n s m (length area) ++ (when (orderBad n order) BadOrder ∷ []))
     lent-clear = no-cause (lentCauses n s m (length area) ++ (when (orderBad n order) BadOrder ∷ [])) passed
@@ -197,7 +177,7 @@ module _ (L : Layout) (n s : ℕ) (order area cells : List ℕ) where
         go (some b) p q =
             let same : b ≡ c = cc in
             let f : firstCause (imageCauses v n (headOf v n)) ≡ some c = p ∙ ap some same in
-            refused-kept c (on-image ∙ first-left (imageCauses v n (headOf v n)) (keyCauses v n m (headOf v n)) c f)
+            refused-kept c (on-image ∙ first-some (imageCauses v n (headOf v n)) (keyCauses v n m (headOf v n)) c f)
             (first-keeps (imageCauses v n (headOf v n)) (refl, (refl, (refl, (refl, tt)))) c f)
 
     module _ (i : ℕ) (d : Digest) (top : Version) (sound : imageOf v n ≡ Image.Sound i d top) where
@@ -210,7 +190,7 @@ module _ (L : Layout) (n s : ℕ) (order area cells : List ℕ) where
       on-keys : cause ≡ firstCause (when (keysBad m log) TooManyKeys ∷ [])
       on-keys =
           on-image
-          ∙ first-right (imageCauses v n (headOf v n)) (keyCauses v n m (headOf v n)) (image .clear)
+          ∙ first-none (imageCauses v n (headOf v n)) (keyCauses v n m (headOf v n)) (image .clear)
           ∙ ap (λ (h : Head). firstCause (when (keysBad m (logUnder v n h)) TooManyKeys ∷ [])) (image .head)
 
       pub head-inside : i < n

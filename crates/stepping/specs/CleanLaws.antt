@@ -4,23 +4,22 @@ use mathlib.Core.Path.{_≡_, refl, sym, _∙_, ap}
 use mathlib.Core.Bool.{Bool, true, false, not}
 use mathlib.Core.List.{List, [], _∷_}
 use mathlib.Core.Option.{some}
-use native.Mathlib.Decide.{ℕ-discrete}
 use native.Mathlib.Nat.{add-zero}
 use native.Mathlib.Omega.{arith}
-use lib.Dec.{eqb, ltb}
-use lib.ListN.{length, getD, take, length-take}
+use lib.Dec.{eqb}
+use lib.ListN.{length, getD, length-take}
 use lib.Seq.{getD-take}
 use borrow.Author.Tests.{le-ltb, eq-eqb}
-use Rattle.segment.specs.Choice.{both, both-true, either}
+use Rattle.segment.specs.Choice.{both-true, either}
 use Rattle.segment.specs.Layout.{Layout}
 use Rattle.slot_map.specs.Bit.{named}
 use Rattle.record.specs.RangeLaws.{map-in}
 use Rattle.record.specs.declared.Store.{Store}
-use Rattle.model.specs.Log.{Placed, viewsOf, logOf, keysOf}
+use Rattle.model.specs.Log.{viewsOf, logOf, keysOf}
 use Rattle.model.specs.Recovery.{recovered, lists, listsBelow, orderBad, logUnder}
 use Rattle.laws.specs.RecoverLaws.{recovered-case}
 use Rattle.index.specs.Build.{built}
-use Rattle.index.specs.BuildLaws.{Holds, built-rule}
+use Rattle.index.specs.BuildLaws.{Holds, built-rule, all-listed}
 use Rattle.stepping.specs.Finish.{upFrom, ascending}
 
 -- ---- the slots, ascending, are an order list
@@ -52,16 +51,11 @@ ascending-lists n k h l =
     ap (lists (ascending n)) (sym element)
     ∙ lists-element (ascending n) k (simp length-take (omega (arith, length-up 0 32)))
 
-below-all : (xs : List ℕ) (n : ℕ) → ((k : ℕ) → k < n → lists xs k ≡ true) → listsBelow xs n ≡ true
-unfolding listsBelow
-below-all xs zero h = refl
-below-all xs (suc n) h = both-true (listsBelow xs n) (lists xs n) (below-all xs n (λ k l. h k (omega arith))) (h n (omega arith))
-
 pub ascending-good : (n : ℕ) → n ≤ 32 → orderBad n (ascending n) ≡ false
 ascending-good n h =
     ap not
     (both-true (eqb (length (ascending n)) n) (listsBelow (ascending n) n)
-    (eq-eqb (length (ascending n)) n (simp length-take (omega (arith, length-up 0 32)))) (below-all (ascending n) n (λ k l. ascending-lists n k h l)))
+    (eq-eqb (length (ascending n)) n (simp length-take (omega (arith, length-up 0 32)))) (all-listed (ascending n) n (λ k l. ascending-lists n k h l)))
 
 -- ---- a recovered log
 

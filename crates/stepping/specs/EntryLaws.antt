@@ -1,35 +1,33 @@
 -- An entry that has come to stand goes into the index: the rule holds for the new log, and the number of keys is the new record's.
-use Prim.Native.Nat.{ℕ, _+_, _*_, _-_, _≤_, _<_}
+use Prim.Native.Nat.{ℕ, _+_, _-_, _<_}
 use mathlib.Core.Path.{_≡_, refl, sym, _∙_, ap, subst}
 use mathlib.Core.Bool.{Bool, true, false}
-use mathlib.Core.List.{List, [], _∷_, List·Memᴰ·head, List·Memᴰ·tail}
+use mathlib.Core.List.{List, _∷_, List·Memᴰ·head}
 use mathlib.Core.Option.{some}
 use native.Mathlib.Omega.{arith}
 use lib.Dec.{ltb, leb}
 use lib.ListN.{length}
 use borrow.Author.Tests.{lt-ltb, le-leb, ltb-true, ltb-false}
-use Rattle.segment.specs.Choice.{pick, pick-true, pick-false}
+use Rattle.segment.specs.Choice.{pick-true}
 use Rattle.segment.specs.Layout.{Layout, entrySize}
 use Rattle.segment.specs.Entry.{keyOf}
 use Rattle.segment.specs.declared.Key.{Key}
 use Rattle.slot_map.specs.Bit.{named}
 use Rattle.record.specs.declared.StepAnswer.{StepAnswer}
-use Rattle.record.specs.declared.Stepped.{Stepped}
 use Rattle.record.specs.declared.Store.{Store}
 use Rattle.model.specs.Log.{Placed, placeOf, viewsOf, logOf, keysOf}
 use Rattle.model.specs.Index.{IndexRule}
-use Rattle.model.specs.Operations.{logNow}
 use Rattle.model.specs.Recovery.{recovered}
-use Rattle.laws.specs.Members.{In, Same, same-sym, Added, added-same}
+use Rattle.laws.specs.Members.{same-sym, Added, added-same}
 use Rattle.laws.specs.Latest.{Apart, apart-same}
-use Rattle.laws.specs.RecoverLaws.{recovered-case, recovered-apart}
+use Rattle.laws.specs.RecoverLaws.{recovered-case}
 use Rattle.index.specs.Area.{InArea, AllIn}
-use Rattle.index.specs.Insert.{Insertion, inserted, Tally, counted, over, tallied, insertNext}
+use Rattle.index.specs.Insert.{Insertion, inserted, counted, over, tallied}
 use Rattle.index.specs.InsertLaws.{Indexed, Tells, tells-next, tells-same, tally-new, tally-over, tally-newer, tally-older, tally-full, insert-next}
 use Rattle.index.specs.BuildLaws.{log-in-area}
 use Rattle.index.specs.declared.Built.{Built}
 use Rattle.index.specs.declared.Inserted.{Inserted}
-use Rattle.stepping.specs.Finish.{After, withKeys, keyIn, keysAfter, toldBy, entryIn, finishEntry}
+use Rattle.stepping.specs.Finish.{After, withKeys, keyIn, keysAfter, toldBy, finishEntry}
 
 -- ---- what a tally tells of one insertion
 

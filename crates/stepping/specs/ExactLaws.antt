@@ -1,17 +1,17 @@
 -- The last step of an operation that was started on a recovered store gives 01's own record, version, and an index that keeps its
 -- rule.
-use Prim.Native.Nat.{ℕ, zero, suc, _+_, _*_, _-_, _^_, _≤_, _<_}
+use Prim.Native.Nat.{ℕ, _+_, _*_, _-_, _^_, _<_}
 use mathlib.Core.Path.{_≡_, refl, sym, _∙_, ap, subst}
-use mathlib.Core.Bool.{Bool, true, false, not}
-use mathlib.Core.List.{List, [], _∷_, _++_}
-use mathlib.Core.Option.{Option, none, some}
+use mathlib.Core.Bool.{Bool, true, false}
+use mathlib.Core.List.{List, _∷_, _++_}
+use mathlib.Core.Option.{some}
 use native.Mathlib.Nat.{sub-zero}
 use native.Mathlib.Omega.{arith}
-use lib.Dec.{eqb, ltb, leb}
-use lib.ListN.{length, take}
-use borrow.Author.Tests.{leb-true, ltb-true, ltb-false, eqb-true, eqb-false, ne-eqb, not-false, not-true}
+use lib.Dec.{eqb, ltb}
+use lib.ListN.{length}
+use borrow.Author.Tests.{leb-true, ltb-true, eqb-false, ne-eqb, not-false}
 use Rattle.word.specs.Number.{Bytes}
-use Rattle.segment.specs.Choice.{pick, pick-true, pick-false, both, both-right, either, either-false, either-false-left, either-false-right}
+use Rattle.segment.specs.Choice.{pick, pick-false, both-right, either, either-false, either-false-right}
 use Rattle.segment.specs.Layout.{Layout, digestSize, goodVersion, versionLimit, numberLimit}
 use Rattle.segment.specs.Entry.{Entry, encoded, sizeOf}
 use Rattle.segment.specs.Digest.{encodedDigest}
@@ -21,26 +21,25 @@ use Rattle.slot_map.specs.CountLaws.{with-less}
 use Rattle.slot_map.specs.NextLaws.{next-clear}
 use Rattle.record.specs.Answers.{withPending}
 use Rattle.record.specs.RangeLaws.{Lent, lent}
-use Rattle.record.specs.declared.Pending.{Pending}
-use Rattle.record.specs.declared.Pending.the-variants.{Idle, Append, NewHead, Clean}
+use Rattle.record.specs.declared.Pending.the-variants.{Append, NewHead, Clean}
 use Rattle.record.specs.declared.StepAnswer.{StepAnswer}
-use Rattle.record.specs.declared.Stepped.{Stepped}
 use Rattle.record.specs.declared.Store.{Store}
-use Rattle.model.specs.Log.{Placed, placeOf, keysOf}
+use Rattle.model.specs.Log.{Placed, keysOf}
 use Rattle.model.specs.Index.{IndexRule}
 use Rattle.model.specs.Operations.{Operation, write, delete, clean, Laid, laid, laidAppend, laidHead, laidEntry, laidClean, logNow, newSlot, newDigest, fitsHead, kept, allEncoded, writtenEntry, tombstoneEntry, planOf, commit, stored, appendedStore, headedStore, entryStore, cleanedStore, finishedStore, toldVersion}
 use Rattle.model.specs.Recovery.{recovered}
 use Rattle.model.specs.Refused.{startCauses, cleanCauses}
-use Rattle.laws.specs.RecoverLaws.{NoCause, no-cause, recovered-apart, recovered-keys, recovered-fits}
+use Rattle.laws.specs.RecoverLaws.{recovered-apart, recovered-keys, recovered-fits}
 use Rattle.laws.specs.Operated.{Accepted, planAt}
 use Rattle.laws.specs.Entering.{Roomy, Entering, idle-lent, idle-number, write-enters, delete-enters}
 use Rattle.laws.specs.EntryDone.{appended-added, headed-added}
 use Rattle.laws.specs.StoreKept.{finishes}
+use Rattle.laws.specs.CauseLaws.{NoCause, no-cause}
 use Rattle.index.specs.InsertLaws.{Indexed}
-use Rattle.index.specs.Build.{Rebuilt, built}
+use Rattle.index.specs.Build.{built}
 use Rattle.index.specs.BuildLaws.{Holds}
-use Rattle.stepping.specs.Finish.{After, unfit, withKeys, appendDone, headDone, toldBy, finishEntry, finishAppend, finishHead, cleanMap, ascending, rebuilt, finishClean, finishWith}
-use Rattle.stepping.specs.EntryLaws.{Finished, entry-finished, recovered-in-area, told-known}
+use Rattle.stepping.specs.Finish.{After, withKeys, appendDone, headDone, toldBy, finishAppend, finishHead, cleanMap, ascending, rebuilt, finishClean, finishWith}
+use Rattle.stepping.specs.EntryLaws.{entry-finished, recovered-in-area, told-known}
 use Rattle.stepping.specs.CleanLaws.{ascending-good, recovered-built}
 
 -- a record with the number of keys that it has

@@ -1,7 +1,6 @@
 -- The last step at each test of the code.
 use Prim.Native.Nat.{ℕ, _+_, _*_, _-_, _≤_, _<_}
-use mathlib.Core.Path.{_≡_, refl, sym, _∙_, ap, subst}
-use mathlib.Core.Bool.{Bool, true, false}
+use mathlib.Core.Path.{_≡_, sym, _∙_, ap, subst}
 use mathlib.Core.List.{List}
 use native.Mathlib.Nat.{mul-le-mul}
 use native.Mathlib.Omega.{arith}
@@ -10,7 +9,6 @@ use lib.ListN.{length}
 use borrow.Author.Tests.{lt-ltb, le-ltb, le-leb, lt-leb, eq-eqb, ne-eqb}
 use Rattle.segment.specs.Choice.{pick-true, pick-false, either-false, either-true-left, either-true-right}
 use Rattle.segment.specs.Layout.{Layout, entrySize, digestSize, versionLimit, numberLimit}
-use Rattle.segment.specs.declared.Key.{Key}
 use Rattle.segment.specs.declared.Version.{Version}
 use Rattle.slot_map.specs.Bit.{withBit, less}
 use Rattle.record.specs.Answers.{withPending, storesLeft}
@@ -22,11 +20,11 @@ use Rattle.record.specs.declared.StepAnswer.{StepAnswer}
 use Rattle.record.specs.declared.Store.{Store}
 use Rattle.index.specs.Search.{tableAt, keyAt}
 use Rattle.index.specs.Insert.{Insertion, inserted}
-use Rattle.index.specs.Build.{Rebuilt, built}
+use Rattle.index.specs.Build.{Rebuilt}
 use Rattle.index.specs.declared.Built.{Built}
 use Rattle.index.specs.declared.Inserted.{Inserted}
 use Rattle.stepping.specs.Next.{PendingIn}
-use Rattle.stepping.specs.Finish.{After, refusedWith, unfit, withKeys, appendDone, headDone, keyIn, keysAfter, toldBy, entryIn, finishEntry, finishAppend, finishHead, cleanMap, ascending, rebuilt, finishClean, oneLess, finishWith, advanced}
+use Rattle.stepping.specs.Finish.{After, refusedWith, withKeys, appendDone, headDone, keyIn, keysAfter, toldBy, finishEntry, finishAppend, finishHead, rebuilt, finishClean, oneLess, finishWith, advanced}
 
 -- ---- the keys after an insertion
 

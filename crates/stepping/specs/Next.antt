@@ -8,12 +8,9 @@ use Rattle.segment.specs.Choice.{pick, both}
 use Rattle.record.specs.declared.Pending.{Pending}
 use Rattle.record.specs.declared.Pending.the-variants.{Idle, Append, NewHead, Clean}
 use Rattle.record.specs.declared.Store.{Store}
+use Rattle.starting.specs.Stores.{commitStores}
 use Rattle.stepping.specs.declared.NextStore.{NextStore}
 use Rattle.stepping.specs.declared.NextStore.the-variants.{At, Bad}
-
--- How many stores bring n bytes to an offset of a slot: one each, and one for the 0 after them if they end before S.
-abbrev pub commitStores : ℕ → ℕ → ℕ → ℕ
-commitStores S offset n = n + pick (ltb (offset + n) S) 1 0
 
 -- The store after j others, where the first n bytes of the work buffer come to an offset of the slot that begins at `base`: the
 -- bytes from the second on, the 0 after them, and last the kind byte.

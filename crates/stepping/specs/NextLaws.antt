@@ -13,26 +13,10 @@ use Rattle.segment.specs.Choice.{pick, pick-true, pick-false, both, both-left, 
 use Rattle.record.specs.declared.Pending.{Pending}
 use Rattle.record.specs.declared.Pending.the-variants.{Idle, Append, NewHead, Clean}
 use Rattle.record.specs.declared.Store.{Store}
-use Rattle.stepping.specs.Next.{commitStores, commitStore, fitsSlot, fitsLeft, slotStore, slotNext, pendingNext, nextStore, PendingIn}
+use Rattle.starting.specs.Stores.{commitStores, stores-full}
+use Rattle.stepping.specs.Next.{commitStore, fitsSlot, fitsLeft, slotStore, slotNext, pendingNext, nextStore, PendingIn}
 use Rattle.stepping.specs.declared.NextStore.{NextStore}
 use Rattle.stepping.specs.declared.NextStore.the-variants.{At, Bad}
-
--- ---- how many stores
-
-module _ (S offset n : ℕ) where
-  pub stores-within : offset + n < S → commitStores S offset n ≡ n + 1
-  stores-within h = ap (λ (k : ℕ). n + k) (pick-true (ltb (offset + n) S) 1 0 (lt-ltb (offset + n) S h))
-
-  pub stores-full : S ≤ offset + n → commitStores S offset n ≡ n
-  stores-full h = ap (λ (k : ℕ). n + k) (pick-false (ltb (offset + n) S) 1 0 (le-ltb (offset + n) S h)) ∙ omega arith
-
-  pub stores-most : (commitStores S offset n ≤ n + 1) × (n ≤ commitStores S offset n)
-  unfolding pick
-  stores-most = go (ltb (offset + n) S)
-    where
-      go : (t : Bool) → (n + pick t 1 0 ≤ n + 1) × (n ≤ n + pick t 1 0)
-      go true = (omega arith, omega arith)
-      go false = (omega arith, omega arith)
 
 -- ---- a store of a commit at each test; m is what the code finds for the number of stores
 

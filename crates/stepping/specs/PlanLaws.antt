@@ -2,8 +2,8 @@
 use Prim.Native.Nat.{ℕ, zero, suc, _+_, _*_, _-_, _≤_, _<_}
 use mathlib.Core.Path.{_≡_, refl, sym, _∙_, ap, subst}
 use mathlib.Core.Bool.{Bool, true, false}
-use mathlib.Core.List.{List, [], _∷_, _++_}
-use mathlib.Core.Option.{none, some}
+use mathlib.Core.List.{List, _∷_, _++_}
+use mathlib.Core.Option.{some}
 use native.Mathlib.Decide.{ℕ-discrete}
 use native.Mathlib.Omega.{arith}
 use lib.Dec.{ltb}
@@ -22,14 +22,15 @@ use Rattle.record.specs.RangeLaws.{Lent, lent}
 use Rattle.record.specs.declared.Pending.the-variants.{Append, NewHead, Clean}
 use Rattle.record.specs.declared.Store.{Store}
 use Rattle.model.specs.Log.{Placed}
-use Rattle.model.specs.Operations.{Operation, write, delete, clean, Laid, laid, laidEntry, laidClean, logNow, newSlot, newDigest, fitsHead, kept, allEncoded, writtenEntry, tombstoneEntry, planOf, planFor, commit, stored}
+use Rattle.model.specs.Operations.{Operation, write, delete, clean, Laid, laid, laidEntry, laidClean, logNow, newSlot, newDigest, fitsHead, kept, allEncoded, writtenEntry, tombstoneEntry, planOf, planFor, commit}
 use Rattle.model.specs.Promises.{Started}
-use Rattle.laws.specs.Stores.{slot-inside, length-stored, length-commit-within, length-commit-full, commit-byte, commit-end, commit-last}
+use Rattle.laws.specs.Stores.{slot-inside, length-stored, commit-byte, commit-end, commit-last}
 use Rattle.laws.specs.Operated.{Accepted, StoreLaws}
-use Rattle.stepping.specs.Next.{commitStores, commitStore, slotStore, slotNext, pendingNext, nextStore}
-use Rattle.stepping.specs.NextLaws.{Fit, slot-fits, stores-within, stores-full, store-last, store-byte, store-end, next-at}
+use Rattle.starting.specs.Stores.{commitStores, stores-within, stores-full, commit-stores}
+use Rattle.stepping.specs.Next.{commitStore, slotStore, slotNext, pendingNext, nextStore}
+use Rattle.stepping.specs.NextLaws.{Fit, slot-fits, store-last, store-byte, store-end, next-at}
 use Rattle.stepping.specs.declared.NextStore.{NextStore}
-use Rattle.stepping.specs.declared.NextStore.the-variants.{At, Bad}
+use Rattle.stepping.specs.declared.NextStore.the-variants.{At}
 
 -- a store of a plan as the next one
 abbrev pub atOf : ℕ × ℕ → NextStore
@@ -38,16 +39,8 @@ atOf p = At (p .0) (p .1)
 -- ---- a commit
 
 module _ (S i o : ℕ) (bytes : List ℕ) (some-byte : 0 < length bytes) where
-  pub commit-stores : length (commit S i o bytes) ≡ commitStores S o (length bytes)
-  commit-stores = go (ltb (o + length bytes) S) refl
-    where
-      go : (t : Bool) → ltb (o + length bytes) S ≡ t → length (commit S i o bytes) ≡ commitStores S o (length bytes)
-      go true e =
-          let h = ltb-true (o + length bytes) S e in
-          length-commit-within S i o bytes some-byte h ∙ sym (stores-within S o (length bytes) h)
-      go false e =
-          let h = ltb-false (o + length bytes) S e in
-          length-commit-full S i o bytes some-byte h ∙ sym (stores-full S o (length bytes) h)
+  total-stores : length (commit S i o bytes) ≡ commitStores S o (length bytes)
+  total-stores = commit-stores S i o (length bytes) bytes refl some-byte
 
   module _ (work : List ℕ) (front : take (length bytes) work ≡ bytes) where
     same-byte : (k : ℕ) → k < length bytes → getD work k 0 ≡ getD bytes k 0
@@ -62,7 +55,7 @@ module _ (S i o : ℕ) (bytes : List ℕ) (some-byte : 0 < length bytes) where
         go (yes e) t q =
             sym (store-last (i * S) S o (length bytes) work j refl e)
             ∙ ap (At (i * S + o)) (same-byte 0 some-byte)
-            ∙ ap atOf (sym (commit-last S i o bytes some-byte j (e ∙ sym commit-stores)))
+            ∙ ap atOf (sym (commit-last S i o bytes some-byte j (e ∙ sym total-stores)))
         go (no n) true q =
             let l = ltb-true (j + 1) (length bytes) q in
             let place : i * S + o + (j + 1) ≡ i * S + o + 1 + j = omega arith in
@@ -80,9 +73,9 @@ module _ (S i o : ℕ) (bytes : List ℕ) (some-byte : 0 < length bytes) where
             ended true w =
                 let l = ltb-true (o + length bytes) S w in
                 sym (store-end (i * S) S o (length bytes) work j refl n past)
-                ∙ ap atOf (sym (commit-end S i o bytes some-byte j l (omega (arith, past, stores-within S o (length bytes) l, commit-stores))))
+                ∙ ap atOf (sym (commit-end S i o bytes some-byte j l (omega (arith, past, stores-within S o (length bytes) l, total-stores))))
             ended false w =
-                absurd (n (omega (arith, past, stores-full S o (length bytes) (ltb-false (o + length bytes) S w), commit-stores)))
+                absurd (n (omega (arith, past, stores-full S o (length bytes) (ltb-false (o + length bytes) S w), total-stores)))
 
 -- ---- the operations
 
@@ -97,7 +90,7 @@ module _ (a : ℕ) (work : List ℕ) (r : Store) (n : ℕ) (bytes : List ℕ) (l
   turn : (S i o first : ℕ) → Fit a (length work) S i o n → since < length (commit S i o bytes) + first
       → slotNext a work S i o n first (length (commit S i o bytes) + first - since) ≡ slotStore (i * S) S o n work first since
   turn S i o first f h =
-      let total : length (commit S i o bytes) ≡ commitStores S o n = commit-stores S i o bytes (omega arith) ∙ ap (commitStores S o) (sym long) in
+      let total : length (commit S i o bytes) ≡ commitStores S o n = commit-stores S i o n bytes (sym long) (f .some) in
       let back : commitStores S o n + first - (length (commit S i o bytes) + first - since) ≡ since = omega arith in
       next-at a work S i o n first (length (commit S i o bytes) + first - since) (slot-fits a (length work) S i o n f) (omega arith) (omega arith)
       ∙ ap (slotStore (i * S) S o n work first) back

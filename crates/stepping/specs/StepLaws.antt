@@ -1,5 +1,5 @@
 -- The step's promise, from what its code does.
-use Prim.Native.Nat.{ℕ, zero, suc, _+_, _*_, _-_, _^_, _≤_, _<_}
+use Prim.Native.Nat.{ℕ, zero, suc, _-_, _≤_, _<_}
 use mathlib.Core.Path.{_≡_, refl, sym, _∙_, ap, subst}
 use mathlib.Core.Bool.{Bool, true, false, not}
 use mathlib.Core.List.{List, [], _∷_}
@@ -7,7 +7,7 @@ use mathlib.Core.Option.{Option, none, some}
 use native.Mathlib.Omega.{arith}
 use lib.Dec.{ltb}
 use lib.ListN.{length, getD, take, set}
-use borrow.Author.Tests.{lt-ltb, le-ltb, ltb-false, not-true, not-false}
+use borrow.Author.Tests.{lt-ltb, le-ltb, ltb-false, not-false}
 use Rattle.segment.specs.Choice.{pick, pick-true, pick-false}
 use Rattle.segment.specs.Layout.{Layout}
 use Rattle.segment.specs.Entry.{Entry}
@@ -24,19 +24,18 @@ use Rattle.record.specs.declared.Store.{Store}
 use Rattle.model.specs.Log.{Placed}
 use Rattle.model.specs.Index.{IndexRule}
 use Rattle.model.specs.Operations.{Operation, write, delete, clean, Laid, laid, laidAppend, laidHead, fitsHead, writtenEntry, tombstoneEntry, logNow, planFor, stored, finishedStore, toldVersion}
-use Rattle.model.specs.Causes.{Cause, when, firstCause}
-use Rattle.model.specs.Refused.{Lengths, recordBad, workShort, isPending, stepCauses}
-use Rattle.model.specs.Promises.{Genuine, Started, OneByte, StepPromise, StepExact, stepped, IndexStepped, leftAfter, lentLengths}
+use Rattle.model.specs.Causes.{firstCause}
+use Rattle.model.specs.Refused.{recordBad, isPending, stepCauses}
+use Rattle.model.specs.Promises.{Genuine, Started, OneByte, StepPromise, StepExact, stepped, IndexStepped, lentLengths}
 use Rattle.laws.specs.CauseLaws.{cause-false, cause-rest, cause-none, cause-first, cause-skip}
 use Rattle.laws.specs.Stores.{stored-next, stored-all}
-use Rattle.laws.specs.Operated.{Accepted, StoreLaws}
+use Rattle.laws.specs.Operated.{Accepted}
 use Rattle.laws.specs.Entering.{Roomy}
 use Rattle.laws.specs.StoreKept.{store-laws}
 use Rattle.stepping.specs.Next.{nextStore}
 use Rattle.stepping.specs.PlanLaws.{atOf, accepted, next-started}
 use Rattle.stepping.specs.Finish.{After, refusedWith, oneLess, finishWith, advanced}
 use Rattle.stepping.specs.ExactLaws.{Ends, operation-ends}
-use Rattle.stepping.specs.declared.NextStore.{NextStore}
 use Rattle.stepping.specs.declared.NextStore.the-variants.{At, Bad}
 
 -- ---- the causes, at the tests of the code

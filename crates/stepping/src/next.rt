@@ -2,22 +2,12 @@
 use crate::NextStore;
 use record::Pending;
 use record::Store;
+use starting::stores::commit_stores;
 ghost use Prim.Native.Nat.{_+_, _*_, _≤_, _<_};
 ghost use mathlib.Core.Path.{_≡_};
 ghost use lib.ListN.{length};
-ghost use Rattle.stepping.specs.Next.{commitStores, commitStore, fitsSlot, fitsLeft, slotStore, slotNext, nextStore};
-
-// How many stores bring `count` bytes to an offset of a slot.
-fn commit_stores(size: usize, offset: usize, count: usize) -> usize
-    requires { ⌜ offset + count ≤ size ⌝ }
-    ensures { λ r. ⌜ r ≡ commitStores size offset count ⌝ }
-{
-    if offset + count < size {
-        count + 1
-    } else {
-        count
-    }
-}
+ghost use Rattle.starting.specs.Stores.{commitStores};
+ghost use Rattle.stepping.specs.Next.{commitStore, fitsSlot, slotNext, nextStore};
 
 // The store that comes after `done` others, where the first `count` bytes of the work buffer come to an offset of the slot that
 // begins at `base`.

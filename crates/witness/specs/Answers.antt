@@ -7,7 +7,6 @@ use mathlib.Core.Option.{Option, none, some}
 use native.Mathlib.Omega.{arith}
 use lib.Dec.{eqb}
 use lib.ListN.{length, replicate, length-replicate}
-use lib.Seq.{length-sets}
 use Rattle.segment.specs.Choice.{pick}
 use Rattle.segment.specs.Layout.{Layout}
 use Rattle.segment.specs.declared.Key.{Key}
@@ -17,16 +16,16 @@ use Rattle.record.specs.declared.Reading.{Reading}
 use Rattle.record.specs.declared.Recovery.{Recovery}
 use Rattle.record.specs.declared.RecoverAnswer.{RecoverAnswer}
 use Rattle.record.specs.declared.Refusal.{Refusal}
-use Rattle.record.specs.declared.Refusal.the-variants.{BadRecord}
 use Rattle.record.specs.declared.Store.{Store}
-use Rattle.model.specs.Log.{Placed, present}
+use Rattle.model.specs.Log.{present}
 use Rattle.model.specs.Causes.{firstCause}
-use Rattle.model.specs.Operations.{Operation, write, delete, clean, logNow, laid}
+use Rattle.model.specs.Operations.{Operation, logNow}
 use Rattle.model.specs.Recovery.{recovery, recoveryFor, recoverCauses, storeOf}
-use Rattle.model.specs.Refused.{Lengths, recordBad, readCauses, startCauses}
+use Rattle.model.specs.Refused.{readCauses, startCauses}
 use Rattle.model.specs.Promises.{IndexAfter, RecoverPromise, readAnswer, readLengths, ReadPromise, valueAnswer, ValuePromise, Begun, begun, lentLengths, StartPromise}
 use Rattle.laws.specs.CauseLaws.{cause-first}
 use Rattle.laws.specs.RecoverLaws.{recovery-order, recovery-recovered, recovered-facts}
+use Rattle.laws.specs.Starts.{begun-length, start-bad}
 use Rattle.index.specs.Build.{built}
 use Rattle.index.specs.BuildLaws.{Holds}
 use Rattle.stepping.specs.CleanLaws.{recovered-built}
@@ -67,19 +66,6 @@ module _ (L : Layout) (r : Store) (area cells : List ℕ) (k : Key) where
 abbrev pub startedBy : Layout → Operation → Store → List ℕ → List ℕ → List ℕ → Begun
 startedBy L o r area cells work =
     begun L r (logNow L area r) o work (firstCause (startCauses L r (logNow L area r) (lentLengths area cells work) o))
-
-begun-length : (L : Layout) (r : Store) (log : List Placed) (o : Operation) (work : List ℕ) (c : Option Refusal) →
-    length (begun L r log o work c .work) ≡ length work
-unfolding begun
-begun-length L r log o work none = length-sets work 0 (laid L r log o .bytes)
-begun-length L r log o work (some c) = refl
-
-start-bad : (L : Layout) (r : Store) (log : List Placed) (l : Lengths) (o : Operation) → recordBad L r l ≡ true →
-    firstCause (startCauses L r log l o) ≡ some BadRecord
-unfolding startCauses
-start-bad L r log l (write k value) h = cause-first _ _ h
-start-bad L r log l (delete k) h = cause-first _ _ h
-start-bad L r log l (clean victims) h = cause-first _ _ h
 
 module _ (L : Layout) (o : Operation) (r : Store) (area cells work : List ℕ) where
   abbrev its : Begun

@@ -22,6 +22,7 @@ use Rattle.history.specs.Runs.{freshWorld, Run}
 use Rattle.index.specs.Build.{entriesFrom, inLog, listed, finished}
 use Rattle.index.specs.Insert.{insertedAt, tallied, insertNext, insertAll}
 use Rattle.index.specs.Search.{probe, hasKeyAt}
+use Rattle.starting.specs.Stores.{commitStores}
 use Rattle.stepping.specs.Finish.{keysAfter, toldBy, finishEntry, finishAppend, finishHead, upFrom, finishClean, oneLess, finishWith, advanced}
 use Rattle.stepping.specs.Next.{commitStore, fitsSlot, fitsLeft, slotStore, slotNext, pendingNext}
 use Rattle.witness.specs.Answers.{cellsBy}
@@ -134,7 +135,7 @@ all = playAll edition1 4 256 (freshWorld area₀) commands
 unfoldable pub computing : Unit {0}
 unfolding opened fnvStep fnvFrom withBit less around entriesFrom inLog listed finished insertedAt tallied insertNext insertAll probe hasKeyAt
     keysAfter toldBy finishEntry finishAppend finishHead upFrom finishClean oneLess finishWith advanced
-    commitStore fitsSlot fitsLeft slotStore slotNext pendingNext cellsBy storedBy steppedUnless played playOn compared callNumbers eventNumbers
+    commitStores commitStore fitsSlot fitsLeft slotStore slotNext pendingNext cellsBy storedBy steppedUnless played playOn compared callNumbers eventNumbers
 computing = tt
 
 computed : failing (compared (all .events) events) ≡ []

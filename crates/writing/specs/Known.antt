@@ -36,7 +36,7 @@ use Rattle.index.specs.Area.{area-picks}
 use Rattle.index.specs.BuildLaws.{log-in-area}
 use Rattle.index.specs.Finds.{Picks, FreeCell, search-known, search-new}
 use Rattle.index.specs.declared.Found.{Found}
-use Rattle.index.specs.declared.Found.the-variants.{At, Free, Full}
+use Rattle.index.specs.declared.Found.the-variants.{At, Free}
 use Rattle.writing.specs.declared.Presence.{Presence}
 use Rattle.writing.specs.Tests.{isAt, isFull, kindPresence, presenceAt, presenceFor, isMissing, isBad}
 

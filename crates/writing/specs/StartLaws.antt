@@ -6,7 +6,6 @@ use mathlib.Core.List.{List, [], _∷_, _++_}
 use mathlib.Core.Option.{Option, none, some}
 use lib.Dec.{eqb, leb}
 use lib.ListN.{length}
-use lib.Seq.{length-sets}
 use borrow.Author.Tests.{eqb-false, ltb-false, not-false}
 use Rattle.segment.specs.Choice.{both}
 use Rattle.segment.specs.Layout.{Layout, objectKind, entrySize, digestSize, numberLimit}
@@ -20,32 +19,28 @@ use Rattle.record.specs.RangeLaws.{Lent, lent}
 use Rattle.record.specs.declared.Refusal.{Refusal}
 use Rattle.record.specs.declared.Refusal.the-variants.{BadRecord, Absent, VersionsSpent, KeysFull}
 use Rattle.record.specs.declared.Start.{Start}
-use Rattle.record.specs.declared.StartAnswer.{StartAnswer}
 use Rattle.record.specs.declared.Store.{Store}
 use Rattle.model.specs.Log.{Placed}
 use Rattle.model.specs.Causes.{Cause, when, firstCause}
-use Rattle.model.specs.Operations.{Operation, write, delete, clean, logNow, kindElse, writtenEntry, tombstoneEntry, Laid, laid, laidEntry}
+use Rattle.model.specs.Operations.{Operation, write, delete, logNow, kindElse, writtenEntry, tombstoneEntry, Laid, laid, laidEntry}
 use Rattle.model.specs.Refused.{Lengths, recordBad, versionsSpent, startCauses, isNone}
 use Rattle.model.specs.Promises.{Genuine, Begun, begun, lentLengths, StartPromise}
-use Rattle.laws.specs.CauseLaws.{cause-first, none-left, none-right}
-use Rattle.laws.specs.RecoverLaws.{no-cause, cause-passed}
+use Rattle.laws.specs.CauseLaws.{cause-first, none-left, none-right, no-cause, cause-passed}
 use Rattle.laws.specs.Entering.{Roomy}
+use Rattle.laws.specs.Starts.{begun-length, start-bad}
 use Rattle.index.specs.Search.{searchFor}
 use Rattle.index.specs.declared.Found.{Found}
-use Rattle.writing.specs.declared.Check.{Check}
+use Rattle.starting.specs.declared.Check.{Check}
+use Rattle.starting.specs.Checks.{checked, lentTests}
+use Rattle.starting.specs.CheckLaws.{checked-some, checked-none}
+use Rattle.starting.specs.NewHead.{NumberLeft}
+use Rattle.starting.specs.Answer.{refusedStart}
 use Rattle.writing.specs.declared.Presence.{Presence}
-use Rattle.writing.specs.Tests.{checked, isAt, isFull, lentTests, valueTests, keyTests, roomTests, writeTests, presenceFor, isMissing, isBad, presentTests, deleteTests}
-use Rattle.writing.specs.TestLaws.{checked-some, checked-none}
-use Rattle.writing.specs.Laying.{laidBegun, Ready, NumberLeft}
+use Rattle.writing.specs.Tests.{isAt, isFull, valueTests, keyTests, roomTests, writeTests, presenceFor, isMissing, isBad, presentTests, deleteTests}
+use Rattle.writing.specs.Laying.{laidBegun, Ready}
 use Rattle.writing.specs.Known.{genuine-known, genuine-presents}
 
 -- ---- any start
-
-begun-length : (L : Layout) (r : Store) (log : List Placed) (o : Operation) (work : List ℕ) (c : Option Refusal) →
-    length (begun L r log o work c .work) ≡ length work
-unfolding begun
-begun-length L r log o work none = length-sets work 0 (laid L r log o .bytes)
-begun-length L r log o work (some c) = refl
 
 -- What is laid down for the operation does not go by the log.
 abbrev LogFree : Layout → Store → Operation → Type 0
@@ -56,13 +51,6 @@ begun-free : (L : Layout) (r : Store) (o : Operation) → LogFree L r o → (log
 unfolding begun laidBegun
 begun-free L r o free log work none = ap (λ x. laidBegun r x work) (free log)
 begun-free L r o free log work (some c) = refl
-
-start-bad : (L : Layout) (r : Store) (log : List Placed) (l : Lengths) (o : Operation) → recordBad L r l ≡ true →
-    firstCause (startCauses L r log l o) ≡ some BadRecord
-unfolding startCauses
-start-bad L r log l (write k value) h = cause-first _ _ h
-start-bad L r log l (delete k) h = cause-first _ _ h
-start-bad L r log l (clean victims) h = cause-first _ _ h
 
 -- A start whose tests are 4, 3 and 5, some of its own, and 12 and 10 for an entry with a value of n bytes.
 module _ (L : Layout) (o : Operation) (r : Store) (area cells work : List ℕ) (own : List Cause) (n : ℕ) where
@@ -104,12 +92,12 @@ module _ (L : Layout) (o : Operation) (r : Store) (area cells work : List ℕ) (
 
     -- refused: nothing changes
     start-refused :
-        (c : Refusal) → Check.Refused c ≡ checked (firstCause tests) →
-        StartPromise L o r area cells work work (record { answer = StartAnswer.Refused c; store = r })
+        (c : Refusal) → Check.Refused c ≡ checked (firstCause tests) → (a : Start) → a ≡ refusedStart r c →
+        StartPromise L o r area cells work work a
     unfolding begun
-    start-refused c e =
-        start-promise work (record { answer = StartAnswer.Refused c; store = r })
-        (sym (ap (begun L r [] o work) (checked-some (firstCause tests) c e)))
+    start-refused c e a is =
+        start-promise work a
+        (ap (λ (s : Start). record { start = s; work = work }) is ∙ sym (ap (begun L r [] o work) (checked-some (firstCause tests) c e)))
 
     -- accepted: the entry is laid down
     start-laid :
@@ -181,10 +169,10 @@ module _ (L : Layout) (r : Store) (area cells work : List ℕ) (k : Key) (value 
       firstCause (front ++ (when (both (not b) (eqb (r .keys) (r .cells - 1))) KeysFull ∷ roomTests r (entrySize L (length value))))) (w .has)
 
   pub write-refused :
-      (c : Refusal) → Check.Refused c ≡ writes →
-      StartPromise L (write k value) r area cells work work (record { answer = StartAnswer.Refused c; store = r })
+      (c : Refusal) → Check.Refused c ≡ writes → (a : Start) → a ≡ refusedStart r c →
+      StartPromise L (write k value) r area cells work work a
   unfolding writeTests
-  write-refused c e = start-refused L (write k value) r area cells work ofWrite (length value) write-free write-agrees c e
+  write-refused c e a is = start-refused L (write k value) r area cells work ofWrite (length value) write-free write-agrees c e a is
 
   module _ (passed : Check.Passed ≡ writes) where
     write-room : Roomy L → digestSize L + entrySize L (length value) ≤ 256
@@ -235,10 +223,10 @@ module _ (L : Layout) (r : Store) (area cells work : List ℕ) (k : Key) where
       ∙ ap (λ (b : Bool). firstCause (front ++ (when b Absent ∷ when (versionsSpent L r) VersionsSpent ∷ roomTests r (entrySize L 0)))) (w .missing)
 
   pub delete-refused :
-      (c : Refusal) → Check.Refused c ≡ deletes →
-      StartPromise L (delete k) r area cells work work (record { answer = StartAnswer.Refused c; store = r })
+      (c : Refusal) → Check.Refused c ≡ deletes → (a : Start) → a ≡ refusedStart r c →
+      StartPromise L (delete k) r area cells work work a
   unfolding deleteTests
-  delete-refused c e = start-refused L (delete k) r area cells work (presentTests L r seen) 0 delete-free delete-agrees c e
+  delete-refused c e a is = start-refused L (delete k) r area cells work (presentTests L r seen) 0 delete-free delete-agrees c e a is
 
   module _ (passed : Check.Passed ≡ deletes) where
     pub delete-ready : Roomy L → Ready L r 0 (length work)

@@ -2,30 +2,24 @@
 use Prim.Native.Nat.{ℕ, _+_, _-_}
 use mathlib.Core.Bool.{Bool, true, false, not}
 use mathlib.Core.List.{List, [], _∷_, _++_}
-use mathlib.Core.Option.{Option, none, some}
 use lib.Dec.{eqb, ltb, leb}
 use lib.ListN.{getD}
 use Rattle.segment.specs.Choice.{pick, both}
-use Rattle.segment.specs.Layout.{Layout, objectKind, isTombstone, entrySize, versionLimit}
+use Rattle.segment.specs.Layout.{Layout, objectKind, isTombstone, entrySize}
 use Rattle.segment.specs.Kinds.{kindSize}
 use Rattle.segment.specs.declared.Key.{Key}
 use Rattle.slot_map.specs.Count.{free}
 use Rattle.record.specs.declared.Refusal.{Refusal}
-use Rattle.record.specs.declared.Refusal.the-variants.{WorkShort, BadRecord, Busy, ValueLength, VersionsSpent, NumbersSpent, KeysFull, NoRoom}
+use Rattle.record.specs.declared.Refusal.the-variants.{BadRecord, ValueLength, VersionsSpent, NumbersSpent, KeysFull, NoRoom}
 use Rattle.record.specs.declared.Store.{Store}
 use Rattle.model.specs.Causes.{Cause, when}
-use Rattle.model.specs.Refused.{Lengths, recordBad, workShort, isPending, isNone, versionsSpent, numbersSpent}
+use Rattle.model.specs.Refused.{Lengths, isNone, versionsSpent, numbersSpent}
 use Rattle.index.specs.Search.{searchFor}
 use Rattle.index.specs.declared.Found.{Found}
 use Rattle.index.specs.declared.Found.the-variants.{At, Free, Full}
-use Rattle.writing.specs.declared.Check.{Check}
+use Rattle.starting.specs.Checks.{lentTests}
 use Rattle.writing.specs.declared.Presence.{Presence}
 use Rattle.writing.specs.declared.Presence.the-variants.{Object, Absent, Bad}
-
--- the answer of a check: the first cause, if any
-unfoldable pub checked : Option Refusal → Check
-checked none = Check.Passed
-checked (some c) = Check.Refused c
 
 -- what a search says of a key: it has a cell, or the index has none left
 unfoldable pub isAt : Found → Bool
@@ -37,10 +31,6 @@ unfoldable pub isFull : Found → Bool
 isFull (At i) = false
 isFull (Free i) = false
 isFull Full = true
-
--- 4, 3 and 5, with which every start begins
-unfoldable pub lentTests : Layout → Store → Lengths → List Cause
-lentTests L r l = when (recordBad L r l) BadRecord ∷ when (workShort r l) WorkShort ∷ when (isPending (r .pending)) Busy ∷ []
 
 -- 7 and 9
 unfoldable pub valueTests : Layout → Store → ℕ → List Cause

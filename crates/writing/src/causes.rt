@@ -1,65 +1,26 @@
-// The tests of a start, in the order of 01, "Refused calls".
-use crate::Check;
+// The tests of a write and of a delete, in the order of 01, "Refused calls".
 use crate::Presence;
 use crate::find::find;
 use index::Found;
 use index::search::search;
-use record::Pending;
 use record::Refusal;
 use record::Store;
-use record::range::fits_lent;
 use segment::Key;
 use segment::layout::HEAD_SIZE;
 use segment::layout::NUMBER_LIMIT;
 use segment::layout::VERSION_LIMIT;
 use segment::layout::object_kind;
+use starting::Check;
+use starting::checks::check_lent;
 ghost use Prim.Native.Nat.{_+_, _^_, _≤_, _<_};
 ghost use mathlib.Core.Path.{_≡_};
 ghost use lib.Dec.{leb};
 ghost use lib.ListN.{length};
 ghost use Rattle.segment.specs.Layout.{edition1};
 ghost use Rattle.model.specs.Causes.{firstCause};
-ghost use Rattle.model.specs.Refused.{isPending};
 ghost use Rattle.index.specs.Search.{searchFor};
-ghost use Rattle.writing.specs.Tests.{checked, lentTests, roomTests, keyTests, writeTests, presenceFor, deleteTests};
-
-// Whether an operation is pending.
-fn is_pending(pending: Pending) -> bool
-    ensures { λ r. ⌜ r ≡ isPending pending ⌝ }
-{
-    match pending {
-        Pending::Idle => false,
-        Pending::Append { length: _, left: _ } => true,
-        Pending::NewHead {
-            slot: _,
-            length: _,
-            left: _,
-        } => true,
-        Pending::Clean {
-            slot: _,
-            victims: _,
-            length: _,
-            left: _,
-        } => true,
-    }
-}
-
-// 4, as far as it needs no look at the log, 3 and 5, for any start.
-pub fn check_lent(store: Store, area: usize, index: usize, work: usize) -> Check
-    ensures { λ r. ⌜ r ≡ checked (firstCause (lentTests edition1 store (record { area = area; index = index; work = work }))) ⌝ }
-{
-    if !fits_lent(store, area, index) {
-        return Check::Refused(Refusal::BadRecord);
-    }
-    if work < store.size as usize {
-        return Check::Refused(Refusal::WorkShort);
-    }
-    let pending = store.pending;
-    if is_pending(pending) {
-        return Check::Refused(Refusal::Busy);
-    }
-    Check::Passed
-}
+ghost use Rattle.starting.specs.Checks.{checked};
+ghost use Rattle.writing.specs.Tests.{roomTests, keyTests, writeTests, presenceFor, deleteTests};
 
 // Whether an entry of that length fits the head; it may end exactly at S.
 pub fn fits_head(store: Store, length: usize) -> bool

@@ -1,16 +1,8 @@
 // The starts of a write and of a delete: what they check, and what they lay out in the work buffer.
-use record::Refusal;
-
 pub mod causes;
 pub mod find;
 pub mod lay;
 pub mod start;
-
-// Whether a call goes on, or the cause for which it is refused.
-pub enum Check {
-    Passed,
-    Refused(Refusal),
-}
 
 // What the index says of a key: it has an object, it has none, or what was met is nothing that these rules allow.
 pub enum Presence {

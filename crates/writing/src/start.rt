@@ -1,14 +1,14 @@
 // The starts of a write and of a delete (01, "Operations, store by store"). The area and the index are only read.
-use crate::Check;
 use crate::causes::check_delete;
 use crate::causes::check_write;
 use crate::lay::lay_entry;
 use record::Start;
-use record::StartAnswer;
 use record::Store;
 use segment::Key;
 use segment::layout::TOMBSTONE;
 use segment::layout::object_kind;
+use starting::Check;
+use starting::answer::refused;
 ghost use Rattle.segment.specs.Layout.{edition1};
 ghost use Rattle.model.specs.Operations.{write, delete};
 ghost use Rattle.model.specs.Promises.{StartPromise};
@@ -29,10 +29,7 @@ pub fn write(
         ⌝ }
 {
     match check_write(store, area, index, work.len(), key, value.len()) {
-        Check::Refused(c) => Start {
-            answer: StartAnswer::Refused(c),
-            store,
-        },
+        Check::Refused(c) => refused(store, c),
         Check::Passed => lay_entry(store, work, object_kind(value.len()), key, value),
     }
 }
@@ -45,10 +42,7 @@ pub fn delete(store: Store, area: &[u8], index: &[u32], work: &mut [u8], key: Ke
         ⌝ }
 {
     match check_delete(store, area, index, work.len(), key) {
-        Check::Refused(c) => Start {
-            answer: StartAnswer::Refused(c),
-            store,
-        },
+        Check::Refused(c) => refused(store, c),
         Check::Passed => lay_entry(store, work, TOMBSTONE, key, &area[0..0]),
     }
 }

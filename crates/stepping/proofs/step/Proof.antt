@@ -1,13 +1,12 @@
 -- `stepping::step` meets its contract: a law for each return, at the tests that led there.
 use borrow.Author.Needs.{needs}
-use Prim.Native.Nat.{ℕ, _<_, _≤_}
+use Prim.Native.Nat.{_<_}
 use mathlib.Core.Path.{_≡_, sym, _∙_}
 use mathlib.Core.Option.{none}
 use native.Mathlib.Omega.{arith}
 use lib.ListN.{length}
 use denote.Ref.{now}
 use Rattle.segment.specs.Layout.{edition1}
-use Rattle.record.specs.Answers.{storesLeft}
 use Rattle.record.specs.RangeLaws.{Lent}
 use Rattle.model.specs.Causes.{firstCause}
 use Rattle.model.specs.Refused.{stepCauses}

@@ -2,6 +2,8 @@
 use native.Mathlib.Omega.{arith}
 use borrow.Author.Needs.{needs}
 use Rattle.segment.specs.Layout.{edition1}
+use Rattle.starting.specs.Stores.{head-most}
+use Rattle.starting.specs.NewHead.{head-ready}
 use Rattle.cleaning.specs.CleanLaws.{begun-filled}
 use Rattle.cleaning.proofs.clean.begin.Statement.{statement}
 use Rattle.cleaning.proofs.clean.begin.Tie as tie
@@ -10,7 +12,9 @@ next-free-requires : tie.Need-next-free-requires
 next-free-requires c κs = search needs
 
 new-digest-requires : tie.Need-new-digest-requires
-new-digest-requires c κs = search needs
+new-digest-requires c κs =
+    let r = c .before .before .before .before .before .pre .0 in
+    head-ready edition1 _ _ _ (r .lent) _ (r .all-named) (r .number-left) _ (c .before .next-free .ensures)
 
 write-digest-requires : tie.Need-write-digest-requires
 unfolding edition1
@@ -20,13 +24,30 @@ copy-kept-requires : tie.Need-copy-kept-requires
 unfolding edition1
 copy-kept-requires c κs = let r = c .before .before .before .before .before .before .before .before .before .before .pre .1 in (r .shape, omega (arith, r .fits, r .long))
 
-cast-started : tie.Need-cast-started
+cast-head-stores : tie.Need-cast-head-stores
+cast-head-stores c = search needs
+
+head-stores-requires : tie.Need-head-stores-requires
 unfolding edition1
-cast-started c = omega (arith, c .before .before .copy-kept .ensures .behind, c .before .before .before .before .before .before .before .before .before .before .before .before .before .pre .1 .fits, c .before .before .before .before .before .before .before .before .before .before .before .before .before .pre .0 .size-high)
+head-stores-requires c κs =
+    let s = c .before .before .before .before .before .before .before .before .before .before .before .before .before .before in
+    (omega (arith, c .before .before .before .copy-kept .ensures .behind, s .pre .1 .fits), s .pre .0 .lent .size-high)
+
+cast-left : tie.Need-cast-left
+unfolding edition1
+cast-left c =
+    let s = c .before .before .before .before .before .before .before .before .before .before .before .before .before .before .before in
+    let most = head-most _ _ (c .head-stores .ensures) in
+    omega (arith, c .before .before .before .before .copy-kept .ensures .behind, s .pre .1 .fits, s .pre .0 .lent .size-high)
+
+cast-length : tie.Need-cast-length
+unfolding edition1
+cast-length c =
+    let s = c .before .before .before .before .before .before .before .before .before .before .before .before .before .before .before in
+    omega (arith, c .before .before .before .before .copy-kept .ensures .behind, s .pre .1 .fits, s .pre .0 .lent .size-high)
 
 started-requires : tie.Need-started-requires
-unfolding edition1
-started-requires c κs = (omega (arith, c .before .before .copy-kept .ensures .behind, c .before .before .before .before .before .before .before .before .before .before .before .before .before .pre .1 .fits), c .before .before .before .before .before .before .before .before .before .before .before .before .before .pre .0 .size-high)
+started-requires c κs = search needs
 
 same-length : tie.Need-same-length
 same-length c = search needs
@@ -34,8 +55,10 @@ same-length c = search needs
 returns : tie.Need-returns
 unfolding edition1
 returns c =
-    begun-filled edition1 _ _ _ _ _ _ _ _ _ _ (c .before .before .before .before .before .before .before .before .new-digest .ensures) (c .before .before .before .before .before .before .before .write-digest .ensures) (c .before .before .before .copy-kept .ensures)
-    (c .before .before .before .before .before .before .before .before .before .before .next-free .ensures) (c .started .ensures)
+    let k = c .before .before .before .before .before in
+    let d = k .before .before .before .before in
+    begun-filled edition1 _ _ _ _ _ _ _ _ _ _ _ (d .before .new-digest .ensures) (d .write-digest .ensures) (k .copy-kept .ensures)
+    (d .before .before .before .next-free .ensures) (c .before .head-stores .ensures) (c .started .ensures)
 
 pub begin-spec : {M : Type 1} → statement M
 begin-spec =
@@ -45,7 +68,10 @@ begin-spec =
     new-digest-requires
     write-digest-requires
     copy-kept-requires
-    cast-started
+    cast-head-stores
+    head-stores-requires
+    cast-left
+    cast-length
     started-requires
     same-length
     returns)

@@ -3,7 +3,6 @@ use Prim.Native.Nat.{_/_, _%_}
 use mathlib.Core.Path.{ap}
 use borrow.Author.Needs.{needs}
 use lib.ListN.{set}
-use Rattle.log.specs.Extents.{meets}
 use Rattle.log.specs.Filter.{isMarked, markedWith}
 use Rattle.log.proofs.filter.mark.Statement.{statement}
 use Rattle.log.proofs.filter.mark.Tie as tie

@@ -10,7 +10,6 @@ use Rattle.slot_map.specs.Bit.{named}
 use Rattle.model.specs.Log.{viewsOf, scan, itemsOf, logOf}
 use Rattle.laws.specs.Members.{total}
 use Rattle.log.specs.Shape.{inside, part-short}
-use Rattle.log.specs.Extents.{meets}
 use Rattle.log.specs.Suspects.{hits}
 use Rattle.log.specs.Counts.{countOf, total-skip, total-take}
 use Rattle.log.proofs.suspects.count.Statement.{statement}

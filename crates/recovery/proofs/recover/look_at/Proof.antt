@@ -4,15 +4,16 @@ use mathlib.Core.Option.{some}
 use Rattle.segment.specs.Layout.{edition1}
 use Rattle.model.specs.Log.{viewsOf, headOf}
 use Rattle.laws.specs.HeadLaws.{head-is}
-use Rattle.recovery.specs.CheckLaws.{told-none, told-some, head-none, head-some}
+use Rattle.recovery.specs.CheckLaws.{head-none, head-some}
 use borrow.Author.Needs.{needs}
 use Rattle.recovery.proofs.recover.look_at.Statement.{statement}
 use Rattle.recovery.proofs.recover.look_at.Tie as tie
+use Rattle.log.specs.Heads.{told-nothing, told-at}
 
 found : (c : tie.After-slot)
     → let a = c .before .before .before .before .args in
     headOf (viewsOf edition1 (a .area .now) (a .s)) (a .n) ≡ some (record { slot = c .slot .given .0 .0; digest = c .slot .given .0 .1 .0 })
-found c = told-some _ _ _ (sym (c .before .before .find-head .ensures) ∙ c .slot .given .1)
+found c = told-at _ _ _ (sym (c .before .before .find-head .ensures) ∙ c .slot .given .1)
 
 find-head-requires : tie.Need-find-head-requires
 find-head-requires c κs = search needs
@@ -27,7 +28,7 @@ look-under-requires : tie.Need-look-under-requires
 look-under-requires c κs = (c .before .before .before .before .before .pre, head-is _ _ _ (found (c .before)) .below)
 
 returns : tie.Need-returns
-returns c = head-none _ _ (told-none _ (sym (c .before .before .find-head .ensures) ∙ c .enum-told .given .1))
+returns c = head-none _ _ (told-nothing _ (sym (c .before .before .find-head .ensures) ∙ c .enum-told .given .1))
 
 returns-2 : tie.Need-returns-2
 returns-2 c = c .look-under .ensures ∙ head-some _ _ _ (found (c .before .before))

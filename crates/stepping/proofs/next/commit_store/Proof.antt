@@ -1,12 +1,14 @@
 -- `stepping::next::commit_store` meets its contract.
 use borrow.Author.Needs.{needs}
+use mathlib.Core.Path.{refl}
 use native.Mathlib.Omega.{arith}
-use Rattle.stepping.specs.NextLaws.{stores-most, store-last, store-byte, store-end}
+use Rattle.starting.specs.Stores.{stores-most}
+use Rattle.stepping.specs.NextLaws.{store-last, store-byte, store-end}
 use Rattle.stepping.proofs.next.commit_store.Statement.{statement}
 use Rattle.stepping.proofs.next.commit_store.Tie as tie
 
 add-from : tie.Need-add-from
-add-from c = let a = c .before .before .args in omega (arith, stores-most (a .size) (a .offset) (a .count))
+add-from c = let a = c .before .before .args in omega (arith, stores-most (a .size) (a .offset) (a .count) refl)
 
 returns : tie.Need-returns
 returns c = search (store-last, needs)

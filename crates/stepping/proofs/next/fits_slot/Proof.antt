@@ -1,7 +1,5 @@
 -- `stepping::next::fits_slot` meets its contract.
 use borrow.Author.Needs.{needs}
-use Prim.Native.Nat.{_*_, _≤_}
-use native.Mathlib.Nat.{mul-le-mul}
 use native.Mathlib.Omega.{arith}
 use Rattle.stepping.specs.NextLaws.{slot-empty, slot-unread, slot-past, slot-rest, slot-end-fits}
 use Rattle.stepping.proofs.next.fits_slot.Statement.{statement}

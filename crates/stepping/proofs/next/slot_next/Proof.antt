@@ -5,7 +5,8 @@ use lib.ListN.{length}
 use denote.Ref.{now}
 use borrow.Author.Tests.{not-false}
 use native.Mathlib.Omega.{arith}
-use Rattle.stepping.specs.NextLaws.{stores-most, Fit, slot-facts, next-unfit, next-none-left, next-too-many, next-first, next-commit}
+use Rattle.starting.specs.Stores.{stores-most}
+use Rattle.stepping.specs.NextLaws.{Fit, slot-facts, next-unfit, next-none-left, next-too-many, next-first, next-commit}
 use Rattle.stepping.proofs.next.slot_next.Statement.{statement}
 use Rattle.stepping.proofs.next.slot_next.Tie as tie
 
@@ -25,7 +26,7 @@ commit-stores-requires c κs = omega (arith, within c)
 add-total : tie.Need-add-total
 add-total c =
     let a = c .before .before .before .before .before .args in
-    omega (arith, within (c .before), stores-most (a .size) (a .offset) (a .count))
+    omega (arith, within (c .before), stores-most (a .size) (a .offset) (a .count) (c .commit-stores .ensures))
 
 returns-2 : tie.Need-returns-2
 returns-2 c = search (next-none-left, needs)

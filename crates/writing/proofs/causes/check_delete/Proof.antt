@@ -1,10 +1,9 @@
 -- `writing::causes::check_delete` meets its contract: a law for each return.
 use mathlib.Core.Path.{sym, _∙_}
-use denote.Ref.{now}
-use lib.ListN.{length}
 use native.Mathlib.Omega.{arith}
 use Rattle.segment.specs.Layout.{edition1}
-use Rattle.writing.specs.TestLaws.{begins, delete-lent, delete-bad, delete-absent, delete-spent, delete-room}
+use Rattle.starting.specs.CheckLaws.{begins}
+use Rattle.writing.specs.TestLaws.{delete-lent, delete-bad, delete-absent, delete-spent, delete-room}
 use borrow.Author.Needs.{needs}
 use Rattle.writing.proofs.causes.check_delete.Statement.{statement}
 use Rattle.writing.proofs.causes.check_delete.Tie as tie

@@ -1,12 +1,13 @@
 -- `writing::causes::check_write` meets its contract: a law for each return.
 use Prim.Native.Nat.{_+_, _≤_}
-use mathlib.Core.Path.{_≡_, sym, _∙_}
+use mathlib.Core.Path.{sym, _∙_}
 use denote.Ref.{now}
 use lib.ListN.{length}
 use native.Mathlib.Omega.{arith}
 use Rattle.segment.specs.Layout.{edition1, digestSize, entrySize}
 use Rattle.laws.specs.StoreKept.{edition1-roomy}
-use Rattle.writing.specs.TestLaws.{Begins, begins, kind-room, write-lent, write-value, write-spent, write-key, write-room}
+use Rattle.starting.specs.CheckLaws.{Begins, begins}
+use Rattle.writing.specs.TestLaws.{kind-room, write-lent, write-value, write-spent, write-key, write-room}
 use borrow.Author.Needs.{needs}
 use Rattle.writing.proofs.causes.check_write.Statement.{statement}
 use Rattle.writing.proofs.causes.check_write.Tie as tie

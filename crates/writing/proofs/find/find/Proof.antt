@@ -1,5 +1,5 @@
 -- `writing::find::find` meets its contract.
-use mathlib.Core.Path.{_≡_, sym, _∙_}
+use mathlib.Core.Path.{sym, _∙_}
 use denote.Ref.{now}
 use native.Mathlib.Omega.{arith}
 use Rattle.segment.specs.Layout.{edition1}

@@ -3,24 +3,35 @@ use borrow.Author.Needs.{needs}
 use native.Mathlib.Omega.{arith}
 use borrow.Author.Tests.{leb-true}
 use Rattle.segment.specs.Layout.{edition1}
+use Rattle.starting.specs.Stores.{stores-most}
 use Rattle.writing.specs.Laying.{append-laid}
 use Rattle.writing.proofs.lay.lay_append.Statement.{statement}
 use Rattle.writing.proofs.lay.lay_append.Tie as tie
 
-add-length : tie.Need-add-length
-add-length c = search needs
-
-cast-length : tie.Need-cast-length
-cast-length c = search needs
+add-count : tie.Need-add-count
+add-count c = search needs
 
 write-entry-requires : tie.Need-write-entry-requires
 write-entry-requires c κs = search needs
 
+cast-commit-stores : tie.Need-cast-commit-stores
+cast-commit-stores c = search needs
+
+cast-commit-stores-2 : tie.Need-cast-commit-stores-2
+cast-commit-stores-2 c = search needs
+
 commit-stores-requires : tie.Need-commit-stores-requires
 unfolding edition1
-commit-stores-requires c κs =
-    let s = c .before .before .before .before .before .before .before in
-    (leb-true _ _ (s .pre .1), s .pre .0 .lent .size-high)
+commit-stores-requires c κs = leb-true _ _ (c .before .before .before .before .before .before .before .before .before .pre .1)
+
+cast-left : tie.Need-cast-left
+unfolding edition1
+cast-left c =
+    let most = stores-most _ _ _ (c .commit-stores .ensures) in
+    omega (arith, c .before .before .before .before .before .before .before .before .before .before .pre .0 .room)
+
+cast-length : tie.Need-cast-length
+cast-length c = search needs
 
 started-requires : tie.Need-started-requires
 started-requires c κs = search needs
@@ -31,16 +42,19 @@ same-length c = search needs
 returns : tie.Need-returns
 unfolding edition1
 returns c =
-    append-laid edition1 _ _ _ _ _ _ (c .started .ensures) (c .before .commit-stores .ensures) (c .before .before .before .before .write-entry .ensures)
+    append-laid edition1 _ _ _ _ _ _ (c .started .ensures) (c .before .commit-stores .ensures) (c .before .before .before .before .before .before .write-entry .ensures)
 
 pub lay-append-spec : {M : Type 1} → statement M
 lay-append-spec =
     tie.close
     (tie.spec
-    add-length
-    cast-length
+    add-count
     write-entry-requires
+    cast-commit-stores
+    cast-commit-stores-2
     commit-stores-requires
+    cast-left
+    cast-length
     started-requires
     same-length
     returns)

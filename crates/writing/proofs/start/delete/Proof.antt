@@ -14,6 +14,9 @@ check-delete-requires c κs = search needs
 enum-known-c : tie.Need-enum-known-c
 enum-known-c c = search needs
 
+refused-requires : tie.Need-refused-requires
+refused-requires c κs = search needs
+
 enum-told : tie.Need-enum-told
 enum-told c = search needs
 
@@ -37,7 +40,9 @@ lay-entry-requires c κs =
     )
 
 returns : tie.Need-returns
-returns c = delete-refused edition1 _ _ _ _ _ _ (sym (c .before .c .given .1) ∙ c .before .before .before .check-delete .ensures)
+returns c =
+    delete-refused edition1 _ _ _ _ _ _ (sym (c .before .before .c .given .1) ∙ c .before .before .before .before .check-delete .ensures) _
+    (c .refused .ensures)
 
 same-length : tie.Need-same-length
 same-length c = search needs
@@ -55,6 +60,7 @@ delete-spec =
     (tie.spec
     check-delete-requires
     enum-known-c
+    refused-requires
     enum-told
     sub-lay-entry
     part-lay-entry-start

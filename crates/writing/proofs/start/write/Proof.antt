@@ -14,6 +14,9 @@ check-write-requires c κs = search needs
 enum-known-c : tie.Need-enum-known-c
 enum-known-c c = search needs
 
+refused-requires : tie.Need-refused-requires
+refused-requires c κs = search needs
+
 enum-told : tie.Need-enum-told
 enum-told c = search needs
 
@@ -31,7 +34,9 @@ lay-entry-requires c κs =
     )
 
 returns : tie.Need-returns
-returns c = write-refused edition1 _ _ _ _ _ _ _ (sym (c .before .c .given .1) ∙ c .before .before .before .check-write .ensures)
+returns c =
+    write-refused edition1 _ _ _ _ _ _ _ (sym (c .before .before .c .given .1) ∙ c .before .before .before .before .check-write .ensures) _
+    (c .refused .ensures)
 
 same-length : tie.Need-same-length
 same-length c = search needs
@@ -48,6 +53,7 @@ write-spec =
     (tie.spec
     check-write-requires
     enum-known-c
+    refused-requires
     enum-told
     object-kind-requires
     lay-entry-requires

@@ -1,7 +1,7 @@
--- `writing::lay::started` meets its contract.
+-- `starting::answer::started` meets its contract.
 use borrow.Author.Needs.{needs}
-use Rattle.writing.proofs.lay.started.Statement.{statement}
-use Rattle.writing.proofs.lay.started.Tie as tie
+use Rattle.starting.proofs.answer.started.Statement.{statement}
+use Rattle.starting.proofs.answer.started.Tie as tie
 
 with-pending-requires : tie.Need-with-pending-requires
 with-pending-requires c κs = search needs

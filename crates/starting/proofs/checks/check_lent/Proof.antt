@@ -1,9 +1,9 @@
--- `writing::causes::check_lent` meets its contract.
+-- `starting::checks::check_lent` meets its contract.
 use borrow.Author.Needs.{needs}
 use Rattle.segment.specs.Layout.{edition1}
-use Rattle.writing.specs.TestLaws.{lent-bad, lent-short, lent-busy, lent-idle}
-use Rattle.writing.proofs.causes.check_lent.Statement.{statement}
-use Rattle.writing.proofs.causes.check_lent.Tie as tie
+use Rattle.starting.specs.CheckLaws.{lent-bad, lent-short, lent-busy, lent-idle}
+use Rattle.starting.proofs.checks.check_lent.Statement.{statement}
+use Rattle.starting.proofs.checks.check_lent.Tie as tie
 
 fits-lent-requires : tie.Need-fits-lent-requires
 fits-lent-requires c κs = search needs

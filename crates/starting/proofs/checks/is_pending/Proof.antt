@@ -1,4 +1,4 @@
--- `cleaning::clean::is_pending` meets its contract.
+-- `starting::checks::is_pending` meets its contract.
 use Prim.Native.Nat.{ℕ}
 use mathlib.Core.Path.{_≡_, ap}
 use native.Mathlib.Omega.{arith}
@@ -6,9 +6,9 @@ use mathlib.Core.Logic.{_⊎_, ⊎-elim}
 use borrow.Author.Needs.{needs}
 use denote.Enum.Declared.{tagOf}
 use Rattle.record.proofs.Pending.{the-type}
-use Rattle.cleaning.specs.CleanLaws.{idle-not, other-pending}
-use Rattle.cleaning.proofs.clean.is_pending.Statement.{statement}
-use Rattle.cleaning.proofs.clean.is_pending.Tie as tie
+use Rattle.starting.specs.CheckLaws.{idle-not, other-pending}
+use Rattle.starting.proofs.checks.is_pending.Statement.{statement}
+use Rattle.starting.proofs.checks.is_pending.Tie as tie
 
 enum-told : tie.Need-enum-told
 enum-told c = search needs

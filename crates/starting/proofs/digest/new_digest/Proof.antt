@@ -1,8 +1,8 @@
--- `writing::lay::new_digest` meets its contract.
+-- `starting::digest::new_digest` meets its contract.
 use borrow.Author.Needs.{needs}
-use Rattle.writing.specs.Laying.{digest-laid}
-use Rattle.writing.proofs.lay.new_digest.Statement.{statement}
-use Rattle.writing.proofs.lay.new_digest.Tie as tie
+use Rattle.starting.specs.NewHead.{digest-laid}
+use Rattle.starting.proofs.digest.new_digest.Statement.{statement}
+use Rattle.starting.proofs.digest.new_digest.Tie as tie
 
 add-raised : tie.Need-add-raised
 add-raised c = search needs

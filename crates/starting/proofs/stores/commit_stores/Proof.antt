@@ -1,8 +1,8 @@
--- `writing::lay::commit_stores` meets its contract.
+-- `starting::stores::commit_stores` meets its contract.
 use borrow.Author.Needs.{needs}
-use Rattle.writing.specs.Laying.{stores-within, stores-full}
-use Rattle.writing.proofs.lay.commit_stores.Statement.{statement}
-use Rattle.writing.proofs.lay.commit_stores.Tie as tie
+use Rattle.starting.specs.Stores.{stores-within, stores-full}
+use Rattle.starting.proofs.stores.commit_stores.Statement.{statement}
+use Rattle.starting.proofs.stores.commit_stores.Tie as tie
 
 add-if1 : tie.Need-add-if1
 add-if1 c = search needs

@@ -1,0 +1,33 @@
+-- What holds of every start.
+use Prim.Native.Nat.{ℕ}
+use mathlib.Core.Path.{_≡_, refl}
+use mathlib.Core.Bool.{true}
+use mathlib.Core.List.{List}
+use mathlib.Core.Option.{Option, none, some}
+use lib.ListN.{length}
+use lib.Seq.{length-sets}
+use Rattle.segment.specs.Layout.{Layout}
+use Rattle.record.specs.declared.Refusal.{Refusal}
+use Rattle.record.specs.declared.Refusal.the-variants.{BadRecord}
+use Rattle.record.specs.declared.Store.{Store}
+use Rattle.model.specs.Log.{Placed}
+use Rattle.model.specs.Causes.{firstCause}
+use Rattle.model.specs.Operations.{Operation, write, delete, clean, laid}
+use Rattle.model.specs.Refused.{Lengths, recordBad, startCauses}
+use Rattle.model.specs.Promises.{begun}
+use Rattle.laws.specs.CauseLaws.{cause-first}
+
+-- the work buffer keeps its length
+pub begun-length : (L : Layout) (r : Store) (log : List Placed) (o : Operation) (work : List ℕ) (c : Option Refusal) →
+    length (begun L r log o work c .work) ≡ length work
+unfolding begun
+begun-length L r log o work none = length-sets work 0 (laid L r log o .bytes)
+begun-length L r log o work (some c) = refl
+
+-- 4 comes before every other cause
+pub start-bad : (L : Layout) (r : Store) (log : List Placed) (l : Lengths) (o : Operation) → recordBad L r l ≡ true →
+    firstCause (startCauses L r log l o) ≡ some BadRecord
+unfolding startCauses
+start-bad L r log l (write k value) h = cause-first _ _ h
+start-bad L r log l (delete k) h = cause-first _ _ h
+start-bad L r log l (clean victims) h = cause-first _ _ h
