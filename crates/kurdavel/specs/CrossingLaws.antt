@@ -26,8 +26,10 @@ use Rattle.record.specs.declared.Stepped.{Stepped}
 use Rattle.record.specs.declared.StepAnswer.{StepAnswer}
 use Rattle.model.specs.Operations.{Operation}
 use Rattle.model.specs.Promises.{FormatPromise, RecoverPromise, StartPromise, StepPromise}
-use Rattle.recovery.specs.Lookups.{lookedUp, toldBy, valueBy}
-use Rattle.recovery.specs.LookupLaws.{looked-unfit, read-promise, value-promise}
+use Rattle.index.specs.Search.{searchFor}
+use Rattle.index.specs.declared.Found.{Found}
+use Rattle.recovery.specs.Lookups.{lookupAt, lookedUp, toldBy, valueBy}
+use Rattle.recovery.specs.LookupLaws.{looked-unfit, looked-fit, read-promise, value-promise}
 use Rattle.recovery.specs.declared.Lookup.{Lookup}
 use Rattle.words.specs.Words.{recordWords, wordsOf, isRecord, decoded}
 use Rattle.words.specs.WordLaws.{record-long, decoded-record, decoded-none}
@@ -84,6 +86,18 @@ recover-crossed {words = words} {x = x} h p e m w =
 pub looked-crossed : (words area cells : List ℕ) (k : Key) {d : Decoded} {x : Lookup} → d ≡ decoded words
     → x ≡ lookedUp edition1 (d .store) area cells k → x ≡ lookedUp edition1 (decoded words .store) area cells k
 looked-crossed words area cells k f l = l ∙ ap (λ (a : Decoded). lookedUp edition1 (a .store) area cells k) f
+
+-- a record that does not fit what is lent is bad, and one that fits is looked up where the search has ended
+pub looked-lost : (words area cells : List ℕ) (k : Key) {d : Decoded} → d ≡ decoded words
+    → fitsLent edition1 (d .store) (length area) (length cells) ≡ false → Lookup.Bad ≡ lookedUp edition1 (decoded words .store) area cells k
+looked-lost words area cells k {d} f unfit = looked-crossed words area cells k f (sym (looked-unfit edition1 (d .store) area cells k unfit))
+
+pub looked-found : (words area cells : List ℕ) (k : Key) {d : Decoded} {x : Lookup} {found : Found} → d ≡ decoded words
+    → fitsLent edition1 (d .store) (length area) (length cells) ≡ true → found ≡ searchFor edition1 area cells k
+    → x ≡ lookupAt edition1 (d .store .size) area cells found → x ≡ lookedUp edition1 (decoded words .store) area cells k
+looked-found words area cells k {d} f fit e l =
+    looked-crossed words area cells k f
+    (l ∙ ap (lookupAt edition1 (d .store .size) area cells) e ∙ sym (looked-fit edition1 (d .store) area cells k fit))
 
 -- words that are no record say the blank one, which is bad
 pub looked-none : (words area cells : List ℕ) (k : Key) {d : Decoded} → d ≡ decoded words → not (d .ok) ≡ true

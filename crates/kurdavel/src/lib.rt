@@ -3,6 +3,7 @@
 // required of the caller's values: words that are no record are refused with 4. The answer is 0 or the refusal's number.
 use cleaning::clean::clean;
 use firmware::step_held;
+use index::search::search;
 use record::FormatAnswer;
 use record::ReadAnswer;
 use record::RecoverAnswer;
@@ -11,9 +12,11 @@ use record::StartAnswer;
 use record::StepAnswer;
 use record::Store;
 use record::number;
+use record::range::fits_lent;
 use recovery::Lookup;
 use recovery::format::format;
 use recovery::read::find;
+use recovery::read::look_at;
 use recovery::read::told;
 use recovery::recover::recover;
 use segment::Key;
@@ -28,9 +31,7 @@ ghost use mathlib.Core.Path.{_≡_};
 ghost use mathlib.Core.Bool.{true};
 ghost use lib.ListN.{length};
 ghost use Rattle.model.specs.Operations.{write, delete, clean};
-ghost use Rattle.segment.specs.Layout.{edition1};
-ghost use Rattle.recovery.specs.Lookups.{lookedUp};
-ghost use Rattle.words.specs.Words.{recordWords, decoded};
+ghost use Rattle.words.specs.Words.{recordWords};
 ghost use Rattle.kurdavel.specs.Crossing.{FormatCrossed, RecoverCrossed, ReadCrossed, ValueCrossed, StartCrossed, StepCrossed, keptWords, Handed};
 
 #[no_mangle]
@@ -73,19 +74,6 @@ pub extern "C" fn kurdavel_recover(
     }
 }
 
-// What the index says of a key, by the record that the words say: the one search behind both reads.
-fn looked_up(words: &[u32], area: &[u8], index: &[u32], key: Key) -> Lookup
-    ensures { λ r.
-        ⌜ r ≡ lookedUp edition1 (decoded (now (words .entry)) .store) (now (area .entry)) (now (index .entry)) key ⌝ }
-{
-    let decoded = decode(words);
-    if !decoded.ok {
-        return Lookup::Bad;
-    }
-    let store = decoded.store;
-    find(store, area, index, key)
-}
-
 #[no_mangle]
 pub extern "C" fn kurdavel_read(
     words: &[u32],
@@ -102,7 +90,12 @@ pub extern "C" fn kurdavel_read(
         (now (version .entry)) (now (kind .entry)) (now (version .exit)) (now (kind .exit)) r
         ⌝ }
 {
-    let answer = told(looked_up(words, area, index, Key { table, key }));
+    let decoded = decode(words);
+    if !decoded.ok {
+        return 4;
+    }
+    let store = decoded.store;
+    let answer = told(find(store, area, index, Key { table, key }));
     match answer {
         ReadAnswer::Refused(cause) => number(cause),
         ReadAnswer::Present {
@@ -116,6 +109,7 @@ pub extern "C" fn kurdavel_read(
     }
 }
 
+// Made of the parts of `find`, and not by a call of it: the read alone calls it, and so has its search in line.
 #[no_mangle]
 pub extern "C" fn kurdavel_read_value(
     words: &[u32],
@@ -134,7 +128,16 @@ pub extern "C" fn kurdavel_read_value(
 {
     *place = 0;
     *bytes = 0;
-    match looked_up(words, area, index, Key { table, key }) {
+    let decoded = decode(words);
+    if !decoded.ok {
+        return 4;
+    }
+    let store = decoded.store;
+    if !fits_lent(store, area.len(), index.len()) {
+        return 4;
+    }
+    let found = search(area, index, Key { table, key });
+    match look_at(store.size as usize, area, index, found) {
         Lookup::Object {
             place: entry,
             version: _,

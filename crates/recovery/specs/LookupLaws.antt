@@ -42,7 +42,7 @@ use Rattle.index.specs.Area.{area-picks}
 use Rattle.index.specs.Finds.{Picks, search-known, search-new}
 use Rattle.index.specs.BuildLaws.{log-in-area}
 use Rattle.index.specs.declared.Found.{Found as Hit}
-use Rattle.recovery.specs.Lookups.{standsAt, lookupOf, lookupAt, lookedUp, toldBy, valueBy}
+use Rattle.recovery.specs.Lookups.{Reached, standsAt, lookupOf, lookupAt, lookedUp, toldBy, valueBy}
 use Rattle.recovery.specs.declared.Lookup.{Lookup}
 
 -- ---- the lookup at each test of the code
@@ -79,6 +79,13 @@ module _ (L : Layout) (r : Store) (area cells : List ℕ) (k : Key) where
             let below : (getD cells i 0 - 1) / r .size < r .slots =
             div-lt-iff-lt-mul {k = r .size} {x = getD cells i 0 - 1} {y = r .slots} (omega arith) .1 (omega arith) in
             omega (arith, slots-apart (r .size) below)
+
+    -- a look at where the search has ended can be made
+    pub reached : (i : ℕ) → searchFor L area cells k ≡ Hit.At i → Reached (r .size) area cells i
+    reached i e =
+        let l = lent L r (length area) (length cells) fit in
+        let w = search-inside L area cells k i e in
+        record { below = w .below; few = omega arith; taken = w .taken; some-size = omega arith; room = slot-room i e }
 
 -- ---- where an object is found, its entry lies in the area
 

@@ -1,5 +1,5 @@
 -- What a read looks up, as a total function of any record, area and index (01, "Index" and "Read").
-use Prim.Native.Nat.{ℕ, _+_, _-_, _/_, _%_}
+use Prim.Native.Nat.{ℕ, _+_, _-_, _*_, _/_, _%_, _≤_, _<_}
 use mathlib.Core.List.{List, []}
 use lib.ListN.{length, getD, take, drop}
 use Rattle.segment.specs.Choice.{pick}
@@ -25,6 +25,14 @@ lookupOf p (Read.Object k v kind n) = Lookup.Object p v kind n
 lookupOf p (Read.Tombstone k v n) = Lookup.Absent
 lookupOf p Read.End = Lookup.Bad
 lookupOf p Read.Damage = Lookup.Bad
+
+-- What a look needs of the cell where a search has ended: it is there and not 0, and the slot of its place lies in the area.
+pub record Reached (S : ℕ) (area cells : List ℕ) (i : ℕ) : Type 0 where
+  pub below : i < length cells
+  pub few : length cells ≤ 4096
+  pub taken : 0 < getD cells i 0
+  pub some-size : 0 < S
+  pub room : (getD cells i 0 - 1) / S * S + S ≤ length area
 
 unfoldable pub lookupAt : Layout → ℕ → List ℕ → List ℕ → Found → Lookup
 lookupAt L S area cells (Found.At i) = lookupOf (getD cells i 0 - 1) (standsAt L S area (getD cells i 0 - 1))

@@ -12,13 +12,14 @@ use segment::Read;
 use segment::layout::HEAD_SIZE;
 use segment::reader;
 use word::remainder::remainder;
-ghost use Prim.Native.Nat.{_+_, _*_, _/_, _%_, _≤_, _<_};
+ghost use Prim.Native.Nat.{ℕ, _+_, _*_, _/_, _%_, _≤_, _<_};
 ghost use mathlib.Core.Path.{_≡_};
 ghost use lib.ListN.{length};
 ghost use Rattle.segment.specs.Layout.{edition1};
 ghost use Rattle.model.specs.Log.{segmentOf};
 ghost use Rattle.model.specs.Promises.{ReadPromise, ValuePromise};
-ghost use Rattle.recovery.specs.Lookups.{standsAt, lookupOf, lookedUp, toldBy};
+ghost use Rattle.index.specs.declared.Found.{Found};
+ghost use Rattle.recovery.specs.Lookups.{standsAt, lookupOf, lookupAt, lookedUp, toldBy, Reached};
 
 // The segment in which a place lies, from the place's offset in it: the offset alone needs a division, or none.
 fn around(s: usize, area: &[u8], place: usize, offset: usize) -> &[u8]
@@ -57,18 +58,26 @@ fn look(s: usize, area: &[u8], place: usize) -> Lookup
     }
 }
 
-// What the index says of a key. A place at which no entry stands, and an index without an end to the search, are bad.
+// What stands where a search has ended. A place at which no entry stands, and a search without an end, are bad.
+pub fn look_at(s: usize, area: &[u8], index: &[u32], found: Found) -> Lookup
+    requires { ⌜ ((i : ℕ) → found ≡ Found.At i → Reached s (now area) (now index) i) ⌝ }
+    ensures { λ r. ⌜ r ≡ lookupAt edition1 s (now (area .entry)) (now (index .entry)) found ⌝ }
+{
+    match found {
+        Found::Full => Lookup::Bad,
+        Found::Free(_) => Lookup::Absent,
+        Found::At(i) => look(s, area, (index[i] - 1) as usize),
+    }
+}
+
+// What the index says of a key.
 pub fn find(store: Store, area: &[u8], index: &[u32], key: Key) -> Lookup
     ensures { λ r. ⌜ r ≡ lookedUp edition1 store (now (area .entry)) (now (index .entry)) key ⌝ }
 {
     if !fits_lent(store, area.len(), index.len()) {
         return Lookup::Bad;
     }
-    match search(area, index, key) {
-        Found::Full => Lookup::Bad,
-        Found::Free(_) => Lookup::Absent,
-        Found::At(i) => look(store.size as usize, area, (index[i] - 1) as usize),
-    }
+    look_at(store.size as usize, area, index, search(area, index, key))
 }
 
 // The read's answer.

@@ -1,13 +1,21 @@
 -- `kurdavel::kurdavel_read` meets its contract.
 use mathlib.Core.Path.{refl}
 use Rattle.kurdavel.specs.Crossing.{versionAfter, kindAfter}
-use Rattle.kurdavel.specs.CrossingLaws.{read-crossed}
+use Rattle.kurdavel.specs.CrossingLaws.{looked-crossed, looked-none, read-crossed}
+use Rattle.recovery.specs.Lookups.{toldBy}
 use borrow.Author.Needs.{needs}
 use Rattle.kurdavel.proofs.kurdavel_read.Statement.{statement}
 use Rattle.kurdavel.proofs.kurdavel_read.Tie as tie
 
-looked-up-requires : tie.Need-looked-up-requires
-looked-up-requires c κs = search needs
+decode-requires : tie.Need-decode-requires
+decode-requires c κs = search needs
+
+returns : tie.Need-returns
+unfolding toldBy versionAfter kindAfter
+returns c = read-crossed (looked-none _ _ _ _ (c .before .before .decode .ensures) (c .if1 .taken)) refl refl refl refl refl
+
+find-requires : tie.Need-find-requires
+find-requires c κs = search needs
 
 told-requires : tie.Need-told-requires
 told-requires c κs = search needs
@@ -24,23 +32,29 @@ enum-known-answer-2 c = search needs
 cast-kind : tie.Need-cast-kind
 cast-kind c = search needs
 
-returns : tie.Need-returns
-unfolding versionAfter kindAfter
-returns c = read-crossed (c .before .before .before .before .before .looked-up .ensures) (c .before .before .before .before .told .ensures) (c .before .before .answer .given .1) (c .number .ensures) refl refl
-
 returns-2 : tie.Need-returns-2
 unfolding versionAfter kindAfter
-returns-2 c = read-crossed (c .before .before .before .before .looked-up .ensures) (c .before .before .before .told .ensures) (c .before .answer2 .given .1) refl refl refl
+returns-2 c =
+    read-crossed (looked-crossed _ _ _ _ (c .before .before .before .before .before .before .before .before .before .decode .ensures) (c .before .before .before .before .before .find .ensures)) (c .before .before .before .before .told .ensures) (c .before .before .answer .given .1)
+    (c .number .ensures) refl refl
+
+returns-3 : tie.Need-returns-3
+unfolding versionAfter kindAfter
+returns-3 c =
+    read-crossed (looked-crossed _ _ _ _ (c .before .before .before .before .before .before .before .before .decode .ensures) (c .before .before .before .before .find .ensures)) (c .before .before .before .told .ensures) (c .before .answer2 .given .1)
+    refl refl refl
 
 pub kurdavel-read-spec : {M : Type 1} → statement M
 kurdavel-read-spec =
     tie.close
     (tie.spec
-    looked-up-requires
+    decode-requires
+    returns
+    find-requires
     told-requires
     enum-known-answer
     number-requires
     enum-known-answer-2
     cast-kind
-    returns
-    returns-2)
+    returns-2
+    returns-3)

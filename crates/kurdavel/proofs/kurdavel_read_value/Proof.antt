@@ -1,26 +1,60 @@
 -- `kurdavel::kurdavel_read_value` meets its contract.
 use Prim.Native.Nat.{_≤_}
-use mathlib.Core.Path.{refl, sym, _∙_}
+use mathlib.Core.Path.{_≡_, refl, sym, _∙_}
 use native.Mathlib.Omega.{arith}
 use lib.ListN.{length}
 use Rattle.segment.specs.Layout.{edition1}
-use Rattle.recovery.specs.Lookups.{toldBy, valueBy}
-use Rattle.recovery.specs.LookupLaws.{ObjectInside, object-inside}
-use Rattle.kurdavel.specs.CrossingLaws.{found-small, value-crossed}
+use Rattle.recovery.specs.Lookups.{lookedUp, toldBy, valueBy}
+use Rattle.recovery.specs.LookupLaws.{reached, ObjectInside, object-inside}
+use Rattle.words.specs.Words.{decoded}
+use Rattle.kurdavel.specs.CrossingLaws.{looked-none, looked-lost, looked-found, found-small, value-crossed}
 use borrow.Author.Needs.{needs}
+use borrow.Author.Tests.{not-true, not-false}
 use Rattle.kurdavel.proofs.kurdavel_read_value.Statement.{statement}
 use Rattle.kurdavel.proofs.kurdavel_read_value.Tie as tie
 
+-- what the look says, by the record that the words say
+looked : (c : tie.After-look-at)
+    → let a = c .before .before .before .before .before .before .before .before .before .before .before .before .args in
+    c .look-at .result ≡ lookedUp edition1 (decoded (a .words .now) .store) (a .area .now) (a .index .now) (record { table = a .table; key = a .key })
+looked c =
+    looked-found _ _ _ _ (c .before .before .before .before .before .before .before .before .decode .ensures) (sym (c .before .before .before .before .fits-lent .ensures) ∙ not-false _ (c .before .before .before .if2 .left))
+    (c .before .before .search .ensures) (c .look-at .ensures)
+
 -- the entry of an object that was found lies in the area, whose length is a record's
 inside : (c : tie.After-known-told)
-    → ObjectInside edition1 (c .before .before .before .before .before .before .before .args .area .now) (c .before .entry .given .0 .0) (c .before .entry .given .0 .1 .1 .1 .0)
-inside c = object-inside edition1 _ _ _ _ _ _ _ _ (sym (c .before .before .before .looked-up .ensures) ∙ c .before .entry .given .1)
+    → ObjectInside edition1 (c .before .before .before .before .before .before .before .before .before .before .before .before .before .before .before .args .area .now) (c .before .entry .given .0 .0) (c .before .entry .given .0 .1 .1 .1 .0)
+inside c = object-inside edition1 _ _ _ _ _ _ _ _ (sym (looked (c .before .before .before)) ∙ c .before .entry .given .1)
 
-small : (c : tie.After-known-told) → length (c .before .before .before .before .before .before .before .args .area .now) ≤ 65536
-small c = found-small _ _ _ _ (sym (c .before .before .before .looked-up .ensures) ∙ c .before .entry .given .1)
+small : (c : tie.After-known-told) → length (c .before .before .before .before .before .before .before .before .before .before .before .before .before .before .before .args .area .now) ≤ 65536
+small c = found-small _ _ _ _ (sym (looked (c .before .before .before)) ∙ c .before .entry .given .1)
 
-looked-up-requires : tie.Need-looked-up-requires
-looked-up-requires c κs = search needs
+decode-requires : tie.Need-decode-requires
+decode-requires c κs = search needs
+
+returns : tie.Need-returns
+unfolding toldBy valueBy
+returns c =
+    value-crossed (looked-none _ _ _ _ (c .before .before .decode .ensures) (c .if1 .taken)) refl refl refl (omega arith) (λ _. (refl, refl))
+
+fits-lent-requires : tie.Need-fits-lent-requires
+fits-lent-requires c κs = search needs
+
+returns-2 : tie.Need-returns-2
+unfolding toldBy valueBy
+returns-2 c =
+    value-crossed (looked-lost _ _ _ _ (c .before .before .before .before .before .decode .ensures) (sym (c .before .fits-lent .ensures) ∙ not-true _ (c .if2 .taken))) refl refl refl
+    (omega arith) (λ _. (refl, refl))
+
+search-requires : tie.Need-search-requires
+search-requires c κs = search needs
+
+cast-look-at : tie.Need-cast-look-at
+cast-look-at c = search needs
+
+look-at-requires : tie.Need-look-at-requires
+look-at-requires c κs =
+    λ i e. reached edition1 _ _ _ _ (sym (c .before .before .before .fits-lent .ensures) ∙ not-false _ (c .before .before .if2 .left)) i (sym (c .before .search .ensures) ∙ e)
 
 enum-known-entry : tie.Need-enum-known-entry
 enum-known-entry c = search needs
@@ -47,25 +81,31 @@ enum-told c = search needs
 enum-told-2 : tie.Need-enum-told-2
 enum-told-2 c = search needs
 
-returns : tie.Need-returns
-unfolding edition1 toldBy valueBy
-returns c =
-    let h = inside c in
-    value-crossed (c .before .before .before .looked-up .ensures) (c .before .entry .given .1) refl refl (omega arith) (λ refused. absurd (refused refl))
-
-returns-2 : tie.Need-returns-2
-unfolding toldBy valueBy
-returns-2 c = value-crossed (c .before .before .looked-up .ensures) (c .enum-told .given .1) refl refl (omega arith) (λ _. (refl, refl))
-
 returns-3 : tie.Need-returns-3
+unfolding edition1 toldBy valueBy
+returns-3 c =
+    let h = inside c in
+    value-crossed (looked (c .before .before .before)) (c .before .entry .given .1) refl refl (omega arith) (λ refused. absurd (refused refl))
+
+returns-4 : tie.Need-returns-4
 unfolding toldBy valueBy
-returns-3 c = value-crossed (c .before .before .looked-up .ensures) (c .enum-told2 .given .1) refl refl (omega arith) (λ _. (refl, refl))
+returns-4 c = value-crossed (looked (c .before .before)) (c .enum-told .given .1) refl refl (omega arith) (λ _. (refl, refl))
+
+returns-5 : tie.Need-returns-5
+unfolding toldBy valueBy
+returns-5 c = value-crossed (looked (c .before .before)) (c .enum-told2 .given .1) refl refl (omega arith) (λ _. (refl, refl))
 
 pub kurdavel-read-value-spec : {M : Type 1} → statement M
 kurdavel-read-value-spec =
     tie.close
     (tie.spec
-    looked-up-requires
+    decode-requires
+    returns
+    fits-lent-requires
+    returns-2
+    search-requires
+    cast-look-at
+    look-at-requires
     enum-known-entry
     add-place
     cast-place
@@ -73,6 +113,6 @@ kurdavel-read-value-spec =
     cast-bytes
     enum-told
     enum-told-2
-    returns
-    returns-2
-    returns-3)
+    returns-3
+    returns-4
+    returns-5)
