@@ -85,7 +85,7 @@ module _ (L : Layout) (r : Store) (area cells : List ℕ) (k : Key) where
     reached i e =
         let l = lent L r (length area) (length cells) fit in
         let w = search-inside L area cells k i e in
-        record { below = w .below; few = omega arith; taken = w .taken; some-size = omega arith; room = slot-room i e }
+        record { below = w .below; few = omega arith; taken = w .taken; some-size = omega arith; size-most = l .size-high; room = slot-room i e }
 
 -- ---- where an object is found, its entry lies in the area
 

@@ -32,6 +32,7 @@ pub record Reached (S : ℕ) (area cells : List ℕ) (i : ℕ) : Type 0 where
   pub few : length cells ≤ 4096
   pub taken : 0 < getD cells i 0
   pub some-size : 0 < S
+  pub size-most : S ≤ 2048
   pub room : (getD cells i 0 - 1) / S * S + S ≤ length area
 
 unfoldable pub lookupAt : Layout → ℕ → List ℕ → List ℕ → Found → Lookup

@@ -11,7 +11,7 @@ use segment::Key;
 use segment::Read;
 use segment::layout::HEAD_SIZE;
 use segment::reader;
-use word::remainder::remainder;
+use word::remainder::remainder32;
 ghost use Prim.Native.Nat.{ℕ, _+_, _*_, _/_, _%_, _≤_, _<_};
 ghost use mathlib.Core.Path.{_≡_};
 ghost use lib.ListN.{length};
@@ -32,10 +32,10 @@ fn around(s: usize, area: &[u8], place: usize, offset: usize) -> &[u8]
 
 // What stands at a place of the area, read in its slot's segment.
 fn look(s: usize, area: &[u8], place: usize) -> Lookup
-    requires { ⌜ (0 < s) × (place / s * s + s ≤ length (now area)) ⌝ }
+    requires { ⌜ (0 < s) × (s ≤ 2048) × (place < 4294967296) × (place / s * s + s ≤ length (now area)) ⌝ }
     ensures { λ r. ⌜ r ≡ lookupOf place (standsAt edition1 s (now (area .entry)) place) ⌝ }
 {
-    let offset = remainder(place, s);
+    let offset = remainder32(place as u32, s as u32) as usize;
     match reader::read(around(s, area, place, offset), offset) {
         Read::Object {
             key: _,

@@ -16,10 +16,19 @@ stands c =
     let a = c .before .before .before .before .args in
     c .read .ensures
     ∙ ap₂ (λ (l : List ℕ) (at : ℕ). answer edition1 (entryAt edition1 l at)) (c .before .around .ensures)
-    (c .before .before .remainder .ensures)
+    (c .before .before .remainder32 .ensures)
 
-remainder-requires : tie.Need-remainder-requires
-remainder-requires c κs = search needs
+cast-remainder32 : tie.Need-cast-remainder32
+cast-remainder32 c = search needs
+
+cast-remainder32-2 : tie.Need-cast-remainder32-2
+cast-remainder32-2 c = search needs
+
+remainder32-requires : tie.Need-remainder32-requires
+remainder32-requires c κs = search needs
+
+cast-offset : tie.Need-cast-offset
+cast-offset c = search needs
 
 around-requires : tie.Need-around-requires
 around-requires c κs = search needs
@@ -59,7 +68,10 @@ pub look-spec : {M : Type 1} → statement M
 look-spec =
     tie.close
     (tie.spec
-    remainder-requires
+    cast-remainder32
+    cast-remainder32-2
+    remainder32-requires
+    cast-offset
     around-requires
     read-requires
     enum-known-version

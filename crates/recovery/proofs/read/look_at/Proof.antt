@@ -33,7 +33,9 @@ cast-look : tie.Need-cast-look
 cast-look c = omega (arith, c .shared-slice-known3 .given (c .before .before .found .given .0 .0))
 
 look-requires : tie.Need-look-requires
-look-requires c κs = let r = reach (c .before .before) in (r .some-size, r .room)
+look-requires c κs =
+    let r = reach (c .before .before) in
+    (r .some-size, r .size-most, omega (arith, c .shared-slice-known3 .given (c .before .before .found .given .0 .0)), r .room)
 
 returns : tie.Need-returns
 unfolding lookupAt
