@@ -20,7 +20,7 @@ use Rattle.record.specs.declared.Pending.the-variants.{Clean}
 use Rattle.record.specs.declared.Refusal.{Refusal}
 use Rattle.record.specs.declared.Refusal.the-variants.{BadRecord, WorkShort, Busy, BadVictims, KeptTooLong, NumbersSpent}
 use Rattle.record.specs.declared.Start.{Start}
-use Rattle.record.specs.declared.Store.{Store}
+use Rattle.record.specs.declared.Record.{Record}
 use Rattle.model.specs.Log.{Placed}
 use Rattle.model.specs.Causes.{Cause, when, firstCause}
 use Rattle.model.specs.Operations.{clean, logNow, newSlot, newDigest, kept, allEncoded, laid, planOf}
@@ -39,7 +39,7 @@ use Rattle.cleaning.specs.declared.Split.{Split}
 -- ---- what the parts of a start ask
 
 -- A record in range whose log has the victims, and a digest number left.
-pub record Ready (L : Layout) (r : Store) (victims : ℕ) : Type 0 where
+pub record Ready (L : Layout) (r : Record) (victims : ℕ) : Type 0 where
   pub areaLength : ℕ
   pub indexLength : ℕ
   pub lent : Lent L r areaLength indexLength
@@ -47,7 +47,7 @@ pub record Ready (L : Layout) (r : Store) (victims : ℕ) : Type 0 where
   pub number-left : NumberLeft r
 
 -- The new head's bytes fit a segment, and the work buffer.
-pub record Room (L : Layout) (r : Store) (split : Split) (area cells work : List ℕ) : Type 0 where
+pub record Room (L : Layout) (r : Record) (split : Split) (area cells work : List ℕ) : Type 0 where
   pub shape : Shape split area
   pub fits : digestSize L + length (keptBytes L area cells split) ≤ r .size
   pub long : r .size ≤ length work
@@ -55,11 +55,11 @@ pub record Room (L : Layout) (r : Store) (split : Split) (area cells work : List
 -- ---- the answer
 
 -- the cleaning pending, with a new head of n bytes
-abbrev pub cleaningWith : Store → ℕ → ℕ → ℕ → Start
+abbrev pub cleaningWith : Record → ℕ → ℕ → ℕ → Start
 cleaningWith r victims slot n = startedWith r (Clean slot victims n (headStores (r .size) n)) (headStores (r .size) n)
 
 -- a cleaning that keeps these bytes
-unfoldable pub begunWith : Layout → Store → ℕ → List ℕ → List ℕ → Option Refusal → Begun
+unfoldable pub begunWith : Layout → Record → ℕ → List ℕ → List ℕ → Option Refusal → Begun
 begunWith L r victims work bytes none =
     record {
       start = cleaningWith r victims (newSlot r) (digestSize L + length bytes);
@@ -68,7 +68,7 @@ begunWith L r victims work bytes none =
 begunWith L r victims work bytes (some c) = record { start = refusedStart r c; work = work }
 
 -- 13, 14 and 10
-abbrev pub ownTests : Layout → Store → List ℕ → ℕ → List Cause
+abbrev pub ownTests : Layout → Record → List ℕ → ℕ → List Cause
 ownTests L r bytes victims =
     when (victimsBad r victims) BadVictims
     ∷ when (ltb (r .size) (digestSize L + length bytes)) KeptTooLong
@@ -76,15 +76,15 @@ ownTests L r bytes victims =
     ∷ []
 
 -- Clean: 4, 3, 5, 13, 14, 10.
-unfoldable pub causesWith : Layout → Store → Lengths → List ℕ → ℕ → List Cause
+unfoldable pub causesWith : Layout → Record → Lengths → List ℕ → ℕ → List Cause
 causesWith L r l bytes victims = lentTests L r l ++ ownTests L r bytes victims
 
-abbrev pub cleanedWith : Layout → Store → ℕ → Lengths → List ℕ → List ℕ → Begun
+abbrev pub cleanedWith : Layout → Record → ℕ → Lengths → List ℕ → List ℕ → Begun
 cleanedWith L r victims l work bytes = begunWith L r victims work bytes (firstCause (causesWith L r l bytes victims))
 
 -- ---- with the bytes that the model keeps it is the model's start
 
-module _ (L : Layout) (r : Store) (log : List Placed) (victims : ℕ) (work : List ℕ) where
+module _ (L : Layout) (r : Record) (log : List Placed) (victims : ℕ) (work : List ℕ) where
   abbrev model-bytes : List ℕ
   model-bytes = allEncoded L (kept L victims log)
 
@@ -109,7 +109,7 @@ module _ (L : Layout) (r : Store) (log : List Placed) (victims : ℕ) (work : Li
 
 -- ---- the promise
 
-module _ (L : Layout) (r : Store) (victims : ℕ) (l : Lengths) (work : List ℕ) where
+module _ (L : Layout) (r : Record) (victims : ℕ) (l : Lengths) (work : List ℕ) where
   begun-long : (bytes : List ℕ) (o : Option Refusal) → length (begunWith L r victims work bytes o .work) ≡ length work
   unfolding begunWith
   begun-long bytes none = length-sets work 0 (encodedDigest L (newDigest r victims) ++ bytes)
@@ -130,7 +130,7 @@ module _ (L : Layout) (r : Store) (victims : ℕ) (l : Lengths) (work : List ℕ
       go false false true = refl
       go false false false = refl
 
-module _ (L : Layout) (area cells : List ℕ) (r : Store) (victims : ℕ) (work work′ : List ℕ) (a : Start) where
+module _ (L : Layout) (area cells : List ℕ) (r : Record) (victims : ℕ) (work work′ : List ℕ) (a : Start) where
   abbrev lengths : Lengths
   lengths = lentLengths area cells work
 

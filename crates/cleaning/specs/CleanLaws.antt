@@ -24,7 +24,7 @@ use Rattle.record.specs.declared.Pending.the-variants.{Clean}
 use Rattle.record.specs.declared.Refusal.{Refusal}
 use Rattle.record.specs.declared.Refusal.the-variants.{BadVictims, KeptTooLong, NumbersSpent}
 use Rattle.record.specs.declared.Start.{Start}
-use Rattle.record.specs.declared.Store.{Store}
+use Rattle.record.specs.declared.Record.{Record}
 use Rattle.model.specs.Causes.{Cause, when, firstCause}
 use Rattle.model.specs.Operations.{clean, newSlot, newDigest}
 use Rattle.model.specs.Refused.{Lengths, victimsBad, numbersSpent}
@@ -44,7 +44,7 @@ use Rattle.laws.specs.CauseLaws.{NoCause, no-cause}
 
 -- ---- single tests
 
-module _ (r : Store) (victims : ℕ) where
+module _ (r : Record) (victims : ℕ) where
   pub no-victims : victims ≡ 0 → true ≡ victimsBad r victims
   no-victims e = sym (either-true-left (eqb victims 0) _ (eq-eqb victims 0 e))
 
@@ -54,7 +54,7 @@ module _ (r : Store) (victims : ℕ) where
 
 -- ---- the tests of a start, by what they told
 
-module _ (L : Layout) (r : Store) (l : Lengths) (bytes : List ℕ) (victims : ℕ) where
+module _ (L : Layout) (r : Record) (l : Lengths) (bytes : List ℕ) (victims : ℕ) where
   abbrev CleanIs : Check → Type 0
   CleanIs a = a ≡ checked (firstCause (causesWith L r l bytes victims))
 
@@ -82,15 +82,15 @@ module _ (L : Layout) (r : Store) (l : Lengths) (bytes : List ℕ) (victims : �
             part-passed (lentTests L r l) _ lent
             (skipped _ _ (sym e ∙ good) (skipped _ _ (le-ltb (r .size) (digestSize L + length bytes) (omega arith)) h))
 
-        pub clean-spent : r .number .0 ≡ numberLimit → CleanIs (Check.Refused NumbersSpent)
-        clean-spent h = own (refused _ _ (eq-eqb (r .number .0) numberLimit h))
+        pub clean-spent : r .digest .0 ≡ numberLimit → CleanIs (Check.Refused NumbersSpent)
+        clean-spent h = own (refused _ _ (eq-eqb (r .digest .0) numberLimit h))
 
-        pub clean-passed : (r .number .0 ≡ numberLimit → ⊥) → CleanIs Check.Passed
-        clean-passed h = own (skipped _ _ (ne-eqb (r .number .0) numberLimit h) passed)
+        pub clean-passed : (r .digest .0 ≡ numberLimit → ⊥) → CleanIs Check.Passed
+        clean-passed h = own (skipped _ _ (ne-eqb (r .digest .0) numberLimit h) passed)
 
 -- ---- the promise at each answer
 
-module _ (L : Layout) (area cells : List ℕ) (r : Store) (victims : ℕ) (work : List ℕ) (bytes : Bytes area) where
+module _ (L : Layout) (area cells : List ℕ) (r : Record) (victims : ℕ) (work : List ℕ) (bytes : Bytes area) where
   -- the first cause of this start
   abbrev pub causeHere : Option Refusal
   causeHere = firstCause (causesWith L r (lentLengths area cells work) (keptBytes L area cells (splitOf r victims)) victims)
@@ -113,13 +113,13 @@ module _ (L : Layout) (area cells : List ℕ) (r : Store) (victims : ℕ) (work 
 
 -- ---- what the parts of a start ask
 
-pub split-shape : (L : Layout) (r : Store) (i victims : ℕ) (area : List ℕ) (split : Split) → Lent L r (length area) i → split ≡ splitOf r victims → Shape split area
+pub split-shape : (L : Layout) (r : Record) (i victims : ℕ) (area : List ℕ) (split : Split) → Lent L r (length area) i → split ≡ splitOf r victims → Shape split area
 split-shape L r i victims area split f is =
     subst (λ (s : Split). Shape s area) (sym is)
     (record { slots-high = f .slots-high; size-low = f .size-low; size-high = f .size-high; whole = f .area-own })
 
 -- all tests are passed
-module _ (L : Layout) (area cells : List ℕ) (r : Store) (victims : ℕ) (work : List ℕ) (split : Split) (is : split ≡ splitOf r victims)
+module _ (L : Layout) (area cells : List ℕ) (r : Record) (victims : ℕ) (work : List ℕ) (split : Split) (is : split ≡ splitOf r victims)
     (e : Check.Passed ≡ checked (firstCause (causesWith L r (lentLengths area cells work) (keptBytes L area cells (splitOf r victims)) victims)))
   where
     abbrev causes : List Cause
@@ -140,7 +140,7 @@ module _ (L : Layout) (area cells : List ℕ) (r : Store) (victims : ℕ) (work 
           indexLength = length cells;
           lent = in-range;
           all-named = not-false _ (either-false-right (eqb victims 0) (not (within victims (r .map))) (tests .1 .1 .1 .0));
-          number-left = eqb-false (r .number .0) numberLimit (tests .1 .1 .1 .1 .1 .0);
+          number-left = eqb-false (r .digest .0) numberLimit (tests .1 .1 .1 .1 .1 .0);
         }
 
     pub room : Room L r split area cells work
@@ -156,7 +156,7 @@ module _ (L : Layout) (area cells : List ℕ) (r : Store) (victims : ℕ) (work 
 
 -- ---- the work buffer filled and the answer
 
-module _ (L : Layout) (r : Store) (victims : ℕ) (work bytes : List ℕ) where
+module _ (L : Layout) (r : Record) (victims : ℕ) (work bytes : List ℕ) where
   pub begun-filled : (d : Digest) (work₁ work₂ : List ℕ) (n slot left : ℕ) (a : Start) → d ≡ newDigest r victims →
       work₁ ≡ sets work 0 (encodedDigest L d) → Copied bytes work₁ (digestSize L) work₂ n → slot ≡ newSlot r → left ≡ headStores (r .size) n →
       a ≡ startedWith r (Clean slot victims n left) left → record { start = a; work = work₂ } ≡ begunWith L r victims work bytes none

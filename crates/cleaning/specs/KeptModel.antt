@@ -20,7 +20,7 @@ use Rattle.slot_map.specs.Bit.{named, within, less}
 use Rattle.slot_map.specs.BitLaws.{bit-le, within-le, named-true, set-named}
 use Rattle.record.specs.Answers.{withPending}
 use Rattle.record.specs.declared.Pending.the-variants.{Idle}
-use Rattle.record.specs.declared.Store.{Store}
+use Rattle.record.specs.declared.Record.{Record}
 use Rattle.model.specs.Log.{View, Placed, placeOf, segmentOf, viewsOf, scan, itemsOf, placedIn, logOf, latest}
 use Rattle.model.specs.Operations.{logNow, isVersion, isHighest, isKept, keptOf, kept, allEncoded}
 use Rattle.model.specs.Promises.{Genuine}
@@ -41,7 +41,7 @@ use Rattle.cleaning.specs.Outside.{slot-items, object-same}
 use Rattle.cleaning.specs.declared.Split.{Split}
 
 -- the log's slots parted by the victims
-abbrev pub splitOf : Store → ℕ → Split
+abbrev pub splitOf : Record → ℕ → Split
 splitOf r victims = record { slots = r .slots; size = r .size; victims = victims; outside = less (r .map) victims }
 
 -- ---- what is kept, and its bytes, part by part
@@ -82,7 +82,7 @@ module _ (L : Layout) where
 
 -- ---- a genuine store
 
-module _ (L : Layout) (area cells : List ℕ) (r : Store) (g : Genuine L area r cells) where
+module _ (L : Layout) (area cells : List ℕ) (r : Record) (g : Genuine L area r cells) where
   abbrev v : ℕ → View
   v = viewsOf L area (r .size)
 
@@ -91,7 +91,7 @@ module _ (L : Layout) (area cells : List ℕ) (r : Store) (g : Genuine L area r 
 
   scans : AllScanned v (named (r .map)) (r .slots)
   scans =
-      recovered-case L (r .slots) (r .size) (r .cells) area (λ (k : Store). AllScanned v (named (k .map)) (r .slots)) (λ h l f. f .scans)
+      recovered-case L (r .slots) (r .size) (r .cells) area (λ (k : Record). AllScanned v (named (k .map)) (r .slots)) (λ h l f. f .scans)
       (withPending r Idle) (g .recovers)
 
   apart : Apart log

@@ -3,9 +3,9 @@ use crate::Split;
 use crate::copy::copy_kept;
 use crate::kept::measure;
 use record::Pending;
+use record::Record;
 use record::Refusal;
 use record::Start;
-use record::Store;
 use segment::layout::DIGEST_SIZE;
 use segment::layout::NUMBER_LIMIT;
 use segment::writer::write_digest;
@@ -32,48 +32,48 @@ ghost use Rattle.cleaning.specs.KeptModel.{splitOf};
 ghost use Rattle.cleaning.specs.Begun.{Ready, Room, causesWith, begunWith};
 
 // Whether the victims are none, or not all of them slots of the log.
-fn victims_bad(store: Store, victims: u32) -> bool
-    ensures { λ r. ⌜ r ≡ victimsBad store victims ⌝ }
+fn victims_bad(rec: Record, victims: u32) -> bool
+    ensures { λ r. ⌜ r ≡ victimsBad rec victims ⌝ }
 {
     if victims == 0 {
         return true;
     }
-    !is_within(victims, store.map)
+    !is_within(victims, rec.map)
 }
 
 // The log's slots, parted by the victims.
-fn split_of(store: Store, victims: u32) -> Split
-    ensures { λ r. ⌜ r ≡ splitOf store victims ⌝ }
+fn split_of(rec: Record, victims: u32) -> Split
+    ensures { λ r. ⌜ r ≡ splitOf rec victims ⌝ }
 {
     Split {
-        slots: store.slots as usize,
-        size: store.size as usize,
+        slots: rec.slots as usize,
+        size: rec.size as usize,
         victims: victims,
-        outside: without_slots(store.map, victims),
+        outside: without_slots(rec.map, victims),
     }
 }
 
 // Clean: 4, 3, 5, 13, 14, 10. What is kept is measured before a byte of the work buffer changes.
-fn check_clean(store: Store, area: &[u8], index: &[u32], work: usize, victims: u32) -> Check
+fn check_clean(rec: Record, area: &[u8], index: &[u32], work: usize, victims: u32) -> Check
     ensures { λ r.
         ⌜
         r ≡ checked
         (firstCause
-        (causesWith edition1 store (record { area = length (now (area .entry)); index = length (now (index .entry)); work = work })
-        (keptBytes edition1 (now (area .entry)) (now (index .entry)) (splitOf store victims)) victims))
+        (causesWith edition1 rec (record { area = length (now (area .entry)); index = length (now (index .entry)); work = work })
+        (keptBytes edition1 (now (area .entry)) (now (index .entry)) (splitOf rec victims)) victims))
         ⌝ }
 {
-    match check_lent(store, area.len(), index.len(), work) {
+    match check_lent(rec, area.len(), index.len(), work) {
         Check::Refused(c) => Check::Refused(c),
         Check::Passed => {
-            if victims_bad(store, victims) {
+            if victims_bad(rec, victims) {
                 return Check::Refused(Refusal::BadVictims);
             }
-            let length = DIGEST_SIZE + measure(area, index, split_of(store, victims));
-            if (store.size as usize) < length {
+            let length = DIGEST_SIZE + measure(area, index, split_of(rec, victims));
+            if (rec.size as usize) < length {
                 return Check::Refused(Refusal::KeptTooLong);
             }
-            let number = store.number;
+            let number = rec.digest;
             if number.0 == NUMBER_LIMIT {
                 return Check::Refused(Refusal::NumbersSpent);
             }
@@ -84,25 +84,25 @@ fn check_clean(store: Store, area: &[u8], index: &[u32], work: usize, victims: u
 
 // The new head's bytes go to the work buffer, and the cleaning is pending.
 fn begin(
-    store: Store,
+    rec: Record,
     area: &[u8],
     index: &[u32],
     work: &mut [u8],
     victims: u32,
     split: Split,
 ) -> Start
-    requires { ⌜ Ready edition1 store victims ⌝ }
-    requires { ⌜ Room edition1 store split (now area) (now index) (now work) ⌝ }
+    requires { ⌜ Ready edition1 rec victims ⌝ }
+    requires { ⌜ Room edition1 rec split (now area) (now index) (now work) ⌝ }
     ensures { λ r.
         ⌜
         record { start = r; work = now (work .exit) }
-        ≡ begunWith edition1 store victims (now (work .entry)) (keptBytes edition1 (now (area .entry)) (now (index .entry)) split) none
+        ≡ begunWith edition1 rec victims (now (work .entry)) (keptBytes edition1 (now (area .entry)) (now (index .entry)) split) none
         ⌝ }
 {
-    let slot = next_free(store.slots, store.map, store.head);
-    write_digest(work, 0, new_digest(store, victims, slot));
+    let slot = next_free(rec.slots, rec.map, rec.head);
+    write_digest(work, 0, new_digest(rec, victims, slot));
     let count = copy_kept(area, index, split, work, DIGEST_SIZE);
-    let left = head_stores(store.size as usize, count) as u32;
+    let left = head_stores(rec.size as usize, count) as u32;
     let length = count as u32;
     let pending = Pending::Clean {
         slot,
@@ -110,21 +110,21 @@ fn begin(
         length,
         left,
     };
-    started(store, pending, left)
+    started(rec, pending, left)
 }
 
 // A cleaning of the victims is started.
-pub fn clean(store: Store, area: &[u8], index: &[u32], work: &mut [u8], victims: u32) -> Start
+pub fn clean(rec: Record, area: &[u8], index: &[u32], work: &mut [u8], victims: u32) -> Start
     ensures { λ r.
         ⌜
-        StartPromise edition1 (Operation.clean victims) store (now (area .entry)) (now (index .entry)) (now (work .entry)) (now (work .exit)) r
+        StartPromise edition1 (Operation.clean victims) rec (now (area .entry)) (now (index .entry)) (now (work .entry)) (now (work .exit)) r
         ⌝ }
 {
-    match check_clean(store, area, index, work.len(), victims) {
-        Check::Refused(c) => refused(store, c),
+    match check_clean(rec, area, index, work.len(), victims) {
+        Check::Refused(c) => refused(rec, c),
         Check::Passed => {
-            let split = split_of(store, victims);
-            begin(store, area, index, work, victims, split)
+            let split = split_of(rec, victims);
+            begin(rec, area, index, work, victims, split)
         }
     }
 }

@@ -133,7 +133,7 @@ pub deleted-stays-gone :
     noWrite (bookAfter freshBook (before ++ called steps a ∷ [])) k after ≡ true →
     (order cells cells′ : List ℕ) (r : Recovery) → orderBad n order ≡ false → LargeEnough (w .cells) (length cells) →
     RecoverPromise edition1 n s order (w .area) cells cells′ r → TypedKey k → (x : Reading) →
-    ReadPromise edition1 (r .store) (w .area) cells′ k x → x .answer ≡ ReadAnswer.Refused Refusal.Absent
+    ReadPromise edition1 (r .rec) (w .area) cells′ k x → x .answer ≡ ReadAnswer.Refused Refusal.Absent
 unfolding bookAnswer bookAfter
 deleted-stays-gone n s area₀ area ab f before after a k w run p q none-written order cells cells′ r good large promise typed x read-promise =
     demand-3 n s area₀ area ab f (before ++ called steps a ∷ after) w run .recovery order cells cells′ r good large promise .answers k typed x read-promise ∙

@@ -12,9 +12,9 @@ use Rattle.segment.specs.Choice.{pick, both-left, both-right}
 use Rattle.segment.specs.Layout.{Layout, objectKind}
 use Rattle.segment.specs.Entry.{Entry}
 use Rattle.segment.specs.declared.Key.{Key}
-use Rattle.record.specs.declared.Store.{Store}
+use Rattle.record.specs.declared.Record.{Record}
 use Rattle.model.specs.Log.{Placed, sameKey}
-use Rattle.model.specs.Operations.{Operation, write, delete, clean, logNow, kindElse, writtenEntry, tombstoneEntry, fitsHead, appendedStore, headedStore, finishedStore, toldVersion}
+use Rattle.model.specs.Operations.{Operation, write, delete, clean, logNow, kindElse, writtenEntry, tombstoneEntry, fitsHead, appendedRecord, headedRecord, finishedRecord, toldVersion}
 use Rattle.laws.specs.Operated.{mapAfter}
 use Rattle.history.specs.Book.{Kept, Book, finish, versionFor, sameKeys}
 use Rattle.history.proofs.Invariant.{bookEntry}
@@ -26,15 +26,15 @@ finish-calm b (write k value) = refl
 finish-calm b (delete k) = refl
 finish-calm b (clean victims) = refl
 
-module _ (L : Layout) (before : List ℕ) (idle : Store) (b : Book) (same : idle .next .0 ≡ b .next) where
+module _ (L : Layout) (before : List ℕ) (idle : Record) (b : Book) (same : idle .next .0 ≡ b .next) where
   -- the record's next version and the book's
-  entry-next : (t : Bool) (e : Entry) (log : List Placed) → pick t (appendedStore L idle log e) (headedStore L idle log e) .next .0 ≡ b .next + 1
+  entry-next : (t : Bool) (e : Entry) (log : List Placed) → pick t (appendedRecord L idle log e) (headedRecord L idle log e) .next .0 ≡ b .next + 1
   unfolding pick
   entry-next true e log = rw same refl
   entry-next false e log = rw same refl
 
-  pub finished-next : (o : Operation) → finishedStore L before idle o .next .0 ≡ finish b o .next
-  unfolding finishedStore finish
+  pub finished-next : (o : Operation) → finishedRecord L before idle o .next .0 ≡ finish b o .next
+  unfolding finishedRecord finish
   finished-next (write k value) = entry-next (fitsHead L idle (writtenEntry L idle k value)) (writtenEntry L idle k value) (logNow L before idle)
   finished-next (delete k) = entry-next (fitsHead L idle (tombstoneEntry L idle k)) (tombstoneEntry L idle k) (logNow L before idle)
   finished-next (clean victims) = same

@@ -12,10 +12,10 @@ use Rattle.segment.specs.declared.Key.{Key}
 use Rattle.record.specs.Answers.{withPending}
 use Rattle.record.specs.declared.Pending.the-variants.{Idle}
 use Rattle.record.specs.declared.Refusal.{Refusal}
-use Rattle.record.specs.declared.Store.{Store}
+use Rattle.record.specs.declared.Record.{Record}
 use Rattle.model.specs.Log.{Placed}
 use Rattle.model.specs.Causes.{firstCause}
-use Rattle.model.specs.Recovery.{recovered, storeOf, ifNone, areaCauses}
+use Rattle.model.specs.Recovery.{recovered, recordFrom, ifNone, areaCauses}
 use Rattle.model.specs.Operations.{logNow, kindElse, storesFor}
 use Rattle.model.specs.Promises.{Genuine, Started}
 use Rattle.laws.specs.MapLaws.{valueAt}
@@ -37,8 +37,8 @@ bookEntry L k (some x) =
 
 -- The bytes of the area say what the book holds.
 pub record Agrees (L : Layout) (n s : ℕ) (area : List ℕ) (b : Book) : Type 0 where
-  pub next-same : storeOf L n s 16 area .next .0 ≡ b .next
-  pub map-same : (k : Key) → valueAt L (logNow L area (storeOf L n s 16 area)) k ≡ bookEntry L k (b .keys k)
+  pub next-same : recordFrom L n s 16 area .next .0 ≡ b .next
+  pub map-same : (k : Key) → valueAt L (logNow L area (recordFrom L n s 16 area)) k ≡ bookEntry L k (b .keys k)
 
 -- how many cells are known to suffice
 unfoldable pub baseCells : Option ℕ → ℕ
@@ -47,9 +47,9 @@ baseCells (some m) = m
 
 -- Nothing is pending, or a started operation with the book's stores left.
 pub data Phase (L : Layout) (area : List ℕ) (b : Book) (h : Held) : Type 0 where
-  calm : h .store .pending ≡ Idle → b .pending ≡ none → Phase L area b h
+  calm : h .rec .pending ≡ Idle → b .pending ≡ none → Phase L area b h
   busy :
-      (t : Started L area (h .store) (h .work)) →
+      (t : Started L area (h .rec) (h .work)) →
       b .pending ≡
       some
       (record {
@@ -59,10 +59,10 @@ pub data Phase (L : Layout) (area : List ℕ) (b : Book) (h : Held) : Type 0 whe
       Phase L area b h
 
 pub record Holding (L : Layout) (n s : ℕ) (area : List ℕ) (m : Option ℕ) (b : Book) (h : Held) : Type 0 where
-  pub slots-same : h .store .slots ≡ n
-  pub size-same : h .store .size ≡ s
-  pub cells-same : m ≡ some (h .store .cells)
-  pub genuine : Genuine L area (h .store) (h .cells)
+  pub slots-same : h .rec .slots ≡ n
+  pub size-same : h .rec .size ≡ s
+  pub cells-same : m ≡ some (h .rec .cells)
+  pub genuine : Genuine L area (h .rec) (h .cells)
   pub phase : Phase L area b h
 
 unfoldable pub HeldGood : Layout → ℕ → ℕ → List ℕ → Option ℕ → Book → Option Held → Type 0
@@ -72,7 +72,7 @@ HeldGood L n s area m b (some h) = Holding L n s area m b h
 -- The invariant of a world with its book, and the highest version told so far.
 pub record Inv (L : Layout) (n s : ℕ) (w : World) (b : Book) (told : ℕ) : Type 0 where
   pub bytes : Bytes (w .area)
-  pub base : recovered L n s (baseCells (w .cells)) (w .area) ≡ some (storeOf L n s (baseCells (w .cells)) (w .area))
+  pub base : recovered L n s (baseCells (w .cells)) (w .area) ≡ some (recordFrom L n s (baseCells (w .cells)) (w .area))
   pub agrees : Agrees L n s (w .area) b
   pub below : told < b .next
   pub held : HeldGood L n s (w .area) (w .cells) b (w .held)
@@ -80,45 +80,45 @@ pub record Inv (L : Layout) (n s : ℕ) (w : World) (b : Book) (told : ℕ) : Ty
 -- ---- recovered records
 
 -- the record that recovery gives is the one that the area's bytes say
-pub recovered-is : (L : Layout) (n s m : ℕ) (area : List ℕ) (r : Store) → recovered L n s m area ≡ some r → r ≡ storeOf L n s m area
+pub recovered-is : (L : Layout) (n s m : ℕ) (area : List ℕ) (r : Record) → recovered L n s m area ≡ some r → r ≡ recordFrom L n s m area
 unfolding recovered ifNone
 recovered-is L n s m area r e = go (firstCause (areaCauses L n s m area)) e
   where
-    go : (c : Option Refusal) → ifNone c (storeOf L n s m area) ≡ some r → r ≡ storeOf L n s m area
+    go : (c : Option Refusal) → ifNone c (recordFrom L n s m area) ≡ some r → r ≡ recordFrom L n s m area
     go none p = cc
     go (some c) p = cc
 
 -- its next version and its log do not go by the number of cells
 pub next-of :
-    (L : Layout) (n s m : ℕ) (area : List ℕ) (r : Store) → recovered L n s m area ≡ some r → storeOf L n s 16 area .next .0 ≡ r .next .0
-next-of L n s m area r e = ap (λ (x : Store). x .next .0) (sym (recovered-is L n s m area r e))
+    (L : Layout) (n s m : ℕ) (area : List ℕ) (r : Record) → recovered L n s m area ≡ some r → recordFrom L n s 16 area .next .0 ≡ r .next .0
+next-of L n s m area r e = ap (λ (x : Record). x .next .0) (sym (recovered-is L n s m area r e))
 
 pub log-of :
-    (L : Layout) (n s m : ℕ) (area : List ℕ) (r : Store) → recovered L n s m area ≡ some r →
-    logNow L area (storeOf L n s 16 area) ≡ logNow L area r
+    (L : Layout) (n s m : ℕ) (area : List ℕ) (r : Record) → recovered L n s m area ≡ some r →
+    logNow L area (recordFrom L n s 16 area) ≡ logNow L area r
 log-of L n s m area r e = ap (logNow L area) (sym (recovered-is L n s m area r e))
 
-pub calm-of : (L : Layout) (n s m : ℕ) (area : List ℕ) (r : Store) → recovered L n s m area ≡ some r → r .pending ≡ Idle
-calm-of L n s m area r e = ap (λ (x : Store). x .pending) (recovered-is L n s m area r e)
+pub calm-of : (L : Layout) (n s m : ℕ) (area : List ℕ) (r : Record) → recovered L n s m area ≡ some r → r .pending ≡ Idle
+calm-of L n s m area r e = ap (λ (x : Record). x .pending) (recovered-is L n s m area r e)
 
-pub slots-of : (L : Layout) (n s m : ℕ) (area : List ℕ) (r : Store) → recovered L n s m area ≡ some r → r .slots ≡ n
-slots-of L n s m area r e = ap (λ (x : Store). x .slots) (recovered-is L n s m area r e)
+pub slots-of : (L : Layout) (n s m : ℕ) (area : List ℕ) (r : Record) → recovered L n s m area ≡ some r → r .slots ≡ n
+slots-of L n s m area r e = ap (λ (x : Record). x .slots) (recovered-is L n s m area r e)
 
-pub size-of : (L : Layout) (n s m : ℕ) (area : List ℕ) (r : Store) → recovered L n s m area ≡ some r → r .size ≡ s
-size-of L n s m area r e = ap (λ (x : Store). x .size) (recovered-is L n s m area r e)
+pub size-of : (L : Layout) (n s m : ℕ) (area : List ℕ) (r : Record) → recovered L n s m area ≡ some r → r .size ≡ s
+size-of L n s m area r e = ap (λ (x : Record). x .size) (recovered-is L n s m area r e)
 
-pub cells-of : (L : Layout) (n s m : ℕ) (area : List ℕ) (r : Store) → recovered L n s m area ≡ some r → r .cells ≡ m
-cells-of L n s m area r e = ap (λ (x : Store). x .cells) (recovered-is L n s m area r e)
+pub cells-of : (L : Layout) (n s m : ℕ) (area : List ℕ) (r : Record) → recovered L n s m area ≡ some r → r .cells ≡ m
+cells-of L n s m area r e = ap (λ (x : Record). x .cells) (recovered-is L n s m area r e)
 
 -- another way to write the geometry
 pub with-geometry :
-    (L : Layout) (n n′ s s′ m : ℕ) (area : List ℕ) (x : Option Store) → n ≡ n′ → s ≡ s′ → recovered L n s m area ≡ x → recovered L n′ s′ m area ≡ x
+    (L : Layout) (n n′ s s′ m : ℕ) (area : List ℕ) (x : Option Record) → n ≡ n′ → s ≡ s′ → recovered L n s m area ≡ x → recovered L n′ s′ m area ≡ x
 with-geometry L n n′ s s′ m area x p q e =
     subst (λ (k : ℕ). recovered L k s′ m area ≡ x) p (subst (λ (k : ℕ). recovered L n k m area ≡ x) q e)
 
 -- so a recovered record is what recovery with its own geometry gives
 pub own-geometry :
-    (L : Layout) (n s m : ℕ) (area : List ℕ) (r : Store) → recovered L n s m area ≡ some r →
+    (L : Layout) (n s m : ℕ) (area : List ℕ) (r : Record) → recovered L n s m area ≡ some r →
     recovered L (r .slots) (r .size) (r .cells) area ≡ some r
 own-geometry L n s m area r e = moved ∙ e
   where
@@ -126,12 +126,12 @@ own-geometry L n s m area r e = moved ∙ e
     moved = λ i. recovered L (slots-of L n s m area r e i) (size-of L n s m area r e i) (cells-of L n s m area r e i) area
 
 -- a record with nothing pending is itself, its pending operation aside
-pub idle-same : (r : Store) → r .pending ≡ Idle → withPending r Idle ≡ r
+pub idle-same : (r : Record) → r .pending ≡ Idle → withPending r Idle ≡ r
 idle-same r p = ap (withPending r) (sym p)
 
 -- The invariant from a recovered record that agrees with the book.
 pub rebuilt :
-    (L : Layout) (n s m : ℕ) (area : List ℕ) (r : Store) (held : Option Held) (b : Book) (told : ℕ) → Bytes area →
+    (L : Layout) (n s m : ℕ) (area : List ℕ) (r : Record) (held : Option Held) (b : Book) (told : ℕ) → Bytes area →
     recovered L n s m area ≡ some r → r .next .0 ≡ b .next → ((k : Key) → valueAt L (logNow L area r) k ≡ bookEntry L k (b .keys k)) →
     told < b .next → HeldGood L n s area (some m) b held → Inv L n s (record { area = area; held = held; cells = some m }) b told
 unfolding baseCells

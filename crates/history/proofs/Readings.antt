@@ -20,7 +20,7 @@ use Rattle.model.specs.Recovery.{recovered}
 use Rattle.model.specs.Operations.{logNow}
 use Rattle.model.specs.Refused.{readCauses}
 use Rattle.model.specs.Promises.{ReadPromise, readAnswer, presentAnswer, readLengths}
-use Rattle.laws.specs.Operated.{StoreLaws}
+use Rattle.laws.specs.Operated.{OperationLaws}
 use Rattle.history.specs.Book.{reads, readsValue, called, accepted, Book, feed, feedCall, toldBy}
 use Rattle.history.specs.Runs.{Held}
 use Rattle.history.proofs.Invariant.{Inv, Holding, next-of, with-geometry}
@@ -30,28 +30,28 @@ unfolding pick
 pick-same true a = refl
 pick-same false a = refl
 
-module _ (L : Layout) (laws : StoreLaws L) (n s : ℕ) where
+module _ (L : Layout) (laws : OperationLaws L) (n s : ℕ) where
   module _ (area : List ℕ) (h : Held) (m : Option ℕ) (b : Book) (t : ℕ) (inv : Inv L n s (record { area = area; held = some h; cells = m }) b t)
       (good : Holding L n s area m b h) (k : Key)
     where
-      idle-recovers : recovered L n s (h .store .cells) area ≡ some (withPending (h .store) Idle)
+      idle-recovers : recovered L n s (h .rec .cells) area ≡ some (withPending (h .rec) Idle)
       idle-recovers =
-          with-geometry L (h .store .slots) n (h .store .size) s (h .store .cells) area (some (withPending (h .store) Idle)) (good .slots-same)
+          with-geometry L (h .rec .slots) n (h .rec .size) s (h .rec .cells) area (some (withPending (h .rec) Idle)) (good .slots-same)
           (good .size-same) (good .genuine .recovers)
 
-      next-now : h .store .next .0 ≡ b .next
-      next-now = sym (next-of L n s (h .store .cells) area (withPending (h .store) Idle) idle-recovers) ∙ inv .agrees .next-same
+      next-now : h .rec .next .0 ≡ b .next
+      next-now = sym (next-of L n s (h .rec .cells) area (withPending (h .rec) Idle) idle-recovers) ∙ inv .agrees .next-same
 
       told-less :
-          (c : Option Refusal) (x : Option Placed) → present L (logNow L area (h .store)) k ≡ x → readSaid (readAnswer c x) .version < b .next
+          (c : Option Refusal) (x : Option Placed) → present L (logNow L area (h .rec)) k ≡ x → readSaid (readAnswer c x) .version < b .next
       unfolding readAnswer presentAnswer
       told-less (some c) x e = omega (arith, inv .below)
       told-less none none e = omega (arith, inv .below)
       told-less none (some x) e =
-          omega (arith, next-now, laws .version-below area (withPending (h .store) Idle) (good .genuine .recovers) k x e)
+          omega (arith, next-now, laws .version-below area (withPending (h .rec) Idle) (good .genuine .recovers) k x e)
 
       pub read-keeps :
-          (a : Reading) → ReadPromise L (h .store) area (h .cells) k a →
+          (a : Reading) → ReadPromise L (h .rec) area (h .cells) k a →
           Inv L n s (record { area = area; held = some h; cells = m }) (feed b (called (reads k) (readSaid (a .answer))))
           (max t (toldBy (called (reads k) (readSaid (a .answer)))))
       unfolding feed feedCall toldBy
@@ -62,7 +62,7 @@ module _ (L : Layout) (laws : StoreLaws L) (n s : ℕ) where
           less : readSaid (a .answer) .version < b .next
           less =
               subst⁻¹ (λ (x : ReadAnswer). readSaid x .version < b .next) (p .exact (good .genuine))
-              (told-less (firstCause (readCauses L (h .store) (logNow L area (h .store)) (readLengths area (h .cells)) k)) (present L (logNow L area (h .store)) k) refl)
+              (told-less (firstCause (readCauses L (h .rec) (logNow L area (h .rec)) (readLengths area (h .cells)) k)) (present L (logNow L area (h .rec)) k) refl)
 
   pub value-keeps :
       (area : List ℕ) (h : Held) (m : Option ℕ) (b : Book) (t : ℕ) (k : Key) → Inv L n s (record { area = area; held = some h; cells = m }) b t →

@@ -14,9 +14,9 @@ use Rattle.record.specs.Refusals.{numberOfRefusal}
 use Rattle.record.specs.declared.Recovery.{Recovery}
 use Rattle.record.specs.declared.RecoverAnswer.{RecoverAnswer}
 use Rattle.record.specs.declared.Refusal.{Refusal}
-use Rattle.record.specs.declared.Store.{Store}
+use Rattle.record.specs.declared.Record.{Record}
 use Rattle.model.specs.Causes.{firstCause}
-use Rattle.model.specs.Recovery.{recovered, storeOf, recoverCauses, recovery, recoveryFor}
+use Rattle.model.specs.Recovery.{recovered, recordFrom, recoverCauses, recovery, recoveryFor}
 use Rattle.model.specs.Index.{IndexRule}
 use Rattle.model.specs.Operations.{logNow}
 use Rattle.model.specs.Promises.{RecoverPromise, IndexAfter}
@@ -29,10 +29,10 @@ use Rattle.history.proofs.Invariant.{Inv, Holding, HeldGood, calm, rebu
 -- where recovery is accepted, the area recovers to its record
 pub accepted-recovers :
     (L : Layout) (n s m : ℕ) (order area : List ℕ) → firstCause (recoverCauses L n s m order area) ≡ none →
-    recovered L n s m area ≡ some (storeOf L n s m area)
+    recovered L n s m area ≡ some (recordFrom L n s m area)
 unfolding recovery recoveryFor
 accepted-recovers L n s m order area e =
-    recovery-recovered L n s m area order (storeOf L n s m area) (ap (λ (c : Option Refusal). recoveryFor c (storeOf L n s m area)) e)
+    recovery-recovered L n s m area order (recordFrom L n s m area) (ap (λ (c : Option Refusal). recoveryFor c (recordFrom L n s m area)) e)
 
 module _ (L : Layout) (n s : ℕ) where
   -- what is to be shown of a recovery that answers r and leaves these cells
@@ -48,7 +48,7 @@ module _ (L : Layout) (n s : ℕ) where
 
   refused :
       (w : World) (b : Book) (t : ℕ) (cells′ : List ℕ) (c : Refusal) → Inv L n s w b t →
-      RecoverGoal w b t cells′ (record { answer = RecoverAnswer.Refused c; store = blank })
+      RecoverGoal w b t cells′ (record { answer = RecoverAnswer.Refused c; rec = blank })
   unfolding feed toldBy pick
   refused w b t cells′ c inv = rw (max-zero t, refusal-number c) (go (eqb (numberOfRefusal c) 20))
     where
@@ -59,16 +59,16 @@ module _ (L : Layout) (n s : ℕ) where
   accepts :
       (w : World) (b : Book) (t : ℕ) (order cells cells′ : List ℕ) → Inv L n s w b t →
       firstCause (recoverCauses L n s (length cells) order (w .area)) ≡ none → length cells′ ≡ length cells →
-      IndexRule s (logNow L (w .area) (storeOf L n s (length cells) (w .area))) cells′ →
-      RecoverGoal w b t cells′ (record { answer = RecoverAnswer.Recovered; store = storeOf L n s (length cells) (w .area) })
+      IndexRule s (logNow L (w .area) (recordFrom L n s (length cells) (w .area))) cells′ →
+      RecoverGoal w b t cells′ (record { answer = RecoverAnswer.Recovered; rec = recordFrom L n s (length cells) (w .area) })
   unfolding feed feedCall toldBy HeldGood pick
   accepts w b t order cells cells′ inv e same rule =
       rw (max-zero t, same)
-      (rebuilt L n s (length cells) (w .area) (storeOf L n s (length cells) (w .area)) (some held′) (withoutPending b) t (inv .bytes)
+      (rebuilt L n s (length cells) (w .area) (recordFrom L n s (length cells) (w .area)) (some held′) (withoutPending b) t (inv .bytes)
       (accepted-recovers L n s (length cells) order (w .area) e) (inv .agrees .next-same) (inv .agrees .map-same) (inv .below) holding′)
     where
       held′ : Held
-      held′ = record { store = storeOf L n s (length cells) (w .area); cells = cells′; work = [] }
+      held′ = record { rec = recordFrom L n s (length cells) (w .area); cells = cells′; work = [] }
 
       holding′ : Holding L n s (w .area) (some (length cells)) (withoutPending b) held′
       holding′ =
@@ -88,16 +88,16 @@ module _ (L : Layout) (n s : ℕ) where
   recover-keeps w b t order cells cells′ r p inv =
       subst⁻¹ (λ (x : Recovery). RecoverGoal w b t cells′ x) (p .answers) (go cause refl index′)
     where
-      store : Store
-      store = storeOf L n s (length cells) (w .area)
+      rec : Record
+      rec = recordFrom L n s (length cells) (w .area)
 
       cause : Option Refusal
       cause = firstCause (recoverCauses L n s (length cells) order (w .area))
 
-      index′ : IndexAfter L (w .area) cells cells′ (recoveryFor cause store) (recoveryFor cause store .answer)
+      index′ : IndexAfter L (w .area) cells cells′ (recoveryFor cause rec) (recoveryFor cause rec .answer)
       index′ = subst (λ (x : Recovery). IndexAfter L (w .area) cells cells′ x (x .answer)) (p .answers) (p .index)
 
-      go : (c : Option Refusal) → cause ≡ c → IndexAfter L (w .area) cells cells′ (recoveryFor c store) (recoveryFor c store .answer) → RecoverGoal w b t cells′ (recoveryFor c store)
+      go : (c : Option Refusal) → cause ≡ c → IndexAfter L (w .area) cells cells′ (recoveryFor c rec) (recoveryFor c rec .answer) → RecoverGoal w b t cells′ (recoveryFor c rec)
       go none e i = accepts w b t order cells cells′ inv e (p .same-length) i
       go (some c) e i = refused w b t cells′ c inv
 

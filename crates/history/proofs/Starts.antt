@@ -20,15 +20,15 @@ use Rattle.record.specs.declared.Pending.the-variants.{Idle, Append, NewHead, C
 use Rattle.record.specs.declared.Refusal.{Refusal}
 use Rattle.record.specs.declared.Start.{Start}
 use Rattle.record.specs.declared.StartAnswer.{StartAnswer}
-use Rattle.record.specs.declared.Store.{Store}
+use Rattle.record.specs.declared.Record.{Record}
 use Rattle.model.specs.Log.{Placed}
 use Rattle.model.specs.Causes.{Cause, firstCause}
 use Rattle.model.specs.Recovery.{recovered}
-use Rattle.model.specs.Operations.{Operation, write, delete, clean, Typed, logNow, laid, storesFor, startedStore, stored}
+use Rattle.model.specs.Operations.{Operation, write, delete, clean, Typed, logNow, laid, storesFor, startedRecord, stored}
 use Rattle.model.specs.Refused.{Lengths, recordBad, workShort, isPending, startCauses}
 use Rattle.model.specs.Promises.{Started, StartPromise, Begun, begun, lentLengths}
 use Rattle.laws.specs.CauseLaws.{cause-false, cause-rest, refusal-number}
-use Rattle.laws.specs.Operated.{Accepted, StoreLaws}
+use Rattle.laws.specs.Operated.{Accepted, OperationLaws}
 use Rattle.history.specs.Book.{starts, called, Book, feed, feedCall, toldBy}
 use Rattle.history.specs.Runs.{Held, heldAfter}
 use Rattle.history.specs.Demand3.{EventAgrees}
@@ -43,7 +43,7 @@ not-pending (Append n k) e = cc
 not-pending (NewHead i n k) e = cc
 not-pending (Clean i v n k) e = cc
 
-pub record Led (L : Layout) (r : Store) (l : Lengths) : Type 0 where
+pub record Led (L : Layout) (r : Record) (l : Lengths) : Type 0 where
   pub fit : recordBad L r l ≡ false
   pub long : workShort r l ≡ false
   pub calm : isPending (r .pending) ≡ false
@@ -56,7 +56,7 @@ lead a b c cs e = (
 )
 
 pub start-led :
-    (L : Layout) (r : Store) (log : List Placed) (l : Lengths) (o : Operation) → firstCause (startCauses L r log l o) ≡ none → Led L r l
+    (L : Layout) (r : Record) (log : List Placed) (l : Lengths) (o : Operation) → firstCause (startCauses L r log l o) ≡ none → Led L r l
 unfolding startCauses
 start-led L r log l (write k value) e = let h = lead _ _ _ _ e in record { fit = h .0; long = h .1; calm = h .2 }
 start-led L r log l (delete k) e = let h = lead _ _ _ _ e in record { fit = h .0; long = h .1; calm = h .2 }
@@ -64,7 +64,7 @@ start-led L r log l (clean victims) e = let h = lead _ _ _ _ e in record { fit =
 
 -- ---- the two ways of a start
 
-module _ (L : Layout) (laws : StoreLaws L) (n s : ℕ) where
+module _ (L : Layout) (laws : OperationLaws L) (n s : ℕ) where
   -- what is to be shown of a start that answers a and leaves the work buffer work′
   abbrev pub StartGoal : List ℕ → Held → Option ℕ → Operation → Book → ℕ → Start → List ℕ → Type 0
   StartGoal area h m o b t a work′ =
@@ -75,20 +75,20 @@ module _ (L : Layout) (laws : StoreLaws L) (n s : ℕ) where
   refused :
       (area : List ℕ) (h : Held) (m : Option ℕ) (o : Operation) (b : Book) (t : ℕ) (work′ : List ℕ) (c : Refusal) →
       Inv L n s (record { area = area; held = some h; cells = m }) b t →
-      StartGoal area h m o b t (record { answer = StartAnswer.Refused c; store = h .store }) work′
+      StartGoal area h m o b t (record { answer = StartAnswer.Refused c; rec = h .rec }) work′
   unfolding feed toldBy EventAgrees
   refused area h m o b t work′ c inv = (rw (max-zero t, pick-false (eqb (numberOfRefusal c) 0) work′ (h .work), pick-false (eqb (numberOfRefusal c) 0) (feedCall b (starts o) (refusal (numberOfRefusal c))) b, refusal-number c) inv, tt)
 
   accepted :
       (area : List ℕ) (h : Held) (m : Option ℕ) (o : Operation) (b : Book) (t : ℕ) (work : List ℕ) → Typed o →
       Inv L n s (record { area = area; held = some h; cells = m }) b t →
-      firstCause (startCauses L (h .store) (logNow L area (h .store)) (lentLengths area (h .cells) work) o) ≡ none →
+      firstCause (startCauses L (h .rec) (logNow L area (h .rec)) (lentLengths area (h .cells) work) o) ≡ none →
       StartGoal area h m o b t
       (record {
-        answer = StartAnswer.Started (storesFor L (h .store) (logNow L area (h .store)) o);
-        store = startedStore L (h .store) (logNow L area (h .store)) o;
+        answer = StartAnswer.Started (storesFor L (h .rec) (logNow L area (h .rec)) o);
+        rec = startedRecord L (h .rec) (logNow L area (h .rec)) o;
       })
-      (sets work 0 (laid L (h .store) (logNow L area (h .store)) o .bytes))
+      (sets work 0 (laid L (h .rec) (logNow L area (h .rec)) o .bytes))
   unfolding feed feedCall toldBy EventAgrees pick HeldGood stored
   accepted area h m o b t work ty inv e = (
     record {
@@ -108,8 +108,8 @@ module _ (L : Layout) (laws : StoreLaws L) (n s : ℕ) where
     tt,
   )
     where
-      r : Store
-      r = h .store
+      r : Record
+      r = h .rec
 
       log : List Placed
       log = logNow L area r
@@ -129,7 +129,7 @@ module _ (L : Layout) (laws : StoreLaws L) (n s : ℕ) where
       fits : length (laid L r log o .bytes) ≤ length work
       fits = omega (arith, laws .bytes-fit area r o acc, ltb-false (length work) (r .size) (led .long))
 
-      begun-now : Started L area (startedStore L r log o) (sets work 0 (laid L r log o .bytes))
+      begun-now : Started L area (startedRecord L r log o) (sets work 0 (laid L r log o .bytes))
       begun-now =
           record {
             operation = o;
@@ -150,17 +150,17 @@ module _ (L : Layout) (laws : StoreLaws L) (n s : ℕ) where
   -- A start keeps the invariant.
   pub start-keeps :
       (area work work′ : List ℕ) (h : Held) (m : Option ℕ) (o : Operation) (a : Start) (b : Book) (t : ℕ) → Typed o →
-      StartPromise L o (h .store) area (h .cells) work work′ a → Inv L n s (record { area = area; held = some h; cells = m }) b t →
+      StartPromise L o (h .rec) area (h .cells) work work′ a → Inv L n s (record { area = area; held = some h; cells = m }) b t →
       StartGoal area h m o b t a work′
   unfolding HeldGood begun
   start-keeps area work work′ h m o a b t ty p inv = subst⁻¹ Goal (p .exact (inv .held .genuine)) (go cause refl)
     where
       cause : Option Refusal
-      cause = firstCause (startCauses L (h .store) (logNow L area (h .store)) (lentLengths area (h .cells) work) o)
+      cause = firstCause (startCauses L (h .rec) (logNow L area (h .rec)) (lentLengths area (h .cells) work) o)
 
       Goal : Begun → Type 0
       Goal x = StartGoal area h m o b t (x .start) (x .work)
 
-      go : (c : Option Refusal) → cause ≡ c → Goal (begun L (h .store) (logNow L area (h .store)) o work c)
+      go : (c : Option Refusal) → cause ≡ c → Goal (begun L (h .rec) (logNow L area (h .rec)) o work c)
       go none e = accepted area h m o b t work ty inv e
       go (some c) e = refused area h m o b t work c inv

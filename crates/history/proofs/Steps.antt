@@ -20,28 +20,28 @@ use Rattle.record.specs.declared.Pending.the-variants.{Idle}
 use Rattle.record.specs.declared.Refusal.{Refusal}
 use Rattle.record.specs.declared.Stepped.{Stepped}
 use Rattle.record.specs.declared.StepAnswer.{StepAnswer}
-use Rattle.record.specs.declared.Store.{Store}
+use Rattle.record.specs.declared.Record.{Record}
 use Rattle.model.specs.Log.{Placed}
 use Rattle.model.specs.Causes.{firstCause}
 use Rattle.model.specs.Recovery.{recovered}
 use Rattle.model.specs.Index.{IndexRule}
-use Rattle.model.specs.Operations.{logNow, laid, storesFor, stored, finishedStore, toldVersion}
+use Rattle.model.specs.Operations.{logNow, laid, storesFor, stored, finishedRecord, toldVersion}
 use Rattle.model.specs.Refused.{isPending, stepCauses}
 use Rattle.model.specs.Promises.{Started, StepPromise, StepExact, stepped, IndexStepped, leftAfter, lentLengths}
 use Rattle.laws.specs.CauseLaws.{cause-false, cause-rest, refusal-number}
 use Rattle.laws.specs.MapLaws.{valueAt}
-use Rattle.laws.specs.Operated.{Accepted, StoreLaws, planAt}
+use Rattle.laws.specs.Operated.{Accepted, OperationLaws, planAt}
 use Rattle.history.specs.Book.{steps, called, Awaited, Book, feed, feedCall, takeOne, oneOff, finish, versionFor, toldBy}
 use Rattle.history.specs.Runs.{Held}
 use Rattle.history.specs.Demand3.{EventAgrees, StepAgrees}
 use Rattle.history.proofs.Invariant.{Inv, Holding, HeldGood, Phase, calm, busy, next-of, log-of, calm-of, slots-of, size-of, cells-of, idle-same, with-geometry, own-geometry, rebuilt, bookEntry}
 use Rattle.history.proofs.Finished.{finish-calm, finished-next, told-same, told-below, next-grows, finished-map}
 
-module _ (L : Layout) (laws : StoreLaws L) (n s : ℕ) where
+module _ (L : Layout) (laws : OperationLaws L) (n s : ℕ) where
   -- what is to be shown of a step that answers a and leaves this area and these cells
   abbrev pub StepGoal : Held → Option ℕ → Book → ℕ → List ℕ → List ℕ → Stepped → Type 0
   StepGoal h m b t area′ cells′ a =
-      Inv L n s (record { area = area′; held = some (record { store = a .store; cells = cells′; work = h .work }); cells = m })
+      Inv L n s (record { area = area′; held = some (record { rec = a .rec; cells = cells′; work = h .work }); cells = m })
       (feed b (called steps (stepSaid (a .answer)))) (max t (toldBy (called steps (stepSaid (a .answer)))))
       × EventAgrees b (called steps (stepSaid (a .answer)))
 
@@ -49,7 +49,7 @@ module _ (L : Layout) (laws : StoreLaws L) (n s : ℕ) where
 
   refused :
       (area : List ℕ) (h : Held) (m : Option ℕ) (b : Book) (t : ℕ) (c : Refusal) → Inv L n s (record { area = area; held = some h; cells = m }) b t →
-      StepGoal h m b t area (h .cells) (record { answer = StepAnswer.Refused c; store = h .store })
+      StepGoal h m b t area (h .cells) (record { answer = StepAnswer.Refused c; rec = h .rec })
   unfolding feed toldBy EventAgrees
   refused area h m b t c inv = (
     rw (max-zero t, pick-false (eqb (numberOfRefusal c) 0) (feedCall b steps (refusal (numberOfRefusal c))) b, refusal-number c) inv,
@@ -62,7 +62,7 @@ module _ (L : Layout) (laws : StoreLaws L) (n s : ℕ) where
   -- ---- a step of a started operation
 
   module _ (area : List ℕ) (h : Held) (m : Option ℕ) (b : Book) (t : ℕ) (inv : Inv L n s (record { area = area; held = some h; cells = m }) b t)
-      (good : Holding L n s area m b h) (st : Started L area (h .store) (h .work))
+      (good : Holding L n s area m b h) (st : Started L area (h .rec) (h .work))
       (awaited :
       b .pending ≡
       some (record { operation = st .operation; left = storesFor L (st .idle) (logNow L (st .before) (st .idle)) (st .operation) - st .since }))
@@ -79,16 +79,16 @@ module _ (L : Layout) (laws : StoreLaws L) (n s : ℕ) where
 
       -- the geometry of the store is that of the run
       slots-idle : st .idle .slots ≡ n
-      slots-idle = ap (λ (x : Store). x .slots) (sym (st .record-now)) ∙ good .slots-same
+      slots-idle = ap (λ (x : Record). x .slots) (sym (st .record-now)) ∙ good .slots-same
 
       size-idle : st .idle .size ≡ s
-      size-idle = ap (λ (x : Store). x .size) (sym (st .record-now)) ∙ good .size-same
+      size-idle = ap (λ (x : Record). x .size) (sym (st .record-now)) ∙ good .size-same
 
       cells-idle : some (st .idle .cells) ≡ m
-      cells-idle = ap (λ (x : Store). some (x .cells)) (sym (st .record-now)) ∙ sym (good .cells-same)
+      cells-idle = ap (λ (x : Record). some (x .cells)) (sym (st .record-now)) ∙ sym (good .cells-same)
 
       -- a record recovered with the store's own geometry is recovered with the run's
-      own : (after : List ℕ) (r : Store) → recovered L (st .idle .slots) (st .idle .size) (st .idle .cells) after ≡ some r → recovered L n s (st .idle .cells) after ≡ some r
+      own : (after : List ℕ) (r : Record) → recovered L (st .idle .slots) (st .idle .size) (st .idle .cells) after ≡ some r → recovered L n s (st .idle .cells) after ≡ some r
       own after r e = with-geometry L (st .idle .slots) n (st .idle .size) s (st .idle .cells) after (some r) slots-idle size-idle e
 
       -- the old area recovers to the idle record, whose log is the one at the start
@@ -111,7 +111,7 @@ module _ (L : Layout) (laws : StoreLaws L) (n s : ℕ) where
       after = stored (st .before) (take (suc (st .since)) (planAt L (st .before) (st .idle) (st .operation)))
 
       abbrev left : ℕ
-      left = leftAfter L area (h .store) (h .work) st
+      left = leftAfter L area (h .rec) (h .work) st
 
       one-more : storesFor L (st .idle) (logNow L (st .before) (st .idle)) (st .operation) - st .since ≡ suc left
       one-more = omega (arith, st .some-left)
@@ -132,7 +132,7 @@ module _ (L : Layout) (laws : StoreLaws L) (n s : ℕ) where
           subst⁻¹ (λ (x : Option Awaited). StepAgrees b (stepSaid a) x) awaited (e ∙ sym one-less, λ p. v (omega (arith, one-less, p)))
 
       -- not the last: the same record with one store less, the same log, the same index
-      goes-on : (k : ℕ) → left ≡ suc k → StepGoal h m b t after (h .cells) (record { answer = StepAnswer.Left (suc k); store = withPending (st .idle) (laid L (st .idle) (logNow L (st .before) (st .idle)) (st .operation) .pending (suc k)) })
+      goes-on : (k : ℕ) → left ≡ suc k → StepGoal h m b t after (h .cells) (record { answer = StepAnswer.Left (suc k); rec = withPending (st .idle) (laid L (st .idle) (logNow L (st .before) (st .idle)) (st .operation) .pending (suc k)) })
       unfolding oneOff HeldGood toldBy
       goes-on k e = (
         rw
@@ -146,7 +146,7 @@ module _ (L : Layout) (laws : StoreLaws L) (n s : ℕ) where
           held′ : Held
           held′ =
               record {
-                store = withPending (st .idle) (laid L (st .idle) (logNow L (st .before) (st .idle)) (st .operation) .pending (suc k));
+                rec = withPending (st .idle) (laid L (st .idle) (logNow L (st .before) (st .idle)) (st .operation) .pending (suc k));
                 cells = h .cells;
                 work = h .work;
               }
@@ -173,9 +173,9 @@ module _ (L : Layout) (laws : StoreLaws L) (n s : ℕ) where
           calm′ = calm-of L n s (st .idle .cells) area (st .idle) area-recovers
 
           rule-idle : IndexRule (st .idle .size) (logNow L area (st .idle)) (h .cells)
-          rule-idle = subst (λ (x : Store). IndexRule (x .size) (logNow L area x) (h .cells)) (st .record-now) (good .genuine .rule)
+          rule-idle = subst (λ (x : Record). IndexRule (x .size) (logNow L area x) (h .cells)) (st .record-now) (good .genuine .rule)
 
-          started′ : Started L after (held′ .store) (h .work)
+          started′ : Started L after (held′ .rec) (h .work)
           started′ =
               record {
                 operation = st .operation;
@@ -208,7 +208,7 @@ module _ (L : Layout) (laws : StoreLaws L) (n s : ℕ) where
               }
 
       -- the last: the record, the map and the index of the finished operation
-      ends : (cells′ : List ℕ) → left ≡ 0 → IndexRule (finishedStore L (st .before) (st .idle) (st .operation) .size) (logNow L after (finishedStore L (st .before) (st .idle) (st .operation))) cells′ → StepGoal h m b t after cells′ (record { answer = StepAnswer.Done (record { 0 = toldVersion (st .idle) (st .operation) }); store = finishedStore L (st .before) (st .idle) (st .operation) })
+      ends : (cells′ : List ℕ) → left ≡ 0 → IndexRule (finishedRecord L (st .before) (st .idle) (st .operation) .size) (logNow L after (finishedRecord L (st .before) (st .idle) (st .operation))) cells′ → StepGoal h m b t after cells′ (record { answer = StepAnswer.Done (record { 0 = toldVersion (st .idle) (st .operation) }); rec = finishedRecord L (st .before) (st .idle) (st .operation) })
       unfolding oneOff HeldGood toldBy
       ends cells′ e rule = (
         rw
@@ -221,11 +221,11 @@ module _ (L : Layout) (laws : StoreLaws L) (n s : ℕ) where
         agrees-with (StepAnswer.Done (record { 0 = toldVersion (st .idle) (st .operation) })) (sym e) (λ z. told-same L (st .before) (st .idle) b next-idle (st .operation)),
       )
         where
-          fin : Store
-          fin = finishedStore L (st .before) (st .idle) (st .operation)
+          fin : Record
+          fin = finishedRecord L (st .before) (st .idle) (st .operation)
 
           held′ : Held
-          held′ = record { store = fin; cells = cells′; work = h .work }
+          held′ = record { rec = fin; cells = cells′; work = h .work }
 
           b′ : Book
           b′ = finish b (st .operation)
@@ -285,7 +285,7 @@ module _ (L : Layout) (laws : StoreLaws L) (n s : ℕ) where
 
       -- whichever store it is
       one-step :
-          (area′ cells′ : List ℕ) (a : Stepped) → StepExact L (h .store) area area′ (h .cells) cells′ (h .work) a st → StepGoal h m b t area′ cells′ a
+          (area′ cells′ : List ℕ) (a : Stepped) → StepExact L (h .rec) area area′ (h .cells) cells′ (h .work) a st → StepGoal h m b t area′ cells′ a
       unfolding stepped IndexStepped
       one-step area′ cells′ a x =
           subst⁻¹ (λ (y : Stepped). StepGoal h m b t area′ cells′ y) (x .answers)
@@ -294,37 +294,37 @@ module _ (L : Layout) (laws : StoreLaws L) (n s : ℕ) where
           at-left : ℕ → Stepped
           at-left j = stepped L (st .before) (st .idle) (st .operation) j
 
-          index′ : IndexStepped L after (h .cells) cells′ (at-left left .store) left
+          index′ : IndexStepped L after (h .cells) cells′ (at-left left .rec) left
           index′ =
-              subst (λ (y : List ℕ). IndexStepped L y (h .cells) cells′ (at-left left .store) left) (x .stores)
-              (subst (λ (y : Stepped). IndexStepped L area′ (h .cells) cells′ (y .store) left) (x .answers) (x .index))
+              subst (λ (y : List ℕ). IndexStepped L y (h .cells) cells′ (at-left left .rec) left) (x .stores)
+              (subst (λ (y : Stepped). IndexStepped L area′ (h .cells) cells′ (y .rec) left) (x .answers) (x .index))
 
-          go : (j : ℕ) → left ≡ j → IndexStepped L after (h .cells) cells′ (at-left j .store) j → StepGoal h m b t after cells′ (at-left j)
+          go : (j : ℕ) → left ≡ j → IndexStepped L after (h .cells) cells′ (at-left j .rec) j → StepGoal h m b t after cells′ (at-left j)
           go zero e i = ends cells′ e i
           go (suc k) e i = subst⁻¹ (λ (y : List ℕ). StepGoal h m b t after y (at-left (suc k))) i (goes-on k e)
 
   -- A step keeps the invariant.
   pub step-keeps :
       (area area′ cells′ work : List ℕ) (h : Held) (m : Option ℕ) (a : Stepped) (b : Book) (t : ℕ) →
-      (isPending (h .store .pending) ≡ true → work ≡ h .work) → StepPromise L (h .store) area area′ (h .cells) cells′ work a →
+      (isPending (h .rec .pending) ≡ true → work ≡ h .work) → StepPromise L (h .rec) area area′ (h .cells) cells′ work a →
       Inv L n s (record { area = area; held = some h; cells = m }) b t → StepGoal h m b t area′ cells′ a
   unfolding HeldGood isPending
   step-keeps area area′ cells′ work h m a b t own-work p inv = go cause refl
     where
       cause : Option Refusal
-      cause = firstCause (stepCauses L (h .store) (lentLengths area (h .cells) work))
+      cause = firstCause (stepCauses L (h .rec) (lentLengths area (h .cells) work))
 
       go : (c : Option Refusal) → cause ≡ c → StepGoal h m b t area′ cells′ a
       go (some c) e =
           let rf = p .refused c e in
           subst⁻¹ (λ (x : Stepped). StepGoal h m b t area′ cells′ x) (rf .answers)
-          (subst⁻¹ (λ (x : List ℕ). StepGoal h m b t x cells′ (record { answer = StepAnswer.Refused c; store = h .store })) (rf .area-same)
-          (subst⁻¹ (λ (x : List ℕ). StepGoal h m b t area x (record { answer = StepAnswer.Refused c; store = h .store })) (rf .index-same)
+          (subst⁻¹ (λ (x : List ℕ). StepGoal h m b t x cells′ (record { answer = StepAnswer.Refused c; rec = h .rec })) (rf .area-same)
+          (subst⁻¹ (λ (x : List ℕ). StepGoal h m b t area x (record { answer = StepAnswer.Refused c; rec = h .rec })) (rf .index-same)
           (refused area h m b t c inv)))
       go none e = by-phase (inv .held .phase)
         where
-          pending : isPending (h .store .pending) ≡ true
-          pending = not-false (isPending (h .store .pending)) (cause-false _ _ (cause-rest _ _ (cause-rest _ _ e)))
+          pending : isPending (h .rec .pending) ≡ true
+          pending = not-false (isPending (h .rec .pending)) (cause-false _ _ (cause-rest _ _ (cause-rest _ _ e)))
 
           same-work : work ≡ h .work
           same-work = own-work pending
@@ -336,6 +336,6 @@ module _ (L : Layout) (laws : StoreLaws L) (n s : ℕ) where
               never z = let y : _≡_ {A = ℕ} 0 1 = cc in absurd (omega arith)
           by-phase (busy st awaited) =
               one-step area h m b t inv (inv .held) st awaited area′ cells′ a
-              (subst (λ (x : List ℕ). StepPromise L (h .store) area area′ (h .cells) cells′ x a) same-work p .exact
-              (subst (λ (x : List ℕ). firstCause (stepCauses L (h .store) (lentLengths area (h .cells) x)) ≡ none) same-work e)
+              (subst (λ (x : List ℕ). StepPromise L (h .rec) area area′ (h .cells) cells′ x a) same-work p .exact
+              (subst (λ (x : List ℕ). firstCause (stepCauses L (h .rec) (lentLengths area (h .cells) x)) ≡ none) same-work e)
               (inv .held .genuine) st)

@@ -20,18 +20,18 @@ use Rattle.record.specs.declared.ReadAnswer.{ReadAnswer}
 use Rattle.record.specs.declared.Recovery.{Recovery}
 use Rattle.record.specs.declared.Refusal.{Refusal}
 use Rattle.record.specs.declared.Refusal.the-variants.{BadRecord, Absent, Geometry}
-use Rattle.record.specs.declared.Store.{Store}
+use Rattle.record.specs.declared.Record.{Record}
 use Rattle.model.specs.Log.{Placed, present, latest, objectOnly}
 use Rattle.model.specs.Causes.{when, firstCause}
-use Rattle.model.specs.Recovery.{recovered, storeOf, orderBad, geometryBad, recovery, recoveryFor}
+use Rattle.model.specs.Recovery.{recovered, recordFrom, orderBad, geometryBad, recovery, recoveryFor}
 use Rattle.model.specs.Operations.{logNow, formatted}
 use Rattle.model.specs.Refused.{recordBad, keyAbsent, isAbsent, readCauses, formatCauses}
 use Rattle.model.specs.Promises.{Genuine, FormatPromise, RecoverPromise, IndexAfter, formatAnswer, areaUnless, readAnswer, presentAnswer, readLengths, valueAnswer, valuePart}
 use Rattle.laws.specs.CauseLaws.{cause-skip, cause-false}
 use Rattle.laws.specs.MapLaws.{valueAt, entryOf}
-use Rattle.laws.specs.Operated.{StoreLaws}
+use Rattle.laws.specs.Operated.{OperationLaws}
 use Rattle.laws.specs.RecoverLaws.{recovered-recovery}
-use Rattle.laws.specs.StoreKept.{edition1-laws}
+use Rattle.laws.specs.OperationsKept.{edition1-laws}
 use Rattle.history.specs.Book.{Event, Kept, Book, freshBook, feed, bookAfter, bookOf, toldBy, highestTold}
 use Rattle.history.specs.Runs.{World, freshWorld, Moves, start, step, read, readValue, recover, cuts, Run, stop, go}
 use Rattle.history.specs.Demand3.{LargeEnough, bookAnswer, bookValue, GivesBook, EventAgrees, StepsAgree, Holds, Demand3For, Demand3}
@@ -44,7 +44,7 @@ use Rattle.history.proofs.Recoveries.{recover-keeps, cut-keeps}
 some-same : {u v : Entry} → _≡_ {A = Option Entry} (some u) (some v) → u ≡ v
 some-same q = cc
 
-module _ (L : Layout) (laws : StoreLaws L) (n s : ℕ) where
+module _ (L : Layout) (laws : OperationLaws L) (n s : ℕ) where
   -- ---- one event
 
   move-keeps : {w x : World} {e : Event} (b : Book) (t : ℕ) → Moves L n s w e x → Inv L n s w b t → Inv L n s x (feed b e) (max t (toldBy e)) × EventAgrees b e
@@ -73,13 +73,13 @@ module _ (L : Layout) (laws : StoreLaws L) (n s : ℕ) where
   -- an index that is large enough suffices
   enough :
       (w : World) (b : Book) (t m : ℕ) → Inv L n s w b t → LargeEnough (w .cells) m →
-      recovered L n s m (w .area) ≡ some (storeOf L n s m (w .area))
+      recovered L n s m (w .area) ≡ some (recordFrom L n s m (w .area))
   unfolding LargeEnough baseCells between
   enough w b t m inv large = go′ (w .cells) (inv .base) large
     where
       go′ :
-          (c : Option ℕ) → recovered L n s (baseCells c) (w .area) ≡ some (storeOf L n s (baseCells c) (w .area)) → LargeEnough c m →
-          recovered L n s m (w .area) ≡ some (storeOf L n s m (w .area))
+          (c : Option ℕ) → recovered L n s (baseCells c) (w .area) ≡ some (recordFrom L n s (baseCells c) (w .area)) → LargeEnough c m →
+          recovered L n s m (w .area) ≡ some (recordFrom L n s m (w .area))
       go′ none e h = laws .more-cells n s 16 m (w .area) e h (leb-true 16 m (both-left (leb 16 m) (leb m 4096) h))
       go′ (some c) e h = laws .more-cells n s c m (w .area) e (h .0) (h .1)
 
@@ -103,7 +103,7 @@ module _ (L : Layout) (laws : StoreLaws L) (n s : ℕ) where
   present-value area size k (some p) none e part = cc
   present-value area size k (some p) (some y) e part = part p refl ∙ ap (λ (z : Entry). z .value) (some-same e)
 
-  module _ (area cells′ : List ℕ) (m : ℕ) (r : Store) (ab : Bytes area) (e : recovered L n s m area ≡ some r) (long : length cells′ ≡ m) (k : Key)
+  module _ (area cells′ : List ℕ) (m : ℕ) (r : Record) (ab : Bytes area) (e : recovered L n s m area ≡ some r) (long : length cells′ ≡ m) (k : Key)
       (x : Option Kept) (same : valueAt L (logNow L area r) k ≡ bookEntry L k x)
     where
       fits : recordBad L r (readLengths area cells′) ≡ false
@@ -133,28 +133,28 @@ module _ (L : Layout) (laws : StoreLaws L) (n s : ℕ) where
   unfolding recovery recoveryFor IndexAfter
   gives-book w b t inv order cells cells′ r good large p = subst⁻¹ (λ (x : Recovery). GivesBook L (w .area) cells′ x b) answered book
     where
-      store : Store
-      store = storeOf L n s (length cells) (w .area)
+      rec : Record
+      rec = recordFrom L n s (length cells) (w .area)
 
-      recovers : recovered L n s (length cells) (w .area) ≡ some store
+      recovers : recovered L n s (length cells) (w .area) ≡ some rec
       recovers = enough w b t (length cells) inv large
 
-      answered : r ≡ recoveryFor none store
-      answered = p .answers ∙ recovered-recovery L n s (length cells) (w .area) order store good recovers
+      answered : r ≡ recoveryFor none rec
+      answered = p .answers ∙ recovered-recovery L n s (length cells) (w .area) order rec good recovers
 
-      rule : IndexAfter L (w .area) cells cells′ (recoveryFor none store) (recoveryFor none store .answer)
+      rule : IndexAfter L (w .area) cells cells′ (recoveryFor none rec) (recoveryFor none rec .answer)
       rule = subst (λ (x : Recovery). IndexAfter L (w .area) cells cells′ x (x .answer)) answered (p .index)
 
-      genuine : Genuine L (w .area) store cells′
+      genuine : Genuine L (w .area) rec cells′
       genuine = record { recovers = recovers; rule = rule }
 
-      book : GivesBook L (w .area) cells′ (recoveryFor none store) b
+      book : GivesBook L (w .area) cells′ (recoveryFor none rec) b
       book =
           record {
             is-accepted = refl;
             next-version = inv .agrees .next-same;
-            answers = λ k ty a q. q .exact genuine ∙ read-answer (w .area) cells′ (length cells) store (inv .bytes) recovers (p .same-length) k (b .keys k) (inv .agrees .map-same k);
-            values = λ k ty v q. q .exact genuine ∙ value-answer (w .area) cells′ (length cells) store (inv .bytes) recovers (p .same-length) k (b .keys k) (inv .agrees .map-same k);
+            answers = λ k ty a q. q .exact genuine ∙ read-answer (w .area) cells′ (length cells) rec (inv .bytes) recovers (p .same-length) k (b .keys k) (inv .agrees .map-same k);
+            values = λ k ty v q. q .exact genuine ∙ value-answer (w .area) cells′ (length cells) rec (inv .bytes) recovers (p .same-length) k (b .keys k) (inv .agrees .map-same k);
           }
 
   -- ---- the fresh store
@@ -205,7 +205,7 @@ module _ (L : Layout) (laws : StoreLaws L) (n s : ℕ) where
       }
 
 -- Demand 3 for every layout whose store keeps the laws.
-pub demand-3-for : (L : Layout) → StoreLaws L → Demand3For L
+pub demand-3-for : (L : Layout) → OperationLaws L → Demand3For L
 demand-3-for L laws n s area₀ area ab p es w r = holds L laws n s area₀ area ab p es w r
 
 -- Demand 3.

@@ -42,10 +42,10 @@ pub record GivesBook (L : Layout) (area cells′ : List ℕ) (r : Recovery) (b :
   -- "recovery ... is accepted"
   pub is-accepted : r .answer ≡ RecoverAnswer.Recovered
   -- "and the next version"
-  pub next-version : r .store .next .0 ≡ b .next
+  pub next-version : r .rec .next .0 ≡ b .next
   -- "the keys, versions and values left by the operations whose last store was done": for each key what a read then answers
-  pub answers : (k : Key) → TypedKey k → (a : Reading) → ReadPromise L (r .store) area cells′ k a → a .answer ≡ bookAnswer L (b .keys k)
-  pub values : (k : Key) → TypedKey k → (v : List ℕ) → ValuePromise L (r .store) area cells′ k v → v ≡ bookValue (b .keys k)
+  pub answers : (k : Key) → TypedKey k → (a : Reading) → ReadPromise L (r .rec) area cells′ k a → a .answer ≡ bookAnswer L (b .keys k)
+  pub values : (k : Key) → TypedKey k → (v : List ℕ) → ValuePromise L (r .rec) area cells′ k v → v ≡ bookValue (b .keys k)
 
 -- "Each accepted step answers the stores left in the book, and an operation's last step also the book's version for it"
 unfoldable pub StepAgrees : Book → Said → Option Awaited → Type 0

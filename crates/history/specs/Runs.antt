@@ -11,7 +11,7 @@ use Rattle.segment.specs.Choice.{pick}
 use Rattle.segment.specs.Layout.{Layout}
 use Rattle.segment.specs.declared.Key.{Key}
 use Rattle.record.specs.Answers.{recoverSaid, readSaid, startSaid, stepSaid, refusal}
-use Rattle.record.specs.declared.Store.{Store}
+use Rattle.record.specs.declared.Record.{Record}
 use Rattle.record.specs.declared.Recovery.{Recovery}
 use Rattle.record.specs.declared.Reading.{Reading}
 use Rattle.record.specs.declared.Start.{Start}
@@ -24,7 +24,7 @@ use Rattle.history.specs.Book.{starts, steps, reads, readsValue, recover
 -- What the firmware holds from an accepted recovery to the next cut: the newest record, the index of that recovery, and the work
 -- buffer that the last accepted start filled.
 pub record Held : Type 0 where
-  pub store : Store
+  pub rec : Record
   pub cells : List ℕ
   pub work : List ℕ
 
@@ -40,14 +40,14 @@ freshWorld area = record { area = area; held = none; cells = none }
 
 -- A start hands back the record; where it is accepted, its work buffer is the one that the steps get.
 abbrev pub heldAfter : Held → List ℕ → Start → Held
-heldAfter h work′ a = record { store = a .store; cells = h .cells; work = pick (accepted (startSaid (a .answer))) work′ (h .work) }
+heldAfter h work′ a = record { rec = a .rec; cells = h .cells; work = pick (accepted (startSaid (a .answer))) work′ (h .work) }
 
 -- An accepted recovery gives the record and the index. One that is refused with 20 leaves no index, so no call with a record
 -- comes before the next accepted recovery; any other refusal leaves all as it was.
 abbrev pub recoveredWorld : World → List ℕ → Recovery → World
 recoveredWorld w cells′ r =
     pick (accepted (recoverSaid (r .answer)))
-    (record { area = w .area; held = some (record { store = r .store; cells = cells′; work = [] }); cells = some (length cells′) })
+    (record { area = w .area; held = some (record { rec = r .rec; cells = cells′; work = [] }); cells = some (length cells′) })
     (pick (eqb (recoverSaid (r .answer) .refused) 20) (record { area = w .area; held = none; cells = w .cells }) w)
 
 -- One event. A cut takes what is held and leaves the area with the stores made so far. The stores of an operation are made one by
@@ -57,25 +57,25 @@ pub data Moves (L : Layout) (n s : ℕ) : World → Event → World → Type 0 w
   -- a write, delete or clean with the newest record and its index, and any work buffer
   start :
       {area work work′ : List ℕ} {h : Held} {m : Option ℕ} {o : Operation} {a : Start} → Typed o →
-      StartPromise L o (h .store) area (h .cells) work work′ a →
+      StartPromise L o (h .rec) area (h .cells) work work′ a →
       Moves L n s (record { area = area; held = some h; cells = m }) (called (starts o) (startSaid (a .answer)))
       (record { area = area; held = some (heldAfter h work′ a); cells = m })
   -- a step; while an operation is pending it gets the work buffer that the start filled
   step :
       {area area′ cells′ work : List ℕ} {h : Held} {m : Option ℕ} {a : Stepped} →
-      (isPending (h .store .pending) ≡ true → work ≡ h .work) →
-      StepPromise L (h .store) area area′ (h .cells) cells′ work a →
+      (isPending (h .rec .pending) ≡ true → work ≡ h .work) →
+      StepPromise L (h .rec) area area′ (h .cells) cells′ work a →
       Moves L n s (record { area = area; held = some h; cells = m }) (called steps (stepSaid (a .answer)))
-      (record { area = area′; held = some (record { store = a .store; cells = cells′; work = h .work }); cells = m })
+      (record { area = area′; held = some (record { rec = a .rec; cells = cells′; work = h .work }); cells = m })
   -- reads, also while an operation is pending
   read :
       {area : List ℕ} {h : Held} {m : Option ℕ} {k : Key} {a : Reading} → TypedKey k →
-      ReadPromise L (h .store) area (h .cells) k a →
+      ReadPromise L (h .rec) area (h .cells) k a →
       Moves L n s (record { area = area; held = some h; cells = m }) (called (reads k) (readSaid (a .answer)))
       (record { area = area; held = some h; cells = m })
   readValue :
       {area value : List ℕ} {h : Held} {m : Option ℕ} {k : Key} → TypedKey k →
-      ValuePromise L (h .store) area (h .cells) k value →
+      ValuePromise L (h .rec) area (h .cells) k value →
       Moves L n s (record { area = area; held = some h; cells = m }) (called (readsValue k) (refusal 0))
       (record { area = area; held = some h; cells = m })
   -- a recovery with the N and S of the format, any order list and any index, with or without a cut before it

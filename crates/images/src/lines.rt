@@ -1,5 +1,5 @@
 // What is written of an item.
-use record::Store;
+use record::Record;
 use segment::Key;
 
 pub fn text(name: &[u8]) {
@@ -12,15 +12,15 @@ pub fn field(name: &[u8], n: u32) {
     io::print_decimal(1, n as u64);
 }
 
-pub fn record(store: Store) {
-    let number = store.number;
-    let next = store.next;
+pub fn record(rec: Record) {
+    let number = rec.digest;
+    let next = rec.next;
     field(b": next ", next.0);
     field(b" digest ", number.0);
-    field(b" head ", store.head);
-    field(b" end ", store.end);
-    field(b" map ", store.map);
-    field(b" keys ", store.keys);
+    field(b" head ", rec.head);
+    field(b" end ", rec.end);
+    field(b" map ", rec.map);
+    field(b" keys ", rec.keys);
     text(b"\n");
 }
 

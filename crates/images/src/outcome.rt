@@ -3,8 +3,8 @@ use crate::bundle;
 use crate::bundle::Header;
 use crate::lines;
 use record::ReadAnswer;
+use record::Record;
 use record::RecoverAnswer;
-use record::Store;
 use recovery::read::read;
 use recovery::read::read_value;
 use recovery::recover::recover;
@@ -40,10 +40,10 @@ fn refused(number: u32, index: &[u32]) {
 }
 
 // What both reads of a key answer.
-fn read_line(store: Store, area: &[u8], index: &[u32], key: Key) {
+fn read_line(rec: Record, area: &[u8], index: &[u32], key: Key) {
     lines::key(key);
-    let value = read_value(store, area, index, key);
-    let reading = read(store, area, index, key);
+    let value = read_value(rec, area, index, key);
+    let reading = read(rec, area, index, key);
     let answer = reading.answer;
     match answer {
         ReadAnswer::Present { version, kind } => {
@@ -59,10 +59,10 @@ fn read_line(store: Store, area: &[u8], index: &[u32], key: Key) {
 }
 
 // A line for each key of the list.
-fn reads(store: Store, area: &[u8], index: &[u32], keys: &[u8]) {
+fn reads(rec: Record, area: &[u8], index: &[u32], keys: &[u8]) {
     let mut at = 0;
     while bundle::KEY <= keys.len() - at {
-        read_line(store, area, index, bundle::key_at(keys, at));
+        read_line(rec, area, index, bundle::key_at(keys, at));
         at += bundle::KEY;
     }
 }
@@ -71,12 +71,12 @@ fn reads(store: Store, area: &[u8], index: &[u32], keys: &[u8]) {
 pub fn of_image(h: Header, order: &[u8], area: &[u8], index: &mut [u32], keys: &[u8]) {
     let recovery = recover(h.slots as u32, h.size as u32, order, area, index);
     let answer = recovery.answer;
-    let store = recovery.store;
+    let rec = recovery.rec;
     match answer {
         RecoverAnswer::Refused(cause) => refused(record::number(cause), index),
         RecoverAnswer::Recovered => {
-            lines::record(store);
-            reads(store, area, index, keys);
+            lines::record(rec);
+            reads(rec, area, index, keys);
         }
     }
 }

@@ -10,7 +10,7 @@ use lib.Seq.{sets}
 use Rattle.segment.specs.Layout.{edition1}
 use Rattle.segment.specs.declared.Key.{Key}
 use Rattle.record.specs.Answers.{formatSaid, recoverSaid, readSaid, startSaid, stepSaid}
-use Rattle.record.specs.declared.Store.{Store}
+use Rattle.record.specs.declared.Record.{Record}
 use Rattle.record.specs.declared.FormatAnswer.{FormatAnswer}
 use Rattle.record.specs.declared.Recovery.{Recovery}
 use Rattle.record.specs.declared.RecoverAnswer.{RecoverAnswer}
@@ -25,7 +25,7 @@ use Rattle.model.specs.Promises.{FormatPromise, RecoverPromise, ReadPromise, Va
 use Rattle.words.specs.Words.{recordWords, wordsOf, decoded}
 
 -- the words after a call that handed this record back
-unfoldable pub keptWords : Bool → List ℕ → Store → List ℕ
+unfoldable pub keptWords : Bool → List ℕ → Record → List ℕ
 keptWords true words r = sets words 0 (wordsOf r)
 keptWords false words r = words
 
@@ -37,7 +37,7 @@ pub record FormatCrossed (n s : ℕ) (area area′ : List ℕ) (number : ℕ) : 
   pub numbered : number ≡ formatSaid answer .refused
 
 -- the record's words after a recovery
-unfoldable pub wordsAfter : RecoverAnswer → List ℕ → Store → List ℕ
+unfoldable pub wordsAfter : RecoverAnswer → List ℕ → Record → List ℕ
 wordsAfter RecoverAnswer.Recovered words r = sets words 0 (wordsOf r)
 wordsAfter (RecoverAnswer.Refused c) words r = words
 
@@ -45,7 +45,7 @@ pub record Recovers (n s : ℕ) (order area cells cells′ words words′ : List
   pub recovery : Recovery
   pub promised : RecoverPromise edition1 n s order area cells cells′ recovery
   pub numbered : number ≡ recoverSaid (recovery .answer) .refused
-  pub says : words′ ≡ wordsAfter (recovery .answer) words (recovery .store)
+  pub says : words′ ≡ wordsAfter (recovery .answer) words (recovery .rec)
 
 -- Where the record has no room, 4, and all stays.
 pub record TooShort (cells cells′ words words′ : List ℕ) (number : ℕ) : Type 0 where
@@ -70,7 +70,7 @@ kindAfter (ReadAnswer.Refused c) old = old
 
 pub record ReadCrossed (words area cells : List ℕ) (k : Key) (version kind version′ kind′ number : ℕ) : Type 0 where
   pub reading : Reading
-  pub promised : ReadPromise edition1 (decoded words .store) area cells k reading
+  pub promised : ReadPromise edition1 (decoded words .rec) area cells k reading
   pub numbered : number ≡ readSaid (reading .answer) .refused
   pub version-told : version′ ≡ versionAfter (reading .answer) version
   pub kind-told : kind′ ≡ kindAfter (reading .answer) kind
@@ -78,9 +78,9 @@ pub record ReadCrossed (words area cells : List ℕ) (k : Key) (version kind ver
 -- The value is a part of the area, also on stores that are not genuine; where the read is refused both numbers are 0.
 pub record ValueCrossed (words area cells : List ℕ) (k : Key) (place bytes number : ℕ) : Type 0 where
   pub reading : Reading
-  pub promised : ReadPromise edition1 (decoded words .store) area cells k reading
+  pub promised : ReadPromise edition1 (decoded words .rec) area cells k reading
   pub numbered : number ≡ readSaid (reading .answer) .refused
-  pub value : ValuePromise edition1 (decoded words .store) area cells k (take bytes (drop place area))
+  pub value : ValuePromise edition1 (decoded words .rec) area cells k (take bytes (drop place area))
   pub inside : place + bytes ≤ length area
   pub nowhere : (number ≡ 0 → ⊥) → (place ≡ 0) × (bytes ≡ 0)
 
@@ -94,11 +94,11 @@ storesAfter (StartAnswer.Refused c) old = old
 pub record Handed (ok : Bool) (start : Start) (words words′ : List ℕ) (stores stores′ number : ℕ) : Type 0 where
   pub numbered : number ≡ startSaid (start .answer) .refused
   pub told : stores′ ≡ storesAfter (start .answer) stores
-  pub says : words′ ≡ keptWords ok words (start .store)
+  pub says : words′ ≡ keptWords ok words (start .rec)
 
 pub record StartCrossed (o : Operation) (words words′ area cells work work′ : List ℕ) (stores stores′ number : ℕ) : Type 0 where
   pub start : Start
-  pub promised : StartPromise edition1 o (decoded words .store) area cells work work′ start
+  pub promised : StartPromise edition1 o (decoded words .rec) area cells work work′ start
   pub handed : Handed (decoded words .ok) start words words′ stores stores′ number
 
 -- ---- step
@@ -115,8 +115,8 @@ toldAfter (StepAnswer.Refused c) old = old
 
 pub record StepCrossed (words words′ area area′ cells cells′ work : List ℕ) (left left′ version version′ number : ℕ) : Type 0 where
   pub stepped : Stepped
-  pub promised : StepPromise edition1 (decoded words .store) area area′ cells cells′ work stepped
+  pub promised : StepPromise edition1 (decoded words .rec) area area′ cells cells′ work stepped
   pub numbered : number ≡ stepSaid (stepped .answer) .refused
   pub left-told : left′ ≡ leftAfter (stepped .answer) left
   pub version-told : version′ ≡ toldAfter (stepped .answer) version
-  pub says : words′ ≡ keptWords (decoded words .ok) words (stepped .store)
+  pub says : words′ ≡ keptWords (decoded words .ok) words (stepped .rec)

@@ -15,7 +15,7 @@ use Rattle.segment.specs.declared.Version.{Version}
 use Rattle.record.specs.Answers.{blank, formatSaid, recoverSaid, readSaid, startSaid, stepSaid}
 use Rattle.record.specs.Range.{fitsLent}
 use Rattle.record.specs.RangeLaws.{lent, blank-unfit}
-use Rattle.record.specs.declared.Store.{Store}
+use Rattle.record.specs.declared.Record.{Record}
 use Rattle.record.specs.declared.FormatAnswer.{FormatAnswer}
 use Rattle.record.specs.declared.Recovery.{Recovery}
 use Rattle.record.specs.declared.RecoverAnswer.{RecoverAnswer}
@@ -48,11 +48,11 @@ ok-long words {d} e ok = go (isRecord words) refl
         let z : _≡_ {A = ℕ} 0 1 = cc in
         absurd (omega arith)
 
-pub kept-on : {ok : Bool} (words words′ : List ℕ) (r : Store) → ok ≡ true → words′ ≡ sets words 0 (wordsOf r) → words′ ≡ keptWords ok words r
+pub kept-on : {ok : Bool} (words words′ : List ℕ) (r : Record) → ok ≡ true → words′ ≡ sets words 0 (wordsOf r) → words′ ≡ keptWords ok words r
 unfolding keptWords
 kept-on words words′ r e w = rw e w
 
-pub kept-off : {ok : Bool} (words : List ℕ) (r : Store) → ok ≡ false → words ≡ keptWords ok words r
+pub kept-off : {ok : Bool} (words : List ℕ) (r : Record) → ok ≡ false → words ≡ keptWords ok words r
 unfolding keptWords
 kept-off words r e = rw e
 
@@ -68,7 +68,7 @@ recover-short h = record { short = λ _. record { numbered = refl; index-same = 
 
 pub recover-crossed : {n s : ℕ} {order area cells cells′ words words′ : List ℕ} {x : Recovery} {b : RecoverAnswer} {number : ℕ}
     → recordWords ≤ length words → RecoverPromise edition1 n s order area cells cells′ x → x .answer ≡ b
-    → number ≡ recoverSaid b .refused → words′ ≡ wordsAfter b words (x .store)
+    → number ≡ recoverSaid b .refused → words′ ≡ wordsAfter b words (x .rec)
     → RecoverCrossed n s order area cells cells′ words words′ number
 recover-crossed {words = words} {x = x} h p e m w =
     record {
@@ -77,58 +77,58 @@ recover-crossed {words = words} {x = x} h p e m w =
         recovery = x;
         promised = p;
         numbered = m ∙ ap (λ (a : RecoverAnswer). recoverSaid a .refused) (sym e);
-        says = w ∙ ap (λ (a : RecoverAnswer). wordsAfter a words (x .store)) (sym e);
+        says = w ∙ ap (λ (a : RecoverAnswer). wordsAfter a words (x .rec)) (sym e);
       };
     }
 
 -- ---- read
 
 pub looked-crossed : (words area cells : List ℕ) (k : Key) {d : Decoded} {x : Lookup} → d ≡ decoded words
-    → x ≡ lookedUp edition1 (d .store) area cells k → x ≡ lookedUp edition1 (decoded words .store) area cells k
-looked-crossed words area cells k f l = l ∙ ap (λ (a : Decoded). lookedUp edition1 (a .store) area cells k) f
+    → x ≡ lookedUp edition1 (d .rec) area cells k → x ≡ lookedUp edition1 (decoded words .rec) area cells k
+looked-crossed words area cells k f l = l ∙ ap (λ (a : Decoded). lookedUp edition1 (a .rec) area cells k) f
 
 -- a record that does not fit what is lent is bad, and one that fits is looked up where the search has ended
 pub looked-lost : (words area cells : List ℕ) (k : Key) {d : Decoded} → d ≡ decoded words
-    → fitsLent edition1 (d .store) (length area) (length cells) ≡ false → Lookup.Bad ≡ lookedUp edition1 (decoded words .store) area cells k
-looked-lost words area cells k {d} f unfit = looked-crossed words area cells k f (sym (looked-unfit edition1 (d .store) area cells k unfit))
+    → fitsLent edition1 (d .rec) (length area) (length cells) ≡ false → Lookup.Bad ≡ lookedUp edition1 (decoded words .rec) area cells k
+looked-lost words area cells k {d} f unfit = looked-crossed words area cells k f (sym (looked-unfit edition1 (d .rec) area cells k unfit))
 
 pub looked-found : (words area cells : List ℕ) (k : Key) {d : Decoded} {x : Lookup} {found : Found} → d ≡ decoded words
-    → fitsLent edition1 (d .store) (length area) (length cells) ≡ true → found ≡ searchFor edition1 area cells k
-    → x ≡ lookupAt edition1 (d .store .size) area cells found → x ≡ lookedUp edition1 (decoded words .store) area cells k
+    → fitsLent edition1 (d .rec) (length area) (length cells) ≡ true → found ≡ searchFor edition1 area cells k
+    → x ≡ lookupAt edition1 (d .rec .size) area cells found → x ≡ lookedUp edition1 (decoded words .rec) area cells k
 looked-found words area cells k {d} f fit e l =
     looked-crossed words area cells k f
-    (l ∙ ap (lookupAt edition1 (d .store .size) area cells) e ∙ sym (looked-fit edition1 (d .store) area cells k fit))
+    (l ∙ ap (lookupAt edition1 (d .rec .size) area cells) e ∙ sym (looked-fit edition1 (d .rec) area cells k fit))
 
 -- words that are no record say the blank one, which is bad
 pub looked-none : (words area cells : List ℕ) (k : Key) {d : Decoded} → d ≡ decoded words → not (d .ok) ≡ true
-    → Lookup.Bad ≡ lookedUp edition1 (decoded words .store) area cells k
+    → Lookup.Bad ≡ lookedUp edition1 (decoded words .rec) area cells k
 looked-none words area cells k {d} f off = go (isRecord words) refl
   where
-    go : (t : Bool) → isRecord words ≡ t → Lookup.Bad ≡ lookedUp edition1 (decoded words .store) area cells k
+    go : (t : Bool) → isRecord words ≡ t → Lookup.Bad ≡ lookedUp edition1 (decoded words .rec) area cells k
     go true e =
         let yes : decoded words .ok ≡ true = ap (λ (a : Decoded). a .ok) (decoded-record words e) in
         let no : decoded words .ok ≡ false = sym (ap (λ (a : Decoded). a .ok) f) ∙ not-true (d .ok) off in
         let z : _≡_ {A = ℕ} 0 1 = cc in
         absurd (omega arith)
     go false e =
-        let says : decoded words .store ≡ blank = ap (λ (a : Decoded). a .store) (decoded-none words e) in
-        sym (ap (λ (r : Store). lookedUp edition1 r area cells k) says
+        let says : decoded words .rec ≡ blank = ap (λ (a : Decoded). a .rec) (decoded-none words e) in
+        sym (ap (λ (r : Record). lookedUp edition1 r area cells k) says
         ∙ looked-unfit edition1 blank area cells k (blank-unfit edition1 (length area) (length cells)))
 
 pub read-crossed : {words area cells : List ℕ} {k : Key} {version kind version′ kind′ number : ℕ} {x : Lookup} {a b : ReadAnswer}
-    → x ≡ lookedUp edition1 (decoded words .store) area cells k → a ≡ toldBy x → a ≡ b → number ≡ readSaid b .refused
+    → x ≡ lookedUp edition1 (decoded words .rec) area cells k → a ≡ toldBy x → a ≡ b → number ≡ readSaid b .refused
     → version′ ≡ versionAfter b version → kind′ ≡ kindAfter b kind → ReadCrossed words area cells k version kind version′ kind′ number
 read-crossed {words} {area} {cells} {k} {version} {kind} {x = x} {a = a} l t e m v w =
     record {
-      reading = record { answer = a; store = decoded words .store };
-      promised = read-promise edition1 (decoded words .store) area cells k x a l t;
+      reading = record { answer = a; rec = decoded words .rec };
+      promised = read-promise edition1 (decoded words .rec) area cells k x a l t;
       numbered = m ∙ ap (λ (c : ReadAnswer). readSaid c .refused) (sym e);
       version-told = v ∙ ap (λ (c : ReadAnswer). versionAfter c version) (sym e);
       kind-told = w ∙ ap (λ (c : ReadAnswer). kindAfter c kind) (sym e);
     }
 
 -- a record that an object was looked up with fits what is lent, which is at most the largest area
-pub found-small : (r : Store) (area cells : List ℕ) (k : Key) {p kind n : ℕ} {v : Version}
+pub found-small : (r : Record) (area cells : List ℕ) (k : Key) {p kind n : ℕ} {v : Version}
     → lookedUp edition1 r area cells k ≡ Lookup.Object p v kind n → length area ≤ 65536
 found-small r area cells k e = go (fitsLent edition1 r (length area) (length cells)) refl
   where
@@ -140,16 +140,16 @@ found-small r area cells k e = go (fitsLent edition1 r (length area) (length cel
         omega arith
 
 pub value-crossed : {words area cells : List ℕ} {k : Key} {place bytes number : ℕ} {x b : Lookup}
-    → x ≡ lookedUp edition1 (decoded words .store) area cells k → x ≡ b → number ≡ readSaid (toldBy b) .refused
+    → x ≡ lookedUp edition1 (decoded words .rec) area cells k → x ≡ b → number ≡ readSaid (toldBy b) .refused
     → take bytes (drop place area) ≡ valueBy edition1 area b → place + bytes ≤ length area
     → ((number ≡ 0 → ⊥) → (place ≡ 0) × (bytes ≡ 0)) → ValueCrossed words area cells k place bytes number
 value-crossed {words} {area} {cells} {k} {place} {bytes} {b = b} l e m v i w =
-    let found : b ≡ lookedUp edition1 (decoded words .store) area cells k = sym e ∙ l in
+    let found : b ≡ lookedUp edition1 (decoded words .rec) area cells k = sym e ∙ l in
     record {
-      reading = record { answer = toldBy b; store = decoded words .store };
-      promised = read-promise edition1 (decoded words .store) area cells k b (toldBy b) found refl;
+      reading = record { answer = toldBy b; rec = decoded words .rec };
+      promised = read-promise edition1 (decoded words .rec) area cells k b (toldBy b) found refl;
       numbered = m;
-      value = value-promise edition1 (decoded words .store) area cells k b (take bytes (drop place area)) found v;
+      value = value-promise edition1 (decoded words .rec) area cells k b (take bytes (drop place area)) found v;
       inside = i;
       nowhere = w;
     }
@@ -157,7 +157,7 @@ value-crossed {words} {area} {cells} {k} {place} {bytes} {b = b} l e m v i w =
 -- ---- write, delete and clean
 
 pub handed : {ok : Bool} {x : Start} {words words′ : List ℕ} {stores stores′ number : ℕ} {b : StartAnswer}
-    → words′ ≡ keptWords ok words (x .store) → x .answer ≡ b → number ≡ startSaid b .refused → stores′ ≡ storesAfter b stores
+    → words′ ≡ keptWords ok words (x .rec) → x .answer ≡ b → number ≡ startSaid b .refused → stores′ ≡ storesAfter b stores
     → Handed ok x words words′ stores stores′ number
 handed {stores = stores} w e m s =
     record {
@@ -167,28 +167,28 @@ handed {stores = stores} w e m s =
     }
 
 pub start-crossed : {o : Operation} {words words′ area cells work work′ : List ℕ} {stores stores′ number : ℕ} {d : Decoded} {x : Start}
-    → d ≡ decoded words → StartPromise edition1 o (d .store) area cells work work′ x
+    → d ≡ decoded words → StartPromise edition1 o (d .rec) area cells work work′ x
     → Handed (d .ok) x words words′ stores stores′ number → StartCrossed o words words′ area cells work work′ stores stores′ number
 start-crossed {x = x} f p h =
     record {
       start = x;
-      promised = rw (ap (λ (a : Decoded). a .store) f) at p;
+      promised = rw (ap (λ (a : Decoded). a .rec) f) at p;
       handed = rw (ap (λ (a : Decoded). a .ok) f) at h;
     }
 
 -- ---- step
 
 pub step-crossed : {words words′ area area′ cells cells′ work : List ℕ} {left left′ version version′ number : ℕ} {d : Decoded} {x : Stepped}
-    {b : StepAnswer} → d ≡ decoded words → StepPromise edition1 (d .store) area area′ cells cells′ work x
-    → words′ ≡ keptWords (d .ok) words (x .store) → x .answer ≡ b → number ≡ stepSaid b .refused
+    {b : StepAnswer} → d ≡ decoded words → StepPromise edition1 (d .rec) area area′ cells cells′ work x
+    → words′ ≡ keptWords (d .ok) words (x .rec) → x .answer ≡ b → number ≡ stepSaid b .refused
     → left′ ≡ leftAfter b left → version′ ≡ toldAfter b version
     → StepCrossed words words′ area area′ cells cells′ work left left′ version version′ number
 step-crossed {words = words} {left = left} {version = version} {x = x} f p w e m l v =
     record {
       stepped = x;
-      promised = rw (ap (λ (a : Decoded). a .store) f) at p;
+      promised = rw (ap (λ (a : Decoded). a .rec) f) at p;
       numbered = m ∙ ap (λ (a : StepAnswer). stepSaid a .refused) (sym e);
       left-told = l ∙ ap (λ (a : StepAnswer). leftAfter a left) (sym e);
       version-told = v ∙ ap (λ (a : StepAnswer). toldAfter a version) (sym e);
-      says = w ∙ ap (λ (a : Decoded). keptWords (a .ok) words (x .store)) f;
+      says = w ∙ ap (λ (a : Decoded). keptWords (a .ok) words (x .rec)) f;
     }

@@ -17,7 +17,7 @@ use Rattle.record.specs.declared.ReadAnswer.{ReadAnswer}
 use Rattle.record.specs.declared.StartAnswer.{StartAnswer}
 use Rattle.record.specs.declared.Stepped.{Stepped}
 use Rattle.record.specs.declared.StepAnswer.{StepAnswer}
-use Rattle.record.specs.declared.Store.{Store}
+use Rattle.record.specs.declared.Record.{Record}
 use Rattle.model.specs.Operations.{Operation}
 use Rattle.model.specs.Promises.{Begun, begun}
 use Rattle.laws.specs.CauseLaws.{cause-first}
@@ -30,13 +30,13 @@ use Rattle.kurdavel.specs.Crossing.{RecoverCrossed, ReadCrossed, version
 not-ok : (words : List ℕ) → isRecord words ≡ false → decoded words .ok ≡ false
 not-ok words f = ap (λ (d : Decoded). d .ok) (decoded-none words f)
 
-unfit : (words : List ℕ) → isRecord words ≡ false → (a i : ℕ) → not (fitsLent edition1 (decoded words .store) a i) ≡ true
+unfit : (words : List ℕ) → isRecord words ≡ false → (a i : ℕ) → not (fitsLent edition1 (decoded words .rec) a i) ≡ true
 unfit words f a i =
-    let says : decoded words .store ≡ blank = ap (λ (d : Decoded). d .store) (decoded-none words f) in
-    subst⁻¹ (λ (r : Store). not (fitsLent edition1 r a i) ≡ true) says (rw (blank-unfit edition1 a i))
+    let says : decoded words .rec ≡ blank = ap (λ (d : Decoded). d .rec) (decoded-none words f) in
+    subst⁻¹ (λ (r : Record). not (fitsLent edition1 r a i) ≡ true) says (rw (blank-unfit edition1 a i))
 
 -- and stay as they are
-kept-none : (words words′ : List ℕ) (r : Store) → isRecord words ≡ false → words′ ≡ keptWords (decoded words .ok) words r → words′ ≡ words
+kept-none : (words words′ : List ℕ) (r : Record) → isRecord words ≡ false → words′ ≡ keptWords (decoded words .ok) words r → words′ ≡ words
 unfolding keptWords
 kept-none words words′ r f w = w ∙ ap (λ (ok : Bool). keptWords ok words r) (not-ok words f)
 
@@ -70,7 +70,7 @@ start-none {words = words} {words′ = words′} {stores = stores} f x =
     let b = x .promised .unfit (unfit words f _ _) in
     let e : x .start .answer ≡ StartAnswer.Refused BadRecord = ap (λ (y : Begun). y .start .answer) b in (
       x .handed .numbered ∙ ap (λ (a : StartAnswer). startSaid a .refused) e,
-      kept-none words words′ (x .start .store) f (x .handed .says),
+      kept-none words words′ (x .start .rec) f (x .handed .says),
       ap (λ (y : Begun). y .work) b,
       x .handed .told ∙ ap (λ (a : StartAnswer). storesAfter a stores) e,
     )
@@ -83,7 +83,7 @@ step-none {words = words} {words′ = words′} {left = left} {version = version
     let t = x .promised .refused BadRecord (cause-first _ _ (unfit words f _ _)) in
     let e : x .stepped .answer ≡ StepAnswer.Refused BadRecord = ap (λ (y : Stepped). y .answer) (t .answers) in (
       x .numbered ∙ ap (λ (a : StepAnswer). stepSaid a .refused) e,
-      kept-none words words′ (x .stepped .store) f (x .says),
+      kept-none words words′ (x .stepped .rec) f (x .says),
       t .area-same,
       t .index-same,
       x .left-told ∙ ap (λ (a : StepAnswer). leftAfter a left) e,

@@ -6,11 +6,11 @@ use firmware::step_held;
 use index::search::search;
 use record::FormatAnswer;
 use record::ReadAnswer;
+use record::Record;
 use record::RecoverAnswer;
 use record::Start;
 use record::StartAnswer;
 use record::StepAnswer;
-use record::Store;
 use record::number;
 use record::range::fits_lent;
 use recovery::Lookup;
@@ -67,8 +67,8 @@ pub extern "C" fn kurdavel_recover(
     match answer {
         RecoverAnswer::Refused(cause) => number(cause),
         RecoverAnswer::Recovered => {
-            let store = found.store;
-            encode(store, words);
+            let rec = found.rec;
+            encode(rec, words);
             0
         }
     }
@@ -94,8 +94,8 @@ pub extern "C" fn kurdavel_read(
     if !decoded.ok {
         return 4;
     }
-    let store = decoded.store;
-    let answer = told(find(store, area, index, Key { table, key }));
+    let rec = decoded.rec;
+    let answer = told(find(rec, area, index, Key { table, key }));
     match answer {
         ReadAnswer::Refused(cause) => number(cause),
         ReadAnswer::Present {
@@ -132,12 +132,12 @@ pub extern "C" fn kurdavel_read_value(
     if !decoded.ok {
         return 4;
     }
-    let store = decoded.store;
-    if !fits_lent(store, area.len(), index.len()) {
+    let rec = decoded.rec;
+    if !fits_lent(rec, area.len(), index.len()) {
         return 4;
     }
     let found = search(area, index, Key { table, key });
-    match look_at(store.size as usize, area, index, found) {
+    match look_at(rec.size as usize, area, index, found) {
         Lookup::Object {
             place: entry,
             version: _,
@@ -154,12 +154,12 @@ pub extern "C" fn kurdavel_read_value(
 }
 
 // The record back into its words, if they were a record's.
-fn keep(words: &mut [u32], ok: bool, store: Store)
+fn keep(words: &mut [u32], ok: bool, rec: Record)
     requires { ⌜ (ok ≡ true → recordWords ≤ length (now words)) ⌝ }
-    ensures { λ _. ⌜ now (words .exit) ≡ keptWords ok (now (words .entry)) store ⌝ }
+    ensures { λ _. ⌜ now (words .exit) ≡ keptWords ok (now (words .entry)) rec ⌝ }
 {
     if ok {
-        encode(store, words);
+        encode(rec, words);
     }
 }
 
@@ -171,9 +171,9 @@ fn hand_back(words: &mut [u32], ok: bool, start: Start, stores: &mut u32) -> u32
         Handed ok start (now (words .entry)) (now (words .exit)) (now (stores .entry)) (now (stores .exit)) r
         ⌝ }
 {
-    let store = start.store;
+    let rec = start.rec;
     let answer = start.answer;
-    keep(words, ok, store);
+    keep(words, ok, rec);
     match answer {
         StartAnswer::Refused(cause) => number(cause),
         StartAnswer::Started(count) => {
@@ -201,8 +201,8 @@ pub extern "C" fn kurdavel_write(
         ⌝ }
 {
     let decoded = decode(words);
-    let store = decoded.store;
-    let start = write(store, area, index, work, Key { table, key }, value);
+    let rec = decoded.rec;
+    let start = write(rec, area, index, work, Key { table, key }, value);
     hand_back(words, decoded.ok, start, stores)
 }
 
@@ -223,8 +223,8 @@ pub extern "C" fn kurdavel_delete(
         ⌝ }
 {
     let decoded = decode(words);
-    let store = decoded.store;
-    let start = delete(store, area, index, work, Key { table, key });
+    let rec = decoded.rec;
+    let start = delete(rec, area, index, work, Key { table, key });
     hand_back(words, decoded.ok, start, stores)
 }
 
@@ -244,8 +244,8 @@ pub extern "C" fn kurdavel_clean(
         ⌝ }
 {
     let decoded = decode(words);
-    let store = decoded.store;
-    let start = clean(store, area, index, work, victims);
+    let rec = decoded.rec;
+    let start = clean(rec, area, index, work, victims);
     hand_back(words, decoded.ok, start, stores)
 }
 
@@ -266,9 +266,9 @@ pub extern "C" fn kurdavel_step(
         ⌝ }
 {
     let decoded = decode(words);
-    let store = decoded.store;
-    let stepped = step_held(store, area, index, work);
-    let after = stepped.store;
+    let rec = decoded.rec;
+    let stepped = step_held(rec, area, index, work);
+    let after = stepped.rec;
     let answer = stepped.answer;
     keep(words, decoded.ok, after);
     match answer {

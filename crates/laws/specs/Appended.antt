@@ -12,10 +12,10 @@ use Rattle.segment.specs.Layout.{Layout}
 use Rattle.segment.specs.Entry.{Entry, keyOf, sizeOf}
 use Rattle.segment.specs.declared.Digest.{Digest}
 use Rattle.record.specs.RangeLaws.{map-in}
-use Rattle.record.specs.declared.Store.{Store}
+use Rattle.record.specs.declared.Record.{Record}
 use Rattle.model.specs.Log.{View, Head, Item, Placed, scanned, itemsOf, endOf, isDamaged, placedIn, viewsOf, keysOf, highest, nextVersion}
-use Rattle.model.specs.Recovery.{logSlots, logUnder, storeUnder, recovered}
-use Rattle.model.specs.Operations.{logNow, countNew, appendedStore}
+use Rattle.model.specs.Recovery.{logSlots, logUnder, recordUnder, recovered}
+use Rattle.model.specs.Operations.{logNow, countNew, appendedRecord}
 use Rattle.laws.specs.HeadLaws.{top-stays}
 use Rattle.laws.specs.LogLaws.{partOf, part-picked, part-same, one-slot, OnePart, part-entered, Entered, placedAt, placed-append, entered-versions, entered-highest, entered-keys, scanned-undamaged, items-scanned, end-scanned}
 use Rattle.laws.specs.RecoverLaws.{Sound, Allowed, sound-recovered, recovered-case}
@@ -89,38 +89,38 @@ module _ (v v′ : ℕ → View) (n m : ℕ) (h : Head) (x : Item) (e : ℕ) (f 
     pub appended-next : nextVersion (h .digest) after ≡ nextVersion (h .digest) log + 1
     appended-next = omega (arith, entered-highest log placed after appended-log above, t .version)
 
-    pub appended-store : (L : Layout) (s : ℕ) → e ≡ endOf (v (h .slot) .scan) + sizeOf L (x .entry)
-        → storeUnder v′ n s m h ≡ appendedStore L (storeUnder v n s m h) log (x .entry)
-    appended-store L s q =
+    pub appended-record : (L : Layout) (s : ℕ) → e ≡ endOf (v (h .slot) .scan) + sizeOf L (x .entry)
+        → recordUnder v′ n s m h ≡ appendedRecord L (recordUnder v n s m h) log (x .entry)
+    appended-record L s q =
         rw (end-scanned (v′ (h .slot) .scan) (a .scan), q, appended-next, entered-keys log placed after appended-log)
 
 -- ---- on areas
 
-module _ (L : Layout) (n s m : ℕ) (area area′ : List ℕ) (r : Store) (x : Item) (e : recovered L n s m area ≡ some r)
+module _ (L : Layout) (n s m : ℕ) (area area′ : List ℕ) (r : Record) (x : Item) (e : recovered L n s m area ≡ some r)
     (a : Appends (viewsOf L area s) (viewsOf L area′ s) n (r .head) x (r .end + sizeOf L (x .entry))) where
   pub appended-entered :
-      Entered (logNow L area r) (placedAt (r .head) x) (logNow L area′ (appendedStore L r (logNow L area r) (x .entry)))
+      Entered (logNow L area r) (placedAt (r .head) x) (logNow L area′ (appendedRecord L r (logNow L area r) (x .entry)))
   appended-entered =
       recovered-case L n s m area
-      (λ (k : Store).
+      (λ (k : Record).
       Appends (viewsOf L area s) (viewsOf L area′ s) n (k .head) x (k .end + sizeOf L (x .entry))
-      → Entered (logNow L area k) (placedAt (k .head) x) (logNow L area′ (appendedStore L k (logNow L area k) (x .entry))))
+      → Entered (logNow L area k) (placedAt (k .head) x) (logNow L area′ (appendedRecord L k (logNow L area k) (x .entry))))
       (λ h l f b.
       appended-log (viewsOf L area s) (viewsOf L area′ s) n m h x (endOf (viewsOf L area s (h .slot) .scan) + sizeOf L (x .entry)) f b)
       r e a
 
   pub appended-recovered : length area′ ≡ length area
       → Takes (r .next .0) (r .keys) m (logNow L area r) (x .entry)
-      → recovered L n s m area′ ≡ some (appendedStore L r (logNow L area r) (x .entry))
+      → recovered L n s m area′ ≡ some (appendedRecord L r (logNow L area r) (x .entry))
   appended-recovered same-length =
       recovered-case L n s m area
-      (λ (k : Store).
+      (λ (k : Record).
       Appends (viewsOf L area s) (viewsOf L area′ s) n (k .head) x (k .end + sizeOf L (x .entry))
       → Takes (k .next .0) (k .keys) m (logNow L area k) (x .entry)
-      → recovered L n s m area′ ≡ some (appendedStore L k (logNow L area k) (x .entry)))
+      → recovered L n s m area′ ≡ some (appendedRecord L k (logNow L area k) (x .entry)))
       (λ h l f b t.
       let end = endOf (viewsOf L area s (h .slot) .scan) + sizeOf L (x .entry) in
       sound-recovered L n s m area′ h (subst (Allowed n s m) (sym same-length) l)
       (appended-sound (viewsOf L area s) (viewsOf L area′ s) n m h x end f b t) ∙
-      ap some (appended-store (viewsOf L area s) (viewsOf L area′ s) n m h x end f b t L s refl))
+      ap some (appended-record (viewsOf L area s) (viewsOf L area′ s) n m h x end f b t L s refl))
       r e a

@@ -12,10 +12,10 @@ use Rattle.slot_map.specs.Bit.{named, within}
 use Rattle.slot_map.specs.Count.{used}
 use Rattle.slot_map.specs.CountLaws.{renewed-le}
 use Rattle.record.specs.RangeLaws.{map-in}
-use Rattle.record.specs.declared.Store.{Store}
+use Rattle.record.specs.declared.Record.{Record}
 use Rattle.model.specs.Log.{View, Head, Placed, viewsOf, logOf, keysOf, nextVersion}
-use Rattle.model.specs.Recovery.{logUnder, storeUnder, recovered}
-use Rattle.model.specs.Operations.{logNow, newSlot, newDigest, outsideSlots, kept, placedFrom, cleanedStore}
+use Rattle.model.specs.Recovery.{logUnder, recordUnder, recovered}
+use Rattle.model.specs.Operations.{logNow, newSlot, newDigest, outsideSlots, kept, placedFrom, cleanedRecord}
 use Rattle.laws.specs.Keys.{keys-same}
 use Rattle.laws.specs.MapLaws.{outside, entries-placed, Cleaned, clean-highest, clean-shared-any, clean-keys-count}
 use Rattle.laws.specs.LogLaws.{OnePart, part-members, part-count, log-those}
@@ -30,19 +30,19 @@ outside-log v map victims n = log-those v (named map) (λ i. not (named victims 
 
 module _ (L : Layout) (v v′ : ℕ → View) (n s m : ℕ) (h : Head) (victims : ℕ) (f : Sound v n m h)
     (sub : within victims (h .digest .map) ≡ true)
-    (c : Heads L v v′ n (newSlot (storeUnder v n s m h)) (newDigest (storeUnder v n s m h) victims) (kept L victims (logUnder v n h))) where
+    (c : Heads L v v′ n (newSlot (recordUnder v n s m h)) (newDigest (recordUnder v n s m h) victims) (kept L victims (logUnder v n h))) where
   -- the old log, the new head, its log, and the entries kept in their places
   abbrev old : List Placed
   old = logUnder v n h
 
   abbrev cleaned : Head
-  cleaned = record { slot = newSlot (storeUnder v n s m h); digest = newDigest (storeUnder v n s m h) victims }
+  cleaned = record { slot = newSlot (recordUnder v n s m h); digest = newDigest (recordUnder v n s m h) victims }
 
   abbrev after : List Placed
   after = logUnder v′ n cleaned
 
   abbrev moved : List Placed
-  moved = placedFrom L (newSlot (storeUnder v n s m h)) (digestSize L) (kept L victims (logUnder v n h))
+  moved = placedFrom L (newSlot (recordUnder v n s m h)) (digestSize L) (kept L victims (logUnder v n h))
 
   abbrev rest : List Placed
   rest = logOf v (outsideSlots (h .digest .map) victims) n
@@ -57,7 +57,7 @@ module _ (L : Layout) (v v′ : ℕ → View) (n s m : ℕ) (h : Head) (victims 
   pub cleaned-log : Cleaned L victims old moved after
   cleaned-log =
       record {
-        entries = entries-placed L (newSlot (storeUnder v n s m h)) (digestSize L) (kept L victims old);
+        entries = entries-placed L (newSlot (recordUnder v n s m h)) (digestSize L) (kept L victims old);
         members = rw same-rest (part-members moved rest after parts);
       }
 
@@ -65,9 +65,9 @@ module _ (L : Layout) (v v′ : ℕ → View) (n s m : ℕ) (h : Head) (victims 
   cleaned-keys = sym (keys-same (rest ++ moved) after (part-members moved rest after parts))
 
   -- no fewer slots are free: a victim goes for the one that comes
-  pub cleaned-used : 0 < victims → used n (newDigest (storeUnder v n s m h) victims .map) ≤ used n (h .digest .map)
+  pub cleaned-used : 0 < victims → used n (newDigest (recordUnder v n s m h) victims .map) ≤ used n (h .digest .map)
   cleaned-used some-victim =
-      renewed-le n (h .digest .map) victims (newSlot (storeUnder v n s m h)) sub
+      renewed-le n (h .digest .map) victims (newSlot (recordUnder v n s m h)) sub
       (map-in n (h .slot) (h .digest .map) (f .map-good) .below) some-victim
       (slot-below L v v′ n s m h victims (kept L victims old) f sub c)
       (slot-clear L v v′ n s m h victims (kept L victims old) f sub c)
@@ -80,33 +80,33 @@ module _ (L : Layout) (v v′ : ℕ → View) (n s m : ℕ) (h : Head) (victims 
       (omega (arith, clean-keys-count L victims old moved after cleaned-log, f .keys))
 
   -- the next version is the digest's own, for what is left has no higher version than the log had
-  pub cleaned-next : nextVersion (newDigest (storeUnder v n s m h) victims) after ≡ nextVersion (h .digest) old
+  pub cleaned-next : nextVersion (newDigest (recordUnder v n s m h) victims) after ≡ nextVersion (h .digest) old
   cleaned-next = omega (arith, clean-highest L victims old moved after cleaned-log)
 
 -- ---- on areas
 
-module _ (L : Layout) (n s m : ℕ) (area area′ : List ℕ) (r : Store) (victims : ℕ) (e : recovered L n s m area ≡ some r)
+module _ (L : Layout) (n s m : ℕ) (area area′ : List ℕ) (r : Record) (victims : ℕ) (e : recovered L n s m area ≡ some r)
     (sub : within victims (r .map) ≡ true)
     (c : Heads L (viewsOf L area s) (viewsOf L area′ s) n (newSlot r) (newDigest r victims) (kept L victims (logNow L area r))) where
   pub cleaned-cleaned :
       Cleaned L victims (logNow L area r) (placedFrom L (newSlot r) (digestSize L) (kept L victims (logNow L area r)))
-      (logNow L area′ (cleanedStore L area r victims))
+      (logNow L area′ (cleanedRecord L area r victims))
   cleaned-cleaned =
       recovered-case L n s m area
-      (λ (k : Store).
+      (λ (k : Record).
       within victims (k .map) ≡ true
       → Heads L (viewsOf L area s) (viewsOf L area′ s) n (newSlot k) (newDigest k victims) (kept L victims (logNow L area k))
       → Cleaned L victims (logNow L area k) (placedFrom L (newSlot k) (digestSize L) (kept L victims (logNow L area k)))
-      (logNow L area′ (cleanedStore L area k victims)))
+      (logNow L area′ (cleanedRecord L area k victims)))
       (λ h l f. cleaned-log L (viewsOf L area s) (viewsOf L area′ s) n s m h victims f) r e sub c
 
-  pub cleaned-recovered : length area′ ≡ length area → 0 < victims → recovered L n s m area′ ≡ some (cleanedStore L area r victims)
+  pub cleaned-recovered : length area′ ≡ length area → 0 < victims → recovered L n s m area′ ≡ some (cleanedRecord L area r victims)
   cleaned-recovered same-length some-victim =
       recovered-case L n s m area
-      (λ (k : Store).
+      (λ (k : Record).
       within victims (k .map) ≡ true
       → Heads L (viewsOf L area s) (viewsOf L area′ s) n (newSlot k) (newDigest k victims) (kept L victims (logNow L area k))
-      → recovered L n s m area′ ≡ some (cleanedStore L area k victims))
+      → recovered L n s m area′ ≡ some (cleanedRecord L area k victims))
       (λ h l f b d.
       sound-recovered L n s m area′ (cleaned L (viewsOf L area s) (viewsOf L area′ s) n s m h victims f b d)
       (subst (Allowed n s m) (sym same-length) l)

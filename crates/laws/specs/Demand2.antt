@@ -8,21 +8,21 @@ use Rattle.segment.specs.Choice.{pick}
 use Rattle.segment.specs.Layout.{Layout}
 use Rattle.segment.specs.Entry.{Entry}
 use Rattle.segment.specs.declared.Key.{Key}
-use Rattle.record.specs.declared.Store.{Store}
+use Rattle.record.specs.declared.Record.{Record}
 use Rattle.model.specs.Log.{sameKey}
-use Rattle.model.specs.Operations.{Operation, write, delete, clean, logNow, writtenEntry, tombstoneEntry, stored, finishedStore}
+use Rattle.model.specs.Operations.{Operation, write, delete, clean, logNow, writtenEntry, tombstoneEntry, stored, finishedRecord}
 use Rattle.laws.specs.MapLaws.{valueAt}
 use Rattle.laws.specs.Operated.{Accepted, planAt, mapAfter}
 use Rattle.laws.specs.Entering.{Roomy}
-use Rattle.laws.specs.StoreKept.{finishes}
+use Rattle.laws.specs.OperationsKept.{finishes}
 
-module _ (L : Layout) (roomy : Roomy L) (before : List ℕ) (idle : Store) where
+module _ (L : Layout) (roomy : Roomy L) (before : List ℕ) (idle : Record) where
   -- the map that reading by the rule gives before an operation, and after its last store
   abbrev old : Key → Option Entry
   old = valueAt L (logNow L before idle)
 
   abbrev new : Operation → Key → Option Entry
-  new o = valueAt L (logNow L (stored before (planAt L before idle o)) (finishedStore L before idle o))
+  new o = valueAt L (logNow L (stored before (planAt L before idle o)) (finishedRecord L before idle o))
 
   -- a write sets its key to that value at the next version, and no other
   pub demand-2-write :

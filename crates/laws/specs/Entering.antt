@@ -16,7 +16,7 @@ use Rattle.segment.specs.Entry.{Entry, WellFormed}
 use Rattle.segment.specs.declared.Key.{Key}
 use Rattle.slot_map.specs.Count.{used}
 use Rattle.record.specs.RangeLaws.{Lent, lent}
-use Rattle.record.specs.declared.Store.{Store}
+use Rattle.record.specs.declared.Record.{Record}
 use Rattle.model.specs.Log.{Placed, hasKey, present, latest, objectOnly}
 use Rattle.model.specs.Operations.{Operation, write, delete, logNow, kindElse, writtenEntry, tombstoneEntry, fitsHead, countNew}
 use Rattle.model.specs.Refused.{startCauses, writeCauses, deleteCauses, isNone, isAbsent}
@@ -33,22 +33,22 @@ pub record Roomy (L : Layout) : Type 0 where
   pub room : (k n : ℕ) → valueLength L k ≡ some n → digestSize L + entrySize L n ≤ 256
 
 -- What is known of the entry of an accepted write or delete.
-pub record Entering (L : Layout) (before : List ℕ) (idle : Store) (e : Entry) : Type 0 where
+pub record Entering (L : Layout) (before : List ℕ) (idle : Record) (e : Entry) : Type 0 where
   pub formed : WellFormed L e
   pub takes : Takes (idle .next .0) (idle .keys) (idle .cells) (logNow L before idle) e
   pub two-free : fitsHead L idle e ≡ false → used (idle .slots) (idle .map) + 2 ≤ idle .slots
-  pub number-left : fitsHead L idle e ≡ false → idle .number .0 < numberLimit
+  pub number-left : fitsHead L idle e ≡ false → idle .digest .0 < numberLimit
 
 -- ---- the record of an accepted operation
 
-module _ (L : Layout) (before : List ℕ) (idle : Store) (o : Operation) (a : Accepted L before idle o) where
+module _ (L : Layout) (before : List ℕ) (idle : Record) (o : Operation) (a : Accepted L before idle o) where
   pub idle-lent : Lent L idle (length before) (idle .cells)
   idle-lent = lent L idle (length before) (idle .cells) (recovered-fits L (idle .slots) (idle .size) (idle .cells) before idle (a .recovers))
 
   pub idle-next : idle .next .0 ≤ versionLimit L
   idle-next = recovered-next L (idle .slots) (idle .size) (idle .cells) before idle (a .recovers) (a .area-bytes)
 
-  pub idle-number : idle .number .0 ≤ numberLimit
+  pub idle-number : idle .digest .0 ≤ numberLimit
   idle-number = recovered-number L (idle .slots) (idle .size) (idle .cells) before idle (a .recovers) (a .area-bytes)
 
 -- ---- tests taken apart
@@ -88,7 +88,7 @@ present-has L log k e = go (latest log k) refl e
 
 -- ---- write and delete
 
-module _ (L : Layout) (before : List ℕ) (idle : Store) (k : Key) where
+module _ (L : Layout) (before : List ℕ) (idle : Record) (k : Key) where
   abbrev log : List Placed
   log = logNow L before idle
 
@@ -106,7 +106,7 @@ module _ (L : Layout) (before : List ℕ) (idle : Store) (k : Key) where
             };
         takes = record { version = refl; room = new-room (hasKey log k) (idle .keys) (idle .cells) (facts .keys-high) (tests .1 .1 .1 .1 .1 .0) };
         two-free = λ f. free-two (idle .slots) (used (idle .slots) (idle .map)) (omega (arith, facts .some-free)) (both-true-false _ _ (tests .1 .1 .1 .1 .1 .1 .0) (not-true-of _ f));
-        number-left = λ f. number-below (idle .number .0) (idle-number L before idle (write k value) a) (both-true-false _ _ (tests .1 .1 .1 .1 .1 .1 .1 .0) (not-true-of _ f));
+        number-left = λ f. number-below (idle .digest .0) (idle-number L before idle (write k value) a) (both-true-false _ _ (tests .1 .1 .1 .1 .1 .1 .1 .0) (not-true-of _ f));
       }
     where
       tests : NoCause (writeCauses L idle log (a .lengths) k value)
@@ -143,7 +143,7 @@ module _ (L : Layout) (before : List ℕ) (idle : Store) (k : Key) where
             (both-true-false _ _ (tests .1 .1 .1 .1 .1 .0) (not-true-of _ f));
         number-left =
             λ f.
-            number-below (idle .number .0) (idle-number L before idle (delete k) a)
+            number-below (idle .digest .0) (idle-number L before idle (delete k) a)
             (both-true-false _ _ (tests .1 .1 .1 .1 .1 .1 .0) (not-true-of _ f));
       }
     where

@@ -15,10 +15,10 @@ use Rattle.segment.specs.EntryLaws.{length-encoded}
 use Rattle.segment.specs.Digest.{encodedDigest}
 use Rattle.segment.specs.declared.Key.{Key}
 use Rattle.record.specs.RangeLaws.{Lent, lent}
-use Rattle.record.specs.declared.Store.{Store}
+use Rattle.record.specs.declared.Record.{Record}
 use Rattle.model.specs.Log.{Item, scan, itemsOf, segmentOf, viewsOf, highest, sameKey}
 use Rattle.model.specs.Recovery.{recovered}
-use Rattle.model.specs.Operations.{logNow, fitsHead, newSlot, newDigest, allEncoded, laidAppend, laidHead, laidEntry, commit, planOf, stored, appendedStore, headedStore, entryStore}
+use Rattle.model.specs.Operations.{logNow, fitsHead, newSlot, newDigest, allEncoded, laidAppend, laidHead, laidEntry, commit, planOf, stored, appendedRecord, headedRecord, entryRecord}
 use Rattle.laws.specs.Members.{Added}
 use Rattle.laws.specs.Versions.{below-highest}
 use Rattle.laws.specs.MapLaws.{valueAt, gives, Above, value-added}
@@ -35,14 +35,14 @@ use Rattle.laws.specs.Planned.{new-below, new-map-fits, new-next-fits}
 
 -- ---- the entry in its place
 
-module _ (L : Layout) (roomy : Roomy L) (area : List ℕ) (r : Store) (x : Entry) (e : recovered L (r .slots) (r .size) (r .cells) area ≡ some r)
+module _ (L : Layout) (roomy : Roomy L) (area : List ℕ) (r : Record) (x : Entry) (e : recovered L (r .slots) (r .size) (r .cells) area ≡ some r)
     (bytes : Bytes area) (f : Entering L area r x)
   where
     facts : Lent L r (length area) (r .cells)
     facts = lent L r (length area) (r .cells) (recovered-fits L (r .slots) (r .size) (r .cells) area r e)
 
     -- what is to be shown of the area and the record after the last store
-    abbrev Done : List ℕ → Store → Type 0
+    abbrev Done : List ℕ → Record → Type 0
     Done area′ r′ =
         (recovered L (r .slots) (r .size) (r .cells) area′ ≡ some r′)
         × ((j : Key) → valueAt L (logNow L area′ r′) j ≡ pick (sameKey j x) (gives L x) (valueAt L (logNow L area r) j))
@@ -79,18 +79,18 @@ module _ (L : Layout) (roomy : Roomy L) (area : List ℕ) (r : Store) (x : Entry
       -- the log has the entry more, where the head ended
       pub appended-added :
           Added (logNow L area r) (record { slot = r .head; offset = r .end; entry = x })
-          (logNow L (stored area append-plan) (appendedStore L r (logNow L area r) x))
+          (logNow L (stored area append-plan) (appendedRecord L r (logNow L area r) x))
       appended-added =
           entered-added (logNow L area r) (record { slot = r .head; offset = r .end; entry = x })
-          (logNow L (stored area append-plan) (appendedStore L r (logNow L area r) x))
+          (logNow L (stored area append-plan) (appendedRecord L r (logNow L area r) x))
           (appended-entered L (r .slots) (r .size) (r .cells) area (stored area append-plan) r (itemAt (r .end) x) e append-views)
 
-      appended : Done (stored area append-plan) (appendedStore L r (logNow L area r) x)
+      appended : Done (stored area append-plan) (appendedRecord L r (logNow L area r) x)
       appended = (
         appended-recovered L (r .slots) (r .size) (r .cells) area (stored area append-plan) r (itemAt (r .end) x) e append-views
             (length-stored area append-plan) (f .takes),
         value-added (logNow L area r) (record { slot = r .head; offset = r .end; entry = x })
-            (logNow L (stored area append-plan) (appendedStore L r (logNow L area r) x)) appended-added (above (r .head) (r .end)) L
+            (logNow L (stored area append-plan) (appendedRecord L r (logNow L area r) x)) appended-added (above (r .head) (r .end)) L
             (recovered-apart L (r .slots) (r .size) (r .cells) area r e),
       )
 
@@ -123,46 +123,46 @@ module _ (L : Layout) (roomy : Roomy L) (area : List ℕ) (r : Store) (x : Entry
       -- the log has the entry more, behind the new digest
       headed-added-one :
           Added (logNow L area r) (record { slot = newSlot r; offset = digestSize L; entry = x })
-          (logNow L (stored area head-plan) (headedStore L r (logNow L area r) x))
+          (logNow L (stored area head-plan) (headedRecord L r (logNow L area r) x))
       headed-added-one =
           entered-added (logNow L area r) (record { slot = newSlot r; offset = digestSize L; entry = x })
-          (logNow L (stored area head-plan) (headedStore L r (logNow L area r) x))
+          (logNow L (stored area head-plan) (headedRecord L r (logNow L area r) x))
           (headed-entered L (r .slots) (r .size) (r .cells) area (stored area head-plan) r x e head-views)
 
       pub headed-added :
           Added (logNow L area r) (record { slot = newSlot r; offset = digestSize L; entry = x })
           (logNow L
           (stored area ((newSlot r * r .size, 0) ∷ commit (r .size) (newSlot r) 0 (encodedDigest L (newDigest r 0) ++ encoded L x)))
-          (headedStore L r (logNow L area r) x))
+          (headedRecord L r (logNow L area r) x))
       headed-added =
           subst
           (λ (b : List ℕ).
           Added (logNow L area r) (record { slot = newSlot r; offset = digestSize L; entry = x })
           (logNow L (stored area ((newSlot r * r .size, 0) ∷ commit (r .size) (newSlot r) 0 (encodedDigest L (newDigest r 0) ++ b)))
-          (headedStore L r (logNow L area r) x)))
+          (headedRecord L r (logNow L area r) x)))
           (encoded-one L x) headed-added-one
 
-      headed : Done (stored area head-plan) (headedStore L r (logNow L area r) x)
+      headed : Done (stored area head-plan) (headedRecord L r (logNow L area r) x)
       headed = (
         headed-recovered L (r .slots) (r .size) (r .cells) area (stored area head-plan) r x e head-views (length-stored area head-plan)
             (omega (arith, f .two-free no-fit)) (f .takes),
         value-added (logNow L area r) (record { slot = newSlot r; offset = digestSize L; entry = x })
-            (logNow L (stored area head-plan) (headedStore L r (logNow L area r) x)) headed-added-one (above (newSlot r) (digestSize L)) L
+            (logNow L (stored area head-plan) (headedRecord L r (logNow L area r) x)) headed-added-one (above (newSlot r) (digestSize L)) L
             (recovered-apart L (r .slots) (r .size) (r .cells) area r e),
       )
 
     -- Whichever it is: recovery gives the record of 01's formulas, and the map is the old one with the key set or gone.
     pub entry-done :
         (recovered L (r .slots) (r .size) (r .cells) (stored area (planOf r (laidEntry L r x .pending 0) (laidEntry L r x .bytes))) ≡
-        some (entryStore L r (logNow L area r) x))
+        some (entryRecord L r (logNow L area r) x))
         × ((j : Key) →
-        valueAt L (logNow L (stored area (planOf r (laidEntry L r x .pending 0) (laidEntry L r x .bytes))) (entryStore L r (logNow L area r) x)) j ≡
+        valueAt L (logNow L (stored area (planOf r (laidEntry L r x .pending 0) (laidEntry L r x .bytes))) (entryRecord L r (logNow L area r) x)) j ≡
         pick (sameKey j x) (gives L x) (valueAt L (logNow L area r) j))
     unfolding pick planOf
     entry-done = go (fitsHead L r x) refl
       where
         goal : Bool → Type 0
-        goal t = Done (stored area (planOf r (pick t (laidAppend L x) (laidHead L r x) .pending 0) (pick t (laidAppend L x) (laidHead L r x) .bytes))) (pick t (appendedStore L r (logNow L area r) x) (headedStore L r (logNow L area r) x))
+        goal t = Done (stored area (planOf r (pick t (laidAppend L x) (laidHead L r x) .pending 0) (pick t (laidAppend L x) (laidHead L r x) .bytes))) (pick t (appendedRecord L r (logNow L area r) x) (headedRecord L r (logNow L area r) x))
 
         go : (t : Bool) → fitsHead L r x ≡ t → goal t
         go true p = appended (leb-true (r .end + sizeOf L x) (r .size) p)
@@ -170,5 +170,5 @@ module _ (L : Layout) (roomy : Roomy L) (area : List ℕ) (r : Store) (x : Entry
             subst
             (λ (b : List ℕ).
             Done (stored area ((newSlot r * r .size, 0) ∷ commit (r .size) (newSlot r) 0 (encodedDigest L (newDigest r 0) ++ b)))
-            (headedStore L r (logNow L area r) x))
+            (headedRecord L r (logNow L area r) x))
             (encoded-one L x) (headed p)

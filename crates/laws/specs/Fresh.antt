@@ -20,7 +20,7 @@ use Rattle.slot_map.specs.CountLaws.{used-free}
 use Rattle.record.specs.Range.{slotsGood, sizeGood, cellsGood}
 use Rattle.record.specs.RangeLaws.{between-low}
 use Rattle.model.specs.Log.{View, Head, Placed, scanned, viewsOf, headOf, placedIn, isDamaged, keysOf, versionShared, highest, nextVersion}
-use Rattle.model.specs.Recovery.{recovered, storeOf, storeUnder, headElse, geometryBad, logSlots, logUnder}
+use Rattle.model.specs.Recovery.{recovered, recordFrom, recordUnder, headElse, geometryBad, logSlots, logUnder}
 use Rattle.model.specs.Operations.{logNow, firstDigest, formatted}
 use Rattle.laws.specs.Members.{clash}
 use Rattle.laws.specs.FormatBytes.{length-formatted, formatted-other, formatted-head}
@@ -122,7 +122,7 @@ module _ (L : Layout) (roomy : Roomy L) (n s : ℕ) (area : List ℕ) (geometry 
   head-is : headOf views n ≡ some (record { slot = 0; digest = firstDigest })
   head-is = sound-head views n 16 (record { slot = 0; digest = firstDigest }) (sound 16)
 
-  pub format-recovers : (m : ℕ) → cellsGood m ≡ true → recovered L n s m (formatted L n s area) ≡ some (storeOf L n s m (formatted L n s area))
+  pub format-recovers : (m : ℕ) → cellsGood m ≡ true → recovered L n s m (formatted L n s area) ≡ some (recordFrom L n s m (formatted L n s area))
   unfolding headElse
   format-recovers m c =
       sound-recovered L n s m (formatted L n s area) (record { slot = 0; digest = firstDigest })
@@ -132,11 +132,11 @@ module _ (L : Layout) (roomy : Roomy L) (n s : ℕ) (area : List ℕ) (geometry 
         long = length-formatted L n s area ∙ whole;
         cells-good = c;
       }) (sound m) ∙
-      ap (λ (o : Option Head). some (storeUnder views n s m (headElse o))) (sym head-is)
+      ap (λ (o : Option Head). some (recordUnder views n s m (headElse o))) (sym head-is)
 
   pub format-log :
       (m : ℕ) →
-      (logNow L (formatted L n s area) (storeOf L n s m (formatted L n s area)) ≡ []) × (storeOf L n s m (formatted L n s area) .next .0 ≡ 1)
+      (logNow L (formatted L n s area) (recordFrom L n s m (formatted L n s area)) ≡ []) × (recordFrom L n s m (formatted L n s area) .next .0 ≡ 1)
   unfolding headElse highest
   format-log m = (
     ap (λ (o : Option Head). logUnder views n (headElse o)) head-is ∙ fresh-log views n (digestSize L) some-slots own others,

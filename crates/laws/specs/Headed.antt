@@ -21,10 +21,10 @@ use Rattle.slot_map.specs.Count.{used}
 use Rattle.slot_map.specs.CountLaws.{clear-sub, used-renewed}
 use Rattle.slot_map.specs.NextLaws.{next-below, next-clear}
 use Rattle.record.specs.RangeLaws.{map-in}
-use Rattle.record.specs.declared.Store.{Store}
+use Rattle.record.specs.declared.Record.{Record}
 use Rattle.model.specs.Log.{View, Head, Placed, scanned, endOf, isDamaged, placedIn, viewsOf, logOf, keysOf, versionShared, highest, nextVersion}
-use Rattle.model.specs.Recovery.{logSlots, logUnder, storeUnder, recovered}
-use Rattle.model.specs.Operations.{logNow, newSlot, newDigest, outsideSlots, allEncoded, placedFrom, headedStore}
+use Rattle.model.specs.Recovery.{logSlots, logUnder, recordUnder, recovered}
+use Rattle.model.specs.Operations.{logNow, newSlot, newDigest, outsideSlots, allEncoded, placedFrom, headedRecord}
 use Rattle.laws.specs.Scans.{itemsFrom, placed-items, encoded-one}
 use Rattle.laws.specs.HeadLaws.{top-new-head}
 use Rattle.laws.specs.LogLaws.{partOf, part-picked, part-passed, part-same, log-same, one-slot, OnePart, part-entered, Entered, entered-versions, entered-highest, entered-keys, scanned-undamaged, items-scanned, end-scanned}
@@ -76,16 +76,16 @@ pub record Heads (L : Layout) (v v′ : ℕ → View) (n j : ℕ) (d : Digest) (
 
 module _ (L : Layout) (v v′ : ℕ → View) (n s m : ℕ) (h : Head) (victims : ℕ) (es : List Entry) (f : Sound v n m h)
     (sub : within victims (h .digest .map) ≡ true)
-    (c : Heads L v v′ n (newSlot (storeUnder v n s m h)) (newDigest (storeUnder v n s m h) victims) es) where
+    (c : Heads L v v′ n (newSlot (recordUnder v n s m h)) (newDigest (recordUnder v n s m h) victims) es) where
   -- the old record, the new slot and the new head
-  abbrev r : Store
-  r = storeUnder v n s m h
+  abbrev r : Record
+  r = recordUnder v n s m h
 
   abbrev j : ℕ
-  j = newSlot (storeUnder v n s m h)
+  j = newSlot (recordUnder v n s m h)
 
   abbrev g : Head
-  g = record { slot = newSlot (storeUnder v n s m h); digest = newDigest (storeUnder v n s m h) victims }
+  g = record { slot = newSlot (recordUnder v n s m h); digest = newDigest (recordUnder v n s m h) victims }
 
   pub slot-below : j < n
   slot-below = next-below n (h .digest .map) (h .slot) (f .top .below) (map-in n (h .slot) (h .digest .map) (f .map-good) .some-free)
@@ -163,19 +163,19 @@ module _ (L : Layout) (v v′ : ℕ → View) (n s m : ℕ) (h : Head) (victims 
 -- ---- one entry in a new head, on views
 
 module _ (L : Layout) (v v′ : ℕ → View) (n s m : ℕ) (h : Head) (x : Entry) (f : Sound v n m h)
-    (c : Heads L v v′ n (newSlot (storeUnder v n s m h)) (newDigest (storeUnder v n s m h) 0) (x ∷ [])) where
+    (c : Heads L v v′ n (newSlot (recordUnder v n s m h)) (newDigest (recordUnder v n s m h) 0) (x ∷ [])) where
   -- the old log, the new head, its log, and the entry in its place
   abbrev old : List Placed
   old = logUnder v n h
 
   abbrev headed : Head
-  headed = record { slot = newSlot (storeUnder v n s m h); digest = newDigest (storeUnder v n s m h) 0 }
+  headed = record { slot = newSlot (recordUnder v n s m h); digest = newDigest (recordUnder v n s m h) 0 }
 
   abbrev after : List Placed
   after = logUnder v′ n headed
 
   abbrev placed : Placed
-  placed = record { slot = newSlot (storeUnder v n s m h); offset = digestSize L; entry = x }
+  placed = record { slot = newSlot (recordUnder v n s m h); offset = digestSize L; entry = x }
 
   pub headed-log : Entered old placed after
   unfolding placedFrom
@@ -194,18 +194,18 @@ module _ (L : Layout) (v v′ : ℕ → View) (n s m : ℕ) (h : Head) (x : Entr
         new-sound L v v′ n s m h 0 (x ∷ []) f (none-within (h .digest .map)) c
         (omega (
           arith,
-          used-renewed n (h .digest .map) 0 (newSlot (storeUnder v n s m h)) (none-within (h .digest .map))
+          used-renewed n (h .digest .map) 0 (newSlot (recordUnder v n s m h)) (none-within (h .digest .map))
               (slot-below L v v′ n s m h 0 (x ∷ []) f (none-within (h .digest .map)) c)
               (slot-clear L v v′ n s m h 0 (x ∷ []) f (none-within (h .digest .map)) c),
         ))
         (entered-versions old placed after headed-log above (f .versions))
         (omega (arith, entered-keys old placed after headed-log, t .room))
 
-    pub headed-next : nextVersion (newDigest (storeUnder v n s m h) 0) after ≡ nextVersion (h .digest) old + 1
+    pub headed-next : nextVersion (newDigest (recordUnder v n s m h) 0) after ≡ nextVersion (h .digest) old + 1
     headed-next = omega (arith, entered-highest old placed after headed-log above, t .version)
 
-    pub headed-store : storeUnder v′ n s m headed ≡ headedStore L (storeUnder v n s m h) old x
-    headed-store =
+    pub headed-record : recordUnder v′ n s m headed ≡ headedRecord L (recordUnder v n s m h) old x
+    headed-record =
         rw (
           new-end L v v′ n s m h 0 (x ∷ []) f (none-within (h .digest .map)) c,
           encoded-one L x,
@@ -216,29 +216,29 @@ module _ (L : Layout) (v v′ : ℕ → View) (n s m : ℕ) (h : Head) (x : Entr
 
 -- ---- one entry in a new head, on areas
 
-module _ (L : Layout) (n s m : ℕ) (area area′ : List ℕ) (r : Store) (x : Entry) (e : recovered L n s m area ≡ some r)
+module _ (L : Layout) (n s m : ℕ) (area area′ : List ℕ) (r : Record) (x : Entry) (e : recovered L n s m area ≡ some r)
     (c : Heads L (viewsOf L area s) (viewsOf L area′ s) n (newSlot r) (newDigest r 0) (x ∷ [])) where
   pub headed-entered :
       Entered (logNow L area r) (record { slot = newSlot r; offset = digestSize L; entry = x })
-      (logNow L area′ (headedStore L r (logNow L area r) x))
+      (logNow L area′ (headedRecord L r (logNow L area r) x))
   headed-entered =
       recovered-case L n s m area
-      (λ (k : Store).
+      (λ (k : Record).
       Heads L (viewsOf L area s) (viewsOf L area′ s) n (newSlot k) (newDigest k 0) (x ∷ [])
       → Entered (logNow L area k) (record { slot = newSlot k; offset = digestSize L; entry = x })
-      (logNow L area′ (headedStore L k (logNow L area k) x)))
+      (logNow L area′ (headedRecord L k (logNow L area k) x)))
       (λ h l f. headed-log L (viewsOf L area s) (viewsOf L area′ s) n s m h x f) r e c
 
   pub headed-recovered : length area′ ≡ length area → used n (r .map) + 2 ≤ n
       → Takes (r .next .0) (r .keys) m (logNow L area r) x
-      → recovered L n s m area′ ≡ some (headedStore L r (logNow L area r) x)
+      → recovered L n s m area′ ≡ some (headedRecord L r (logNow L area r) x)
   headed-recovered same-length =
       recovered-case L n s m area
-      (λ (k : Store).
+      (λ (k : Record).
       Heads L (viewsOf L area s) (viewsOf L area′ s) n (newSlot k) (newDigest k 0) (x ∷ []) → used n (k .map) + 2 ≤ n
       → Takes (k .next .0) (k .keys) m (logNow L area k) x
-      → recovered L n s m area′ ≡ some (headedStore L k (logNow L area k) x))
+      → recovered L n s m area′ ≡ some (headedRecord L k (logNow L area k) x))
       (λ h l f d room t.
       sound-recovered L n s m area′ (headed L (viewsOf L area s) (viewsOf L area′ s) n s m h x f d)
       (subst (Allowed n s m) (sym same-length) l) (headed-sound L (viewsOf L area s) (viewsOf L area′ s) n s m h x f d t room) ∙
-      ap some (headed-store L (viewsOf L area s) (viewsOf L area′ s) n s m h x f d t)) r e c
+      ap some (headed-record L (viewsOf L area s) (viewsOf L area′ s) n s m h x f d t)) r e c

@@ -22,6 +22,6 @@ pub mod Entering
 pub mod Planned
 pub mod EntryDone
 pub mod Fresh
-pub mod StoreKept
+pub mod OperationsKept
 pub mod Demand2
 pub mod Room

@@ -12,79 +12,79 @@ use Rattle.segment.specs.Layout.{Layout}
 use Rattle.segment.specs.Entry.{Entry}
 use Rattle.segment.specs.declared.Key.{Key}
 use Rattle.record.specs.Range.{cellsGood, fitsLent}
-use Rattle.record.specs.declared.Store.{Store}
+use Rattle.record.specs.declared.Record.{Record}
 use Rattle.laws.specs.MapLaws.{valueAt}
 use Rattle.model.specs.Log.{Placed, present, sameKey}
 use Rattle.model.specs.Causes.{firstCause}
-use Rattle.model.specs.Recovery.{recovered, storeOf, geometryBad}
-use Rattle.model.specs.Operations.{Operation, write, delete, clean, Typed, logNow, writtenEntry, tombstoneEntry, laid, planFor, stored, finishedStore, formatted}
+use Rattle.model.specs.Recovery.{recovered, recordFrom, geometryBad}
+use Rattle.model.specs.Operations.{Operation, write, delete, clean, Typed, logNow, writtenEntry, tombstoneEntry, laid, planFor, stored, finishedRecord, formatted}
 use Rattle.model.specs.Promises.{valuePart}
 use Rattle.model.specs.Refused.{Lengths, startCauses}
 
 -- An operation that a start accepts on the record which recovery of an area of bytes gives.
-pub record Accepted (L : Layout) (before : List ℕ) (idle : Store) (o : Operation) : Type 0 where
+pub record Accepted (L : Layout) (before : List ℕ) (idle : Record) (o : Operation) : Type 0 where
   pub lengths : Lengths
   pub area-bytes : Bytes before
   pub typed : Typed o
   pub recovers : recovered L (idle .slots) (idle .size) (idle .cells) before ≡ some idle
   pub no-cause : firstCause (startCauses L idle (logNow L before idle) lengths o) ≡ none
 
-abbrev pub planAt : Layout → List ℕ → Store → Operation → List (ℕ × ℕ)
+abbrev pub planAt : Layout → List ℕ → Record → Operation → List (ℕ × ℕ)
 planAt L before idle o = planFor L idle (logNow L before idle) o
 
 -- The map that an operation leaves, from the map before it: the key set, the key gone, or every key as it was.
-unfoldable pub mapAfter : Layout → Store → Operation → (Key → Option Entry) → Key → Option Entry
+unfoldable pub mapAfter : Layout → Record → Operation → (Key → Option Entry) → Key → Option Entry
 mapAfter L idle (write k value) old j = pick (sameKey j (writtenEntry L idle k value)) (some (writtenEntry L idle k value)) (old j)
 mapAfter L idle (delete k) old j = pick (sameKey j (tombstoneEntry L idle k)) none (old j)
 mapAfter L idle (clean victims) old j = old j
 
 -- All that the promise about cuts needs of the log, for a layout.
-pub record StoreLaws (L : Layout) : Type 0 where
+pub record OperationLaws (L : Layout) : Type 0 where
   -- After every proper prefix of an operation's stores the recovered record and the log are the old ones.
   pub prefix-recovers :
-      (before : List ℕ) (idle : Store) (o : Operation) → Accepted L before idle o → (k : ℕ) → k < length (planAt L before idle o) →
+      (before : List ℕ) (idle : Record) (o : Operation) → Accepted L before idle o → (k : ℕ) → k < length (planAt L before idle o) →
       recovered L (idle .slots) (idle .size) (idle .cells) (stored before (take k (planAt L before idle o))) ≡ some idle
   pub prefix-log :
-      (before : List ℕ) (idle : Store) (o : Operation) → Accepted L before idle o → (k : ℕ) → k < length (planAt L before idle o) →
+      (before : List ℕ) (idle : Record) (o : Operation) → Accepted L before idle o → (k : ℕ) → k < length (planAt L before idle o) →
       logNow L (stored before (take k (planAt L before idle o))) idle ≡ logNow L before idle
   -- Every prefix, and the whole plan, leaves bytes.
   pub plan-bytes :
-      (before : List ℕ) (idle : Store) (o : Operation) → Accepted L before idle o → (k : ℕ) →
+      (before : List ℕ) (idle : Record) (o : Operation) → Accepted L before idle o → (k : ℕ) →
       Bytes (stored before (take k (planAt L before idle o)))
   -- After the whole plan recovery gives the record of 01's own formulas.
   pub finish-recovers :
-      (before : List ℕ) (idle : Store) (o : Operation) → Accepted L before idle o →
-      recovered L (idle .slots) (idle .size) (idle .cells) (stored before (planAt L before idle o)) ≡ some (finishedStore L before idle o)
+      (before : List ℕ) (idle : Record) (o : Operation) → Accepted L before idle o →
+      recovered L (idle .slots) (idle .size) (idle .cells) (stored before (planAt L before idle o)) ≡ some (finishedRecord L before idle o)
   -- Demand 2.
   pub finish-map :
-      (before : List ℕ) (idle : Store) (o : Operation) → Accepted L before idle o → (j : Key) →
-      valueAt L (logNow L (stored before (planAt L before idle o)) (finishedStore L before idle o)) j ≡
+      (before : List ℕ) (idle : Record) (o : Operation) → Accepted L before idle o → (j : Key) →
+      valueAt L (logNow L (stored before (planAt L before idle o)) (finishedRecord L before idle o)) j ≡
       mapAfter L idle o (valueAt L (logNow L before idle)) j
   -- An operation has at least one store, and its bytes fit a segment.
-  pub some-stores : (before : List ℕ) (idle : Store) (o : Operation) → Accepted L before idle o → 0 < length (planAt L before idle o)
+  pub some-stores : (before : List ℕ) (idle : Record) (o : Operation) → Accepted L before idle o → 0 < length (planAt L before idle o)
   pub bytes-fit :
-      (before : List ℕ) (idle : Store) (o : Operation) → Accepted L before idle o →
+      (before : List ℕ) (idle : Record) (o : Operation) → Accepted L before idle o →
       length (laid L idle (logNow L before idle) o .bytes) ≤ idle .size
   -- A recovered record passes the tests of range and length with the area and the cells that it was recovered from.
   pub own-lengths :
-      (n s m : ℕ) (area : List ℕ) (r : Store) → Bytes area → recovered L n s m area ≡ some r → fitsLent L r (length area) m ≡ true
+      (n s m : ℕ) (area : List ℕ) (r : Record) → Bytes area → recovered L n s m area ≡ some r → fitsLent L r (length area) m ≡ true
   -- More cells change nothing but the number of cells.
   pub more-cells :
-      (n s m k : ℕ) (area : List ℕ) → recovered L n s m area ≡ some (storeOf L n s m area) → cellsGood k ≡ true → m ≤ k →
-      recovered L n s k area ≡ some (storeOf L n s k area)
+      (n s m k : ℕ) (area : List ℕ) → recovered L n s m area ≡ some (recordFrom L n s m area) → cellsGood k ≡ true → m ≤ k →
+      recovered L n s k area ≡ some (recordFrom L n s k area)
   -- Every version in the log is below the next version, and a key's value is a part of the area.
   pub version-below :
-      (area : List ℕ) (r : Store) → recovered L (r .slots) (r .size) (r .cells) area ≡ some r → (k : Key) (x : Placed) →
+      (area : List ℕ) (r : Record) → recovered L (r .slots) (r .size) (r .cells) area ≡ some r → (k : Key) (x : Placed) →
       present L (logNow L area r) k ≡ some x → x .entry .version < r .next .0
   pub value-part :
-      (area : List ℕ) (r : Store) → Bytes area → recovered L (r .slots) (r .size) (r .cells) area ≡ some r → (k : Key) (x : Placed) →
+      (area : List ℕ) (r : Record) → Bytes area → recovered L (r .slots) (r .size) (r .cells) area ≡ some r → (k : Key) (x : Placed) →
       present L (logNow L area r) k ≡ some x → valuePart L (r .size) area (some x) ≡ x .entry .value
   -- A fresh area has an empty log and next version 1, at any number of cells.
   pub format-bytes : (n s : ℕ) (area : List ℕ) → Bytes area → Bytes (formatted L n s area)
   pub format-recovers :
       (n s m : ℕ) (area : List ℕ) → geometryBad n s (length area) ≡ false → cellsGood m ≡ true →
-      recovered L n s m (formatted L n s area) ≡ some (storeOf L n s m (formatted L n s area))
+      recovered L n s m (formatted L n s area) ≡ some (recordFrom L n s m (formatted L n s area))
   pub format-log :
       (n s m : ℕ) (area : List ℕ) → geometryBad n s (length area) ≡ false →
-      (logNow L (formatted L n s area) (storeOf L n s m (formatted L n s area)) ≡ []) ×
-      (storeOf L n s m (formatted L n s area) .next .0 ≡ 1)
+      (logNow L (formatted L n s area) (recordFrom L n s m (formatted L n s area)) ≡ []) ×
+      (recordFrom L n s m (formatted L n s area) .next .0 ≡ 1)

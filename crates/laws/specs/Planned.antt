@@ -23,7 +23,7 @@ use Rattle.slot_map.specs.BitLaws.{clear-named, add-below}
 use Rattle.slot_map.specs.CountLaws.{clear-sub}
 use Rattle.slot_map.specs.NextLaws.{next-below, next-clear}
 use Rattle.record.specs.RangeLaws.{Lent, lent}
-use Rattle.record.specs.declared.Store.{Store}
+use Rattle.record.specs.declared.Record.{Record}
 use Rattle.model.specs.Log.{View, Placed, scan, itemsOf, segmentOf, viewsOf, logOf}
 use Rattle.model.specs.Recovery.{recovered}
 use Rattle.model.specs.Operations.{Operation, write, delete, clean, logNow, writtenEntry, tombstoneEntry, fitsHead, newSlot, newDigest, isKept, kept, allEncoded, Laid, laidAppend, laidHead, laidEntry, laid, commit, planOf, stored}
@@ -41,7 +41,7 @@ use Rattle.laws.specs.Entering.{Roomy, Entering, idle-lent, write-enters
 use Rattle.laws.specs.CauseLaws.{NoCause, no-cause}
 
 -- Which plan it is, with what is known of its bytes.
-pub data Planned (L : Layout) (r : Store) : List ℕ → List (ℕ × ℕ) → Type 0 where
+pub data Planned (L : Layout) (r : Record) : List ℕ → List (ℕ × ℕ) → Type 0 where
   appends : (x : Entry) → WellFormed L x → r .end + sizeOf L x ≤ r .size → Planned L r (encoded L x) (commit (r .size) (r .head) (r .end) (encoded L x))
   heads :
       (d : Digest) (es : List Entry) → ((x : Entry) → List·Memᴰ x es → WellFormed L x) → digestSize L + length (allEncoded L es) ≤ r .size →
@@ -49,7 +49,7 @@ pub data Planned (L : Layout) (r : Store) : List ℕ → List (ℕ × ℕ) → T
 
 -- ---- which of the two
 
-module _ (L : Layout) (roomy : Roomy L) (before : List ℕ) (idle : Store) where
+module _ (L : Layout) (roomy : Roomy L) (before : List ℕ) (idle : Record) where
   planned-entry :
       (e : Entry) → Entering L before idle e → 256 ≤ idle .size →
       Planned L idle (laidEntry L idle e .bytes) (planOf idle (laidEntry L idle e .pending 0) (laidEntry L idle e .bytes))
@@ -69,11 +69,11 @@ module _ (L : Layout) (roomy : Roomy L) (before : List ℕ) (idle : Store) where
 
 -- every entry of a recovered log of bytes is well formed
 pub log-formed :
-    (L : Layout) (n s m : ℕ) (area : List ℕ) (r : Store) → Bytes area → recovered L n s m area ≡ some r → (x : Placed) →
+    (L : Layout) (n s m : ℕ) (area : List ℕ) (r : Record) → Bytes area → recovered L n s m area ≡ some r → (x : Placed) →
     In x (logOf (viewsOf L area s) (named (r .map)) n) → WellFormed L (x .entry)
 log-formed L n s m area r bytes e x =
     recovered-case L n s m area
-    (λ (k : Store). In x (logOf (viewsOf L area s) (named (k .map)) n) → WellFormed L (x .entry))
+    (λ (k : Record). In x (logOf (viewsOf L area s) (named (k .map)) n) → WellFormed L (x .entry))
     (λ h l f i.
     let at = log-in (viewsOf L area s) (named (h .digest .map)) n x i in
     scans-stands (bytes-take s _ (bytes-drop (x .slot * s) area bytes))
@@ -86,7 +86,7 @@ kept-in L victims log e i =
     let y = entry-of (those (isKept L victims log) log) e (subst (List·Memᴰ e) (kept-those L victims log log) i) in
     (y .0, those-in (isKept L victims log) log (y .0) (y .1) .0, y .2)
 
-module _ (L : Layout) (roomy : Roomy L) (before : List ℕ) (idle : Store) where
+module _ (L : Layout) (roomy : Roomy L) (before : List ℕ) (idle : Record) where
   -- The plan of an accepted operation.
   pub planned : (o : Operation) → Accepted L before idle o → Planned L idle (laid L idle (logNow L before idle) o .bytes) (planAt L before idle o)
   unfolding laid planOf startCauses
@@ -111,7 +111,7 @@ module _ (L : Layout) (roomy : Roomy L) (before : List ℕ) (idle : Store) where
 
 -- ---- what it leaves
 
-module _ (L : Layout) (area : List ℕ) (r : Store) (e : recovered L (r .slots) (r .size) (r .cells) area ≡ some r) where
+module _ (L : Layout) (area : List ℕ) (r : Record) (e : recovered L (r .slots) (r .size) (r .cells) area ≡ some r) where
   facts : Lent L r (length area) (r .cells)
   facts = lent L r (length area) (r .cells) (recovered-fits L (r .slots) (r .size) (r .cells) area r e)
 

@@ -25,12 +25,12 @@ use Rattle.record.specs.Range.{between, slotsGood, sizeGood, cellsGood, mapGood
 use Rattle.record.specs.RangeLaws.{map-in}
 use Rattle.record.specs.declared.Refusal.{Refusal}
 use Rattle.record.specs.declared.Refusal.the-variants.{BadOrder}
-use Rattle.record.specs.declared.Store.{Store}
+use Rattle.record.specs.declared.Record.{Record}
 use Rattle.record.specs.declared.Recovery.{Recovery}
 use Rattle.record.specs.declared.RecoverAnswer.{RecoverAnswer}
 use Rattle.model.specs.Log.{View, Head, Placed, scanned, itemsOf, scan, digestIn, segmentOf, viewsOf, headOf, logOf, endOf, isDamaged, keysOf, versionShared, highest, nextVersion}
 use Rattle.model.specs.Causes.{Cause, when, firstCause}
-use Rattle.model.specs.Recovery.{noHead, headElse, sharing, mapBad, logSlots, logUnder, storeUnder, imageCauses, keyCauses, lentCauses, areaCauses, ifNone, storeOf, recovered, orderBad, recoveryFor, recovery, recoverCauses}
+use Rattle.model.specs.Recovery.{noHead, headElse, sharing, mapBad, logSlots, logUnder, recordUnder, imageCauses, keyCauses, lentCauses, areaCauses, ifNone, recordFrom, recovered, orderBad, recoveryFor, recovery, recoverCauses}
 use Rattle.model.specs.Operations.{logNow}
 use Rattle.laws.specs.CauseLaws.{NoCause, no-cause, causes-none, cause-passed}
 use Rattle.laws.specs.Members.{clash, In}
@@ -126,12 +126,12 @@ pub record Allowed (n s m areaLength : ℕ) : Type 0 where
   pub cells-good : cellsGood m ≡ true
 
 -- Recovery of the area gives r: all that it has tested, and r itself.
-pub record Recovers (L : Layout) (n s m : ℕ) (area : List ℕ) (r : Store) : Type 0 where
+pub record Recovers (L : Layout) (n s m : ℕ) (area : List ℕ) (r : Record) : Type 0 where
   pub lent : Allowed n s m (length area)
   pub head : Head
   pub head-is : headOf (viewsOf L area s) n ≡ some head
   pub sound : Sound (viewsOf L area s) n m head
-  pub same : r ≡ storeUnder (viewsOf L area s) n s m head
+  pub same : r ≡ recordUnder (viewsOf L area s) n s m head
 
 clear-lent : (n s m areaLength : ℕ) → NoCause (lentCauses n s m areaLength) → Allowed n s m areaLength
 clear-lent n s m areaLength f =
@@ -150,7 +150,7 @@ lent-clear n s m areaLength l = (
   (ap not (l .cells-good), tt),
 )
 
-if-none : (o : Option Refusal) (a r : Store) → ifNone o a ≡ some r → (o ≡ none) × (a ≡ r)
+if-none : (o : Option Refusal) (a r : Record) → ifNone o a ≡ some r → (o ≡ none) × (a ≡ r)
 unfolding ifNone
 if-none none a r e = (refl, cc)
 if-none (some c) a r e = let z : _≡_ {A = ℕ} 0 1 = cc in absurd (omega arith)
@@ -160,10 +160,10 @@ module _ (L : Layout) (n s m : ℕ) (area : List ℕ) where
   abbrev v : ℕ → View
   v = viewsOf L area s
 
-  pub recovered-facts : (r : Store) → recovered L n s m area ≡ some r → Recovers L n s m area r
+  pub recovered-facts : (r : Record) → recovered L n s m area ≡ some r → Recovers L n s m area r
   unfolding recovered headElse
   recovered-facts r e =
-      let accepted = if-none (firstCause (areaCauses L n s m area)) (storeOf L n s m area) r e in
+      let accepted = if-none (firstCause (areaCauses L n s m area)) (recordFrom L n s m area) r e in
       let clear = no-cause (areaCauses L n s m area) (accepted .0) in
       let found = clear-head v n m (clear .1 .1) in
       record {
@@ -171,10 +171,10 @@ module _ (L : Layout) (n s m : ℕ) (area : List ℕ) where
         head = found .0;
         head-is = found .1;
         sound = found .2;
-        same = sym (accepted .1) ∙ ap (λ (o : Option Head). storeUnder v n s m (headElse o)) (found .1);
+        same = sym (accepted .1) ∙ ap (λ (o : Option Head). recordUnder v n s m (headElse o)) (found .1);
       }
 
-  pub facts-recovered : (r : Store) → Recovers L n s m area r → recovered L n s m area ≡ some r
+  pub facts-recovered : (r : Record) → Recovers L n s m area r → recovered L n s m area ≡ some r
   unfolding recovered headElse ifNone
   facts-recovered r f =
       let lent = lent-clear n s m (length area) (f .lent) in
@@ -182,18 +182,18 @@ module _ (L : Layout) (n s m : ℕ) (area : List ℕ) where
       subst (λ (o : Option Head). NoCause (imageCauses v n o ++ keyCauses v n m o)) (sym (f .head-is))
       (sound-clear v n m (f .head) (f .sound)) in
       let accepted = causes-none (areaCauses L n s m area) (lent .0, (lent .1 .0, image)) in
-      ap (λ (o : Option Refusal). ifNone o (storeOf L n s m area)) accepted ∙
-      ap some (ap (λ (o : Option Head). storeUnder v n s m (headElse o)) (f .head-is) ∙ sym (f .same))
+      ap (λ (o : Option Refusal). ifNone o (recordFrom L n s m area)) accepted ∙
+      ap some (ap (λ (o : Option Head). recordUnder v n s m (headElse o)) (f .head-is) ∙ sym (f .same))
 
   -- the record by the facts alone: the head's slot and its equation follow from the rest
-  pub sound-recovered : (h : Head) → Allowed n s m (length area) → Sound v n m h → recovered L n s m area ≡ some (storeUnder v n s m h)
+  pub sound-recovered : (h : Head) → Allowed n s m (length area) → Sound v n m h → recovered L n s m area ≡ some (recordUnder v n s m h)
   sound-recovered h l f =
-      facts-recovered (storeUnder v n s m h)
+      facts-recovered (recordUnder v n s m h)
       (record { lent = l; head = h; head-is = sound-head v n m h f; sound = f; same = refl })
 
   -- What is shown of every record under a sound head holds of a recovered one.
-  pub recovered-case : (P : Store → Type 0) → ((h : Head) → Allowed n s m (length area) → Sound v n m h → P (storeUnder v n s m h))
-      → (r : Store) → recovered L n s m area ≡ some r → P r
+  pub recovered-case : (P : Record → Type 0) → ((h : Head) → Allowed n s m (length area) → Sound v n m h → P (recordUnder v n s m h))
+      → (r : Record) → recovered L n s m area ≡ some r → P r
   recovered-case P t r e =
       let f = recovered-facts r e in
       subst P (sym (f .same)) (t (f .head) (f .lent) (f .sound))
@@ -202,43 +202,43 @@ module _ (L : Layout) (n s m : ℕ) (area : List ℕ) where
 
   -- An order that is none of cause 15's changes nothing.
   pub order-free : (order : List ℕ) → orderBad n order ≡ false
-      → recovery L n s m order area ≡ recoveryFor (firstCause (areaCauses L n s m area)) (storeOf L n s m area)
+      → recovery L n s m order area ≡ recoveryFor (firstCause (areaCauses L n s m area)) (recordFrom L n s m area)
   unfolding recovery
   order-free order e =
-      ap (λ (o : Option Refusal). recoveryFor o (storeOf L n s m area))
+      ap (λ (o : Option Refusal). recoveryFor o (recordFrom L n s m area))
       (cause-passed (lentCauses n s m (length area)) (when (orderBad n order) BadOrder)
       (imageCauses v n (headOf v n) ++ keyCauses v n m (headOf v n)) e)
 
-  recovery-none : (o : Option Refusal) (a r : Store) → recoveryFor o a ≡ record { answer = RecoverAnswer.Recovered; store = r } → (o ≡ none) × (a ≡ r)
+  recovery-none : (o : Option Refusal) (a r : Record) → recoveryFor o a ≡ record { answer = RecoverAnswer.Recovered; rec = r } → (o ≡ none) × (a ≡ r)
   unfolding recoveryFor
-  recovery-none none a r e = (refl, ap (λ (x : Recovery). x .store) e)
+  recovery-none none a r e = (refl, ap (λ (x : Recovery). x .rec) e)
   recovery-none (some c) a r e =
       let q : RecoverAnswer.Refused c ≡ RecoverAnswer.Recovered = ap (λ (x : Recovery). x .answer) e in
       let z : _≡_ {A = ℕ} 0 1 = cc in
       absurd (omega arith)
 
   -- The call gives a record exactly if the area does, and the order names each slot once.
-  pub recovery-order : (order : List ℕ) (r : Store) → recovery L n s m order area ≡ record { answer = RecoverAnswer.Recovered; store = r }
+  pub recovery-order : (order : List ℕ) (r : Record) → recovery L n s m order area ≡ record { answer = RecoverAnswer.Recovered; rec = r }
       → orderBad n order ≡ false
   unfolding recovery
   recovery-order order r e =
-      no-cause (recoverCauses L n s m order area) (recovery-none (firstCause (recoverCauses L n s m order area)) (storeOf L n s m area) r e .0) .1 .1 .0
+      no-cause (recoverCauses L n s m order area) (recovery-none (firstCause (recoverCauses L n s m order area)) (recordFrom L n s m area) r e .0) .1 .1 .0
 
-  pub recovery-recovered : (order : List ℕ) (r : Store) → recovery L n s m order area ≡ record { answer = RecoverAnswer.Recovered; store = r }
+  pub recovery-recovered : (order : List ℕ) (r : Record) → recovery L n s m order area ≡ record { answer = RecoverAnswer.Recovered; rec = r }
       → recovered L n s m area ≡ some r
   unfolding recovered ifNone
   recovery-recovered order r e =
       let accepted =
-      recovery-none (firstCause (areaCauses L n s m area)) (storeOf L n s m area) r (sym (order-free order (recovery-order order r e)) ∙ e) in
-      ap (λ (o : Option Refusal). ifNone o (storeOf L n s m area)) (accepted .0) ∙ ap some (accepted .1)
+      recovery-none (firstCause (areaCauses L n s m area)) (recordFrom L n s m area) r (sym (order-free order (recovery-order order r e)) ∙ e) in
+      ap (λ (o : Option Refusal). ifNone o (recordFrom L n s m area)) (accepted .0) ∙ ap some (accepted .1)
 
-  pub recovered-recovery : (order : List ℕ) (r : Store) → orderBad n order ≡ false → recovered L n s m area ≡ some r
-      → recovery L n s m order area ≡ record { answer = RecoverAnswer.Recovered; store = r }
+  pub recovered-recovery : (order : List ℕ) (r : Record) → orderBad n order ≡ false → recovered L n s m area ≡ some r
+      → recovery L n s m order area ≡ record { answer = RecoverAnswer.Recovered; rec = r }
   unfolding recovered recoveryFor
   recovered-recovery order r good e =
-      let accepted = if-none (firstCause (areaCauses L n s m area)) (storeOf L n s m area) r e in
-      order-free order good ∙ ap (λ (o : Option Refusal). recoveryFor o (storeOf L n s m area)) (accepted .0) ∙
-      ap (λ (x : Store). record { answer = RecoverAnswer.Recovered; store = x }) (accepted .1)
+      let accepted = if-none (firstCause (areaCauses L n s m area)) (recordFrom L n s m area) r e in
+      order-free order good ∙ ap (λ (o : Option Refusal). recoveryFor o (recordFrom L n s m area)) (accepted .0) ∙
+      ap (λ (x : Record). record { answer = RecoverAnswer.Recovered; rec = x }) (accepted .1)
 
 -- ---- the record is in range
 
@@ -251,7 +251,7 @@ module _ (L : Layout) (v : ℕ → View) (n s m : ℕ) (h : Head) where
   abbrev pub EndsInside : Type 0
   EndsInside = (digestSize L ≤ endOf (v (h .slot) .scan)) × (endOf (v (h .slot) .scan) ≤ s)
 
-  pub under-in-range : (areaLength : ℕ) → Allowed n s m areaLength → Sound v n m h → EndsInside → inRange L (storeUnder v n s m h) ≡ true
+  pub under-in-range : (areaLength : ℕ) → Allowed n s m areaLength → Sound v n m h → EndsInside → inRange L (recordUnder v n s m h) ≡ true
   unfolding inRange between leftGood
   under-in-range areaLength l f e =
       both-true _ _
@@ -264,26 +264,26 @@ module _ (L : Layout) (v : ℕ → View) (n s m : ℕ) (h : Head) where
       (both-true _ _ (le-leb (length (keysOf (logUnder v n h))) (m - 1) (f .keys)) refl))
 
   pub under-fits : (areaLength : ℕ) → Allowed n s m areaLength → Sound v n m h → EndsInside
-      → fitsLent L (storeUnder v n s m h) areaLength m ≡ true
+      → fitsLent L (recordUnder v n s m h) areaLength m ≡ true
   unfolding fitsLent lengthsOwn
   under-fits areaLength l f e =
       both-true _ _ (under-in-range areaLength l f e) (both-true _ _ (eq-eqb areaLength (n * s) (l .long)) (eq-eqb m m refl))
 
 -- ---- the log of a recovered record
 
-module _ (L : Layout) (n s m : ℕ) (area : List ℕ) (r : Store) (e : recovered L n s m area ≡ some r) where
+module _ (L : Layout) (n s m : ℕ) (area : List ℕ) (r : Record) (e : recovered L n s m area ≡ some r) where
   pub recovered-versions : versionShared (logNow L area r) ≡ false
-  recovered-versions = recovered-case L n s m area (λ (k : Store). versionShared (logNow L area k) ≡ false) (λ h l f. f .versions) r e
+  recovered-versions = recovered-case L n s m area (λ (k : Record). versionShared (logNow L area k) ≡ false) (λ h l f. f .versions) r e
 
   pub recovered-apart : Apart (logNow L area r)
   recovered-apart = shared-apart (logNow L area r) recovered-versions
 
   pub recovered-keys : r .keys ≡ length (keysOf (logNow L area r))
-  recovered-keys = recovered-case L n s m area (λ (k : Store). k .keys ≡ length (keysOf (logNow L area k))) (λ h l f. refl) r e
+  recovered-keys = recovered-case L n s m area (λ (k : Record). k .keys ≡ length (keysOf (logNow L area k))) (λ h l f. refl) r e
 
   -- the next version is above every version in the log
   pub recovered-highest : highest (logNow L area r) < r .next .0
-  recovered-highest = recovered-case L n s m area (λ (k : Store). highest (logNow L area k) < k .next .0) (λ h l f. omega arith) r e
+  recovered-highest = recovered-case L n s m area (λ (k : Record). highest (logNow L area k) < k .next .0) (λ h l f. omega arith) r e
 
   pub recovered-above : (x : Placed) → In x (logNow L area r) → x .entry .version < r .next .0
   recovered-above = below-highest (logNow L area r) (r .next .0) recovered-highest
@@ -302,15 +302,15 @@ more-sound v n m k h l f =
       keys = omega (arith, f .keys);
     }
 
-pub recovered-more : (L : Layout) (n s m k : ℕ) (area : List ℕ) (r : Store) → recovered L n s m area ≡ some r → cellsGood k ≡ true → m ≤ k
-    → recovered L n s k area ≡ some (storeOf L n s k area)
+pub recovered-more : (L : Layout) (n s m k : ℕ) (area : List ℕ) (r : Record) → recovered L n s m area ≡ some r → cellsGood k ≡ true → m ≤ k
+    → recovered L n s k area ≡ some (recordFrom L n s k area)
 unfolding headElse
 recovered-more L n s m k area r e good l =
     let f = recovered-facts L n s m area r e in
     sound-recovered L n s k area (f .head)
     (record { slots-good = f .lent .slots-good; size-good = f .lent .size-good; long = f .lent .long; cells-good = good })
     (more-sound (viewsOf L area s) n m k (f .head) l (f .sound)) ∙
-    ap (λ (o : Option Head). some (storeUnder (viewsOf L area s) n s k (headElse o))) (sym (f .head-is))
+    ap (λ (o : Option Head). some (recordUnder (viewsOf L area s) n s k (headElse o))) (sym (f .head-is))
 
 -- ---- what leaves the store as it was
 
@@ -358,23 +358,23 @@ module _ (v v′ : ℕ → View) (n m : ℕ) (h : Head) (f : Sound v n m h) (u :
         keys = rw untouched-log (f .keys);
       }
 
-  pub untouched-store : (s : ℕ) → storeUnder v′ n s m h ≡ storeUnder v n s m h
-  untouched-store s = rw (untouched-log, head-kept)
+  pub untouched-record : (s : ℕ) → recordUnder v′ n s m h ≡ recordUnder v n s m h
+  untouched-record s = rw (untouched-log, head-kept)
 
-both-ways : (a b : Option Store) → ((r : Store) → a ≡ some r → b ≡ some r) → ((r : Store) → b ≡ some r → a ≡ some r) → b ≡ a
+both-ways : (a b : Option Record) → ((r : Record) → a ≡ some r → b ≡ some r) → ((r : Record) → b ≡ some r → a ≡ some r) → b ≡ a
 both-ways none none to from = refl
 both-ways none (some r) to from = sym (from r refl)
 both-ways (some r) b to from = to r refl
 
 module _ (L : Layout) (n s m : ℕ) (area area′ : List ℕ) (same-length : length area′ ≡ length area) where
-  pub untouched-recovered : (r : Store) (f : Recovers L n s m area r) → Untouched (viewsOf L area s) (viewsOf L area′ s) n (f .head)
+  pub untouched-recovered : (r : Record) (f : Recovers L n s m area r) → Untouched (viewsOf L area s) (viewsOf L area′ s) n (f .head)
       → recovered L n s m area′ ≡ some r
   untouched-recovered r f u =
       sound-recovered L n s m area′ (f .head) (subst (Allowed n s m) (sym same-length) (f .lent))
       (untouched-sound (viewsOf L area s) (viewsOf L area′ s) n m (f .head) (f .sound) u) ∙
-      ap some (untouched-store (viewsOf L area s) (viewsOf L area′ s) n m (f .head) (f .sound) u s ∙ sym (f .same))
+      ap some (untouched-record (viewsOf L area s) (viewsOf L area′ s) n m (f .head) (f .sound) u s ∙ sym (f .same))
 
-  views-kept : SameViews n (viewsOf L area s) (viewsOf L area′ s) → (r : Store) → recovered L n s m area ≡ some r
+  views-kept : SameViews n (viewsOf L area s) (viewsOf L area′ s) → (r : Record) → recovered L n s m area ≡ some r
       → recovered L n s m area′ ≡ some r
   views-kept same r e =
       let f = recovered-facts L n s m area r e in
@@ -388,14 +388,14 @@ module _ (L : Layout) (n s m : ℕ) (area area′ : List ℕ) (same-length : len
       (views-kept L n s m area′ area (sym same-length) (λ i l. sym (same i l)))
 
   -- A slot that the map does not name may change, as long as it has no digest then.
-  module _ (r : Store) (j : ℕ) (free : named (r .map) j ≡ false)
+  module _ (r : Record) (j : ℕ) (free : named (r .map) j ≡ false)
       (others : (i : ℕ) → i < n → (i ≡ j → ⊥) → viewsOf L area′ s i ≡ viewsOf L area s i) where
     pub cut-recovered : recovered L n s m area ≡ some r → viewsOf L area′ s j .digest ≡ none → recovered L n s m area′ ≡ some r
     cut-recovered e d =
         let f = recovered-facts L n s m area r e in
         untouched-recovered L n s m area area′ same-length r f
         (cut-untouched (viewsOf L area s) (viewsOf L area′ s) n j (f .head)
-        (ap (λ (x : Store). named (x .map) j) (sym (f .same)) ∙ free) others d)
+        (ap (λ (x : Record). named (x .map) j) (sym (f .same)) ∙ free) others d)
 
     pub cut-log : logOf (viewsOf L area′ s) (named (r .map)) n ≡ logOf (viewsOf L area s) (named (r .map)) n
     cut-log =
@@ -420,18 +420,18 @@ segment-bytes area s i h = bytes-take s (drop (i * s) area) (bytes-drop (i * s) 
 found-version : (L : Layout) (b : List ℕ) (at : ℕ) (x : Entry) → entryAt L b at ≡ entry x → x .version < versionLimit L
 found-version L b at x e = version-below L (x .version) (found-accepted L b at x e .good)
 
-module _ (L : Layout) (n s m : ℕ) (area : List ℕ) (r : Store) (e : recovered L n s m area ≡ some r) where
+module _ (L : Layout) (n s m : ℕ) (area : List ℕ) (r : Record) (e : recovered L n s m area ≡ some r) where
   pub recovered-lent : Allowed n s m (length area)
   recovered-lent = recovered-facts L n s m area r e .lent
 
   pub recovered-below : r .head < n
-  recovered-below = recovered-case L n s m area (λ (k : Store). k .head < n) (λ h l f. f .top .below) r e
+  recovered-below = recovered-case L n s m area (λ (k : Record). k .head < n) (λ h l f. f .top .below) r e
 
   -- the head's entries end where the record says, behind the digest and in the segment
   pub recovered-scan : scan L (segmentOf area s (r .head)) ≡ scanned (itemsOf (scan L (segmentOf area s (r .head)))) (r .end)
   recovered-scan =
       recovered-case L n s m area
-      (λ (k : Store). scan L (segmentOf area s (k .head)) ≡ scanned (itemsOf (scan L (segmentOf area s (k .head)))) (k .end))
+      (λ (k : Record). scan L (segmentOf area s (k .head)) ≡ scanned (itemsOf (scan L (segmentOf area s (k .head)))) (k .end))
       (λ h l f.
       scan-whole (scan L (segmentOf area s (h .slot)))
       (f .scans (h .slot) (f .top .below) (map-in n (h .slot) (h .digest .map) (f .map-good) .head-named))) r e
@@ -444,7 +444,7 @@ module _ (L : Layout) (n s m : ℕ) (area : List ℕ) (r : Store) (e : recovered
 
   pub recovered-fits : fitsLent L r (length area) m ≡ true
   recovered-fits =
-      recovered-case L n s m area (λ (k : Store). (digestSize L ≤ k .end) × (k .end ≤ s) → fitsLent L k (length area) m ≡ true)
+      recovered-case L n s m area (λ (k : Record). (digestSize L ≤ k .end) × (k .end ≤ s) → fitsLent L k (length area) m ≡ true)
       (λ h l f. under-fits L (viewsOf L area s) n s m h (length area) l f) r e recovered-ends
 
   -- in an area of bytes the record's numbers fit theirs
@@ -452,9 +452,9 @@ module _ (L : Layout) (n s m : ℕ) (area : List ℕ) (r : Store) (e : recovered
     own-digest : (h : Head) → Sound (viewsOf L area s) n m h → h .digest ≡ digestOf L (segmentOf area s (h .slot))
     own-digest h f = digest-in L (segmentOf area s (h .slot)) (h .digest) (f .top .own)
 
-    pub recovered-number : r .number .0 ≤ numberLimit
+    pub recovered-number : r .digest .0 ≤ numberLimit
     recovered-number =
-        recovered-case L n s m area (λ (k : Store). k .number .0 ≤ numberLimit)
+        recovered-case L n s m area (λ (k : Record). k .digest .0 ≤ numberLimit)
         (λ h l f.
         omega (
           arith,
@@ -472,7 +472,7 @@ module _ (L : Layout) (n s m : ℕ) (area : List ℕ) (r : Store) (e : recovered
 
     pub recovered-next : r .next .0 ≤ versionLimit L
     recovered-next =
-        recovered-case L n s m area (λ (k : Store). k .next .0 ≤ versionLimit L)
+        recovered-case L n s m area (λ (k : Record). k .next .0 ≤ versionLimit L)
         (λ h l f.
         let fits : h .digest .next .0 < 256 ^ L .width =
         rw (own-digest h f) (digest-next-fits L (segmentOf area s (h .slot)) (segment-bytes area s (h .slot) bytes)) in

@@ -18,7 +18,7 @@ use Rattle.slot_map.specs.NextLaws.{next-clear}
 use Rattle.slot_map.specs.Count.{used, free}
 use Rattle.slot_map.specs.CountLaws.{renewed-le, used-add}
 use Rattle.record.specs.RangeLaws.{Lent, lent}
-use Rattle.record.specs.declared.Store.{Store}
+use Rattle.record.specs.declared.Record.{Record}
 use Rattle.model.specs.Log.{View, Item, Placed, scan, scanned, itemsOf, endOf, isDamaged, segmentOf, viewsOf, logOf, placedIn}
 use Rattle.model.specs.Recovery.{recovered}
 use Rattle.model.specs.Operations.{logNow, newSlot, newDigest, kept, allEncoded}
@@ -52,7 +52,7 @@ one-picked v p i (suc n) l q o = go (ℕ-discrete i n) (λ h. one-picked v p i n
     go (no e) ih =
         ap (λ (l : List Placed). logOf v p n ++ l) (part-passed v p n (o n (λ z. e (sym z)))) ∙ append-nil (logOf v p n) ∙ ih (omega arith)
 
-module _ (L : Layout) (area : List ℕ) (r : Store) (e : recovered L (r .slots) (r .size) (r .cells) area ≡ some r) where
+module _ (L : Layout) (area : List ℕ) (r : Record) (e : recovered L (r .slots) (r .size) (r .cells) area ≡ some r) where
   facts : Lent L r (length area) (r .cells)
   facts = lent L r (length area) (r .cells) (recovered-fits L (r .slots) (r .size) (r .cells) area r e)
 
@@ -65,7 +65,7 @@ module _ (L : Layout) (area : List ℕ) (r : Store) (e : recovered L (r .slots) 
       whole =
           scan-whole (scan L (segmentOf area (r .size) i))
           (recovered-case L (r .slots) (r .size) (r .cells) area
-          (λ (k : Store). named (k .map) i ≡ true → isDamaged (scan L (segmentOf area (r .size) i)) ≡ false) (λ h a f p. f .scans i l p) r e q)
+          (λ (k : Record). named (k .map) i ≡ true → isDamaged (scan L (segmentOf area (r .size) i)) ≡ false) (λ h a f p. f .scans i l p) r e q)
 
       scans : Scans L (segmentOf area (r .size) i) (digestSize L) (itemsOf (scan L (segmentOf area (r .size) i))) (endOf (scan L (segmentOf area (r .size) i)))
       scans = scan-scans L (segmentOf area (r .size) i) whole

@@ -9,7 +9,7 @@ use lib.Seq.{length-sets}
 use Rattle.segment.specs.Layout.{Layout}
 use Rattle.record.specs.declared.Refusal.{Refusal}
 use Rattle.record.specs.declared.Refusal.the-variants.{BadRecord}
-use Rattle.record.specs.declared.Store.{Store}
+use Rattle.record.specs.declared.Record.{Record}
 use Rattle.model.specs.Log.{Placed}
 use Rattle.model.specs.Causes.{firstCause}
 use Rattle.model.specs.Operations.{Operation, write, delete, clean, laid}
@@ -18,14 +18,14 @@ use Rattle.model.specs.Promises.{begun}
 use Rattle.laws.specs.CauseLaws.{cause-first}
 
 -- the work buffer keeps its length
-pub begun-length : (L : Layout) (r : Store) (log : List Placed) (o : Operation) (work : List ℕ) (c : Option Refusal) →
+pub begun-length : (L : Layout) (r : Record) (log : List Placed) (o : Operation) (work : List ℕ) (c : Option Refusal) →
     length (begun L r log o work c .work) ≡ length work
 unfolding begun
 begun-length L r log o work none = length-sets work 0 (laid L r log o .bytes)
 begun-length L r log o work (some c) = refl
 
 -- 4 comes before every other cause
-pub start-bad : (L : Layout) (r : Store) (log : List Placed) (l : Lengths) (o : Operation) → recordBad L r l ≡ true →
+pub start-bad : (L : Layout) (r : Record) (log : List Placed) (l : Lengths) (o : Operation) → recordBad L r l ≡ true →
     firstCause (startCauses L r log l o) ≡ some BadRecord
 unfolding startCauses
 start-bad L r log l (write k value) h = cause-first _ _ h

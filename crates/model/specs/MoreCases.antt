@@ -8,7 +8,7 @@ use Rattle.segment.specs.Entry.{Entry}
 use Rattle.segment.specs.declared.Key.{Key}
 use Rattle.record.specs.declared.Pending.{Pending}
 use Rattle.record.specs.declared.Pending.the-variants.{Idle, Append, NewHead, Clean}
-use Rattle.record.specs.declared.Store.{Store}
+use Rattle.record.specs.declared.Record.{Record}
 use Rattle.model.specs.Recovery.{recoverCauses, recovery}
 use Rattle.model.specs.Operations.{Operation, write, delete, clean, formatted, allEncoded}
 use Rattle.model.specs.Refused.{formatCauses, readCauses, startCauses, stepCauses}
@@ -112,7 +112,7 @@ recoveryRefusals =
 -- ---- what the other calls refuse
 
 -- a record: N, S, M, end, digest number, map, next version, keys; its head is slot 0
-abbrev recordOf : (n s m end number map next keys : ℕ) → Pending → Store
+abbrev recordOf : (n s m end number map next keys : ℕ) → Pending → Record
 recordOf n s m end number map next keys p =
     record {
       slots = n;
@@ -120,7 +120,7 @@ recordOf n s m end number map next keys p =
       cells = m;
       head = 0;
       end = end;
-      number = record { 0 = number };
+      digest = record { 0 = number };
       map = map;
       next = record { 0 = next };
       keys = keys;
@@ -128,20 +128,20 @@ recordOf n s m end number map next keys p =
     }
 
 -- reading a key of an empty log, with memory as long as the record says: 4, or 8
-abbrev readsOf : Store → ℕ
+abbrev readsOf : Record → ℕ
 readsOf r =
     first (readCauses edition1 r [] (record { area = r .slots * r .size; index = r .cells; work = 0 }) (keyed 7 9))
 
-abbrev idle : Store
+abbrev idle : Record
 idle = recordOf 4 256 16 13 1 1 1 0 Idle
 
-abbrev busy : Pending → Store
+abbrev busy : Pending → Record
 busy p = recordOf 4 256 16 13 1 1 1 0 p
 
-abbrev steps : Store → ℕ → ℕ
+abbrev steps : Record → ℕ → ℕ
 steps r work = first (stepCauses edition1 r (lentWith work))
 
-abbrev startsOf : Store → ℕ → Operation → ℕ
+abbrev startsOf : Record → ℕ → Operation → ℕ
 startsOf r work o = first (startCauses edition1 r [] (lentWith work) o)
 
 abbrev badOnes : List Operation

@@ -17,7 +17,7 @@ use Rattle.slot_map.specs.Next.{nextFree}
 use Rattle.record.specs.Answers.{withPending}
 use Rattle.record.specs.declared.Pending.{Pending}
 use Rattle.record.specs.declared.Pending.the-variants.{Idle, Append, NewHead, Clean}
-use Rattle.record.specs.declared.Store.{Store}
+use Rattle.record.specs.declared.Record.{Record}
 use Rattle.model.specs.Log.{View, Placed, viewsOf, logOf, latest, hasKey, keysOf, sameKey}
 
 -- The three operations: write a value under a key, delete a key, clean a slot map of victims.
@@ -36,7 +36,7 @@ Typed (delete k) = TypedKey k
 Typed (clean victims) = victims < 256 ^ 4
 
 -- the log of the area under a record's map
-abbrev pub logNow : Layout → List ℕ → Store → List Placed
+abbrev pub logNow : Layout → List ℕ → Record → List Placed
 logNow L area r = logOf (viewsOf L area (r .size)) (named (r .map)) (r .slots)
 
 -- ---- what a start lays out
@@ -46,25 +46,25 @@ kindElse none = 0
 kindElse (some k) = k
 
 -- The entry of a write takes the next version, and so does the tombstone of a delete.
-abbrev pub writtenEntry : Layout → Store → Key → List ℕ → Entry
+abbrev pub writtenEntry : Layout → Record → Key → List ℕ → Entry
 writtenEntry L r k value =
     record { kind = kindElse (objectKind L (length value)); table = k .table; key = k .key; version = r .next .0; value = value }
 
-abbrev pub tombstoneEntry : Layout → Store → Key → Entry
+abbrev pub tombstoneEntry : Layout → Record → Key → Entry
 tombstoneEntry L r k = record { kind = L .tombstoneKind; table = k .table; key = k .key; version = r .next .0; value = [] }
 
 -- The entry fits the head: it may end exactly at S.
-abbrev pub fitsHead : Layout → Store → Entry → Bool
+abbrev pub fitsHead : Layout → Record → Entry → Bool
 fitsHead L r e = leb (r .end + sizeOf L e) (r .size)
 
 -- A new head takes the first free slot after the old head, going round.
-abbrev pub newSlot : Store → ℕ
+abbrev pub newSlot : Record → ℕ
 newSlot r = nextFree (r .slots) (r .map) (r .head)
 
 -- Its digest: the number plus 1, the old map less the victims plus its own bit, and the next version as it stood.
-abbrev pub newDigest : Store → ℕ → Digest
+abbrev pub newDigest : Record → ℕ → Digest
 newDigest r victims =
-    record { number = record { 0 = r .number .0 + 1 }; map = r .map - victims + 2 ^ newSlot r; next = r .next }
+    record { number = record { 0 = r .digest .0 + 1 }; map = r .map - victims + 2 ^ newSlot r; next = r .next }
 
 -- An entry of the log is its key's highest version there.
 unfoldable pub isVersion : Option Placed → ℕ → Bool
@@ -110,7 +110,7 @@ pub record Laid : Type 0 where
 abbrev pub laidAppend : Layout → Entry → Laid
 laidAppend L e = record { pending = λ k. Append (sizeOf L e) k; bytes = encoded L e }
 
-abbrev pub laidHead : Layout → Store → Entry → Laid
+abbrev pub laidHead : Layout → Record → Entry → Laid
 laidHead L r e =
     record {
       pending = λ k. NewHead (newSlot r) (digestSize L + sizeOf L e) k;
@@ -118,17 +118,17 @@ laidHead L r e =
     }
 
 -- An entry is appended to the head if it fits, else it comes to a new head.
-abbrev pub laidEntry : Layout → Store → Entry → Laid
+abbrev pub laidEntry : Layout → Record → Entry → Laid
 laidEntry L r e = pick (fitsHead L r e) (laidAppend L e) (laidHead L r e)
 
-abbrev pub laidClean : Layout → Store → List Placed → ℕ → Laid
+abbrev pub laidClean : Layout → Record → List Placed → ℕ → Laid
 laidClean L r log victims =
     record {
       pending = λ k. Clean (newSlot r) victims (digestSize L + length (allEncoded L (kept L victims log))) k;
       bytes = encodedDigest L (newDigest r victims) ++ allEncoded L (kept L victims log);
     }
 
-unfoldable pub laid : Layout → Store → List Placed → Operation → Laid
+unfoldable pub laid : Layout → Record → List Placed → Operation → Laid
 laid L r log (write k value) = laidEntry L r (writtenEntry L r k value)
 laid L r log (delete k) = laidEntry L r (tombstoneEntry L r k)
 laid L r log (clean victims) = laidClean L r log victims
@@ -148,22 +148,22 @@ commit S slot offset bytes =
     (slot * S + offset, getD bytes 0 0) ∷ []
 
 -- An append commits at the head's end. A new head first loses its byte 0, and commits at its start.
-unfoldable pub planOf : Store → Pending → List ℕ → List (ℕ × ℕ)
+unfoldable pub planOf : Record → Pending → List ℕ → List (ℕ × ℕ)
 planOf r Idle bytes = []
 planOf r (Append n k) bytes = commit (r .size) (r .head) (r .end) bytes
 planOf r (NewHead i n k) bytes = (i * r .size, 0) ∷ commit (r .size) i 0 bytes
 planOf r (Clean i v n k) bytes = (i * r .size, 0) ∷ commit (r .size) i 0 bytes
 
 -- The stores of an operation that is started on this record and log, and how many they are.
-abbrev pub planFor : Layout → Store → List Placed → Operation → List (ℕ × ℕ)
+abbrev pub planFor : Layout → Record → List Placed → Operation → List (ℕ × ℕ)
 planFor L r log o = planOf r (laid L r log o .pending 0) (laid L r log o .bytes)
 
-abbrev pub storesFor : Layout → Store → List Placed → Operation → ℕ
+abbrev pub storesFor : Layout → Record → List Placed → Operation → ℕ
 storesFor L r log o = length (planFor L r log o)
 
 -- The record once the operation is started.
-abbrev pub startedStore : Layout → Store → List Placed → Operation → Store
-startedStore L r log o = withPending r (laid L r log o .pending (storesFor L r log o))
+abbrev pub startedRecord : Layout → Record → List Placed → Operation → Record
+startedRecord L r log o = withPending r (laid L r log o .pending (storesFor L r log o))
 
 -- the area after stores
 unfoldable pub stored : List ℕ → List (ℕ × ℕ) → List ℕ
@@ -173,7 +173,7 @@ stored area (x ∷ xs) = stored (set area (x .0) (x .1)) xs
 -- ---- the last step
 
 -- The version that the last step tells: the operation's own, 0 for a cleaning.
-unfoldable pub toldVersion : Store → Operation → ℕ
+unfoldable pub toldVersion : Record → Operation → ℕ
 toldVersion r (write k value) = r .next .0
 toldVersion r (delete k) = r .next .0
 toldVersion r (clean victims) = 0
@@ -191,54 +191,54 @@ placedFrom L i at [] = []
 placedFrom L i at (e ∷ es) = record { slot = i; offset = at; entry = e } ∷ placedFrom L i (at + sizeOf L e) es
 
 -- the record once an entry of key k is in the head's end, or in a new head
-abbrev pub appendedStore : Layout → Store → List Placed → Entry → Store
-appendedStore L r log e =
+abbrev pub appendedRecord : Layout → Record → List Placed → Entry → Record
+appendedRecord L r log e =
     record {
       slots = r .slots;
       size = r .size;
       cells = r .cells;
       head = r .head;
       end = r .end + sizeOf L e;
-      number = r .number;
+      digest = r .digest;
       map = r .map;
       next = record { 0 = r .next .0 + 1 };
       keys = r .keys + countNew log (keyOf e);
       pending = Idle;
     }
 
-abbrev pub headedStore : Layout → Store → List Placed → Entry → Store
-headedStore L r log e =
+abbrev pub headedRecord : Layout → Record → List Placed → Entry → Record
+headedRecord L r log e =
     record {
       slots = r .slots;
       size = r .size;
       cells = r .cells;
       head = newSlot r;
       end = digestSize L + sizeOf L e;
-      number = newDigest r 0 .number;
+      digest = newDigest r 0 .number;
       map = newDigest r 0 .map;
       next = record { 0 = r .next .0 + 1 };
       keys = r .keys + countNew log (keyOf e);
       pending = Idle;
     }
 
-abbrev pub entryStore : Layout → Store → List Placed → Entry → Store
-entryStore L r log e = pick (fitsHead L r e) (appendedStore L r log e) (headedStore L r log e)
+abbrev pub entryRecord : Layout → Record → List Placed → Entry → Record
+entryRecord L r log e = pick (fitsHead L r e) (appendedRecord L r log e) (headedRecord L r log e)
 
 -- The log that a cleaning leaves, but for the order of its slots: what stands outside the victims, and what is kept.
-abbrev pub cleanedLog : Layout → List ℕ → Store → ℕ → List Placed
+abbrev pub cleanedLog : Layout → List ℕ → Record → ℕ → List Placed
 cleanedLog L area r victims =
     logOf (viewsOf L area (r .size)) (outsideSlots (r .map) victims) (r .slots) ++
     placedFrom L (newSlot r) (digestSize L) (kept L victims (logNow L area r))
 
-abbrev pub cleanedStore : Layout → List ℕ → Store → ℕ → Store
-cleanedStore L area r victims =
+abbrev pub cleanedRecord : Layout → List ℕ → Record → ℕ → Record
+cleanedRecord L area r victims =
     record {
       slots = r .slots;
       size = r .size;
       cells = r .cells;
       head = newSlot r;
       end = digestSize L + length (allEncoded L (kept L victims (logNow L area r)));
-      number = newDigest r victims .number;
+      digest = newDigest r victims .number;
       map = newDigest r victims .map;
       next = r .next;
       keys = length (keysOf (cleanedLog L area r victims));
@@ -246,10 +246,10 @@ cleanedStore L area r victims =
     }
 
 -- The record after the last step of an operation that was started on this area and record.
-unfoldable pub finishedStore : Layout → List ℕ → Store → Operation → Store
-finishedStore L area r (write k value) = entryStore L r (logNow L area r) (writtenEntry L r k value)
-finishedStore L area r (delete k) = entryStore L r (logNow L area r) (tombstoneEntry L r k)
-finishedStore L area r (clean victims) = cleanedStore L area r victims
+unfoldable pub finishedRecord : Layout → List ℕ → Record → Operation → Record
+finishedRecord L area r (write k value) = entryRecord L r (logNow L area r) (writtenEntry L r k value)
+finishedRecord L area r (delete k) = entryRecord L r (logNow L area r) (tombstoneEntry L r k)
+finishedRecord L area r (clean victims) = cleanedRecord L area r victims
 
 -- ---- format
 

@@ -17,11 +17,11 @@ use Rattle.record.specs.Range.{between, mapGood, leftGood, inRange, lengthsOwn,
 use Rattle.record.specs.Refusals.{numberOfRefusal}
 use Rattle.record.specs.declared.Recovery.{Recovery}
 use Rattle.record.specs.declared.Refusal.{Refusal}
-use Rattle.record.specs.declared.Store.{Store}
+use Rattle.record.specs.declared.Record.{Record}
 use Rattle.model.specs.Log.{Placed, itemFirst, scanFrom, itemsOf, endOf, isDamaged, digestIn, newer, headOf, placedIn, logOf, sameKey, laterOf, latest, objectOnly, present, hasKey, keysOf, hasVersion, versionShared, highest}
 use Rattle.model.specs.Causes.{Cause, firstCause}
-use Rattle.model.specs.Recovery.{lists, listsBelow, noHead, headElse, hasNumber, sharing, noDigest, namesNoDigest, logDamaged, recoveryFor, recovery, storeOf}
-use Rattle.model.specs.Operations.{Operation, logNow, kindElse, isVersion, objectOutside, keptOf, kept, allEncoded, laid, storesFrom, planOf, planFor, storesFor, stored, toldVersion, countNew, placedFrom, finishedStore, cleared, formatted}
+use Rattle.model.specs.Recovery.{lists, listsBelow, noHead, headElse, hasNumber, sharing, noDigest, namesNoDigest, logDamaged, recoveryFor, recovery, recordFrom}
+use Rattle.model.specs.Operations.{Operation, logNow, kindElse, isVersion, objectOutside, keptOf, kept, allEncoded, laid, storesFrom, planOf, planFor, storesFor, stored, toldVersion, countNew, placedFrom, finishedRecord, cleared, formatted}
 use Rattle.model.specs.Refused.{Lengths, isPending, isNone, isAbsent, readCauses, startCauses}
 use Rattle.model.specs.Promises.{presentAnswer, readAnswer, valuePart, valueAnswer, Begun, begun, stepped}
 use Rattle.model.specs.Table.{same, failing}
@@ -32,7 +32,7 @@ unfolding numberOf bytesOf pick both either edition1 lookup lookBack isSome valu
     bit used slotAfter freeFrom nextFree between mapGood leftGood inRange lengthsOwn fitsLent
     itemFirst scanFrom itemsOf endOf isDamaged digestIn newer headOf placedIn logOf sameKey laterOf latest objectOnly present hasKey keysOf hasVersion versionShared highest
     firstCause lists listsBelow noHead headElse hasNumber sharing noDigest namesNoDigest logDamaged recoveryFor recovery
-    kindElse isVersion objectOutside keptOf allEncoded laid storesFrom planOf stored toldVersion countNew placedFrom finishedStore cleared
+    kindElse isVersion objectOutside keptOf allEncoded laid storesFrom planOf stored toldVersion countNew placedFrom finishedRecord cleared
     isPending isNone isAbsent startCauses presentAnswer readAnswer valuePart valueAnswer begun stepped same failing
 opened = tt
 
@@ -74,58 +74,58 @@ abbrev pub said : Said → List ℕ
 said a = a .refused ∷ a .stores ∷ a .version ∷ a .kind ∷ []
 
 -- a record from N to the number of keys, and the stores that its pending operation has left
-abbrev pub numbers : Store → List ℕ
+abbrev pub numbers : Record → List ℕ
 numbers r =
-    r .slots ∷ r .size ∷ r .cells ∷ r .head ∷ r .end ∷ r .number .0 ∷ r .map ∷ r .next .0 ∷ r .keys ∷ storesLeft (r .pending) ∷ []
+    r .slots ∷ r .size ∷ r .cells ∷ r .head ∷ r .end ∷ r .digest .0 ∷ r .map ∷ r .next .0 ∷ r .keys ∷ storesLeft (r .pending) ∷ []
 
 -- what recovery answers, its number and the record
 abbrev pub recoveryNumbers : Recovery → List ℕ
-recoveryNumbers r = recoverSaid (r .answer) .refused ∷ numbers (r .store)
+recoveryNumbers r = recoverSaid (r .answer) .refused ∷ numbers (r .rec)
 
 -- with 16 cells and the slots in order
 abbrev pub recovers : List ℕ → List ℕ
 recovers area = recoveryNumbers (recovery edition1 4 256 16 (0 ∷ 1 ∷ 2 ∷ 3 ∷ []) area)
 
 -- the record that this recovery gives, and the log under it
-abbrev pub storeNow : List ℕ → Store
-storeNow area = storeOf edition1 4 256 16 area
+abbrev pub recordNow : List ℕ → Record
+recordNow area = recordFrom edition1 4 256 16 area
 
 abbrev pub log : List ℕ → List Placed
-log area = logNow edition1 area (storeNow area)
+log area = logNow edition1 area (recordNow area)
 
 -- what the lent memory is as long as, with a work buffer of S bytes
 abbrev pub lentWith : ℕ → Lengths
 lentWith work = record { area = 1024; index = 16; work = work }
 
 -- the first cause of a start with this record
-abbrev pub startCause : Store → List ℕ → Operation → Option Refusal
+abbrev pub startCause : Record → List ℕ → Operation → Option Refusal
 startCause r area o = firstCause (startCauses edition1 r (logNow edition1 area r) (lentWith 256) o)
 
 -- its number with the recovered record
 abbrev pub startNumber : List ℕ → Operation → ℕ
-startNumber area o = causeNumber (startCause (storeNow area) area o)
+startNumber area o = causeNumber (startCause (recordNow area) area o)
 
 -- a start with the recovered record and a work buffer of bytes 170
 abbrev pub begins : List ℕ → Operation → Begun
-begins area o = begun edition1 (storeNow area) (log area) o (replicate 256 170) (startCause (storeNow area) area o)
+begins area o = begun edition1 (recordNow area) (log area) o (replicate 256 170) (startCause (recordNow area) area o)
 
 -- what it answers, and its record
 abbrev pub starts : List ℕ → Operation → List ℕ
-starts area o = said (startSaid (begins area o .start .answer)) ++ numbers (begins area o .start .store)
+starts area o = said (startSaid (begins area o .start .answer)) ++ numbers (begins area o .start .rec)
 
 -- what the step answers after which k stores are left, and its record; and what the last one does
 abbrev pub stepsTo : ℕ → List ℕ → Operation → List ℕ
 stepsTo k area o =
-    said (stepSaid (stepped edition1 area (storeNow area) o k .answer)) ++ numbers (stepped edition1 area (storeNow area) o k .store)
+    said (stepSaid (stepped edition1 area (recordNow area) o k .answer)) ++ numbers (stepped edition1 area (recordNow area) o k .rec)
 
 abbrev pub ends : List ℕ → Operation → List ℕ
 ends area o = stepsTo 0 area o
 
 abbrev pub plan : List ℕ → Operation → List (ℕ × ℕ)
-plan area o = planFor edition1 (storeNow area) (log area) o
+plan area o = planFor edition1 (recordNow area) (log area) o
 
 abbrev pub stores : List ℕ → Operation → ℕ
-stores area o = storesFor edition1 (storeNow area) (log area) o
+stores area o = storesFor edition1 (recordNow area) (log area) o
 
 -- the area after the first k stores of an operation
 abbrev pub cutAfter : ℕ → List ℕ → Operation → List ℕ
@@ -137,20 +137,20 @@ playedUnless none area o = stored area (plan area o)
 playedUnless (some c) area o = area
 
 abbrev pub played : List ℕ → Operation → List ℕ
-played area o = playedUnless (startCause (storeNow area) area o) area o
+played area o = playedUnless (startCause (recordNow area) area o) area o
 
 abbrev pub playedAll : List ℕ → List Operation → List ℕ
 playedAll area [] = area
 playedAll area (o ∷ os) = playedAll (played area o) os
 
 -- what reading a key answers, and the value
-abbrev pub readCause : Store → List ℕ → Key → Option Refusal
+abbrev pub readCause : Record → List ℕ → Key → Option Refusal
 readCause r area k = firstCause (readCauses edition1 r (logNow edition1 area r) (lentWith 0) k)
 
 abbrev pub reads : List ℕ → Key → List ℕ
 reads area k =
-    said (readSaid (readAnswer (readCause (storeNow area) area k) (present edition1 (log area) k))) ++
-    valueAnswer edition1 256 area (readCause (storeNow area) area k) (present edition1 (log area) k)
+    said (readSaid (readAnswer (readCause (recordNow area) area k) (present edition1 (log area) k))) ++
+    valueAnswer edition1 256 area (readCause (recordNow area) area k) (present edition1 (log area) k)
 
 -- the bytes that a cleaning keeps
 abbrev pub keeps : List ℕ → ℕ → List ℕ

@@ -18,7 +18,7 @@ use Rattle.record.specs.declared.Pending.{Pending}
 use Rattle.record.specs.declared.Pending.the-variants.{Idle, Append, NewHead, Clean}
 use Rattle.record.specs.declared.Refusal.{Refusal}
 use Rattle.record.specs.Refusals.{numberOfRefusal}
-use Rattle.record.specs.declared.Store.{Store}
+use Rattle.record.specs.declared.Record.{Record}
 use Rattle.record.specs.declared.FormatAnswer.{FormatAnswer}
 use Rattle.record.specs.declared.Recovery.{Recovery}
 use Rattle.record.specs.declared.RecoverAnswer.{RecoverAnswer}
@@ -32,22 +32,22 @@ use Rattle.model.specs.Log.{Placed, placeOf, present}
 use Rattle.model.specs.Causes.{Cause, firstCause}
 use Rattle.model.specs.Recovery.{recovered, recovery}
 use Rattle.model.specs.Index.{IndexRule}
-use Rattle.model.specs.Operations.{Operation, Typed, logNow, laid, planFor, storesFor, startedStore, stored, toldVersion, finishedStore, formatted}
+use Rattle.model.specs.Operations.{Operation, Typed, logNow, laid, planFor, storesFor, startedRecord, stored, toldVersion, finishedRecord, formatted}
 use Rattle.model.specs.Refused.{Lengths, recordBad, formatCauses, readCauses, startCauses, stepCauses}
 
 -- ---- the stores on which a call promises its whole answer
 
 -- The record, its pending operation aside, is what recovery of this area gives, and the index keeps its rule.
-pub record Genuine (L : Layout) (area : List ℕ) (r : Store) (cells : List ℕ) : Type 0 where
+pub record Genuine (L : Layout) (area : List ℕ) (r : Record) (cells : List ℕ) : Type 0 where
   pub recovers : recovered L (r .slots) (r .size) (r .cells) area ≡ some (withPending r Idle)
   pub rule : IndexRule (r .size) (logNow L area r) cells
 
 -- The pending operation, its work bytes and its stores left are what a start on this store and the steps since then give:
 -- `idle` was the record and `before` the area, and `since` stores of the plan are done.
-pub record Started (L : Layout) (area : List ℕ) (r : Store) (work : List ℕ) : Type 0 where
+pub record Started (L : Layout) (area : List ℕ) (r : Record) (work : List ℕ) : Type 0 where
   pub operation : Operation
   pub before : List ℕ
-  pub idle : Store
+  pub idle : Record
   pub since : ℕ
   pub lengths : Lengths
   pub typed : Typed operation
@@ -79,7 +79,7 @@ pub record FormatPromise (L : Layout) (n s : ℕ) (area area′ : List ℕ) (a :
 
 -- The index is untouched where recovery is refused, but all 0 at 20, and keeps the rule where it is accepted.
 unfoldable pub IndexAfter : Layout → List ℕ → List ℕ → List ℕ → Recovery → RecoverAnswer → Type 0
-IndexAfter L area cells cells′ r RecoverAnswer.Recovered = IndexRule (r .store .size) (logNow L area (r .store)) cells′
+IndexAfter L area cells cells′ r RecoverAnswer.Recovered = IndexRule (r .rec .size) (logNow L area (r .rec)) cells′
 IndexAfter L area cells cells′ r (RecoverAnswer.Refused c) = cells′ ≡ pick (eqb (numberOfRefusal c) 20) (replicate (length cells) 0) cells
 
 -- The record or the first cause, whatever the order of the slots.
@@ -103,8 +103,8 @@ readLengths area cells = record { area = length area; index = length cells; work
 
 -- The version and kind of the key's object, or 4 or 8; the record is handed back. A record that fails the tests of range and
 -- length is refused whatever the log holds. Reads are allowed while an operation is pending, and need no work buffer.
-pub record ReadPromise (L : Layout) (r : Store) (area cells : List ℕ) (k : Key) (a : Reading) : Type 0 where
-  pub hands-back : a .store ≡ r
+pub record ReadPromise (L : Layout) (r : Record) (area cells : List ℕ) (k : Key) (a : Reading) : Type 0 where
+  pub hands-back : a .rec ≡ r
   pub unfit : recordBad L r (readLengths area cells) ≡ true → a .answer ≡ ReadAnswer.Refused Refusal.BadRecord
   pub exact :
       Genuine L area r cells → a .answer ≡
@@ -119,7 +119,7 @@ unfoldable pub valueAnswer : Layout → ℕ → List ℕ → Option Refusal → 
 valueAnswer L S area none x = valuePart L S area x
 valueAnswer L S area (some c) x = []
 
-pub record ValuePromise (L : Layout) (r : Store) (area cells : List ℕ) (k : Key) (value : List ℕ) : Type 0 where
+pub record ValuePromise (L : Layout) (r : Record) (area cells : List ℕ) (k : Key) (value : List ℕ) : Type 0 where
   pub unfit : recordBad L r (readLengths area cells) ≡ true → value ≡ []
   pub exact :
       Genuine L area r cells → value ≡
@@ -134,19 +134,19 @@ pub record Begun : Type 0 where
 
 -- Refused, nothing changes. Accepted, the answer is the number of stores to come, the operation is pending, and the work
 -- buffer is filled from its first byte.
-unfoldable pub begun : Layout → Store → List Placed → Operation → List ℕ → Option Refusal → Begun
+unfoldable pub begun : Layout → Record → List Placed → Operation → List ℕ → Option Refusal → Begun
 begun L r log o work none =
     record {
-      start = record { answer = StartAnswer.Started (storesFor L r log o); store = startedStore L r log o };
+      start = record { answer = StartAnswer.Started (storesFor L r log o); rec = startedRecord L r log o };
       work = sets work 0 (laid L r log o .bytes);
     }
-begun L r log o work (some c) = record { start = record { answer = StartAnswer.Refused c; store = r }; work = work }
+begun L r log o work (some c) = record { start = record { answer = StartAnswer.Refused c; rec = r }; work = work }
 
 abbrev pub lentLengths : List ℕ → List ℕ → List ℕ → Lengths
 lentLengths area cells work = record { area = length area; index = length cells; work = length work }
 
 -- One promise for the three starts. Of an area that is only read nothing has to be said.
-pub record StartPromise (L : Layout) (o : Operation) (r : Store) (area cells work work′ : List ℕ) (a : Start) : Type 0 where
+pub record StartPromise (L : Layout) (o : Operation) (r : Record) (area cells work work′ : List ℕ) (a : Start) : Type 0 where
   pub same-length : length work′ ≡ length work
   pub unfit :
       recordBad L r (lentLengths area cells work) ≡ true →
@@ -162,37 +162,37 @@ abbrev pub OneByte : List ℕ → List ℕ → Type 0
 OneByte area area′ = (p : ℕ) × (b : ℕ) × (area′ ≡ set area p b)
 
 -- Where a step is refused nothing changes.
-pub record StepRefused (r : Store) (area area′ cells cells′ : List ℕ) (a : Stepped) (c : Refusal) : Type 0 where
-  pub answers : a ≡ record { answer = StepAnswer.Refused c; store = r }
+pub record StepRefused (r : Record) (area area′ cells cells′ : List ℕ) (a : Stepped) (c : Refusal) : Type 0 where
+  pub answers : a ≡ record { answer = StepAnswer.Refused c; rec = r }
   pub area-same : area′ ≡ area
   pub index-same : cells′ ≡ cells
 
 -- The answer and the record of a step after which `left` stores are left.
-unfoldable pub stepped : Layout → List ℕ → Store → Operation → ℕ → Stepped
+unfoldable pub stepped : Layout → List ℕ → Record → Operation → ℕ → Stepped
 stepped L before idle o zero =
-    record { answer = StepAnswer.Done (record { 0 = toldVersion idle o }); store = finishedStore L before idle o }
+    record { answer = StepAnswer.Done (record { 0 = toldVersion idle o }); rec = finishedRecord L before idle o }
 stepped L before idle o (suc k) =
     record {
       answer = StepAnswer.Left (suc k);
-      store = withPending idle (laid L idle (logNow L before idle) o .pending (suc k));
+      rec = withPending idle (laid L idle (logNow L before idle) o .pending (suc k));
     }
 
 -- The index stays until the last step, and then keeps the rule for the new log.
-unfoldable pub IndexStepped : Layout → List ℕ → List ℕ → List ℕ → Store → ℕ → Type 0
+unfoldable pub IndexStepped : Layout → List ℕ → List ℕ → List ℕ → Record → ℕ → Type 0
 IndexStepped L area′ cells cells′ r zero = IndexRule (r .size) (logNow L area′ r) cells′
 IndexStepped L area′ cells cells′ r (suc k) = cells′ ≡ cells
 
-abbrev pub leftAfter : (L : Layout) (area : List ℕ) (r : Store) (work : List ℕ) → Started L area r work → ℕ
+abbrev pub leftAfter : (L : Layout) (area : List ℕ) (r : Record) (work : List ℕ) → Started L area r work → ℕ
 leftAfter L area r work s = storesFor L (s .idle) (logNow L (s .before) (s .idle)) (s .operation) - suc (s .since)
 
 -- A step of a started operation does the one store that comes next in the plan.
-pub record StepExact (L : Layout) (r : Store) (area area′ cells cells′ work : List ℕ) (a : Stepped) (s : Started L area r work) : Type 0 where
+pub record StepExact (L : Layout) (r : Record) (area area′ cells cells′ work : List ℕ) (a : Stepped) (s : Started L area r work) : Type 0 where
   pub stores :
       area′ ≡ stored (s .before) (take (suc (s .since)) (planFor L (s .idle) (logNow L (s .before) (s .idle)) (s .operation)))
   pub answers : a ≡ stepped L (s .before) (s .idle) (s .operation) (leftAfter L area r work s)
-  pub index : IndexStepped L area′ cells cells′ (a .store) (leftAfter L area r work s)
+  pub index : IndexStepped L area′ cells cells′ (a .rec) (leftAfter L area r work s)
 
-pub record StepPromise (L : Layout) (r : Store) (area area′ cells cells′ work : List ℕ) (a : Stepped) : Type 0 where
+pub record StepPromise (L : Layout) (r : Record) (area area′ cells cells′ work : List ℕ) (a : Stepped) : Type 0 where
   pub one-byte : OneByte area area′
   pub same-length : length cells′ ≡ length cells
   pub refused : (c : Refusal) → firstCause (stepCauses L r (lentLengths area cells work)) ≡ some c → StepRefused r area area′ cells cells′ a c

@@ -15,7 +15,7 @@ use Rattle.record.specs.Range.{slotsGood, sizeGood, cellsGood}
 use Rattle.record.specs.declared.Refusal.{Refusal}
 use Rattle.record.specs.declared.Refusal.the-variants.{Geometry, Cells, BadOrder, NoDigest, BadDigest, DamagedLog, SharedVersion, TooManyKeys}
 use Rattle.record.specs.declared.Pending.the-variants.{Idle}
-use Rattle.record.specs.declared.Store.{Store}
+use Rattle.record.specs.declared.Record.{Record}
 use Rattle.record.specs.declared.Recovery.{Recovery}
 use Rattle.record.specs.declared.RecoverAnswer.{RecoverAnswer}
 use Rattle.model.specs.Log.{View, Head, Placed, viewsOf, headOf, logOf, endOf, isDamaged, keysOf, versionShared, nextVersion}
@@ -98,15 +98,15 @@ abbrev pub keysBad : ℕ → List Placed → Bool
 keysBad m log = ltb (m - 1) (length (keysOf log))
 
 -- The record that recovery gives for slots with these views under this head.
-abbrev pub storeUnder : (ℕ → View) → ℕ → ℕ → ℕ → Head → Store
-storeUnder v n s m h =
+abbrev pub recordUnder : (ℕ → View) → ℕ → ℕ → ℕ → Head → Record
+recordUnder v n s m h =
     record {
       slots = n;
       size = s;
       cells = m;
       head = h .slot;
       end = endOf (v (h .slot) .scan);
-      number = h .digest .number;
+      digest = h .digest .number;
       map = h .digest .map;
       next = record { 0 = nextVersion (h .digest) (logUnder v n h) };
       keys = length (keysOf (logUnder v n h));
@@ -142,20 +142,20 @@ areaCauses L n s m area =
     keyCauses (viewsOf L area s) n m (headOf (viewsOf L area s) n)
 
 -- The record that recovery of an area gives, where it is accepted; the order of the slots is no part of it.
-unfoldable pub ifNone : Option Refusal → Store → Option Store
+unfoldable pub ifNone : Option Refusal → Record → Option Record
 ifNone none r = some r
 ifNone (some c) r = none
 
-abbrev pub storeOf : Layout → ℕ → ℕ → ℕ → List ℕ → Store
-storeOf L n s m area = storeUnder (viewsOf L area s) n s m (headElse (headOf (viewsOf L area s) n))
+abbrev pub recordFrom : Layout → ℕ → ℕ → ℕ → List ℕ → Record
+recordFrom L n s m area = recordUnder (viewsOf L area s) n s m (headElse (headOf (viewsOf L area s) n))
 
-unfoldable pub recovered : Layout → ℕ → ℕ → ℕ → List ℕ → Option Store
-recovered L n s m area = ifNone (firstCause (areaCauses L n s m area)) (storeOf L n s m area)
+unfoldable pub recovered : Layout → ℕ → ℕ → ℕ → List ℕ → Option Record
+recovered L n s m area = ifNone (firstCause (areaCauses L n s m area)) (recordFrom L n s m area)
 
 -- What the call answers: the record, or the first cause beside the blank record.
-unfoldable pub recoveryFor : Option Refusal → Store → Recovery
-recoveryFor none r = record { answer = RecoverAnswer.Recovered; store = r }
-recoveryFor (some c) r = record { answer = RecoverAnswer.Refused c; store = blank }
+unfoldable pub recoveryFor : Option Refusal → Record → Recovery
+recoveryFor none r = record { answer = RecoverAnswer.Recovered; rec = r }
+recoveryFor (some c) r = record { answer = RecoverAnswer.Refused c; rec = blank }
 
 unfoldable pub recovery : Layout → ℕ → ℕ → ℕ → List ℕ → List ℕ → Recovery
-recovery L n s m order area = recoveryFor (firstCause (recoverCauses L n s m order area)) (storeOf L n s m area)
+recovery L n s m order area = recoveryFor (firstCause (recoverCauses L n s m order area)) (recordFrom L n s m area)

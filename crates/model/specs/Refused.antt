@@ -15,7 +15,7 @@ use Rattle.record.specs.Range.{fitsLent}
 use Rattle.record.specs.declared.Pending.{Pending}
 use Rattle.record.specs.declared.Pending.the-variants.{Idle, Append, NewHead, Clean}
 use Rattle.record.specs.declared.Refusal.the-variants.{WorkShort, BadRecord, Busy, NonePending, ValueLength, Absent, VersionsSpent, NumbersSpent, KeysFull, NoRoom, BadVictims, KeptTooLong, Geometry}
-use Rattle.record.specs.declared.Store.{Store}
+use Rattle.record.specs.declared.Record.{Record}
 use Rattle.model.specs.Log.{Placed, hasKey, present}
 use Rattle.model.specs.Causes.{Cause, when}
 use Rattle.model.specs.Recovery.{geometryBad}
@@ -28,11 +28,11 @@ pub record Lengths : Type 0 where
   pub work : ℕ
 
 -- 4, as far as it needs no look at the log
-abbrev pub recordBad : Layout → Store → Lengths → Bool
+abbrev pub recordBad : Layout → Record → Lengths → Bool
 recordBad L r l = not (fitsLent L r (l .area) (l .index))
 
 -- 3
-abbrev pub workShort : Store → Lengths → Bool
+abbrev pub workShort : Record → Lengths → Bool
 workShort r l = ltb (l .work) (r .size)
 
 -- 5 and 6
@@ -59,30 +59,30 @@ abbrev pub keyAbsent : Layout → List Placed → Key → Bool
 keyAbsent L log k = isAbsent (present L log k)
 
 -- 9
-abbrev pub versionsSpent : Layout → Store → Bool
+abbrev pub versionsSpent : Layout → Record → Bool
 versionsSpent L r = eqb (r .next .0) (versionLimit L)
 
 -- 10
-abbrev pub numbersSpent : Store → Bool
-numbersSpent r = eqb (r .number .0) numberLimit
+abbrev pub numbersSpent : Record → Bool
+numbersSpent r = eqb (r .digest .0) numberLimit
 
 -- 11
-abbrev pub keysFull : Store → List Placed → Key → Bool
+abbrev pub keysFull : Record → List Placed → Key → Bool
 keysFull r log k = both (not (hasKey log k)) (eqb (r .keys) (r .cells - 1))
 
 -- 12, and 10 where a new head is needed
-abbrev pub noRoom : Layout → Store → Entry → Bool
+abbrev pub noRoom : Layout → Record → Entry → Bool
 noRoom L r e = both (not (fitsHead L r e)) (ltb (free (r .slots) (r .map)) 2)
 
-abbrev pub noNumber : Layout → Store → Entry → Bool
+abbrev pub noNumber : Layout → Record → Entry → Bool
 noNumber L r e = both (not (fitsHead L r e)) (numbersSpent r)
 
 -- 13
-abbrev pub victimsBad : Store → ℕ → Bool
+abbrev pub victimsBad : Record → ℕ → Bool
 victimsBad r victims = either (eqb victims 0) (not (within victims (r .map)))
 
 -- 14
-abbrev pub keptTooLong : Layout → Store → List Placed → ℕ → Bool
+abbrev pub keptTooLong : Layout → Record → List Placed → ℕ → Bool
 keptTooLong L r log victims = ltb (r .size) (digestSize L + length (allEncoded L (kept L victims log)))
 
 -- Format: 1.
@@ -90,11 +90,11 @@ abbrev pub formatCauses : ℕ → ℕ → ℕ → List Cause
 formatCauses n s areaLength = when (geometryBad n s areaLength) Geometry ∷ []
 
 -- Read: 4, 8.
-abbrev pub readCauses : Layout → Store → List Placed → Lengths → Key → List Cause
+abbrev pub readCauses : Layout → Record → List Placed → Lengths → Key → List Cause
 readCauses L r log l k = when (recordBad L r l) BadRecord ∷ when (keyAbsent L log k) Absent ∷ []
 
 -- Write: 4, 3, 5, 7, 9, 11, 12, 10.
-abbrev pub writeCauses : Layout → Store → List Placed → Lengths → Key → List ℕ → List Cause
+abbrev pub writeCauses : Layout → Record → List Placed → Lengths → Key → List ℕ → List Cause
 writeCauses L r log l k value =
     when (recordBad L r l) BadRecord
     ∷ when (workShort r l) WorkShort
@@ -107,7 +107,7 @@ writeCauses L r log l k value =
     ∷ []
 
 -- Delete: 4, 3, 5, 8, 9, 12, 10.
-abbrev pub deleteCauses : Layout → Store → List Placed → Lengths → Key → List Cause
+abbrev pub deleteCauses : Layout → Record → List Placed → Lengths → Key → List Cause
 deleteCauses L r log l k =
     when (recordBad L r l) BadRecord
     ∷ when (workShort r l) WorkShort
@@ -119,7 +119,7 @@ deleteCauses L r log l k =
     ∷ []
 
 -- Clean: 4, 3, 5, 13, 14, 10.
-abbrev pub cleanCauses : Layout → Store → List Placed → Lengths → ℕ → List Cause
+abbrev pub cleanCauses : Layout → Record → List Placed → Lengths → ℕ → List Cause
 cleanCauses L r log l victims =
     when (recordBad L r l) BadRecord
     ∷ when (workShort r l) WorkShort
@@ -129,11 +129,11 @@ cleanCauses L r log l victims =
     ∷ when (numbersSpent r) NumbersSpent
     ∷ []
 
-unfoldable pub startCauses : Layout → Store → List Placed → Lengths → Operation → List Cause
+unfoldable pub startCauses : Layout → Record → List Placed → Lengths → Operation → List Cause
 startCauses L r log l (write k value) = writeCauses L r log l k value
 startCauses L r log l (delete k) = deleteCauses L r log l k
 startCauses L r log l (clean victims) = cleanCauses L r log l victims
 
 -- Step: 4, 3, 6.
-abbrev pub stepCauses : Layout → Store → Lengths → List Cause
+abbrev pub stepCauses : Layout → Record → Lengths → List Cause
 stepCauses L r l = when (recordBad L r l) BadRecord ∷ when (workShort r l) WorkShort ∷ when (not (isPending (r .pending))) NonePending ∷ []

@@ -102,9 +102,9 @@ pub fn scheduled(i: usize) -> Event
 }
 
 fn failing(played: Played, fails: u32) -> Played {
-    let store = played.store;
+    let rec = played.rec;
     let book = played.book;
-    Played { store, book, fails }
+    Played { rec, book, fails }
 }
 
 fn heading(played: Played, case: u32) -> Played {

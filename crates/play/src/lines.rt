@@ -58,7 +58,7 @@ pub fn cuts(made: u32, bad: u32) {
         field(b", ", made);
         text(b" cuts");
     } else {
-        field(b", after store ", bad);
+        field(b", after rec ", bad);
     }
     verdict(bad == 0);
 }

@@ -59,12 +59,12 @@ pub fn value_bytes(value: Value) -> [u8; 56] {
 pub fn power_on(area: &[u8; 1024], index: &mut [u32; 16], book: Book) -> Played {
     spoil(index);
     let recovery = recover(SLOTS, SIZE, b"\x00\x01\x02\x03", area, index);
-    let store = recovery.store;
-    let next = store.next;
-    let agrees = reads::agrees(store, area, index, book);
+    let rec = recovery.rec;
+    let next = rec.next;
+    let agrees = reads::agrees(rec, area, index, book);
     lines::compared(b"recovery: next version ", next.0, agrees);
     Played {
-        store,
+        rec,
         book,
         fails: 0,
     }

@@ -7,24 +7,24 @@ use crate::memory;
 use crate::reads;
 use cleaning::clean::clean;
 use record::Pending;
+use record::Record;
 use record::Start;
 use record::StartAnswer;
 use record::StepAnswer;
-use record::Store;
 use stepping::step;
 use writing::start::delete;
 use writing::start::write;
 
 // The store's record, its book, and after how many stores of the next operation the supply fails, 0 where it does not.
 pub struct Played {
-    pub store: Store,
+    pub rec: Record,
     pub book: Book,
     pub fails: u32,
 }
 
 // The record after a step, and whether all was as the book says.
 struct Turn {
-    store: Store,
+    rec: Record,
     agrees: bool,
 }
 
@@ -55,20 +55,20 @@ fn book_at(left: u32, due: Due) -> Book {
 
 // One step, after which so many stores are left.
 fn one_step(
-    store: Store,
+    rec: Record,
     area: &mut [u8; 1024],
     index: &mut [u32; 16],
     work: &[u8; 256],
     left: u32,
     due: Due,
 ) -> Turn {
-    let stepped = step(store, area, index, work);
+    let stepped = step(rec, area, index, work);
     let answer = stepped.answer;
-    let store = stepped.store;
+    let rec = stepped.rec;
     let said = told(answer, left, due.version);
-    let kept = reads::both_agree(store, area, index, book_at(left, due));
+    let kept = reads::both_agree(rec, area, index, book_at(left, due));
     Turn {
-        store,
+        rec,
         agrees: said && kept,
     }
 }
@@ -86,31 +86,31 @@ fn noted(bad: u32, made: u32, agrees: bool) -> u32 {
 
 // Steps of an operation that has so many stores, until `rest` are left, to the end of its line.
 fn steps(
-    store: Store,
+    rec: Record,
     area: &mut [u8; 1024],
     index: &mut [u32; 16],
     work: &[u8; 256],
     stores: u32,
     rest: u32,
     due: Due,
-) -> Store {
-    let mut store = store;
+) -> Record {
+    let mut rec = rec;
     let mut left = stores;
     let mut bad = 0;
     while rest < left {
         left -= 1;
-        let t = one_step(store, area, index, work, left, due);
-        let s = t.store;
-        store = s;
+        let t = one_step(rec, area, index, work, left, due);
+        let s = t.rec;
+        rec = s;
         bad = noted(bad, stores - left, t.agrees);
     }
     lines::cuts(stores - left, bad);
-    store
+    rec
 }
 
 // How many bytes of the work buffer are the operation's.
-fn laid(store: Store) -> u32 {
-    let pending = store.pending;
+fn laid(rec: Record) -> u32 {
+    let pending = rec.pending;
     match pending {
         Pending::Idle => 0,
         Pending::Append { length, left: _ } => length,
@@ -129,14 +129,14 @@ fn laid(store: Store) -> u32 {
 }
 
 // A refused start, which changes nothing.
-fn refused(store: Store, area: &[u8; 1024], index: &[u32; 16], number: u32, book: Book) -> Played {
+fn refused(rec: Record, area: &[u8; 1024], index: &[u32; 16], number: u32, book: Book) -> Played {
     lines::compared(
         b": refused ",
         number,
-        reads::both_agree(store, area, index, book),
+        reads::both_agree(rec, area, index, book),
     );
     Played {
-        store,
+        rec,
         book,
         fails: 0,
     }
@@ -155,23 +155,23 @@ fn unmade(stores: u32, fails: u32) -> u32 {
 
 // An accepted operation. Its work bytes come on a line of their own; where the supply failed a recovery comes next.
 fn accepted(
-    store: Store,
+    rec: Record,
     area: &mut [u8; 1024],
     index: &mut [u32; 16],
     work: &[u8; 256],
     stores: u32,
     due: Due,
 ) -> Played {
-    let count = laid(store);
+    let count = laid(rec);
     let rest = unmade(stores, due.fails);
     let book = book_at(rest, due);
     lines::field(b": ", stores);
     lines::field(b" stores, version ", due.version);
-    let store = steps(store, area, index, work, stores, rest, due);
+    let rec = steps(rec, area, index, work, stores, rest, due);
     lines::bytes(b" ", work, count as usize);
     if due.fails == 0 {
         return Played {
-            store,
+            rec,
             book,
             fails: 0,
         };
@@ -189,11 +189,11 @@ fn run(
     due: Due,
 ) -> Played {
     let answer = start.answer;
-    let store = start.store;
+    let rec = start.rec;
     let book = due.before;
     match answer {
-        StartAnswer::Refused(cause) => refused(store, area, index, record::number(cause), book),
-        StartAnswer::Started(stores) => accepted(store, area, index, work, stores, due),
+        StartAnswer::Refused(cause) => refused(rec, area, index, record::number(cause), book),
+        StartAnswer::Started(stores) => accepted(rec, area, index, work, stores, due),
     }
 }
 
@@ -205,13 +205,13 @@ pub fn write_key(
     number: usize,
     value: Value,
 ) -> Played {
-    let store = played.store;
+    let rec = played.rec;
     let before = played.book;
     let key = book::key(number);
     let bytes = memory::value_bytes(value);
     let length = memory::at_most(56, value.length);
     lines::operation(b"write", key);
-    let start = write(store, area, index, work, key, &bytes[0..length]);
+    let start = write(rec, area, index, work, key, &bytes[0..length]);
     let due = Due {
         version: before.next,
         before,
@@ -228,11 +228,11 @@ pub fn delete_key(
     work: &mut [u8; 256],
     number: usize,
 ) -> Played {
-    let store = played.store;
+    let rec = played.rec;
     let before = played.book;
     let key = book::key(number);
     lines::operation(b"delete", key);
-    let start = delete(store, area, index, work, key);
+    let start = delete(rec, area, index, work, key);
     let due = Due {
         version: before.next,
         before,
@@ -250,10 +250,10 @@ pub fn clean_slots(
     work: &mut [u8; 256],
     victims: u32,
 ) -> Played {
-    let store = played.store;
+    let rec = played.rec;
     let book = played.book;
     lines::field(b"clean ", victims);
-    let start = clean(store, area, index, work, victims);
+    let start = clean(rec, area, index, work, victims);
     let due = Due {
         version: 0,
         before: book,

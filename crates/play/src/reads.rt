@@ -5,8 +5,8 @@ use crate::book::Held;
 use crate::book::Value;
 use crate::memory;
 use record::ReadAnswer;
+use record::Record;
 use record::RecoverAnswer;
-use record::Store;
 use recovery::read::read;
 use recovery::read::read_value;
 use recovery::recover::recover;
@@ -41,27 +41,27 @@ fn answer_is(answer: ReadAnswer, held: Held) -> bool {
 }
 
 // Whether both reads of a key give what it has.
-fn reads_as(store: Store, area: &[u8], index: &[u32], number: usize, held: Held) -> bool {
+fn reads_as(rec: Record, area: &[u8], index: &[u32], number: usize, held: Held) -> bool {
     let key = book::key(number);
     let value = held.value;
-    if !bytes_are(read_value(store, area, index, key), value) {
+    if !bytes_are(read_value(rec, area, index, key), value) {
         return false;
     }
-    let reading = read(store, area, index, key);
+    let reading = read(rec, area, index, key);
     let answer = reading.answer;
     answer_is(answer, held)
 }
 
 // Whether the next version and the reads of every key are the book's.
-pub fn agrees(store: Store, area: &[u8], index: &[u32], book: Book) -> bool {
-    let next = store.next;
+pub fn agrees(rec: Record, area: &[u8], index: &[u32], book: Book) -> bool {
+    let next = rec.next;
     let held = book.held;
     if next.0 != book.next {
         return false;
     }
     let mut i = 0;
     while i < book::KEYS {
-        if !reads_as(store, area, index, i, held[i]) {
+        if !reads_as(rec, area, index, i, held[i]) {
             return false;
         }
         i += 1;
@@ -80,16 +80,16 @@ fn cut_agrees(area: &[u8], book: Book) -> bool {
         &mut index,
     );
     let answer = recovery.answer;
-    let store = recovery.store;
+    let rec = recovery.rec;
     match answer {
-        RecoverAnswer::Recovered => agrees(store, area, &index, book),
+        RecoverAnswer::Recovered => agrees(rec, area, &index, book),
         RecoverAnswer::Refused(_) => false,
     }
 }
 
 // Whether the reads of the running store, and those after a cut, are the book's.
-pub fn both_agree(store: Store, area: &[u8], index: &[u32], book: Book) -> bool {
-    if !agrees(store, area, index, book) {
+pub fn both_agree(rec: Record, area: &[u8], index: &[u32], book: Book) -> bool {
+    if !agrees(rec, area, index, book) {
         return false;
     }
     cut_agrees(area, book)

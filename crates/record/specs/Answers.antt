@@ -8,7 +8,7 @@ use Rattle.record.specs.declared.RecoverAnswer.{RecoverAnswer}
 use Rattle.record.specs.declared.ReadAnswer.{ReadAnswer}
 use Rattle.record.specs.declared.StartAnswer.{StartAnswer}
 use Rattle.record.specs.declared.StepAnswer.{StepAnswer}
-use Rattle.record.specs.declared.Store.{Store}
+use Rattle.record.specs.declared.Record.{Record}
 
 -- What an answer says: the number of the refusal, or 0 with the call's values.
 pub record Said : Type 0 where
@@ -53,7 +53,7 @@ storesLeft (NewHead s n k) = k
 storesLeft (Clean s v n k) = k
 
 -- the record with another pending operation
-abbrev pub withPending : Store → Pending → Store
+abbrev pub withPending : Record → Pending → Record
 withPending r p =
     record {
       slots = r .slots;
@@ -61,7 +61,7 @@ withPending r p =
       cells = r .cells;
       head = r .head;
       end = r .end;
-      number = r .number;
+      digest = r .digest;
       map = r .map;
       next = r .next;
       keys = r .keys;
@@ -69,7 +69,7 @@ withPending r p =
     }
 
 -- The record that stands beside a refusal of recovery: N is 0, so every call refuses it with 4.
-abbrev pub blank : Store
+abbrev pub blank : Record
 blank =
     record {
       slots = 0;
@@ -77,7 +77,7 @@ blank =
       cells = 0;
       head = 0;
       end = 0;
-      number = record { 0 = 0 };
+      digest = record { 0 = 0 };
       map = 0;
       next = record { 0 = 0 };
       keys = 0;

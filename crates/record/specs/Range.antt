@@ -9,7 +9,7 @@ use Rattle.slot_map.specs.Bit.{bit, named}
 use Rattle.slot_map.specs.Count.{used}
 use Rattle.record.specs.declared.Pending.{Pending}
 use Rattle.record.specs.declared.Pending.the-variants.{Idle, Append, NewHead, Clean}
-use Rattle.record.specs.declared.Store.{Store}
+use Rattle.record.specs.declared.Record.{Record}
 
 -- x from a to b
 unfoldable pub between : ℕ → ℕ → ℕ → Bool
@@ -39,16 +39,16 @@ leftGood s (NewHead i n k) = between 1 (s + 1) k
 leftGood s (Clean i v n k) = between 1 (s + 1) k
 
 -- a record whose numbers are all in range
-unfoldable pub inRange : Layout → Store → Bool
+unfoldable pub inRange : Layout → Record → Bool
 inRange L r =
     both (both (both (slotsGood (r .slots)) (sizeGood (r .size))) (both (cellsGood (r .cells)) (mapGood (r .slots) (r .head) (r .map))))
-    (both (both (between (digestSize L) (r .size) (r .end)) (both (not (eqb (r .number .0) 0)) (not (eqb (r .next .0) 0))))
+    (both (both (between (digestSize L) (r .size) (r .end)) (both (not (eqb (r .digest .0) 0)) (not (eqb (r .next .0) 0))))
     (both (leb (r .keys) (r .cells - 1)) (leftGood (r .size) (r .pending))))
 
 -- the lent area and index are as long as the record says
-unfoldable pub lengthsOwn : Store → ℕ → ℕ → Bool
+unfoldable pub lengthsOwn : Record → ℕ → ℕ → Bool
 lengthsOwn r areaLength indexLength = both (eqb areaLength (r .slots * r .size)) (eqb indexLength (r .cells))
 
 -- a record that passes the tests of 4 which need no look at the log
-unfoldable pub fitsLent : Layout → Store → ℕ → ℕ → Bool
+unfoldable pub fitsLent : Layout → Record → ℕ → ℕ → Bool
 fitsLent L r areaLength indexLength = both (inRange L r) (lengthsOwn r areaLength indexLength)

@@ -17,10 +17,10 @@ use Rattle.record.specs.Answers.{storesLeft, withPending, blank}
 use Rattle.record.specs.Range.{between, slotsGood, sizeGood, cellsGood, mapGood, leftGood, inRange, lengthsOwn, fitsLent}
 use Rattle.record.specs.declared.Pending.{Pending}
 use Rattle.record.specs.declared.Pending.the-variants.{Idle, Append, NewHead, Clean}
-use Rattle.record.specs.declared.Store.{Store}
+use Rattle.record.specs.declared.Record.{Record}
 
 -- A record in range whose lent area and index are as long as it says. Where it is idle, 0 stores are left.
-pub record Lent (L : Layout) (r : Store) (areaLength indexLength : ℕ) : Type 0 where
+pub record Lent (L : Layout) (r : Record) (areaLength indexLength : ℕ) : Type 0 where
   pub slots-low : 4 ≤ r .slots
   pub slots-high : r .slots ≤ 32
   pub size-low : 256 ≤ r .size
@@ -33,7 +33,7 @@ pub record Lent (L : Layout) (r : Store) (areaLength indexLength : ℕ) : Type 0
   pub some-free : used (r .slots) (r .map) < r .slots
   pub end-low : digestSize L ≤ r .end
   pub end-high : r .end ≤ r .size
-  pub number-some : 0 < r .number .0
+  pub number-some : 0 < r .digest .0
   pub next-some : 0 < r .next .0
   pub keys-high : r .keys ≤ r .cells - 1
   pub left-some : (r .pending ≡ Idle → ⊥) → 0 < storesLeft (r .pending)
@@ -143,14 +143,14 @@ past-slots n head map e past = clear-named map head (bit-above map n head (omega
 -- ---- the test of a record in the code's parts: limits, map, counters, stores left
 
 -- N, S and M within their limits
-unfoldable pub limitsGood : Store → Bool
+unfoldable pub limitsGood : Record → Bool
 limitsGood r = both (slotsGood (r .slots)) (both (sizeGood (r .size)) (cellsGood (r .cells)))
 
 -- the end of the head's entries, the digest number, the next version and the number of keys
-unfoldable pub countersGood : Layout → Store → Bool
+unfoldable pub countersGood : Layout → Record → Bool
 countersGood L r =
     both (between (digestSize L) (r .size) (r .end))
-    (both (not (eqb (r .number .0) 0)) (both (not (eqb (r .next .0) 0)) (leb (r .keys) (r .cells - 1))))
+    (both (not (eqb (r .digest .0) 0)) (both (not (eqb (r .next .0) 0)) (leb (r .keys) (r .cells - 1))))
 
 -- A chain of tests, from left to right: t is what the code finds for the test x, and r its answer in the end. `stop` and `go`
 -- are for `if !t { return false; }`, `ends` and `goes` for `t && ..`.
@@ -176,13 +176,13 @@ unfolding both
 both-assoc true b c = refl
 both-assoc false b c = refl
 
-pub in-parts : (L : Layout) (r : Store) → inRange L r
+pub in-parts : (L : Layout) (r : Record) → inRange L r
     ≡ both (limitsGood r) (both (mapGood (r .slots) (r .head) (r .map)) (both (countersGood L r) (leftGood (r .size) (r .pending))))
 unfolding inRange limitsGood countersGood
 in-parts L r = simp both-assoc
 
 -- What the test of the limits says.
-pub record Limits (r : Store) : Type 0 where
+pub record Limits (r : Record) : Type 0 where
   pub slots-low : 4 ≤ r .slots
   pub slots-high : r .slots ≤ 32
   pub size-low : 256 ≤ r .size
@@ -190,7 +190,7 @@ pub record Limits (r : Store) : Type 0 where
   pub cells-low : 16 ≤ r .cells
   pub cells-high : r .cells ≤ 4096
 
-pub limits : (r : Store) → limitsGood r ≡ true → Limits r
+pub limits : (r : Record) → limitsGood r ≡ true → Limits r
 unfolding limitsGood
 limits r e =
     record {
@@ -202,12 +202,12 @@ limits r e =
       cells-high = between-high 16 4096 (r .cells) (both-right _ _ (both-right _ _ e));
     }
 
-pub range-limits : (L : Layout) (r : Store) → inRange L r ≡ true → Limits r
+pub range-limits : (L : Layout) (r : Record) → inRange L r ≡ true → Limits r
 range-limits L r e = limits r (both-left _ _ (sym (in-parts L r) ∙ e))
 
 -- ---- the whole test, both ways
 
-module _ (L : Layout) (r : Store) (a i : ℕ) (e : fitsLent L r a i ≡ true) where
+module _ (L : Layout) (r : Record) (a i : ℕ) (e : fitsLent L r a i ≡ true) where
   range : inRange L r ≡ true
   unfolding fitsLent
   range = both-left _ _ e
@@ -246,7 +246,7 @@ module _ (L : Layout) (r : Store) (a i : ℕ) (e : fitsLent L r a i ≡ true) wh
         some-free = m .some-free;
         end-low = between-low (digestSize L) (r .size) (r .end) (both-left _ _ counters);
         end-high = between-high (digestSize L) (r .size) (r .end) (both-left _ _ counters);
-        number-some = not-zero (r .number .0) (both-left _ _ (both-right _ _ counters));
+        number-some = not-zero (r .digest .0) (both-left _ _ (both-right _ _ counters));
         next-some = not-zero (r .next .0) (both-left _ _ (both-right _ _ (both-right _ _ counters)));
         keys-high = leb-true (r .keys) (r .cells - 1) (both-right _ _ (both-right _ _ (both-right _ _ counters)));
         left-some = left-pos (r .size) (r .pending) left;
@@ -255,7 +255,7 @@ module _ (L : Layout) (r : Store) (a i : ℕ) (e : fitsLent L r a i ≡ true) wh
         index-own = eqb-true i (r .cells) (both-right _ _ own);
       }
 
-pub fits-lent : (L : Layout) (r : Store) (a i : ℕ) → Lent L r a i → fitsLent L r a i ≡ true
+pub fits-lent : (L : Layout) (r : Record) (a i : ℕ) → Lent L r a i → fitsLent L r a i ≡ true
 unfolding fitsLent inRange lengthsOwn mapGood both
 fits-lent L r a i h =
     rw (
@@ -266,7 +266,7 @@ fits-lent L r a i h =
       h .head-named,
       lt-ltb (used (r .slots) (r .map)) (r .slots) (h .some-free),
       between-true (digestSize L) (r .size) (r .end) (h .end-low) (h .end-high),
-      some-not (r .number .0) (λ e. omega arith),
+      some-not (r .digest .0) (λ e. omega arith),
       some-not (r .next .0) (λ e. omega arith),
       le-leb (r .keys) (r .cells - 1) (h .keys-high),
       left-true (r .size) (r .pending) (h .left-some) (h .left-high),
@@ -275,7 +275,7 @@ fits-lent L r a i h =
     )
 
 -- another pending operation with a right number of stores left keeps all that
-pub lent-pending : {L : Layout} {r : Store} {a i : ℕ} (p : Pending) → Lent L r a i → ((p ≡ Idle → ⊥) → 0 < storesLeft p)
+pub lent-pending : {L : Layout} {r : Record} {a i : ℕ} (p : Pending) → Lent L r a i → ((p ≡ Idle → ⊥) → 0 < storesLeft p)
     → storesLeft p ≤ r .size + 1 → Lent L (withPending r p) a i
 lent-pending p h some most =
     record {

@@ -32,14 +32,15 @@ pub enum Pending {
 }
 
 // The store record of 01, "Memory the caller lends": N, S, M, head slot, end of the head's entries, digest number, slot
-// map, next version, number of keys with any entry in the log, and the pending operation.
-pub struct Store {
+// map, next version, number of keys with any entry in the log, and the pending operation. A value of it is named `rec`, since
+// `record` is a word of the proofs' language.
+pub struct Record {
     pub slots: u32,
     pub size: u32,
     pub cells: u32,
     pub head: u32,
     pub end: u32,
-    pub number: DigestNumber,
+    pub digest: DigestNumber,
     pub map: u32,
     pub next: Version,
     pub keys: u32,
@@ -80,10 +81,10 @@ pub enum RecoverAnswer {
     Refused(Refusal),
 }
 
-// Where recovery is refused, `store` is the blank record.
+// Where recovery is refused, `rec` is the blank record.
 pub struct Recovery {
     pub answer: RecoverAnswer,
-    pub store: Store,
+    pub rec: Record,
 }
 
 pub enum ReadAnswer {
@@ -93,7 +94,7 @@ pub enum ReadAnswer {
 
 pub struct Reading {
     pub answer: ReadAnswer,
-    pub store: Store,
+    pub rec: Record,
 }
 
 // A start answers the number of stores to come.
@@ -104,7 +105,7 @@ pub enum StartAnswer {
 
 pub struct Start {
     pub answer: StartAnswer,
-    pub store: Store,
+    pub rec: Record,
 }
 
 // A step answers the number of stores left; the last one the version, 0 for a cleaning.
@@ -116,7 +117,7 @@ pub enum StepAnswer {
 
 pub struct Stepped {
     pub answer: StepAnswer,
-    pub store: Store,
+    pub rec: Record,
 }
 
 // 01's number for a cause.
@@ -169,36 +170,36 @@ pub fn stores_left(p: Pending) -> u32
 }
 
 // The record with another pending operation.
-pub fn with_pending(store: Store, p: Pending) -> Store
-    ensures { λ r. ⌜ r ≡ withPending store p ⌝ }
+pub fn with_pending(rec: Record, p: Pending) -> Record
+    ensures { λ r. ⌜ r ≡ withPending rec p ⌝ }
 {
-    let number = store.number;
-    let next = store.next;
-    Store {
-        slots: store.slots,
-        size: store.size,
-        cells: store.cells,
-        head: store.head,
-        end: store.end,
-        number: number,
-        map: store.map,
+    let number = rec.digest;
+    let next = rec.next;
+    Record {
+        slots: rec.slots,
+        size: rec.size,
+        cells: rec.cells,
+        head: rec.head,
+        end: rec.end,
+        digest: number,
+        map: rec.map,
         next: next,
-        keys: store.keys,
+        keys: rec.keys,
         pending: p,
     }
 }
 
 // The record that stands beside a refusal of recovery.
-pub fn blank() -> Store
+pub fn blank() -> Record
     ensures { λ r. ⌜ r ≡ blank ⌝ }
 {
-    Store {
+    Record {
         slots: 0,
         size: 0,
         cells: 0,
         head: 0,
         end: 0,
-        number: DigestNumber(0),
+        digest: DigestNumber(0),
         map: 0,
         next: Version(0),
         keys: 0,

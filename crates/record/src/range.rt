@@ -1,7 +1,7 @@
 // The range-and-length test of 01, "Refused calls": whether a record is one that a call may go by, as far as can be told
 // without a look at the log.
 use crate::Pending;
-use crate::Store;
+use crate::Record;
 use segment::layout::DIGEST_SIZE;
 ghost use Prim.Native.Nat.{_≤_};
 ghost use mathlib.Core.Path.{_≡_};
@@ -63,56 +63,56 @@ fn left_good(size: u32, pending: Pending) -> bool
 }
 
 // Whether N, S and M are within their limits.
-fn limits_good(store: Store) -> bool
-    ensures { λ r. ⌜ r ≡ limitsGood store ⌝ }
+fn limits_good(rec: Record) -> bool
+    ensures { λ r. ⌜ r ≡ limitsGood rec ⌝ }
 {
-    if !slots_good(store.slots) {
+    if !slots_good(rec.slots) {
         return false;
     }
-    size_good(store.size) && cells_good(store.cells as usize)
+    size_good(rec.size) && cells_good(rec.cells as usize)
 }
 
 // Whether the end of the head's entries, the digest number, the next version and the number of keys can be so.
-fn counters_good(store: Store) -> bool
-    requires { ⌜ 1 ≤ store .cells ⌝ }
-    ensures { λ r. ⌜ r ≡ countersGood edition1 store ⌝ }
+fn counters_good(rec: Record) -> bool
+    requires { ⌜ 1 ≤ rec .cells ⌝ }
+    ensures { λ r. ⌜ r ≡ countersGood edition1 rec ⌝ }
 {
-    let number = store.number;
-    let next = store.next;
-    if !between(DIGEST_SIZE, store.size as usize, store.end as usize) {
+    let number = rec.digest;
+    let next = rec.next;
+    if !between(DIGEST_SIZE, rec.size as usize, rec.end as usize) {
         return false;
     }
     if number.0 == 0 {
         return false;
     }
-    next.0 != 0 && store.keys <= store.cells - 1
+    next.0 != 0 && rec.keys <= rec.cells - 1
 }
 
 // Whether every number of the record is in range.
-pub fn in_range(store: Store) -> bool
-    ensures { λ r. ⌜ r ≡ inRange edition1 store ⌝ }
+pub fn in_range(rec: Record) -> bool
+    ensures { λ r. ⌜ r ≡ inRange edition1 rec ⌝ }
 {
-    if !limits_good(store) {
+    if !limits_good(rec) {
         return false;
     }
-    if !map_good(store.slots, store.head, store.map) {
+    if !map_good(rec.slots, rec.head, rec.map) {
         return false;
     }
-    let pending = store.pending;
-    counters_good(store) && left_good(store.size, pending)
+    let pending = rec.pending;
+    counters_good(rec) && left_good(rec.size, pending)
 }
 
 // Whether the area is N × S bytes long and the index M cells.
-fn lengths_own(store: Store, area: usize, index: usize) -> bool
-    requires { ⌜ (store .slots ≤ 32) × (store .size ≤ 2048) ⌝ }
-    ensures { λ r. ⌜ r ≡ lengthsOwn store area index ⌝ }
+fn lengths_own(rec: Record, area: usize, index: usize) -> bool
+    requires { ⌜ (rec .slots ≤ 32) × (rec .size ≤ 2048) ⌝ }
+    ensures { λ r. ⌜ r ≡ lengthsOwn rec area index ⌝ }
 {
-    area == store.slots as usize * store.size as usize && index == store.cells as usize
+    area == rec.slots as usize * rec.size as usize && index == rec.cells as usize
 }
 
 // Whether the record is in range, and the area and the index that are lent are as long as it says.
-pub fn fits_lent(store: Store, area: usize, index: usize) -> bool
-    ensures { λ r. ⌜ r ≡ fitsLent edition1 store area index ⌝ }
+pub fn fits_lent(rec: Record, area: usize, index: usize) -> bool
+    ensures { λ r. ⌜ r ≡ fitsLent edition1 rec area index ⌝ }
 {
-    in_range(store) && lengths_own(store, area, index)
+    in_range(rec) && lengths_own(rec, area, index)
 }

@@ -21,7 +21,7 @@ use Rattle.laws.specs.CauseLaws.{cause-first, cause-skip, cause-none}
 use Rattle.laws.specs.Scans.{scan-scans, scans-high}
 use Rattle.laws.specs.Stores.{length-segment}
 use Rattle.laws.specs.RecoverLaws.{map-bad-good}
-use Rattle.recovery.specs.Recovering.{lentFirst, checkedAs, imageFor, imageOf, imageUnder, storeWith}
+use Rattle.recovery.specs.Recovering.{lentFirst, checkedAs, imageFor, imageOf, imageUnder, recordWith}
 use Rattle.recovery.specs.declared.Checked.{Checked}
 use Rattle.recovery.specs.declared.Image.{Image}
 
@@ -166,12 +166,12 @@ pub record-with : (L : Layout) (n s m : ℕ) (area : List ℕ) (slot : ℕ) (d :
       cells = m;
       head = slot;
       end = e;
-      number = d .number;
+      digest = d .number;
       map = d .map;
       next = next;
       keys = keys;
       pending = Idle;
-    } ≡ storeWith L n s m area slot d top keys
+    } ≡ recordWith L n s m area slot d top keys
 record-with L n s m area slot d top keys e next p q =
     λ i.
     record {
@@ -180,7 +180,7 @@ record-with L n s m area slot d top keys e next p q =
       cells = m;
       head = slot;
       end = p i;
-      number = d .number;
+      digest = d .number;
       map = d .map;
       next = q i;
       keys = keys;

@@ -21,7 +21,7 @@ use Rattle.record.specs.Answers.{withPending}
 use Rattle.record.specs.Range.{fitsLent}
 use Rattle.record.specs.RangeLaws.{lent}
 use Rattle.record.specs.declared.Pending.the-variants.{Idle}
-use Rattle.record.specs.declared.Store.{Store}
+use Rattle.record.specs.declared.Record.{Record}
 use Rattle.record.specs.declared.ReadAnswer.{ReadAnswer}
 use Rattle.record.specs.declared.Refusal.{Refusal}
 use Rattle.model.specs.Log.{Placed, placeOf, segmentOf, viewsOf, logOf, latest, objectOnly, present, keysOf, scan}
@@ -47,7 +47,7 @@ use Rattle.recovery.specs.declared.Lookup.{Lookup}
 
 -- ---- the lookup at each test of the code
 
-module _ (L : Layout) (r : Store) (area cells : List ℕ) (k : Key) where
+module _ (L : Layout) (r : Record) (area cells : List ℕ) (k : Key) where
   pub looked-unfit : fitsLent L r (length area) (length cells) ≡ false → lookedUp L r area cells k ≡ Lookup.Bad
   unfolding lookedUp
   looked-unfit e = pick-false (fitsLent L r (length area) (length cells)) _ _ e
@@ -106,7 +106,7 @@ pub record ObjectInside (L : Layout) (area : List ℕ) (p n : ℕ) : Type 0 wher
   pub head : entrySize L 0 ≤ n
   pub whole : p + n ≤ length area
 
-module _ (L : Layout) (r : Store) (area cells : List ℕ) (k : Key) (p : ℕ) (v : Version) (kind n : ℕ)
+module _ (L : Layout) (r : Record) (area cells : List ℕ) (k : Key) (p : ℕ) (v : Version) (kind n : ℕ)
     (e : lookedUp L r area cells k ≡ Lookup.Object p v kind n) where
   at-inside : fitsLent L r (length area) (length cells) ≡ true → (i : ℕ) → searchFor L area cells k ≡ Hit.At i → ObjectInside L area p n
   at-inside fit i f =
@@ -164,7 +164,7 @@ entry-lookup L S x = go (isTombstone L (x .entry .kind))
     go true = refl
     go false = refl
 
-module _ (L : Layout) (r : Store) (area cells : List ℕ) (k : Key) (genuine : Genuine L area r cells)
+module _ (L : Layout) (r : Record) (area cells : List ℕ) (k : Key) (genuine : Genuine L area r cells)
     (fit : fitsLent L r (length area) (length cells) ≡ true) where
   abbrev S : ℕ
   S = r .size
@@ -174,7 +174,7 @@ module _ (L : Layout) (r : Store) (area cells : List ℕ) (k : Key) (genuine : G
 
   pub scans : AllScanned (viewsOf L area S) (named (r .map)) (r .slots)
   scans =
-      recovered-case L (r .slots) S (r .cells) area (λ (q : Store). AllScanned (viewsOf L area S) (named (q .map)) (r .slots))
+      recovered-case L (r .slots) S (r .cells) area (λ (q : Record). AllScanned (viewsOf L area S) (named (q .map)) (r .slots))
       (λ h a f. f .scans) (withPending r Idle) (genuine .recovers)
 
   few : length (keysOf log) < length cells
@@ -216,7 +216,7 @@ module _ (L : Layout) (r : Store) (area cells : List ℕ) (k : Key) (genuine : G
 
 -- ---- the promises
 
-module _ (L : Layout) (r : Store) (area cells : List ℕ) (k : Key) where
+module _ (L : Layout) (r : Record) (area cells : List ℕ) (k : Key) where
   abbrev fits : Bool
   fits = fitsLent L r (length area) (length cells)
 
@@ -244,7 +244,7 @@ module _ (L : Layout) (r : Store) (area cells : List ℕ) (k : Key) where
   unfit-false e = not-true fits e
 
   pub read-promise : (found : Lookup) (said : ReadAnswer) → found ≡ lookedUp L r area cells k → said ≡ toldBy found
-      → ReadPromise L r area cells k (record { answer = said; store = r })
+      → ReadPromise L r area cells k (record { answer = said; rec = r })
   unfolding toldBy readAnswer presentAnswer lookupFor
   read-promise found said same its =
       record {

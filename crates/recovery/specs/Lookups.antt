@@ -8,7 +8,7 @@ use Rattle.segment.specs.Entry.{entryAt, answer}
 use Rattle.segment.specs.declared.Key.{Key}
 use Rattle.segment.specs.declared.Read.{Read}
 use Rattle.record.specs.Range.{fitsLent}
-use Rattle.record.specs.declared.Store.{Store}
+use Rattle.record.specs.declared.Record.{Record}
 use Rattle.record.specs.declared.ReadAnswer.{ReadAnswer}
 use Rattle.record.specs.declared.Refusal.{Refusal}
 use Rattle.model.specs.Log.{segmentOf}
@@ -41,7 +41,7 @@ lookupAt L S area cells (Found.Free i) = Lookup.Absent
 lookupAt L S area cells Found.Full = Lookup.Bad
 
 -- a record that does not fit what is lent is bad
-unfoldable pub lookedUp : Layout → Store → List ℕ → List ℕ → Key → Lookup
+unfoldable pub lookedUp : Layout → Record → List ℕ → List ℕ → Key → Lookup
 lookedUp L r area cells k =
     pick (fitsLent L r (length area) (length cells)) (lookupAt L (r .size) area cells (searchFor L area cells k)) Lookup.Bad
 

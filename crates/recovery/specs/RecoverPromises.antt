@@ -20,12 +20,12 @@ use Rattle.record.specs.RangeLaws.{map-in, between-low, between-high}
 use Rattle.record.specs.Refusals.{numberOfRefusal}
 use Rattle.record.specs.declared.Refusal.{Refusal}
 use Rattle.record.specs.declared.Refusal.the-variants.{BadOrder, TooManyKeys}
-use Rattle.record.specs.declared.Store.{Store}
+use Rattle.record.specs.declared.Record.{Record}
 use Rattle.record.specs.declared.Recovery.{Recovery}
 use Rattle.record.specs.declared.RecoverAnswer.{RecoverAnswer}
 use Rattle.model.specs.Log.{View, Head, Placed, segmentOf, viewsOf, headOf, logOf, keysOf, highest, versionShared}
 use Rattle.model.specs.Causes.{Cause, when, firstCause}
-use Rattle.model.specs.Recovery.{orderBad, headElse, digestBad, logDamaged, logSlots, logUnder, keysBad, storeUnder, lentCauses, imageCauses, keyCauses, recoverCauses, storeOf, recoveryFor, recovery}
+use Rattle.model.specs.Recovery.{orderBad, headElse, digestBad, logDamaged, logSlots, logUnder, keysBad, recordUnder, lentCauses, imageCauses, keyCauses, recoverCauses, recordFrom, recoveryFor, recovery}
 use Rattle.model.specs.Index.{IndexRule}
 use Rattle.model.specs.Operations.{logNow}
 use Rattle.model.specs.Promises.{RecoverPromise, IndexAfter}
@@ -39,7 +39,7 @@ use Rattle.index.specs.BuildLaws.{Holds, built-rule, built-over}
 use Rattle.index.specs.declared.Built.{Built}
 use Rattle.recovery.specs.FormatLaws.{Fits, geometry-fits}
 use Rattle.recovery.specs.LookupLaws.{log-stands}
-use Rattle.recovery.specs.Recovering.{lentFirst, imageFor, imageOf, storeWith, refusedWith}
+use Rattle.recovery.specs.Recovering.{lentFirst, imageFor, imageOf, recordWith, refusedWith}
 use Rattle.recovery.specs.declared.Image.{Image}
 
 -- ---- the first cause
@@ -120,7 +120,7 @@ module _ (L : Layout) (n s : ℕ) (order area cells : List ℕ) where
   unfolding recovery recoveryFor IndexAfter
   refused-kept c e k =
       record {
-        answers = ap (λ (o : Option Refusal). recoveryFor o (storeOf L n s m area)) (sym e);
+        answers = ap (λ (o : Option Refusal). recoveryFor o (recordFrom L n s m area)) (sym e);
         same-length = refl;
         index = sym (pick-false (eqb (numberOfRefusal c) 20) (replicate m 0) cells k);
       }
@@ -233,7 +233,7 @@ module _ (L : Layout) (n s : ℕ) (order area cells : List ℕ) where
               let first : cause ≡ some TooManyKeys = on-keys ∙ cause-first (when (keysBad m log) TooManyKeys) [] q in
               let zeros : cells′ ≡ replicate m 0 = ap (λ (r : Rebuilt). r .cells) (e ∙ overfull q) in
               record {
-                answers = ap (λ (o : Option Refusal). recoveryFor o (storeOf L n s m area)) (sym first);
+                answers = ap (λ (o : Option Refusal). recoveryFor o (recordFrom L n s m area)) (sym first);
                 same-length = ap length zeros ∙ length-replicate m 0;
                 index = zeros ∙ sym (pick-true (eqb 20 20) (replicate m 0) cells refl);
               }
@@ -267,21 +267,21 @@ module _ (L : Layout) (n s : ℕ) (order area cells : List ℕ) where
           let t = told a k cells′ e counts in
           omega (arith, ltb-false (m - 1) (length (keysOf log)) (t .few), cells-few)
 
-      pub keys-promise : (a : Built) (k : ℕ) (cells′ : List ℕ) (store : Store) → Rebuilds a cells′ → a ≡ Built.Keys k
-          → store ≡ storeWith L n s (length cells′) area i d top k
-          → RecoverPromise L n s order area cells cells′ (record { answer = RecoverAnswer.Recovered; store = store })
+      pub keys-promise : (a : Built) (k : ℕ) (cells′ : List ℕ) (rec : Record) → Rebuilds a cells′ → a ≡ Built.Keys k
+          → rec ≡ recordWith L n s (length cells′) area i d top k
+          → RecoverPromise L n s order area cells cells′ (record { answer = RecoverAnswer.Recovered; rec = rec })
       unfolding recovery recoveryFor IndexAfter
-      keys-promise a k cells′ store e counts its =
+      keys-promise a k cells′ rec e counts its =
           let t = told a k cells′ e counts in
           let nothing : cause ≡ none = on-keys ∙ cause-none (when (keysBad m log) TooManyKeys) [] (t .few) nil in
-          let same : store ≡ storeUnder v n s m (record { slot = i; digest = d }) =
-          its ∙ (λ j. storeWith L n s (t .long j) area i d (image .top-is j) (t .keys j)) in
+          let same : rec ≡ recordUnder v n s m (record { slot = i; digest = d }) =
+          its ∙ (λ j. recordWith L n s (t .long j) area i d (image .top-is j) (t .keys j)) in
           record {
             answers =
-                ap (λ (x : Store). record { answer = RecoverAnswer.Recovered; store = x }) (same ∙ ap (storeUnder v n s m) (sym (image .head)))
-                ∙ ap (λ (o : Option Refusal). recoveryFor o (storeOf L n s m area)) (sym nothing);
+                ap (λ (x : Record). record { answer = RecoverAnswer.Recovered; rec = x }) (same ∙ ap (recordUnder v n s m) (sym (image .head)))
+                ∙ ap (λ (o : Option Refusal). recoveryFor o (recordFrom L n s m area)) (sym nothing);
             same-length = t .long;
-            index = subst (λ (x : Store). IndexRule (x .size) (logNow L area x) cells′) (sym its) (t .rule);
+            index = subst (λ (x : Record). IndexRule (x .size) (logNow L area x) cells′) (sym its) (t .rule);
           }
         where
           nil : firstCause [] ≡ none

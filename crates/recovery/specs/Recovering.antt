@@ -9,7 +9,7 @@ use Rattle.record.specs.Answers.{blank}
 use Rattle.record.specs.declared.Refusal.{Refusal}
 use Rattle.record.specs.declared.Refusal.the-variants.{BadOrder}
 use Rattle.record.specs.declared.Pending.the-variants.{Idle}
-use Rattle.record.specs.declared.Store.{Store}
+use Rattle.record.specs.declared.Record.{Record}
 use Rattle.record.specs.declared.Recovery.{Recovery}
 use Rattle.record.specs.declared.RecoverAnswer.{RecoverAnswer}
 use Rattle.model.specs.Log.{View, Head, segmentOf, scan, endOf, headOf, highest}
@@ -39,15 +39,15 @@ abbrev pub imageUnder : (ℕ → View) → ℕ → Head → Image
 imageUnder v n h = imageFor v n h (firstCause (imageCauses v n (some h)))
 
 -- the record of a head, the highest version in its log, and the number of its keys
-abbrev pub storeWith : Layout → ℕ → ℕ → ℕ → List ℕ → ℕ → Digest → Version → ℕ → Store
-storeWith L n s m area slot d top keys =
+abbrev pub recordWith : Layout → ℕ → ℕ → ℕ → List ℕ → ℕ → Digest → Version → ℕ → Record
+recordWith L n s m area slot d top keys =
     record {
       slots = n;
       size = s;
       cells = m;
       head = slot;
       end = endOf (scan L (segmentOf area s slot));
-      number = d .number;
+      digest = d .number;
       map = d .map;
       next = record { 0 = max (d .next .0) (top .0 + 1) };
       keys = keys;
@@ -56,4 +56,4 @@ storeWith L n s m area slot d top keys =
 
 -- a refusal stands beside the blank record
 abbrev pub refusedWith : Refusal → Recovery
-refusedWith c = record { answer = RecoverAnswer.Refused c; store = blank }
+refusedWith c = record { answer = RecoverAnswer.Refused c; rec = blank }

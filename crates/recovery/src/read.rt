@@ -4,8 +4,8 @@ use index::Found;
 use index::search::search;
 use record::ReadAnswer;
 use record::Reading;
+use record::Record;
 use record::Refusal;
-use record::Store;
 use record::range::fits_lent;
 use segment::Key;
 use segment::Read;
@@ -71,13 +71,13 @@ pub fn look_at(s: usize, area: &[u8], index: &[u32], found: Found) -> Lookup
 }
 
 // What the index says of a key.
-pub fn find(store: Store, area: &[u8], index: &[u32], key: Key) -> Lookup
-    ensures { λ r. ⌜ r ≡ lookedUp edition1 store (now (area .entry)) (now (index .entry)) key ⌝ }
+pub fn find(rec: Record, area: &[u8], index: &[u32], key: Key) -> Lookup
+    ensures { λ r. ⌜ r ≡ lookedUp edition1 rec (now (area .entry)) (now (index .entry)) key ⌝ }
 {
-    if !fits_lent(store, area.len(), index.len()) {
+    if !fits_lent(rec, area.len(), index.len()) {
         return Lookup::Bad;
     }
-    look_at(store.size as usize, area, index, search(area, index, key))
+    look_at(rec.size as usize, area, index, search(area, index, key))
 }
 
 // The read's answer.
@@ -97,18 +97,18 @@ pub fn told(found: Lookup) -> ReadAnswer
 }
 
 // The version and kind of a key's object. The record is handed back.
-pub fn read(store: Store, area: &[u8], index: &[u32], key: Key) -> Reading
-    ensures { λ r. ⌜ ReadPromise edition1 store (now (area .entry)) (now (index .entry)) key r ⌝ }
+pub fn read(rec: Record, area: &[u8], index: &[u32], key: Key) -> Reading
+    ensures { λ r. ⌜ ReadPromise edition1 rec (now (area .entry)) (now (index .entry)) key r ⌝ }
 {
-    let answer = told(find(store, area, index, key));
-    Reading { answer, store }
+    let answer = told(find(rec, area, index, key));
+    Reading { answer, rec }
 }
 
 // The value of a key's object, as a part of the area; the empty part at its start where `read` refuses.
-pub fn read_value<'a>(store: Store, area: &'a [u8], index: &[u32], key: Key) -> &'a [u8]
-    ensures { λ r. ⌜ ValuePromise edition1 store (now (area .entry)) (now (index .entry)) key (now r) ⌝ }
+pub fn read_value<'a>(rec: Record, area: &'a [u8], index: &[u32], key: Key) -> &'a [u8]
+    ensures { λ r. ⌜ ValuePromise edition1 rec (now (area .entry)) (now (index .entry)) key (now r) ⌝ }
 {
-    match find(store, area, index, key) {
+    match find(rec, area, index, key) {
         Lookup::Object {
             place,
             version: _,

@@ -13,10 +13,10 @@ use log::slots::cut;
 use log::survey::survey;
 use log::versions::version_shared;
 use record::Pending;
+use record::Record;
 use record::RecoverAnswer;
 use record::Recovery;
 use record::Refusal;
-use record::Store;
 use record::blank;
 use record::range::cells_good;
 use record::range::map_good;
@@ -36,7 +36,7 @@ ghost use Rattle.model.specs.Recovery.{orderBad, sharing, digestBad};
 ghost use Rattle.model.specs.Promises.{RecoverPromise};
 ghost use Rattle.log.specs.Shape.{Shape};
 ghost use Rattle.recovery.specs.Order.{seeSlot, seenFrom};
-ghost use Rattle.recovery.specs.Recovering.{lentFirst, checkedAs, imageOf, imageUnder, storeWith, refusedWith};
+ghost use Rattle.recovery.specs.Recovering.{lentFirst, checkedAs, imageOf, imageUnder, recordWith, refusedWith};
 
 // The slots seen so far and one more, if it is one of the n.
 fn see_slot(n: u32, seen: u32, slot: u8) -> u32
@@ -180,20 +180,20 @@ fn record_of(
     digest: Digest,
     highest: Version,
     keys: u32,
-) -> Store
+) -> Record
     requires { ⌜ (slot * s + s ≤ length (now area)) × (highest .0 < 4294967295) × (s ≤ 2048) × (slot < 32) ⌝ }
-    ensures { λ r. ⌜ r ≡ storeWith edition1 n s m (now (area .entry)) slot digest highest keys ⌝ }
+    ensures { λ r. ⌜ r ≡ recordWith edition1 n s m (now (area .entry)) slot digest highest keys ⌝ }
 {
     let number = digest.number;
     let end = end_of(cut(s as usize, area, slot));
     let next = next_version(digest.next, highest);
-    Store {
+    Record {
         slots: n,
         size: s,
         cells: m,
         head: slot as u32,
         end: end as u32,
-        number,
+        digest: number,
         map: digest.map,
         next,
         keys,
@@ -207,7 +207,7 @@ fn refused(cause: Refusal) -> Recovery
 {
     Recovery {
         answer: RecoverAnswer::Refused(cause),
-        store: blank(),
+        rec: blank(),
     }
 }
 
@@ -229,7 +229,7 @@ fn recover_image(n: u32, s: u32, order: &[u8], area: &[u8], index: &mut [u32]) -
                 Built::TooMany => refused(Refusal::TooManyKeys),
                 Built::Keys(keys) => Recovery {
                     answer: RecoverAnswer::Recovered,
-                    store: record_of(
+                    rec: record_of(
                         n,
                         s,
                         index.len() as u32,

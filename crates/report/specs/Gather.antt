@@ -19,7 +19,7 @@ use Rattle.segment.specs.declared.Read.{Read}
 use Rattle.slot_map.specs.Bit.{named}
 use Rattle.record.specs.Range.{fitsLent}
 use Rattle.record.specs.RangeLaws.{Lent, lent}
-use Rattle.record.specs.declared.Store.{Store}
+use Rattle.record.specs.declared.Record.{Record}
 use Rattle.model.specs.Log.{Placed, placeOf, segmentOf, viewsOf, latest, objectOnly, present}
 use Rattle.model.specs.Index.{IsLatest, HasCell}
 use Rattle.model.specs.Operations.{logNow, TypedKey}
@@ -71,16 +71,16 @@ CellsInside S area cells = (i : ℕ) → i < length cells → (getD cells i 0 �
 -- ---- the index of a recovered store
 
 -- A store as recovery leaves it, in an area of bytes.
-pub record Ready (L : Layout) (area : List ℕ) (r : Store) (cells : List ℕ) : Type 0 where
+pub record Ready (L : Layout) (area : List ℕ) (r : Record) (cells : List ℕ) : Type 0 where
   pub genuine : Genuine L area r cells
   pub fit : fitsLent L r (length area) (length cells) ≡ true
   pub bytes : Bytes area
 
 -- the ranks of the present keys of its log
-abbrev pub presentRanks : Layout → List ℕ → Store → List ℕ
+abbrev pub presentRanks : Layout → List ℕ → Record → List ℕ
 presentRanks L area r = ranks (presentKeys L (logNow L area r))
 
-module _ (L : Layout) (area : List ℕ) (r : Store) (cells : List ℕ) (ready : Ready L area r cells) where
+module _ (L : Layout) (area : List ℕ) (r : Record) (cells : List ℕ) (ready : Ready L area r cells) where
   abbrev S : ℕ
   S = r .size
 

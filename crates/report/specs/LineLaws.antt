@@ -9,7 +9,7 @@ use lib.ListN.{length, getD, take, drop, drop-of-length-le}
 use lib.Seq.{length-take-le}
 use Rattle.segment.specs.Layout.{Layout}
 use Rattle.segment.specs.declared.Key.{Key}
-use Rattle.record.specs.declared.Store.{Store}
+use Rattle.record.specs.declared.Record.{Record}
 use Rattle.model.specs.Log.{Placed, present}
 use Rattle.model.specs.Operations.{logNow, TypedKey}
 use Rattle.recovery.specs.Lookups.{lookedUp}
@@ -31,7 +31,7 @@ lineFound k (Lookup.Object p v kind n) = keyLine k (v .0) kind
 lineFound k Lookup.Absent = []
 lineFound k Lookup.Bad = []
 
-pub line-found : (L : Layout) (area : List ℕ) (r : Store) (cells : List ℕ) (k : Key) (found : Lookup) → Ready L area r cells
+pub line-found : (L : Layout) (area : List ℕ) (r : Record) (cells : List ℕ) (k : Key) (found : Lookup) → Ready L area r cells
     → found ≡ lookedUp L r area cells k → lineFound k found ≡ lineOf k (present L (logNow L area r) k)
 line-found L area r cells k found ready e =
     ap (lineFound k) (e ∙ genuine-lookup L r area cells k (ready .genuine) (ready .fit)) ∙ go (present L (logNow L area r) k)
@@ -121,14 +121,14 @@ module _ (L : Layout) (log : List Placed) (ks : List Key) (xs : List ℕ) (same 
 -- ---- what is gathered for a store
 
 -- The first n of the ranks are those of the present keys.
-pub record Listed (L : Layout) (area : List ℕ) (r : Store) (xs : List ℕ) (n : ℕ) : Type 0 where
+pub record Listed (L : Layout) (area : List ℕ) (r : Record) (xs : List ℕ) (n : ℕ) : Type 0 where
   pub few : n ≤ 4096
   pub inside : n ≤ length xs
   pub long : length (take n xs) ≡ n
   pub stands : take n xs ≡ presentRanks L area r
   pub counts : n ≡ length (presentKeys L (logNow L area r))
 
-pub gathered-listed : (L : Layout) (area : List ℕ) (r : Store) (cells xs : List ℕ) (n : ℕ) → Ready L area r cells → length xs ≡ 4096
+pub gathered-listed : (L : Layout) (area : List ℕ) (r : Record) (cells xs : List ℕ) (n : ℕ) → Ready L area r cells → length xs ≡ 4096
     → Gathered (cellRank L (r .size) area) cells xs 0 n → Listed L area r xs n
 gathered-listed L area r cells xs n ready long g =
     let few : n ≤ 4096 = omega (arith, cells-few L area r cells ready, g .few) in

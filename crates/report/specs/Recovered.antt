@@ -15,15 +15,15 @@ use Rattle.record.specs.Range.{between, slotsGood, sizeGood, fitsLent}
 use Rattle.record.specs.declared.Recovery.{Recovery}
 use Rattle.record.specs.declared.RecoverAnswer.{RecoverAnswer}
 use Rattle.record.specs.declared.Refusal.{Refusal}
-use Rattle.record.specs.declared.Store.{Store}
+use Rattle.record.specs.declared.Record.{Record}
 use Rattle.model.specs.Causes.{Cause, when, firstCause}
 use Rattle.model.specs.Index.{IndexRule}
 use Rattle.model.specs.Operations.{logNow}
 use Rattle.model.specs.Promises.{RecoverPromise, IndexAfter}
-use Rattle.model.specs.Recovery.{lists, listsBelow, orderBad, geometryBad, areaCauses, ifNone, storeOf, recovered, recoveryFor, recovery}
+use Rattle.model.specs.Recovery.{lists, listsBelow, orderBad, geometryBad, areaCauses, ifNone, recordFrom, recovered, recoveryFor, recovery}
 use Rattle.laws.specs.CauseLaws.{cause-first}
 use Rattle.laws.specs.RecoverLaws.{order-free, recovered-fits}
-use Rattle.report.specs.Report.{refusedLine, storeText, cellsUsed, textUnless, areaText}
+use Rattle.report.specs.Report.{refusedLine, recordText, cellsUsed, textUnless, areaText}
 use Rattle.report.specs.Gather.{Ready}
 
 -- ---- the order list
@@ -65,11 +65,11 @@ module _ (L : Layout) (n s m : ℕ) (area : List ℕ) where
   abbrev cause : Option Refusal
   cause = firstCause (areaCauses L n s m area)
 
-  abbrev store : Store
-  store = storeOf L n s m area
+  abbrev rec : Record
+  rec = recordFrom L n s m area
 
   -- in ascending order recovery answers as the area alone says, refusals of N too
-  pub ascending-recovery : recovery L n s m (slotsInOrder n) area ≡ recoveryFor cause store
+  pub ascending-recovery : recovery L n s m (slotsInOrder n) area ≡ recoveryFor cause rec
   ascending-recovery = go (slotsGood n) refl
     where
       refused : slotsGood n ≡ false → geometryBad n s (length area) ≡ true
@@ -79,7 +79,7 @@ module _ (L : Layout) (n s m : ℕ) (area : List ℕ) where
           → firstCause (when (geometryBad n s (length area)) Refusal.Geometry ∷ rest) ≡ some Refusal.Geometry
       first-cause rest e = cause-first (when (geometryBad n s (length area)) Refusal.Geometry) rest e
 
-      go : (t : Bool) → slotsGood n ≡ t → recovery L n s m (slotsInOrder n) area ≡ recoveryFor cause store
+      go : (t : Bool) → slotsGood n ≡ t → recovery L n s m (slotsInOrder n) area ≡ recoveryFor cause rec
       go true e = order-free L n s m area (slotsInOrder n) (good-at 32 n (omega (arith, low e)) (high e) good-all)
         where
           low : slotsGood n ≡ true → 4 ≤ n
@@ -89,11 +89,11 @@ module _ (L : Layout) (n s m : ℕ) (area : List ℕ) where
           high q = leb-true n 32 (both-right (leb 4 n) (leb n 32) (unfold between in q))
       go false e =
           unfold recovery in
-          ap (λ (o : Option Refusal). recoveryFor o store) (first-cause _ (refused e) ∙ sym (first-cause _ (refused e)))
+          ap (λ (o : Option Refusal). recoveryFor o rec) (first-cause _ (refused e) ∙ sym (first-cause _ (refused e)))
 
 module _ (L : Layout) (n s : ℕ) (area cells cells′ : List ℕ) (r : Recovery) (long : length cells ≡ cellsUsed)
     (p : RecoverPromise L n s (slotsInOrder n) area cells cells′ r) where
-  answered : r ≡ recoveryFor (cause L n s cellsUsed area) (store L n s cellsUsed area)
+  answered : r ≡ recoveryFor (cause L n s cellsUsed area) (rec L n s cellsUsed area)
   answered =
       p .answers ∙ ap (λ (m : ℕ). recovery L n s m (slotsInOrder n) area) long ∙ ascending-recovery L n s cellsUsed area
 
@@ -101,51 +101,51 @@ module _ (L : Layout) (n s : ℕ) (area cells cells′ : List ℕ) (r : Recovery
   unfolding areaText textUnless
   text-refused c e = go (cause L n s cellsUsed area) (ap (λ (x : Recovery). x .answer) (sym answered) ∙ e)
     where
-      go : (o : Option Refusal) → recoveryFor o (store L n s cellsUsed area) .answer ≡ RecoverAnswer.Refused c
-          → refusedLine c ≡ textUnless o (storeText L area (store L n s cellsUsed area))
+      go : (o : Option Refusal) → recoveryFor o (rec L n s cellsUsed area) .answer ≡ RecoverAnswer.Refused c
+          → refusedLine c ≡ textUnless o (recordText L area (rec L n s cellsUsed area))
       go none q = unfold recoveryFor in (let z : _≡_ {A = ℕ} 0 1 = cc in absurd (omega arith))
       go (some d) q = unfold recoveryFor in (let same : d ≡ c = cc in ap refusedLine (sym same))
 
   module _ (e : r .answer ≡ RecoverAnswer.Recovered) where
-    accepted : (cause L n s cellsUsed area ≡ none) × (r .store ≡ store L n s cellsUsed area)
+    accepted : (cause L n s cellsUsed area ≡ none) × (r .rec ≡ rec L n s cellsUsed area)
     accepted = go (cause L n s cellsUsed area) answered
       where
-        go : (o : Option Refusal) → r ≡ recoveryFor o (store L n s cellsUsed area) → (o ≡ none) × (r .store ≡ store L n s cellsUsed area)
-        go none q = unfold recoveryFor in (refl, ap (λ (x : Recovery). x .store) q)
+        go : (o : Option Refusal) → r ≡ recoveryFor o (rec L n s cellsUsed area) → (o ≡ none) × (r .rec ≡ rec L n s cellsUsed area)
+        go none q = unfold recoveryFor in (refl, ap (λ (x : Recovery). x .rec) q)
         go (some d) q =
             unfold recoveryFor in
             (let w : RecoverAnswer.Refused d ≡ RecoverAnswer.Recovered = ap (λ (x : Recovery). x .answer) (sym q) ∙ e in
             let z : _≡_ {A = ℕ} 0 1 = cc in
             absurd (omega arith))
 
-    pub text-recovered : storeText L area (r .store) ≡ areaText L n s area
+    pub text-recovered : recordText L area (r .rec) ≡ areaText L n s area
     unfolding areaText textUnless
     text-recovered =
-        ap (storeText L area) (accepted .1)
-        ∙ sym (ap (λ (o : Option Refusal). textUnless o (storeText L area (store L n s cellsUsed area))) (accepted .0))
+        ap (recordText L area) (accepted .1)
+        ∙ sym (ap (λ (o : Option Refusal). textUnless o (recordText L area (rec L n s cellsUsed area))) (accepted .0))
 
-    recovers : recovered L n s cellsUsed area ≡ some (store L n s cellsUsed area)
+    recovers : recovered L n s cellsUsed area ≡ some (rec L n s cellsUsed area)
     unfolding recovered ifNone
-    recovers = ap (λ (o : Option Refusal). ifNone o (store L n s cellsUsed area)) (accepted .0)
+    recovers = ap (λ (o : Option Refusal). ifNone o (rec L n s cellsUsed area)) (accepted .0)
 
-    rule : IndexRule (r .store .size) (logNow L area (r .store)) cells′
+    rule : IndexRule (r .rec .size) (logNow L area (r .rec)) cells′
     unfolding IndexAfter
     rule = subst (IndexAfter L area cells cells′ r) e (p .index)
 
-    pub recovered-ready : Bytes area → Ready L area (r .store) cells′
-    recovered-ready bytes = subst (λ (x : Store). Ready L area x cells′) (sym (accepted .1)) its
+    pub recovered-ready : Bytes area → Ready L area (r .rec) cells′
+    recovered-ready bytes = subst (λ (x : Record). Ready L area x cells′) (sym (accepted .1)) its
       where
-        its : Ready L area (store L n s cellsUsed area) cells′
+        its : Ready L area (rec L n s cellsUsed area) cells′
         its =
             record {
               genuine =
                   record {
                     recovers = recovers;
-                    rule = subst (λ (x : Store). IndexRule (x .size) (logNow L area x) cells′) (accepted .1) rule;
+                    rule = subst (λ (x : Record). IndexRule (x .size) (logNow L area x) cells′) (accepted .1) rule;
                   };
               fit =
-                  subst (λ (k : ℕ). fitsLent L (store L n s cellsUsed area) (length area) k ≡ true) (sym (p .same-length ∙ long))
-                  (recovered-fits L n s cellsUsed area (store L n s cellsUsed area) recovers);
+                  subst (λ (k : ℕ). fitsLent L (rec L n s cellsUsed area) (length area) k ≡ true) (sym (p .same-length ∙ long))
+                  (recovered-fits L n s cellsUsed area (rec L n s cellsUsed area) recovers);
               bytes = bytes;
             }
 

@@ -11,10 +11,10 @@ use Rattle.segment.specs.Layout.{Layout, edition1}
 use Rattle.segment.specs.declared.Key.{Key}
 use Rattle.record.specs.Refusals.{numberOfRefusal}
 use Rattle.record.specs.declared.Refusal.{Refusal}
-use Rattle.record.specs.declared.Store.{Store}
+use Rattle.record.specs.declared.Record.{Record}
 use Rattle.model.specs.Log.{Placed, present}
 use Rattle.model.specs.Causes.{firstCause}
-use Rattle.model.specs.Recovery.{areaCauses, storeOf}
+use Rattle.model.specs.Recovery.{areaCauses, recordFrom}
 use Rattle.model.specs.Operations.{logNow}
 use Rattle.text.specs.Ascii.{ascii}
 use Rattle.text.specs.Digits.{digits}
@@ -46,13 +46,13 @@ unfoldable pub linesOf : Layout → List Placed → List Key → List ℕ
 linesOf L log [] = []
 linesOf L log (k ∷ ks) = lineOf k (present L log k) ++ linesOf L log ks
 
-abbrev pub presentLines : Layout → List ℕ → Store → List ℕ
+abbrev pub presentLines : Layout → List ℕ → Record → List ℕ
 presentLines L area r = linesOf L (logNow L area r) (presentKeys L (logNow L area r))
 
 -- The text for a store: the head line, then a line for each present key of its log.
-abbrev pub storeText : Layout → List ℕ → Store → List ℕ
-storeText L area r =
-    headLine (r .next .0) (r .number .0) (length (presentKeys L (logNow L area r))) ++ presentLines L area r
+abbrev pub recordText : Layout → List ℕ → Record → List ℕ
+recordText L area r =
+    headLine (r .next .0) (r .digest .0) (length (presentKeys L (logNow L area r))) ++ presentLines L area r
 
 -- M
 abbrev pub cellsUsed : ℕ
@@ -64,7 +64,7 @@ textUnless (some c) text = refusedLine c
 
 -- The text for N, S and an area: of the store that recovery gives, or of its refusal.
 unfoldable pub areaText : Layout → ℕ → ℕ → List ℕ → List ℕ
-areaText L n s area = textUnless (firstCause (areaCauses L n s cellsUsed area)) (storeText L area (storeOf L n s cellsUsed area))
+areaText L n s area = textUnless (firstCause (areaCauses L n s cellsUsed area)) (recordText L area (recordFrom L n s cellsUsed area))
 
 -- An input too short to hold N and S is of a wrong length, like one whose area is not N × S bytes long.
 unfoldable pub dumpText : List ℕ → List ℕ

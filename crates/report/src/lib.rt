@@ -32,10 +32,10 @@ fn put_area(n: u32, s: u32, area: &[u8], out: &mut [u8]) -> usize
     let mut index = [0; CELLS];
     let recovery = recover_area(n, s, area, &mut index);
     let answer = recovery.answer;
-    let store = recovery.store;
+    let rec = recovery.rec;
     match answer {
         RecoverAnswer::Refused(cause) => put_refused(out, cause),
-        RecoverAnswer::Recovered => put_store(store, area, &index, out),
+        RecoverAnswer::Recovered => put_store(rec, area, &index, out),
     }
 }
 

@@ -4,7 +4,7 @@ use crate::gather::gather;
 use crate::lines::put_head;
 use crate::lines::put_key;
 use crate::ranks::key_of;
-use record::Store;
+use record::Record;
 use recovery::Lookup;
 use recovery::read::find;
 use segment::Key;
@@ -16,16 +16,16 @@ ghost use Rattle.model.specs.Log.{present};
 ghost use Rattle.model.specs.Operations.{logNow};
 ghost use Rattle.report.specs.Gather.{Ready, presentRanks};
 ghost use Rattle.report.specs.PutLaws.{PutWithin};
-ghost use Rattle.report.specs.Report.{lineOf, presentLines, storeText, textRoom};
+ghost use Rattle.report.specs.Report.{lineOf, presentLines, recordText, textRoom};
 
 // The line of a key; no line for a key that is not present.
-fn put_line(store: Store, area: &[u8], index: &[u32], key: Key, out: &mut [u8], at: usize) -> usize
-    requires { ⌜ Ready edition1 (now area) store (now index) × (at + 44 ≤ length (now out)) ⌝ }
+fn put_line(rec: Record, area: &[u8], index: &[u32], key: Key, out: &mut [u8], at: usize) -> usize
+    requires { ⌜ Ready edition1 (now area) rec (now index) × (at + 44 ≤ length (now out)) ⌝ }
     ensures { λ r.
         ⌜ PutWithin (now (out .entry)) (now (out .exit)) at r
-        (lineOf key (present edition1 (logNow edition1 (now (area .entry)) store) key)) 44 ⌝ }
+        (lineOf key (present edition1 (logNow edition1 (now (area .entry)) rec) key)) 44 ⌝ }
 {
-    match find(store, area, index, key) {
+    match find(rec, area, index, key) {
         Lookup::Object {
             place: _,
             version,
@@ -39,39 +39,39 @@ fn put_line(store: Store, area: &[u8], index: &[u32], key: Key, out: &mut [u8], 
 
 // The lines of the present keys, whose ranks these are.
 fn put_lines(
-    store: Store,
+    rec: Record,
     area: &[u8],
     index: &[u32],
     ranks: &[u64],
     out: &mut [u8],
     at: usize,
 ) -> usize
-    requires { ⌜ Ready edition1 (now area) store (now index)
-        × (now ranks ≡ presentRanks edition1 (now area) store)
+    requires { ⌜ Ready edition1 (now area) rec (now index)
+        × (now ranks ≡ presentRanks edition1 (now area) rec)
         × (at + 44 * length (now ranks) ≤ length (now out)) ⌝ }
     ensures { λ r.
-        ⌜ PutWithin (now (out .entry)) (now (out .exit)) at r (presentLines edition1 (now (area .entry)) store)
+        ⌜ PutWithin (now (out .entry)) (now (out .exit)) at r (presentLines edition1 (now (area .entry)) rec)
         (44 * length (now (ranks .entry))) ⌝ }
 {
     let mut end = at;
     let mut i = 0;
     while i < ranks.len() {
-        end = put_line(store, area, index, key_of(ranks[i]), out, end);
+        end = put_line(rec, area, index, key_of(ranks[i]), out, end);
         i += 1;
     }
     end
 }
 
 // The head line and the lines of the present keys.
-pub fn put_store(store: Store, area: &[u8], index: &[u32], out: &mut [u8]) -> usize
-    requires { ⌜ Ready edition1 (now area) store (now index) × (textRoom ≤ length (now out)) ⌝ }
+pub fn put_store(rec: Record, area: &[u8], index: &[u32], out: &mut [u8]) -> usize
+    requires { ⌜ Ready edition1 (now area) rec (now index) × (textRoom ≤ length (now out)) ⌝ }
     ensures { λ r.
-        ⌜ PutWithin (now (out .entry)) (now (out .exit)) 0 r (storeText edition1 (now (area .entry)) store) textRoom ⌝ }
+        ⌜ PutWithin (now (out .entry)) (now (out .exit)) 0 r (recordText edition1 (now (area .entry)) rec) textRoom ⌝ }
 {
-    let number = store.number;
-    let next = store.next;
+    let number = rec.digest;
+    let next = rec.next;
     let mut ranks = [0; CELLS];
-    let keys = gather(store.size as usize, area, index, &mut ranks);
+    let keys = gather(rec.size as usize, area, index, &mut ranks);
     let at = put_head(out, next.0, number.0, keys as u32);
-    put_lines(store, area, index, &ranks[..keys], out, at)
+    put_lines(rec, area, index, &ranks[..keys], out, at)
 }

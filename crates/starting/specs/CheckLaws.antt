@@ -12,7 +12,7 @@ use Rattle.record.specs.declared.Pending.{Pending}
 use Rattle.record.specs.declared.Pending.the-variants.{Idle, Append, NewHead, Clean}
 use Rattle.record.specs.declared.Refusal.{Refusal}
 use Rattle.record.specs.declared.Refusal.the-variants.{WorkShort, BadRecord, Busy}
-use Rattle.record.specs.declared.Store.{Store}
+use Rattle.record.specs.declared.Record.{Record}
 use Rattle.model.specs.Causes.{Cause, firstCause}
 use Rattle.model.specs.Refused.{Lengths, isPending}
 use Rattle.laws.specs.CauseLaws.{cause-first, cause-skip, NoCause, no-cause, first-some, first-none}
@@ -67,7 +67,7 @@ other-pending (Clean i v n k) m = refl
 
 -- ---- 4, 3 and 5: t is what the code finds for the range and the lengths, p for a pending operation
 
-module _ (L : Layout) (r : Store) (l : Lengths) (t : Bool) (e : t ≡ fitsLent L r (l .area) (l .index)) where
+module _ (L : Layout) (r : Record) (l : Lengths) (t : Bool) (e : t ≡ fitsLent L r (l .area) (l .index)) where
   pub lent-bad : not t ≡ true → Check.Refused BadRecord ≡ checked (firstCause (lentTests L r l))
   unfolding lentTests
   lent-bad h = refused _ _ (sym (ap not e) ∙ h)
@@ -89,12 +89,12 @@ module _ (L : Layout) (r : Store) (l : Lengths) (t : Bool) (e : t ≡ fitsLent L
           skipped _ _ (sym (ap not e) ∙ fits) (skipped _ _ (le-ltb (l .work) (r .size) long) (skipped _ _ (sym q ∙ h) passed))
 
 -- What is known once they are passed.
-pub record Begins (L : Layout) (r : Store) (l : Lengths) : Type 0 where
+pub record Begins (L : Layout) (r : Record) (l : Lengths) : Type 0 where
   pub lent : Lent L r (l .area) (l .index)
   pub long : r .size ≤ l .work
   pub idle : isPending (r .pending) ≡ false
 
-pub begins : (L : Layout) (r : Store) (l : Lengths) → Check.Passed ≡ checked (firstCause (lentTests L r l)) → Begins L r l
+pub begins : (L : Layout) (r : Record) (l : Lengths) → Check.Passed ≡ checked (firstCause (lentTests L r l)) → Begins L r l
 unfolding lentTests
 begins L r l e =
     let tests : NoCause (lentTests L r l) = no-cause (lentTests L r l) (checked-none (firstCause (lentTests L r l)) e) in

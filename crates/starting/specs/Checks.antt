@@ -4,7 +4,7 @@ use mathlib.Core.Option.{Option, none, some}
 use Rattle.segment.specs.Layout.{Layout}
 use Rattle.record.specs.declared.Refusal.{Refusal}
 use Rattle.record.specs.declared.Refusal.the-variants.{WorkShort, BadRecord, Busy}
-use Rattle.record.specs.declared.Store.{Store}
+use Rattle.record.specs.declared.Record.{Record}
 use Rattle.model.specs.Causes.{Cause, when}
 use Rattle.model.specs.Refused.{Lengths, recordBad, workShort, isPending}
 use Rattle.starting.specs.declared.Check.{Check}
@@ -15,5 +15,5 @@ checked none = Check.Passed
 checked (some c) = Check.Refused c
 
 -- 4, 3 and 5
-unfoldable pub lentTests : Layout → Store → Lengths → List Cause
+unfoldable pub lentTests : Layout → Record → Lengths → List Cause
 lentTests L r l = when (recordBad L r l) BadRecord ∷ when (workShort r l) WorkShort ∷ when (isPending (r .pending)) Busy ∷ []

@@ -8,15 +8,15 @@ use Rattle.slot_map.specs.Bit.{bit, less, withBit, within}
 use Rattle.slot_map.specs.CountLaws.{with-less}
 use Rattle.slot_map.specs.NextLaws.{next-below, next-clear}
 use Rattle.record.specs.RangeLaws.{Lent}
-use Rattle.record.specs.declared.Store.{Store}
+use Rattle.record.specs.declared.Record.{Record}
 use Rattle.model.specs.Operations.{newSlot, newDigest}
 
 -- The digest number can go up.
-abbrev pub NumberLeft : Store → Type 0
-NumberLeft r = r .number .0 ≡ numberLimit → ⊥
+abbrev pub NumberLeft : Record → Type 0
+NumberLeft r = r .digest .0 ≡ numberLimit → ⊥
 
 -- A new head can come to a slot, in the place of victims.
-pub record HeadReady (r : Store) (victims slot : ℕ) : Type 0 where
+pub record HeadReady (r : Record) (victims slot : ℕ) : Type 0 where
   pub below : slot < 32
   pub next : slot ≡ newSlot r
   pub clear : bit (r .map) slot ≡ 0
@@ -25,7 +25,7 @@ pub record HeadReady (r : Store) (victims slot : ℕ) : Type 0 where
 
 -- it can in a record in range, whose log has the victims
 pub head-ready :
-    (L : Layout) (r : Store) (a i : ℕ) → Lent L r a i → (victims : ℕ) → within victims (r .map) ≡ true → NumberLeft r →
+    (L : Layout) (r : Record) (a i : ℕ) → Lent L r a i → (victims : ℕ) → within victims (r .map) ≡ true → NumberLeft r →
     (slot : ℕ) → slot ≡ newSlot r → HeadReady r victims slot
 head-ready L r a i l victims in-log left slot e =
     record {
@@ -38,9 +38,9 @@ head-ready L r a i l victims in-log left slot e =
 
 -- its digest, by the maps that the code computes
 pub digest-laid :
-    (r : Store) (victims slot : ℕ) → HeadReady r victims slot → (kept map : ℕ) → kept ≡ less (r .map) victims → map ≡ withBit kept slot →
-    record { number = record { 0 = r .number .0 + 1 }; map = map; next = r .next } ≡ newDigest r victims
+    (r : Record) (victims slot : ℕ) → HeadReady r victims slot → (kept map : ℕ) → kept ≡ less (r .map) victims → map ≡ withBit kept slot →
+    record { number = record { 0 = r .digest .0 + 1 }; map = map; next = r .next } ≡ newDigest r victims
 digest-laid r victims slot h kept map e f =
-    ap (λ (m : ℕ). record { number = record { 0 = r .number .0 + 1 }; map = m; next = r .next })
+    ap (λ (m : ℕ). record { number = record { 0 = r .digest .0 + 1 }; map = m; next = r .next })
     (f ∙ ap (λ (m : ℕ). withBit m slot) e ∙ with-less (r .map) victims slot (h .inside) (h .clear) ∙
     ap (λ (i : ℕ). r .map - victims + 2 ^ i) (h .next))

@@ -1,8 +1,8 @@
 // The tests with which every start begins, in the order of 01, "Refused calls".
 use crate::Check;
 use record::Pending;
+use record::Record;
 use record::Refusal;
-use record::Store;
 use record::range::fits_lent;
 ghost use mathlib.Core.Path.{_≡_};
 ghost use Rattle.segment.specs.Layout.{edition1};
@@ -21,16 +21,16 @@ fn is_pending(pending: Pending) -> bool
 }
 
 // 4, as far as it needs no look at the log, 3 and 5.
-pub fn check_lent(store: Store, area: usize, index: usize, work: usize) -> Check
-    ensures { λ r. ⌜ r ≡ checked (firstCause (lentTests edition1 store (record { area = area; index = index; work = work }))) ⌝ }
+pub fn check_lent(rec: Record, area: usize, index: usize, work: usize) -> Check
+    ensures { λ r. ⌜ r ≡ checked (firstCause (lentTests edition1 rec (record { area = area; index = index; work = work }))) ⌝ }
 {
-    if !fits_lent(store, area, index) {
+    if !fits_lent(rec, area, index) {
         return Check::Refused(Refusal::BadRecord);
     }
-    if work < store.size as usize {
+    if work < rec.size as usize {
         return Check::Refused(Refusal::WorkShort);
     }
-    let pending = store.pending;
+    let pending = rec.pending;
     if is_pending(pending) {
         return Check::Refused(Refusal::Busy);
     }

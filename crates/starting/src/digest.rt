@@ -1,5 +1,5 @@
 // The digest of a new head.
-use record::Store;
+use record::Record;
 use segment::Digest;
 use segment::DigestNumber;
 use slot_map::with_slot;
@@ -9,16 +9,16 @@ ghost use Rattle.model.specs.Operations.{newDigest};
 ghost use Rattle.starting.specs.NewHead.{HeadReady};
 
 // The digest of a new head in `slot`: the old map less the victims plus its own bit, and the next version as it stands.
-pub fn new_digest(store: Store, victims: u32, slot: u32) -> Digest
-    requires { ⌜ HeadReady store victims slot ⌝ }
-    ensures { λ r. ⌜ r ≡ newDigest store victims ⌝ }
+pub fn new_digest(rec: Record, victims: u32, slot: u32) -> Digest
+    requires { ⌜ HeadReady rec victims slot ⌝ }
+    ensures { λ r. ⌜ r ≡ newDigest rec victims ⌝ }
 {
-    let number = store.number;
-    let next = store.next;
+    let number = rec.digest;
+    let next = rec.next;
     let raised = number.0 + 1;
     Digest {
         number: DigestNumber(raised),
-        map: with_slot(without_slots(store.map, victims), slot),
+        map: with_slot(without_slots(rec.map, victims), slot),
         next,
     }
 }

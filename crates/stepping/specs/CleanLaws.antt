@@ -14,7 +14,7 @@ use Rattle.segment.specs.Choice.{both-true, either}
 use Rattle.segment.specs.Layout.{Layout}
 use Rattle.slot_map.specs.Bit.{named}
 use Rattle.record.specs.RangeLaws.{map-in}
-use Rattle.record.specs.declared.Store.{Store}
+use Rattle.record.specs.declared.Record.{Record}
 use Rattle.model.specs.Log.{viewsOf, logOf, keysOf}
 use Rattle.model.specs.Recovery.{recovered, lists, listsBelow, orderBad, logUnder}
 use Rattle.laws.specs.RecoverLaws.{recovered-case}
@@ -60,10 +60,10 @@ ascending-good n h =
 -- ---- a recovered log
 
 pub recovered-built :
-    (L : Layout) (n s m : ℕ) (area order : List ℕ) (r : Store) → recovered L n s m area ≡ some r → orderBad n order ≡ false → 0 < m →
+    (L : Layout) (n s m : ℕ) (area order : List ℕ) (r : Record) → recovered L n s m area ≡ some r → orderBad n order ≡ false → 0 < m →
     Holds s m (logOf (viewsOf L area s) (named (r .map)) n) (built L area s (r .map) order m)
 recovered-built L n s m area order r e good some-cell =
-    recovered-case L n s m area (λ (k : Store). Holds s m (logOf (viewsOf L area s) (named (k .map)) n) (built L area s (k .map) order m))
+    recovered-case L n s m area (λ (k : Record). Holds s m (logOf (viewsOf L area s) (named (k .map)) n) (built L area s (k .map) order m))
     (λ h l f.
     built-rule L area s (h .digest .map) n m order (l .long) (map-in n (h .slot) (h .digest .map) (f .map-good) .below) (f .scans) (f .versions) good
     some-cell (le-ltb (m - 1) (length (keysOf (logUnder (viewsOf L area s) n h))) (f .keys)))

@@ -14,7 +14,7 @@ use Rattle.segment.specs.Entry.{keyOf}
 use Rattle.segment.specs.declared.Key.{Key}
 use Rattle.slot_map.specs.Bit.{named}
 use Rattle.record.specs.declared.StepAnswer.{StepAnswer}
-use Rattle.record.specs.declared.Store.{Store}
+use Rattle.record.specs.declared.Record.{Record}
 use Rattle.model.specs.Log.{Placed, placeOf, viewsOf, logOf, keysOf}
 use Rattle.model.specs.Index.{IndexRule}
 use Rattle.model.specs.Recovery.{recovered}
@@ -60,24 +60,24 @@ module _ (S m : ℕ) (log : List Placed) (few : length (keysOf log) < m) where
 -- ---- an entry more in a recovered log
 
 pub recovered-in-area :
-    (L : Layout) (n s m : ℕ) (area : List ℕ) (r : Store) → recovered L n s m area ≡ some r →
+    (L : Layout) (n s m : ℕ) (area : List ℕ) (r : Record) → recovered L n s m area ≡ some r →
     AllIn L area s (logOf (viewsOf L area s) (named (r .map)) n)
 recovered-in-area L n s m area r e =
-    recovered-case L n s m area (λ (k : Store). AllIn L area s (logOf (viewsOf L area s) (named (k .map)) n))
+    recovered-case L n s m area (λ (k : Record). AllIn L area s (logOf (viewsOf L area s) (named (k .map)) n))
     (λ h l f. log-in-area L area s (named (h .digest .map)) n (f .scans)) r e
 
 -- What the last step gives where the entry goes in: the version, the record with k keys, and cells that keep the rule.
-pub record Finished (S : ℕ) (log : List Placed) (done : Store) (version k : ℕ) (a : After) : Type 0 where
-  pub answers : a .stepped ≡ record { answer = StepAnswer.Done (record { 0 = version }); store = withKeys done k }
+pub record Finished (S : ℕ) (log : List Placed) (done : Record) (version k : ℕ) (a : After) : Type 0 where
+  pub answers : a .stepped ≡ record { answer = StepAnswer.Done (record { 0 = version }); rec = withKeys done k }
   pub rule : IndexRule S log (a .cells)
 
-pub told-known : (r done : Store) (version k : ℕ) → k < r .cells
-    → toldBy r done version (Built.Keys k) ≡ record { answer = StepAnswer.Done (record { 0 = version }); store = withKeys done k }
+pub told-known : (r done : Record) (version k : ℕ) → k < r .cells
+    → toldBy r done version (Built.Keys k) ≡ record { answer = StepAnswer.Done (record { 0 = version }); rec = withKeys done k }
 unfolding toldBy
 told-known r done version k h = pick-true (ltb k (r .cells)) _ _ (lt-ltb k (r .cells) h)
 
 module _ (L : Layout) (S : ℕ) (log log′ : List Placed) (area′ cells : List ℕ) (x : Placed) (added : Added log x log′) (apart : Apart log′)
-    (there : AllIn L area′ S log′) (r done : Store) (version : x .entry .version ≡ r .next .0)
+    (there : AllIn L area′ S log′) (r done : Record) (version : x .entry .version ≡ r .next .0)
     (ix : Indexed S (r .cells) log cells (r .keys)) (few : length (keysOf log′) < r .cells)
   where
     all-there : AllIn L area′ S (x ∷ log)

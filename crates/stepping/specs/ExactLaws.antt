@@ -23,17 +23,17 @@ use Rattle.record.specs.Answers.{withPending}
 use Rattle.record.specs.RangeLaws.{Lent, lent}
 use Rattle.record.specs.declared.Pending.the-variants.{Append, NewHead, Clean}
 use Rattle.record.specs.declared.StepAnswer.{StepAnswer}
-use Rattle.record.specs.declared.Store.{Store}
+use Rattle.record.specs.declared.Record.{Record}
 use Rattle.model.specs.Log.{Placed, keysOf}
 use Rattle.model.specs.Index.{IndexRule}
-use Rattle.model.specs.Operations.{Operation, write, delete, clean, Laid, laid, laidAppend, laidHead, laidEntry, laidClean, logNow, newSlot, newDigest, fitsHead, kept, allEncoded, writtenEntry, tombstoneEntry, planOf, commit, stored, appendedStore, headedStore, entryStore, cleanedStore, finishedStore, toldVersion}
+use Rattle.model.specs.Operations.{Operation, write, delete, clean, Laid, laid, laidAppend, laidHead, laidEntry, laidClean, logNow, newSlot, newDigest, fitsHead, kept, allEncoded, writtenEntry, tombstoneEntry, planOf, commit, stored, appendedRecord, headedRecord, entryRecord, cleanedRecord, finishedRecord, toldVersion}
 use Rattle.model.specs.Recovery.{recovered}
 use Rattle.model.specs.Refused.{startCauses, cleanCauses}
 use Rattle.laws.specs.RecoverLaws.{recovered-apart, recovered-keys, recovered-fits}
 use Rattle.laws.specs.Operated.{Accepted, planAt}
 use Rattle.laws.specs.Entering.{Roomy, Entering, idle-lent, idle-number, write-enters, delete-enters}
 use Rattle.laws.specs.EntryDone.{appended-added, headed-added}
-use Rattle.laws.specs.StoreKept.{finishes}
+use Rattle.laws.specs.OperationsKept.{finishes}
 use Rattle.laws.specs.CauseLaws.{NoCause, no-cause}
 use Rattle.index.specs.InsertLaws.{Indexed}
 use Rattle.index.specs.Build.{built}
@@ -43,15 +43,15 @@ use Rattle.stepping.specs.EntryLaws.{entry-finished, recovered-in-area, 
 use Rattle.stepping.specs.CleanLaws.{ascending-good, recovered-built}
 
 -- a record with the number of keys that it has
-pub keys-own : (done fin : Store) (k : ℕ) → fin .keys ≡ k → withKeys done (fin .keys) ≡ fin → withKeys done k ≡ fin
+pub keys-own : (done fin : Record) (k : ℕ) → fin .keys ≡ k → withKeys done (fin .keys) ≡ fin → withKeys done k ≡ fin
 keys-own done fin k e f = ap (withKeys done) (sym e) ∙ f
 
 -- What the last step is to give: this version, this record, and cells that keep the rule.
-pub record Ends (L : Layout) (area : List ℕ) (fin : Store) (version : ℕ) (a : After) : Type 0 where
-  pub answers : a .stepped ≡ record { answer = StepAnswer.Done (record { 0 = version }); store = fin }
+pub record Ends (L : Layout) (area : List ℕ) (fin : Record) (version : ℕ) (a : After) : Type 0 where
+  pub answers : a .stepped ≡ record { answer = StepAnswer.Done (record { 0 = version }); rec = fin }
   pub rule : IndexRule (fin .size) (logNow L area fin) (a .cells)
 
-module _ (L : Layout) (roomy : Roomy L) (before cells : List ℕ) (idle : Store) (recovers : recovered L (idle .slots) (idle .size) (idle .cells) before ≡ some idle)
+module _ (L : Layout) (roomy : Roomy L) (before cells : List ℕ) (idle : Record) (recovers : recovered L (idle .slots) (idle .size) (idle .cells) before ≡ some idle)
     (bytes : Bytes before) (facts : Lent L idle (length before) (idle .cells)) (long : length cells ≡ idle .cells)
     (rule : IndexRule (idle .size) (logNow L before idle) cells)
   where
@@ -77,23 +77,23 @@ module _ (L : Layout) (roomy : Roomy L) (before cells : List ℕ) (idle : Store)
           )
 
       -- what is laid down, and the record in the end
-      abbrev EntryEnds : Laid → Store → Type 0
+      abbrev EntryEnds : Laid → Record → Type 0
       EntryEnds l fin =
           recovered L (idle .slots) (idle .size) (idle .cells) (stored before (planOf idle (l .pending 0) (l .bytes))) ≡ some fin →
           Ends L (stored before (planOf idle (l .pending 0) (l .bytes))) fin (idle .next .0)
           (finishWith L (withPending idle (l .pending k)) (stored before (planOf idle (l .pending 0) (l .bytes))) cells (l .pending k))
 
-      few-keys : (after : List ℕ) (fin : Store) → fin .slots ≡ idle .slots → fin .size ≡ idle .size → fin .cells ≡ idle .cells
+      few-keys : (after : List ℕ) (fin : Record) → fin .slots ≡ idle .slots → fin .size ≡ idle .size → fin .cells ≡ idle .cells
           → recovered L (idle .slots) (idle .size) (idle .cells) after ≡ some fin → fin .keys < idle .cells
       few-keys after fin a b c q =
           omega (arith, lent L fin (length after) (idle .cells) (recovered-fits L (idle .slots) (idle .size) (idle .cells) after fin q))
 
-      append-ends : fitsHead L idle e ≡ true → EntryEnds (laidAppend L e) (appendedStore L idle (logNow L before idle) e)
+      append-ends : fitsHead L idle e ≡ true → EntryEnds (laidAppend L e) (appendedRecord L idle (logNow L before idle) e)
       unfolding planOf finishWith finishAppend
       append-ends t q =
-          let r : Store = withPending idle (Append (sizeOf L e) k) in
+          let r : Record = withPending idle (Append (sizeOf L e) k) in
           let after : List ℕ = stored before (commit (idle .size) (idle .head) (idle .end) (encoded L e)) in
-          let fin : Store = appendedStore L idle (logNow L before idle) e in
+          let fin : Record = appendedRecord L idle (logNow L before idle) e in
           let x : Placed = record { slot = idle .head; offset = idle .end; entry = e } in
           let keys = recovered-keys L (idle .slots) (idle .size) (idle .cells) after fin q in
           let few = few-keys after fin refl refl refl q in
@@ -106,7 +106,7 @@ module _ (L : Layout) (roomy : Roomy L) (before cells : List ℕ) (idle : Store)
           (sym (pick-false (eqb (idle .next .0) (versionLimit L)) _ _ (ne-eqb (idle .next .0) (versionLimit L) version-left)))
           (record {
             answers =
-                w .answers ∙ ap (λ (s : Store). record { answer = StepAnswer.Done (record { 0 = idle .next .0 }); store = s })
+                w .answers ∙ ap (λ (s : Record). record { answer = StepAnswer.Done (record { 0 = idle .next .0 }); rec = s })
                 (keys-own (appendDone r (sizeOf L e)) fin (length (keysOf (logNow L after fin))) keys refl);
             rule = w .rule;
           })
@@ -117,16 +117,16 @@ module _ (L : Layout) (roomy : Roomy L) (before cells : List ℕ) (idle : Store)
           q ∙ with-clear (idle .map) (newSlot idle) (next-clear (idle .slots) (idle .map) (idle .head) (facts .head-below) (facts .some-free))
           ∙ ap (λ (j : ℕ). j + 2 ^ newSlot idle) (sym (sub-zero (idle .map)))
 
-      head-ends : fitsHead L idle e ≡ false → EntryEnds (laidHead L idle e) (headedStore L idle (logNow L before idle) e)
+      head-ends : fitsHead L idle e ≡ false → EntryEnds (laidHead L idle e) (headedRecord L idle (logNow L before idle) e)
       unfolding planOf finishWith finishHead
       head-ends t q =
-          let r : Store = withPending idle (NewHead (newSlot idle) (digestSize L + sizeOf L e) k) in
+          let r : Record = withPending idle (NewHead (newSlot idle) (digestSize L + sizeOf L e) k) in
           let after : List ℕ =
           stored before
           ((newSlot idle * idle .size, 0) ∷ commit (idle .size) (newSlot idle) 0 (encodedDigest L (newDigest idle 0) ++ encoded L e)) in
-          let fin : Store = headedStore L idle (logNow L before idle) e in
+          let fin : Record = headedRecord L idle (logNow L before idle) e in
           let x : Placed = record { slot = newSlot idle; offset = digestSize L; entry = e } in
-          let done : Store = headDone r (newSlot idle) (digestSize L + sizeOf L e) (withBit (idle .map) (newSlot idle)) (idle .next .0 + 1) in
+          let done : Record = headDone r (newSlot idle) (digestSize L + sizeOf L e) (withBit (idle .map) (newSlot idle)) (idle .next .0 + 1) in
           let keys = recovered-keys L (idle .slots) (idle .size) (idle .cells) after fin q in
           let few = few-keys after fin refl refl refl q in
           let w = entry-finished L (idle .size) (logNow L before idle) (logNow L after fin) after cells x
@@ -135,33 +135,33 @@ module _ (L : Layout) (roomy : Roomy L) (before cells : List ℕ) (idle : Store)
           (recovered-in-area L (idle .slots) (idle .size) (idle .cells) after fin q) r done (f .takes .version) indexed (omega arith) in
           subst (Ends L after fin (idle .next .0))
           (sym
-          (pick-false (either (eqb (idle .next .0) (versionLimit L)) (eqb (idle .number .0) numberLimit)) _ _
-          (either-false (eqb (idle .next .0) (versionLimit L)) (eqb (idle .number .0) numberLimit)
+          (pick-false (either (eqb (idle .next .0) (versionLimit L)) (eqb (idle .digest .0) numberLimit)) _ _
+          (either-false (eqb (idle .next .0) (versionLimit L)) (eqb (idle .digest .0) numberLimit)
           (ne-eqb (idle .next .0) (versionLimit L) version-left)
-          (ne-eqb (idle .number .0) numberLimit (λ z. omega (arith, f .number-left t))))))
+          (ne-eqb (idle .digest .0) numberLimit (λ z. omega (arith, f .number-left t))))))
           (record {
             answers =
-                w .answers ∙ ap (λ (s : Store). record { answer = StepAnswer.Done (record { 0 = idle .next .0 }); store = s })
+                w .answers ∙ ap (λ (s : Record). record { answer = StepAnswer.Done (record { 0 = idle .next .0 }); rec = s })
                 (keys-own done fin (length (keysOf (logNow L after fin))) keys
                 (ap (λ (m : ℕ). withKeys (headDone r (newSlot idle) (digestSize L + sizeOf L e) m (idle .next .0 + 1)) (fin .keys))
                 (slot-clear (withBit (idle .map) (newSlot idle)) refl)));
             rule = w .rule;
           })
 
-      pub entry-ends : EntryEnds (laidEntry L idle e) (entryStore L idle (logNow L before idle) e)
+      pub entry-ends : EntryEnds (laidEntry L idle e) (entryRecord L idle (logNow L before idle) e)
       unfolding pick
       entry-ends = go (fitsHead L idle e) refl
         where
           go : (t : Bool) → fitsHead L idle e ≡ t
               → EntryEnds (pick t (laidAppend L e) (laidHead L idle e))
-              (pick t (appendedStore L idle (logNow L before idle) e) (headedStore L idle (logNow L before idle) e))
+              (pick t (appendedRecord L idle (logNow L before idle) e) (headedRecord L idle (logNow L before idle) e))
           go true p = append-ends p
           go false p = head-ends p
 
     -- ---- a cleaning
 
-    module _ (victims : ℕ) (sub : within victims (idle .map) ≡ true) (number-left : idle .number .0 < numberLimit) (k : ℕ) where
-      clean-map : (r : Store) → r .map ≡ idle .map → cleanMap r (newSlot idle) victims ≡ newDigest idle victims .map
+    module _ (victims : ℕ) (sub : within victims (idle .map) ≡ true) (number-left : idle .digest .0 < numberLimit) (k : ℕ) where
+      clean-map : (r : Record) → r .map ≡ idle .map → cleanMap r (newSlot idle) victims ≡ newDigest idle victims .map
       clean-map r q =
           ap (λ (m : ℕ). withBit (less m victims) (newSlot idle)) q
           ∙ with-less (idle .map) victims (newSlot idle) sub
@@ -176,21 +176,21 @@ module _ (L : Layout) (roomy : Roomy L) (before cells : List ℕ) (idle : Store)
           (planOf idle (laidClean L idle (logNow L before idle) victims .pending 0) (laidClean L idle (logNow L before idle) victims .bytes))
 
       pub clean-ends :
-          recovered L (idle .slots) (idle .size) (idle .cells) after-clean ≡ some (cleanedStore L before idle victims) →
-          Ends L after-clean (cleanedStore L before idle victims) 0
+          recovered L (idle .slots) (idle .size) (idle .cells) after-clean ≡ some (cleanedRecord L before idle victims) →
+          Ends L after-clean (cleanedRecord L before idle victims) 0
           (finishWith L (withPending idle (laidClean L idle (logNow L before idle) victims .pending k)) after-clean cells
           (laidClean L idle (logNow L before idle) victims .pending k))
       unfolding finishWith finishClean
       clean-ends q =
           subst (Ends L after-clean fin 0)
-          (sym (pick-false (eqb (idle .number .0) numberLimit) _ _ (ne-eqb (idle .number .0) numberLimit (λ z. omega arith))))
+          (sym (pick-false (eqb (idle .digest .0) numberLimit) _ _ (ne-eqb (idle .digest .0) numberLimit (λ z. omega arith))))
           (subst (λ (m : ℕ). Ends L after-clean fin 0 (by-map m)) (sym (clean-map r refl)) ends)
         where
-          r : Store
+          r : Record
           r = withPending idle (Clean (newSlot idle) victims count k)
 
-          fin : Store
-          fin = cleanedStore L before idle victims
+          fin : Record
+          fin = cleanedRecord L before idle victims
 
           by-map : ℕ → After
           by-map m =
@@ -222,7 +222,7 @@ module _ (L : Layout) (roomy : Roomy L) (before cells : List ℕ) (idle : Store)
                     ap (toldBy r (headDone r (newSlot idle) count (newDigest idle victims .map) (idle .next .0)) 0) (holds .answers)
                     ∙ told-known r (headDone r (newSlot idle) count (newDigest idle victims .map) (idle .next .0)) 0
                     (length (keysOf (logNow L after-clean fin))) (omega (arith, few, keys))
-                    ∙ ap (λ (s : Store). record { answer = StepAnswer.Done (record { 0 = 0 }); store = s })
+                    ∙ ap (λ (s : Record). record { answer = StepAnswer.Done (record { 0 = 0 }); rec = s })
                     (keys-own (headDone r (newSlot idle) count (newDigest idle victims .map) (idle .next .0)) fin
                     (length (keysOf (logNow L after-clean fin))) keys refl);
                 rule = holds .rule;
@@ -230,10 +230,10 @@ module _ (L : Layout) (roomy : Roomy L) (before cells : List ℕ) (idle : Store)
 
 -- ---- whichever operation it is
 
-module _ (L : Layout) (roomy : Roomy L) (before cells : List ℕ) (idle : Store) where
+module _ (L : Layout) (roomy : Roomy L) (before cells : List ℕ) (idle : Record) where
   clean-tests :
       (victims : ℕ) (a : Accepted L before idle (clean victims)) →
-      (within victims (idle .map) ≡ true) × (idle .number .0 < numberLimit)
+      (within victims (idle .map) ≡ true) × (idle .digest .0 < numberLimit)
   unfolding startCauses
   clean-tests victims a =
       let tests : NoCause (cleanCauses L idle (logNow L before idle) (a .lengths) victims) =
@@ -242,16 +242,16 @@ module _ (L : Layout) (roomy : Roomy L) (before cells : List ℕ) (idle : Store)
         omega (
           arith,
           idle-number L before idle (clean victims) a,
-          eqb-false (idle .number .0) numberLimit (tests .1 .1 .1 .1 .1 .0),
+          eqb-false (idle .digest .0) numberLimit (tests .1 .1 .1 .1 .1 .0),
         ),
       )
 
   pub operation-ends :
       (o : Operation) (a : Accepted L before idle o) → length cells ≡ idle .cells → IndexRule (idle .size) (logNow L before idle) cells → (k : ℕ) →
-      Ends L (stored before (planAt L before idle o)) (finishedStore L before idle o) (toldVersion idle o)
+      Ends L (stored before (planAt L before idle o)) (finishedRecord L before idle o) (toldVersion idle o)
       (finishWith L (withPending idle (laid L idle (logNow L before idle) o .pending k)) (stored before (planAt L before idle o)) cells
       (laid L idle (logNow L before idle) o .pending k))
-  unfolding laid finishedStore toldVersion
+  unfolding laid finishedRecord toldVersion
   operation-ends (write key value) a long rule k =
       entry-ends L roomy before cells idle (a .recovers) (a .area-bytes) (idle-lent L before idle (write key value) a) long rule
       (writtenEntry L idle key value) (write-enters L before idle key value a) k (finishes L roomy before idle (write key value) a .0)

@@ -13,7 +13,7 @@ use Rattle.record.specs.declared.Pending.the-variants.{Idle, Append, NewHead, C
 use Rattle.record.specs.declared.Refusal.{Refusal}
 use Rattle.record.specs.declared.Stepped.{Stepped}
 use Rattle.record.specs.declared.StepAnswer.{StepAnswer}
-use Rattle.record.specs.declared.Store.{Store}
+use Rattle.record.specs.declared.Record.{Record}
 use Rattle.index.specs.Search.{tableAt, keyAt}
 use Rattle.index.specs.Insert.{inserted}
 use Rattle.index.specs.Build.{Rebuilt, built}
@@ -25,16 +25,16 @@ pub record After : Type 0 where
   pub stepped : Stepped
   pub cells : List ℕ
 
-abbrev pub refusedWith : Store → Refusal → Stepped
-refusedWith r c = record { answer = StepAnswer.Refused c; store = r }
+abbrev pub refusedWith : Record → Refusal → Stepped
+refusedWith r c = record { answer = StepAnswer.Refused c; rec = r }
 
 -- a log byte that the rules forbid, which only a record that is not genuine meets
-abbrev pub unfit : Store → List ℕ → After
+abbrev pub unfit : Record → List ℕ → After
 unfit r cells = record { stepped = refusedWith r Refusal.BadRecord; cells = cells }
 
 -- ---- the records
 
-abbrev pub withKeys : Store → ℕ → Store
+abbrev pub withKeys : Record → ℕ → Record
 withKeys r n =
     record {
       slots = r .slots;
@@ -42,7 +42,7 @@ withKeys r n =
       cells = r .cells;
       head = r .head;
       end = r .end;
-      number = r .number;
+      digest = r .digest;
       map = r .map;
       next = r .next;
       keys = n;
@@ -50,7 +50,7 @@ withKeys r n =
     }
 
 -- n more bytes in the head, and the next version taken
-abbrev pub appendDone : Store → ℕ → Store
+abbrev pub appendDone : Record → ℕ → Record
 appendDone r n =
     record {
       slots = r .slots;
@@ -58,7 +58,7 @@ appendDone r n =
       cells = r .cells;
       head = r .head;
       end = r .end + n;
-      number = r .number;
+      digest = r .digest;
       map = r .map;
       next = record { 0 = r .next .0 + 1 };
       keys = r .keys;
@@ -66,7 +66,7 @@ appendDone r n =
     }
 
 -- a new head in a slot, with n bytes, this map and this next version
-abbrev pub headDone : Store → ℕ → ℕ → ℕ → ℕ → Store
+abbrev pub headDone : Record → ℕ → ℕ → ℕ → ℕ → Record
 headDone r slot n map next =
     record {
       slots = r .slots;
@@ -74,7 +74,7 @@ headDone r slot n map next =
       cells = r .cells;
       head = slot;
       end = n;
-      number = record { 0 = r .number .0 + 1 };
+      digest = record { 0 = r .digest .0 + 1 };
       map = map;
       next = record { 0 = next };
       keys = r .keys;
@@ -95,30 +95,30 @@ keysAfter Inserted.Older n = Built.Keys n
 keysAfter Inserted.Full n = Built.TooMany
 
 -- The version is told, and the record gets its number of keys, which stays below the number of cells.
-unfoldable pub toldBy : Store → Store → ℕ → Built → Stepped
+unfoldable pub toldBy : Record → Record → ℕ → Built → Stepped
 toldBy r done version (Built.Keys n) =
-    pick (ltb n (r .cells)) (record { answer = StepAnswer.Done (record { 0 = version }); store = withKeys done n })
+    pick (ltb n (r .cells)) (record { answer = StepAnswer.Done (record { 0 = version }); rec = withKeys done n })
     (refusedWith r Refusal.BadRecord)
 toldBy r done version Built.TooMany = refusedWith r Refusal.BadRecord
 
 -- The entry at a place goes into the index.
-abbrev pub entryIn : Layout → Store → Store → List ℕ → List ℕ → ℕ → After
+abbrev pub entryIn : Layout → Record → Record → List ℕ → List ℕ → ℕ → After
 entryIn L r done area cells place =
     let i = inserted L area cells place (keyIn area place) (r .next .0) in
     record { stepped = toldBy r done (r .next .0) (keysAfter (i .answer) (r .keys)); cells = i .cells }
 
-unfoldable pub finishEntry : Layout → Store → Store → List ℕ → List ℕ → ℕ → After
+unfoldable pub finishEntry : Layout → Record → Record → List ℕ → List ℕ → ℕ → After
 finishEntry L r done area cells place =
     pick (leb (place + entrySize L 0) (length area)) (entryIn L r done area cells place) (unfit r cells)
 
-unfoldable pub finishAppend : Layout → Store → List ℕ → List ℕ → ℕ → After
+unfoldable pub finishAppend : Layout → Record → List ℕ → List ℕ → ℕ → After
 finishAppend L r area cells n =
     pick (eqb (r .next .0) (versionLimit L)) (unfit r cells)
     (finishEntry L r (appendDone r n) area cells (r .head * r .size + r .end))
 
-unfoldable pub finishHead : Layout → Store → List ℕ → List ℕ → ℕ → ℕ → After
+unfoldable pub finishHead : Layout → Record → List ℕ → List ℕ → ℕ → ℕ → After
 finishHead L r area cells slot n =
-    pick (either (eqb (r .next .0) (versionLimit L)) (eqb (r .number .0) numberLimit)) (unfit r cells)
+    pick (either (eqb (r .next .0) (versionLimit L)) (eqb (r .digest .0) numberLimit)) (unfit r cells)
     (finishEntry L r (headDone r slot n (withBit (r .map) slot) (r .next .0 + 1)) area cells (slot * r .size + digestSize L))
 
 -- ---- the last step of a cleaning
@@ -133,15 +133,15 @@ abbrev pub ascending : ℕ → List ℕ
 ascending n = take n (upFrom 0 32)
 
 -- The index is rebuilt under the new map.
-abbrev pub rebuilt : Layout → Store → List ℕ → List ℕ → ℕ → Rebuilt
+abbrev pub rebuilt : Layout → Record → List ℕ → List ℕ → ℕ → Rebuilt
 rebuilt L r area cells map = built L area (r .size) map (ascending (r .slots)) (length cells)
 
-abbrev pub cleanMap : Store → ℕ → ℕ → ℕ
+abbrev pub cleanMap : Record → ℕ → ℕ → ℕ
 cleanMap r slot victims = withBit (less (r .map) victims) slot
 
-unfoldable pub finishClean : Layout → Store → List ℕ → List ℕ → ℕ → ℕ → ℕ → After
+unfoldable pub finishClean : Layout → Record → List ℕ → List ℕ → ℕ → ℕ → ℕ → After
 finishClean L r area cells slot victims n =
-    pick (eqb (r .number .0) numberLimit) (unfit r cells)
+    pick (eqb (r .digest .0) numberLimit) (unfit r cells)
     (record {
       stepped =
           toldBy r (headDone r slot n (cleanMap r slot victims) (r .next .0)) 0 (rebuilt L r area cells (cleanMap r slot victims) .answer);
@@ -157,18 +157,18 @@ oneLess (Append n k) = Append n (k - 1)
 oneLess (NewHead i n k) = NewHead i n (k - 1)
 oneLess (Clean i v n k) = Clean i v n (k - 1)
 
-unfoldable pub finishWith : Layout → Store → List ℕ → List ℕ → Pending → After
+unfoldable pub finishWith : Layout → Record → List ℕ → List ℕ → Pending → After
 finishWith L r area cells Idle = unfit r cells
 finishWith L r area cells (Append n k) = finishAppend L r area cells n
 finishWith L r area cells (NewHead i n k) = finishHead L r area cells i n
 finishWith L r area cells (Clean i v n k) = finishClean L r area cells i v n
 
 -- With stores left, they are one less and the index stays; else the operation is finished.
-unfoldable pub advanced : Layout → Store → List ℕ → List ℕ → After
+unfoldable pub advanced : Layout → Record → List ℕ → List ℕ → After
 advanced L r area cells =
     pick (ltb 1 (storesLeft (r .pending)))
     (record {
-      stepped = record { answer = StepAnswer.Left (storesLeft (r .pending) - 1); store = withPending r (oneLess (r .pending)) };
+      stepped = record { answer = StepAnswer.Left (storesLeft (r .pending) - 1); rec = withPending r (oneLess (r .pending)) };
       cells = cells;
     })
     (finishWith L r area cells (r .pending))

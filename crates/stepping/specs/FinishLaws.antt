@@ -17,7 +17,7 @@ use Rattle.record.specs.declared.Pending.the-variants.{Idle, Append, NewHead, C
 use Rattle.record.specs.declared.Refusal.{Refusal}
 use Rattle.record.specs.declared.Stepped.{Stepped}
 use Rattle.record.specs.declared.StepAnswer.{StepAnswer}
-use Rattle.record.specs.declared.Store.{Store}
+use Rattle.record.specs.declared.Record.{Record}
 use Rattle.index.specs.Search.{tableAt, keyAt}
 use Rattle.index.specs.Insert.{Insertion, inserted}
 use Rattle.index.specs.Build.{Rebuilt}
@@ -47,13 +47,13 @@ module _ (n : ℕ) {a : Inserted} where
 
 -- ---- the answer
 
-module _ (r done : Store) (version : Version) {b : Built} where
+module _ (r done : Record) (version : Version) {b : Built} where
   pub told-keys :
-      {n : ℕ} → b ≡ Built.Keys n → n < r .cells → {s : Store} → s ≡ withKeys done n →
-      record { answer = StepAnswer.Done version; store = s } ≡ toldBy r done (version .0) b
+      {n : ℕ} → b ≡ Built.Keys n → n < r .cells → {s : Record} → s ≡ withKeys done n →
+      record { answer = StepAnswer.Done version; rec = s } ≡ toldBy r done (version .0) b
   unfolding toldBy
   told-keys {n} e h f =
-      ap (λ (s : Store). record { answer = StepAnswer.Done version; store = s }) f
+      ap (λ (s : Record). record { answer = StepAnswer.Done version; rec = s }) f
       ∙ sym (pick-true (ltb n (r .cells)) _ _ (lt-ltb n (r .cells) h))
       ∙ ap (toldBy r done (version .0)) (sym e)
 
@@ -68,7 +68,7 @@ module _ (r done : Store) (version : Version) {b : Built} where
 
 -- ---- an entry put into the index
 
-module _ (L : Layout) (r done : Store) (area cells : List ℕ) (place : ℕ) where
+module _ (L : Layout) (r done : Record) (area cells : List ℕ) (place : ℕ) where
   pub entry-outside :
       length area < place + entrySize L 0 → {x : Stepped} → x ≡ refusedWith r Refusal.BadRecord →
       record { stepped = x; cells = cells } ≡ finishEntry L r done area cells place
@@ -101,7 +101,7 @@ place-fits slot S o h l k =
     let a : slot ≤ 31 = omega arith in
     omega (arith, mul-le-mul a l)
 
-module _ (L : Layout) (r : Store) (area cells : List ℕ) (n : ℕ) where
+module _ (L : Layout) (r : Record) (area cells : List ℕ) (n : ℕ) where
   pub append-spent :
       r .next .0 ≡ versionLimit L → {x : Stepped} → x ≡ refusedWith r Refusal.BadRecord →
       record { stepped = x; cells = cells } ≡ finishAppend L r area cells n
@@ -111,11 +111,11 @@ module _ (L : Layout) (r : Store) (area cells : List ℕ) (n : ℕ) where
       ∙ sym (pick-true (eqb (r .next .0) (versionLimit L)) _ _ (eq-eqb (r .next .0) (versionLimit L) h))
 
   pub append-goes :
-      (r .next .0 ≡ versionLimit L → ⊥) → {d : Store} → d ≡ appendDone r n → {a : After} →
+      (r .next .0 ≡ versionLimit L → ⊥) → {d : Record} → d ≡ appendDone r n → {a : After} →
       a ≡ finishEntry L r d area cells (r .head * r .size + r .end) → a ≡ finishAppend L r area cells n
   unfolding finishAppend
   append-goes h {d} ed e =
-      e ∙ ap (λ (s : Store). finishEntry L r s area cells (r .head * r .size + r .end)) ed
+      e ∙ ap (λ (s : Record). finishEntry L r s area cells (r .head * r .size + r .end)) ed
       ∙ sym (pick-false (eqb (r .next .0) (versionLimit L)) _ _ (ne-eqb (r .next .0) (versionLimit L) h))
 
   module _ (slot : ℕ) where
@@ -128,45 +128,45 @@ module _ (L : Layout) (r : Store) (area cells : List ℕ) (n : ℕ) where
         ∙ sym (pick-true _ _ _ (either-true-left (eqb (r .next .0) (versionLimit L)) _ (eq-eqb (r .next .0) (versionLimit L) h)))
 
     pub head-numbers-spent :
-        r .number .0 ≡ numberLimit → {x : Stepped} → x ≡ refusedWith r Refusal.BadRecord →
+        r .digest .0 ≡ numberLimit → {x : Stepped} → x ≡ refusedWith r Refusal.BadRecord →
         record { stepped = x; cells = cells } ≡ finishHead L r area cells slot n
     unfolding finishHead
     head-numbers-spent h e =
         ap (λ (s : Stepped). record { stepped = s; cells = cells }) e
-        ∙ sym (pick-true _ _ _ (either-true-right _ (eqb (r .number .0) numberLimit) (eq-eqb (r .number .0) numberLimit h)))
+        ∙ sym (pick-true _ _ _ (either-true-right _ (eqb (r .digest .0) numberLimit) (eq-eqb (r .digest .0) numberLimit h)))
 
     pub head-goes :
-        (r .next .0 ≡ versionLimit L → ⊥) → (r .number .0 ≡ numberLimit → ⊥) → {m : ℕ} → m ≡ withBit (r .map) slot → {d : Store} →
+        (r .next .0 ≡ versionLimit L → ⊥) → (r .digest .0 ≡ numberLimit → ⊥) → {m : ℕ} → m ≡ withBit (r .map) slot → {d : Record} →
         d ≡ headDone r slot n m (r .next .0 + 1) → {a : After} → a ≡ finishEntry L r d area cells (slot * r .size + digestSize L) →
         a ≡ finishHead L r area cells slot n
     unfolding finishHead
     head-goes h l em ed e =
         e
-        ∙ ap (λ (s : Store). finishEntry L r s area cells (slot * r .size + digestSize L))
+        ∙ ap (λ (s : Record). finishEntry L r s area cells (slot * r .size + digestSize L))
         (ed ∙ ap (λ (j : ℕ). headDone r slot n j (r .next .0 + 1)) em)
         ∙ sym
         (pick-false _ _ _
-        (either-false (eqb (r .next .0) (versionLimit L)) (eqb (r .number .0) numberLimit) (ne-eqb (r .next .0) (versionLimit L) h) (ne-eqb (r .number .0) numberLimit l)))
+        (either-false (eqb (r .next .0) (versionLimit L)) (eqb (r .digest .0) numberLimit) (ne-eqb (r .next .0) (versionLimit L) h) (ne-eqb (r .digest .0) numberLimit l)))
 
 -- ---- a cleaning
 
-module _ (L : Layout) (r : Store) (area cells : List ℕ) (slot victims n : ℕ) where
+module _ (L : Layout) (r : Record) (area cells : List ℕ) (slot victims n : ℕ) where
   pub clean-spent :
-      r .number .0 ≡ numberLimit → {x : Stepped} → x ≡ refusedWith r Refusal.BadRecord →
+      r .digest .0 ≡ numberLimit → {x : Stepped} → x ≡ refusedWith r Refusal.BadRecord →
       record { stepped = x; cells = cells } ≡ finishClean L r area cells slot victims n
   unfolding finishClean
   clean-spent h e =
       ap (λ (s : Stepped). record { stepped = s; cells = cells }) e
-      ∙ sym (pick-true (eqb (r .number .0) numberLimit) _ _ (eq-eqb (r .number .0) numberLimit h))
+      ∙ sym (pick-true (eqb (r .digest .0) numberLimit) _ _ (eq-eqb (r .digest .0) numberLimit h))
 
   pub clean-goes :
-      (r .number .0 ≡ numberLimit → ⊥) → {w m : ℕ} → w ≡ less (r .map) victims → m ≡ withBit w slot → {d : Store} →
+      (r .digest .0 ≡ numberLimit → ⊥) → {w m : ℕ} → w ≡ less (r .map) victims → m ≡ withBit w slot → {d : Record} →
       d ≡ headDone r slot n m (r .next .0) → {b : Built} {cells′ : List ℕ} →
       _≡_ {A = Rebuilt} (record { answer = b; cells = cells′ }) (rebuilt L r area cells m) → {x : Stepped} → x ≡ toldBy r d 0 b →
       record { stepped = x; cells = cells′ } ≡ finishClean L r area cells slot victims n
   unfolding finishClean
   clean-goes h {w} {m} ew em {d} ed {b} {cells′} eb ex =
-      ap (λ (s : Stepped). record { stepped = s; cells = cells′ }) (ex ∙ ap (λ (s : Store). toldBy r s 0 b) ed)
+      ap (λ (s : Stepped). record { stepped = s; cells = cells′ }) (ex ∙ ap (λ (s : Record). toldBy r s 0 b) ed)
       ∙ ap (λ (a : Rebuilt). record { stepped = toldBy r (headDone r slot n m (r .next .0)) 0 (a .answer); cells = a .cells }) eb
       ∙ ap
       (λ (j : ℕ).
@@ -175,7 +175,7 @@ module _ (L : Layout) (r : Store) (area cells : List ℕ) (slot victims n : ℕ)
         cells = rebuilt L r area cells j .cells;
       })
       (em ∙ ap (λ (j : ℕ). withBit j slot) ew)
-      ∙ sym (pick-false (eqb (r .number .0) numberLimit) _ _ (ne-eqb (r .number .0) numberLimit h))
+      ∙ sym (pick-false (eqb (r .digest .0) numberLimit) _ _ (ne-eqb (r .digest .0) numberLimit h))
 
 -- ---- after the store
 
@@ -200,7 +200,7 @@ module _ {p : Pending} where
   unfolding oneLess
   less-clean e = rw e
 
-module _ (r : Store) where
+module _ (r : Record) where
   pub in-append : {n k : ℕ} → r .pending ≡ Append n k → PendingIn r (r .pending) → (r .head < 32) × (r .end + n ≤ r .size)
   unfolding PendingIn
   in-append e h = subst (PendingIn r) e h
@@ -213,7 +213,7 @@ module _ (r : Store) where
   unfolding PendingIn
   in-clean e h = subst (PendingIn r) e h
 
-module _ (L : Layout) (r : Store) (area cells : List ℕ) where
+module _ (L : Layout) (r : Record) (area cells : List ℕ) where
   pub with-idle :
       r .pending ≡ Idle → {x : Stepped} → x ≡ refusedWith r Refusal.BadRecord →
       record { stepped = x; cells = cells } ≡ finishWith L r area cells (r .pending)
@@ -232,14 +232,14 @@ module _ (L : Layout) (r : Store) (area cells : List ℕ) where
   unfolding finishWith
   with-clean e h = h ∙ sym (ap (finishWith L r area cells) e)
 
-module _ (L : Layout) (r : Store) (area cells : List ℕ) where
+module _ (L : Layout) (r : Record) (area cells : List ℕ) where
   pub advance-left :
-      {k : ℕ} → k ≡ storesLeft (r .pending) → 1 < k → {q : Pending} → q ≡ oneLess (r .pending) → {s : Store} → s ≡ withPending r q →
-      record { stepped = record { answer = StepAnswer.Left (k - 1); store = s }; cells = cells } ≡ advanced L r area cells
+      {k : ℕ} → k ≡ storesLeft (r .pending) → 1 < k → {q : Pending} → q ≡ oneLess (r .pending) → {s : Record} → s ≡ withPending r q →
+      record { stepped = record { answer = StepAnswer.Left (k - 1); rec = s }; cells = cells } ≡ advanced L r area cells
   unfolding advanced
   advance-left {k} ek h {q} eq {s} es =
-      ap (λ (t : Store). record { stepped = record { answer = StepAnswer.Left (k - 1); store = t }; cells = cells }) (es ∙ ap (withPending r) eq)
-      ∙ ap (λ (j : ℕ). record { stepped = record { answer = StepAnswer.Left (j - 1); store = withPending r (oneLess (r .pending)) }; cells = cells }) ek
+      ap (λ (t : Record). record { stepped = record { answer = StepAnswer.Left (k - 1); rec = t }; cells = cells }) (es ∙ ap (withPending r) eq)
+      ∙ ap (λ (j : ℕ). record { stepped = record { answer = StepAnswer.Left (j - 1); rec = withPending r (oneLess (r .pending)) }; cells = cells }) ek
       ∙ sym (pick-true (ltb 1 (storesLeft (r .pending))) _ _ (lt-ltb 1 (storesLeft (r .pending)) (omega arith)))
 
   pub advance-last :

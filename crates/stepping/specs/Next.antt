@@ -7,7 +7,7 @@ use lib.ListN.{length, getD}
 use Rattle.segment.specs.Choice.{pick, both}
 use Rattle.record.specs.declared.Pending.{Pending}
 use Rattle.record.specs.declared.Pending.the-variants.{Idle, Append, NewHead, Clean}
-use Rattle.record.specs.declared.Store.{Store}
+use Rattle.record.specs.declared.Record.{Record}
 use Rattle.starting.specs.Stores.{commitStores}
 use Rattle.stepping.specs.declared.NextStore.{NextStore}
 use Rattle.stepping.specs.declared.NextStore.the-variants.{At, Bad}
@@ -38,17 +38,17 @@ slotNext areaLength work S slot offset n first k =
     (slotStore (slot * S) S offset n work first (commitStores S offset n + first - k)) Bad
 
 -- An append commits at the head's end; a new head first loses its byte 0, and commits at its start.
-unfoldable pub pendingNext : ℕ → List ℕ → Store → Pending → NextStore
+unfoldable pub pendingNext : ℕ → List ℕ → Record → Pending → NextStore
 pendingNext areaLength work r Idle = Bad
 pendingNext areaLength work r (Append n k) = slotNext areaLength work (r .size) (r .head) (r .end) n 0 k
 pendingNext areaLength work r (NewHead i n k) = slotNext areaLength work (r .size) i 0 n 1 k
 pendingNext areaLength work r (Clean i v n k) = slotNext areaLength work (r .size) i 0 n 1 k
 
-abbrev pub nextStore : ℕ → List ℕ → Store → NextStore
+abbrev pub nextStore : ℕ → List ℕ → Record → NextStore
 nextStore areaLength work r = pendingNext areaLength work r (r .pending)
 
 -- The pending operation's slot is one of 32, and its bytes fit the segment.
-unfoldable pub PendingIn : Store → Pending → Type 0
+unfoldable pub PendingIn : Record → Pending → Type 0
 PendingIn r Idle = 0 ≤ 0
 PendingIn r (Append n k) = (r .head < 32) × (r .end + n ≤ r .size)
 PendingIn r (NewHead i n k) = (i < 32) × (n ≤ r .size)

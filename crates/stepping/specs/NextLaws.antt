@@ -12,7 +12,7 @@ use borrow.Author.Tests.{lt-ltb, le-ltb, le-leb, lt-leb, not-true, not-false, eq
 use Rattle.segment.specs.Choice.{pick, pick-true, pick-false, both, both-left, both-right, both-true, both-false-left, both-false-right}
 use Rattle.record.specs.declared.Pending.{Pending}
 use Rattle.record.specs.declared.Pending.the-variants.{Idle, Append, NewHead, Clean}
-use Rattle.record.specs.declared.Store.{Store}
+use Rattle.record.specs.declared.Record.{Record}
 use Rattle.starting.specs.Stores.{commitStores, stores-full}
 use Rattle.stepping.specs.Next.{commitStore, fitsSlot, fitsLeft, slotStore, slotNext, pendingNext, nextStore, PendingIn}
 use Rattle.stepping.specs.declared.NextStore.{NextStore}
@@ -137,7 +137,7 @@ module _ (areaLength : ℕ) (work : List ℕ) (S slot offset n first k : ℕ) wh
 
 -- ---- the next store of each pending operation
 
-module _ (areaLength : ℕ) (work : List ℕ) (r : Store) where
+module _ (areaLength : ℕ) (work : List ℕ) (r : Record) where
   pub next-idle : r .pending ≡ Idle → Bad ≡ nextStore areaLength work r
   unfolding pendingNext
   next-idle e = rw e
@@ -233,7 +233,7 @@ slot-below slots S slot some h = go (decLt slot slots)
         let over : slots ≤ slot = omega arith in
         absurd (omega (arith, mul-le-mul-right S over))
 
-module _ (areaLength : ℕ) (work : List ℕ) (r : Store) (p b : ℕ) (slots : r .slots ≤ 32) (head : r .head < r .slots) (long : areaLength ≡ r .slots * r .size) where
+module _ (areaLength : ℕ) (work : List ℕ) (r : Record) (p b : ℕ) (slots : r .slots ≤ 32) (head : r .head < r .slots) (long : areaLength ≡ r .slots * r .size) where
   small : (i o n : ℕ) → Fit areaLength (length work) (r .size) i o n → i < 32
   small i o n f = omega (arith, slot-below (r .slots) (r .size) i (omega (arith, f .some, f .room)) (omega (arith, f .inside)))
 

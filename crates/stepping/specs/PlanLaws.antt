@@ -20,12 +20,12 @@ use Rattle.slot_map.specs.NextLaws.{next-below}
 use Rattle.record.specs.Answers.{withPending}
 use Rattle.record.specs.RangeLaws.{Lent, lent}
 use Rattle.record.specs.declared.Pending.the-variants.{Append, NewHead, Clean}
-use Rattle.record.specs.declared.Store.{Store}
+use Rattle.record.specs.declared.Record.{Record}
 use Rattle.model.specs.Log.{Placed}
 use Rattle.model.specs.Operations.{Operation, write, delete, clean, Laid, laid, laidEntry, laidClean, logNow, newSlot, newDigest, fitsHead, kept, allEncoded, writtenEntry, tombstoneEntry, planOf, planFor, commit}
 use Rattle.model.specs.Promises.{Started}
 use Rattle.laws.specs.Stores.{slot-inside, length-stored, commit-byte, commit-end, commit-last}
-use Rattle.laws.specs.Operated.{Accepted, StoreLaws}
+use Rattle.laws.specs.Operated.{Accepted, OperationLaws}
 use Rattle.starting.specs.Stores.{commitStores, stores-within, stores-full, commit-stores}
 use Rattle.stepping.specs.Next.{commitStore, slotStore, slotNext, pendingNext, nextStore}
 use Rattle.stepping.specs.NextLaws.{Fit, slot-fits, store-last, store-byte, store-end, next-at}
@@ -80,12 +80,12 @@ module _ (S i o : ℕ) (bytes : List ℕ) (some-byte : 0 < length bytes) where
 -- ---- the operations
 
 -- What is laid down leads to its plan: with so many stores done the next one is that of the plan.
-abbrev pub NextOf : ℕ → List ℕ → Store → Laid → ℕ → Type 0
+abbrev pub NextOf : ℕ → List ℕ → Record → Laid → ℕ → Type 0
 NextOf a work r l since =
     nextStore a work (withPending r (l .pending (length (planOf r (l .pending 0) (l .bytes)) - since))) ≡
     atOf (getD (planOf r (l .pending 0) (l .bytes)) since (0, 0))
 
-module _ (a : ℕ) (work : List ℕ) (r : Store) (n : ℕ) (bytes : List ℕ) (long : n ≡ length bytes) (front : take (length bytes) work ≡ bytes) (since : ℕ) where
+module _ (a : ℕ) (work : List ℕ) (r : Record) (n : ℕ) (bytes : List ℕ) (long : n ≡ length bytes) (front : take (length bytes) work ≡ bytes) (since : ℕ) where
   -- the slot's store after the stores done
   turn : (S i o first : ℕ) → Fit a (length work) S i o n → since < length (commit S i o bytes) + first
       → slotNext a work S i o n first (length (commit S i o bytes) + first - since) ≡ slotStore (i * S) S o n work first since
@@ -141,7 +141,7 @@ module _ (a : ℕ) (work : List ℕ) (r : Store) (n : ℕ) (bytes : List ℕ) (l
 
 -- ---- a started operation
 
-module _ (L : Layout) (laws : StoreLaws L) (area : List ℕ) (r : Store) (work : List ℕ) (s : Started L area r work) where
+module _ (L : Layout) (laws : OperationLaws L) (area : List ℕ) (r : Record) (work : List ℕ) (s : Started L area r work) where
   abbrev log : List Placed
   log = logNow L (s .before) (s .idle)
 

@@ -20,10 +20,10 @@ use Rattle.record.specs.declared.Refusal.{Refusal}
 use Rattle.record.specs.declared.Refusal.the-variants.{BadRecord, WorkShort, NonePending}
 use Rattle.record.specs.declared.StepAnswer.{StepAnswer}
 use Rattle.record.specs.declared.Stepped.{Stepped}
-use Rattle.record.specs.declared.Store.{Store}
+use Rattle.record.specs.declared.Record.{Record}
 use Rattle.model.specs.Log.{Placed}
 use Rattle.model.specs.Index.{IndexRule}
-use Rattle.model.specs.Operations.{Operation, write, delete, clean, Laid, laid, laidAppend, laidHead, fitsHead, writtenEntry, tombstoneEntry, logNow, planFor, stored, finishedStore, toldVersion}
+use Rattle.model.specs.Operations.{Operation, write, delete, clean, Laid, laid, laidAppend, laidHead, fitsHead, writtenEntry, tombstoneEntry, logNow, planFor, stored, finishedRecord, toldVersion}
 use Rattle.model.specs.Causes.{firstCause}
 use Rattle.model.specs.Refused.{recordBad, isPending, stepCauses}
 use Rattle.model.specs.Promises.{Genuine, Started, OneByte, StepPromise, StepExact, stepped, IndexStepped, lentLengths}
@@ -31,7 +31,7 @@ use Rattle.laws.specs.CauseLaws.{cause-false, cause-rest, cause-none, cause-fir
 use Rattle.laws.specs.Stores.{stored-next, stored-all}
 use Rattle.laws.specs.Operated.{Accepted}
 use Rattle.laws.specs.Entering.{Roomy}
-use Rattle.laws.specs.StoreKept.{store-laws}
+use Rattle.laws.specs.OperationsKept.{operation-laws}
 use Rattle.stepping.specs.Next.{nextStore}
 use Rattle.stepping.specs.PlanLaws.{atOf, accepted, next-started}
 use Rattle.stepping.specs.Finish.{After, refusedWith, oneLess, finishWith, advanced}
@@ -58,7 +58,7 @@ no-causes : firstCause [] ≡ none
 unfolding firstCause
 no-causes = refl
 
-module _ (L : Layout) (r : Store) (area cells work : List ℕ) {t : Bool} (found : t ≡ fitsLent L r (length area) (length cells)) where
+module _ (L : Layout) (r : Record) (area cells work : List ℕ) {t : Bool} (found : t ≡ fitsLent L r (length area) (length cells)) where
   abbrev First : Option Refusal → Type 0
   First o = firstCause (stepCauses L r (lentLengths area cells work)) ≡ o
 
@@ -93,7 +93,7 @@ same-byte : (area : List ℕ) → OneByte area area
 same-byte [] = (0, 0, refl)
 same-byte (b ∷ s) = (0, b, refl)
 
-module _ (L : Layout) (r : Store) (area cells work : List ℕ) (c : Refusal) (first : firstCause (stepCauses L r (lentLengths area cells work)) ≡ some c) where
+module _ (L : Layout) (r : Record) (area cells work : List ℕ) (c : Refusal) (first : firstCause (stepCauses L r (lentLengths area cells work)) ≡ some c) where
   pub refused-promise : {x : Stepped} → x ≡ refusedWith r c → StepPromise L r area area cells cells work x
   refused-promise {x} e =
       record {
@@ -114,7 +114,7 @@ module _ (L : Layout) (r : Store) (area cells work : List ℕ) (c : Refusal) (fi
 
 -- ---- the stores left of what is laid down
 
-module _ (L : Layout) (idle : Store) (log : List Placed) where
+module _ (L : Layout) (idle : Record) (log : List Placed) where
   -- so many stores are left of it, and one less after a step
   abbrev CountsDown : Laid → Type 0
   CountsDown l = (k : ℕ) → (storesLeft (l .pending k) ≡ k) × (oneLess (l .pending k) ≡ l .pending (k - 1))
@@ -133,7 +133,7 @@ module _ (L : Layout) (idle : Store) (log : List Placed) where
 
 -- ---- a step of a started operation
 
-module _ (L : Layout) (roomy : Roomy L) (r : Store) (area cells work : List ℕ)
+module _ (L : Layout) (roomy : Roomy L) (r : Record) (area cells work : List ℕ)
     (first : firstCause (stepCauses L r (lentLengths area cells work)) ≡ none) where
   step-fits : Lent L r (length area) (length cells)
   step-fits = lent L r (length area) (length cells) (not-false _ (cause-false _ _ first))
@@ -151,7 +151,7 @@ module _ (L : Layout) (roomy : Roomy L) (r : Store) (area cells work : List ℕ)
     abbrev before : List ℕ
     before = s .before
 
-    abbrev idle : Store
+    abbrev idle : Record
     idle = s .idle
 
     abbrev log : List Placed
@@ -161,13 +161,13 @@ module _ (L : Layout) (roomy : Roomy L) (r : Store) (area cells work : List ℕ)
     plan = planFor L (s .idle) (logNow L (s .before) (s .idle)) (s .operation)
 
     acc : Accepted L (s .before) (s .idle) (s .operation)
-    acc = accepted L (store-laws L roomy) area r work s
+    acc = accepted L (operation-laws L roomy) area r work s
 
     long-enough : s .idle .size ≤ length work
-    long-enough = subst (λ (x : Store). x .size ≤ length work) (s .record-now) work-long
+    long-enough = subst (λ (x : Record). x .size ≤ length work) (s .record-now) work-long
 
     pub turn : nextStore (length area) work r ≡ atOf (getD plan (s .since) (0, 0))
-    turn = next-started L (store-laws L roomy) area r work s long-enough
+    turn = next-started L (operation-laws L roomy) area r work s long-enough
 
     pub no-bad : nextStore (length area) work r ≡ Bad → ⊥
     no-bad e =
@@ -191,24 +191,24 @@ module _ (L : Layout) (roomy : Roomy L) (r : Store) (area cells work : List ℕ)
         rule-idle =
             subst (λ (l : List Placed). IndexRule (s .idle .size) l cells)
             (ap (λ (x : List ℕ). logNow L x idle) (s .area-now)
-            ∙ store-laws L roomy .prefix-log before idle (s .operation) acc (s .since) (s .some-left))
-            (subst (λ (x : Store). IndexRule (x .size) (logNow L area x) cells) (s .record-now) (g .rule))
+            ∙ operation-laws L roomy .prefix-log before idle (s .operation) acc (s .since) (s .some-left))
+            (subst (λ (x : Record). IndexRule (x .size) (logNow L area x) cells) (s .record-now) (g .rule))
 
         cells-idle : length cells ≡ s .idle .cells
-        cells-idle = step-fits .index-own ∙ ap (λ (x : Store). x .cells) (s .record-now)
+        cells-idle = step-fits .index-own ∙ ap (λ (x : Record). x .cells) (s .record-now)
 
         left-now : storesLeft (r .pending) ≡ length plan - s .since
         left-now =
-            ap (λ (x : Store). storesLeft (x .pending)) (s .record-now)
+            ap (λ (x : Record). storesLeft (x .pending)) (s .record-now)
             ∙ counts-down L idle log (s .operation) (length plan - s .since) .0
 
         -- the record with k stores left
-        abbrev with-left : ℕ → Store
+        abbrev with-left : ℕ → Record
         with-left k = withPending idle (laid L idle log (s .operation) .pending k)
 
         -- what a step is to give that leaves so many stores
         abbrev Gives : After → ℕ → Type 0
-        Gives a k = (a .stepped ≡ stepped L before idle (s .operation) k) × IndexStepped L (set area p b) cells (a .cells) (a .stepped .store) k
+        Gives a k = (a .stepped ≡ stepped L before idle (s .operation) k) × IndexStepped L (set area p b) cells (a .cells) (a .stepped .rec) k
 
         goes-on : (k : ℕ) → length plan - s .since ≡ suc (suc k) → Gives (advanced L r (set area p b) cells) (suc k)
         unfolding advanced stepped IndexStepped
@@ -219,14 +219,14 @@ module _ (L : Layout) (roomy : Roomy L) (r : Store) (area cells work : List ℕ)
           where
             answer :
                 _≡_ {A = Stepped}
-                (record { answer = StepAnswer.Left (storesLeft (r .pending) - 1); store = withPending r (oneLess (r .pending)) })
-                (record { answer = StepAnswer.Left (suc k); store = with-left (suc k) })
+                (record { answer = StepAnswer.Left (storesLeft (r .pending) - 1); rec = withPending r (oneLess (r .pending)) })
+                (record { answer = StepAnswer.Left (suc k); rec = with-left (suc k) })
             answer =
                 let less : storesLeft (r .pending) - 1 ≡ suc k = omega (arith, left-now) in
                 let one : length plan - s .since - 1 ≡ suc k = omega arith in
-                ap (λ (n : ℕ). record { answer = StepAnswer.Left n; store = withPending r (oneLess (r .pending)) }) less
-                ∙ ap (λ (x : Store). record { answer = StepAnswer.Left (suc k); store = withPending x (oneLess (x .pending)) }) (s .record-now)
-                ∙ ap (λ (q : Pending). record { answer = StepAnswer.Left (suc k); store = withPending idle q })
+                ap (λ (n : ℕ). record { answer = StepAnswer.Left n; rec = withPending r (oneLess (r .pending)) }) less
+                ∙ ap (λ (x : Record). record { answer = StepAnswer.Left (suc k); rec = withPending x (oneLess (x .pending)) }) (s .record-now)
+                ∙ ap (λ (q : Pending). record { answer = StepAnswer.Left (suc k); rec = withPending idle q })
                 (counts-down L idle log (s .operation) (length plan - s .since) .1 ∙ ap (laid L idle log (s .operation) .pending) one)
 
         ends-now : length plan - s .since ≡ 1 → Gives (advanced L r (set area p b) cells) zero
@@ -235,7 +235,7 @@ module _ (L : Layout) (roomy : Roomy L) (r : Store) (area cells work : List ℕ)
             subst (λ (a : After). Gives a zero)
             (sym (pick-false (ltb 1 (storesLeft (r .pending))) _ _ (le-ltb 1 (storesLeft (r .pending)) (omega (arith, left-now)))))
             (subst
-            (λ (x : Store).
+            (λ (x : Record).
             Gives (finishWith L x (set area p b) cells (x .pending)) zero) (sym (s .record-now)) (gives all))
           where
             whole : set area p b ≡ stored before plan
@@ -244,20 +244,20 @@ module _ (L : Layout) (roomy : Roomy L) (r : Store) (area cells work : List ℕ)
                 stores-next ∙ ap (λ (n : ℕ). stored before (take n plan)) last ∙ stored-all before plan
 
             all :
-                Ends L (set area p b) (finishedStore L before idle (s .operation)) (toldVersion idle (s .operation))
+                Ends L (set area p b) (finishedRecord L before idle (s .operation)) (toldVersion idle (s .operation))
                 (finishWith L (with-left (length plan - s .since)) (set area p b) cells (laid L idle log (s .operation) .pending (length plan - s .since)))
             all =
                 subst
                 (λ (x : List ℕ).
-                Ends L x (finishedStore L before idle (s .operation)) (toldVersion idle (s .operation))
+                Ends L x (finishedRecord L before idle (s .operation)) (toldVersion idle (s .operation))
                 (finishWith L (with-left (length plan - s .since)) x cells (laid L idle log (s .operation) .pending (length plan - s .since))))
                 (sym whole)
                 (operation-ends L roomy before cells idle (s .operation) acc cells-idle rule-idle (length plan - s .since))
 
-            gives : {a : After} → Ends L (set area p b) (finishedStore L before idle (s .operation)) (toldVersion idle (s .operation)) a → Gives a zero
+            gives : {a : After} → Ends L (set area p b) (finishedRecord L before idle (s .operation)) (toldVersion idle (s .operation)) a → Gives a zero
             gives {a} w = (
               w .answers,
-              subst (λ (x : Store). IndexRule (x .size) (logNow L (set area p b) x) (a .cells)) (ap (λ (y : Stepped). y .store) (sym (w .answers)))
+              subst (λ (x : Record). IndexRule (x .size) (logNow L (set area p b) x) (a .cells)) (ap (λ (y : Stepped). y .rec) (sym (w .answers)))
                   (w .rule),
             )
 

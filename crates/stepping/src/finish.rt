@@ -4,10 +4,10 @@ use index::Inserted;
 use index::build::build;
 use index::put::insert;
 use record::Pending;
+use record::Record;
 use record::Refusal;
 use record::StepAnswer;
 use record::Stepped;
-use record::Store;
 use record::stores_left;
 use record::with_pending;
 use segment::DigestNumber;
@@ -31,30 +31,30 @@ ghost use Rattle.record.specs.Answers.{storesLeft};
 ghost use Rattle.stepping.specs.Next.{PendingIn};
 
 // The record goes back as it was.
-pub fn refused(store: Store, cause: Refusal) -> Stepped
-    ensures { λ r. ⌜ r ≡ refusedWith store cause ⌝ }
+pub fn refused(rec: Record, cause: Refusal) -> Stepped
+    ensures { λ r. ⌜ r ≡ refusedWith rec cause ⌝ }
 {
     Stepped {
         answer: StepAnswer::Refused(cause),
-        store: store,
+        rec: rec,
     }
 }
 
 // The record with another number of keys.
-fn with_keys(store: Store, keys: u32) -> Store
-    ensures { λ r. ⌜ r ≡ withKeys store keys ⌝ }
+fn with_keys(rec: Record, keys: u32) -> Record
+    ensures { λ r. ⌜ r ≡ withKeys rec keys ⌝ }
 {
-    let number = store.number;
-    let next = store.next;
-    let pending = store.pending;
-    Store {
-        slots: store.slots,
-        size: store.size,
-        cells: store.cells,
-        head: store.head,
-        end: store.end,
-        number: number,
-        map: store.map,
+    let number = rec.digest;
+    let next = rec.next;
+    let pending = rec.pending;
+    Record {
+        slots: rec.slots,
+        size: rec.size,
+        cells: rec.cells,
+        head: rec.head,
+        end: rec.end,
+        digest: number,
+        map: rec.map,
         next: next,
         keys: keys,
         pending: pending,
@@ -62,42 +62,42 @@ fn with_keys(store: Store, keys: u32) -> Store
 }
 
 // The record with `count` more bytes in the head and the next version taken, but for its keys.
-fn append_done(store: Store, count: u32) -> Store
-    requires { ⌜ (store .end + count < 4294967296) × (store .next .0 < 4294967295) ⌝ }
-    ensures { λ r. ⌜ r ≡ appendDone store count ⌝ }
+fn append_done(rec: Record, count: u32) -> Record
+    requires { ⌜ (rec .end + count < 4294967296) × (rec .next .0 < 4294967295) ⌝ }
+    ensures { λ r. ⌜ r ≡ appendDone rec count ⌝ }
 {
-    let number = store.number;
-    let next = store.next;
-    Store {
-        slots: store.slots,
-        size: store.size,
-        cells: store.cells,
-        head: store.head,
-        end: store.end + count,
-        number: number,
-        map: store.map,
+    let number = rec.digest;
+    let next = rec.next;
+    Record {
+        slots: rec.slots,
+        size: rec.size,
+        cells: rec.cells,
+        head: rec.head,
+        end: rec.end + count,
+        digest: number,
+        map: rec.map,
         next: Version(next.0 + 1),
-        keys: store.keys,
+        keys: rec.keys,
         pending: Pending::Idle,
     }
 }
 
 // The record with a new head of `count` bytes in a slot, with this map and this next version, but for its keys.
-fn head_done(store: Store, slot: u32, count: u32, map: u32, next: u32) -> Store
-    requires { ⌜ store .number .0 < 4294967295 ⌝ }
-    ensures { λ r. ⌜ r ≡ headDone store slot count map next ⌝ }
+fn head_done(rec: Record, slot: u32, count: u32, map: u32, next: u32) -> Record
+    requires { ⌜ rec .digest .0 < 4294967295 ⌝ }
+    ensures { λ r. ⌜ r ≡ headDone rec slot count map next ⌝ }
 {
-    let number = store.number;
-    Store {
-        slots: store.slots,
-        size: store.size,
-        cells: store.cells,
+    let number = rec.digest;
+    Record {
+        slots: rec.slots,
+        size: rec.size,
+        cells: rec.cells,
         head: slot,
         end: count,
-        number: DigestNumber(number.0 + 1),
+        digest: DigestNumber(number.0 + 1),
         map: map,
         next: Version(next),
-        keys: store.keys,
+        keys: rec.keys,
         pending: Pending::Idle,
     }
 }
@@ -115,80 +115,80 @@ fn keys_after(answer: Inserted, keys: u32) -> Built
 }
 
 // The version is told, and the new record gets its number of keys.
-fn told(store: Store, done: Store, version: Version, keys: Built) -> Stepped
-    ensures { λ r. ⌜ r ≡ toldBy store done (version .0) keys ⌝ }
+fn told(rec: Record, done: Record, version: Version, keys: Built) -> Stepped
+    ensures { λ r. ⌜ r ≡ toldBy rec done (version .0) keys ⌝ }
 {
     match keys {
         Built::Keys(n) => {
-            if n < store.cells as usize {
+            if n < rec.cells as usize {
                 return Stepped {
                     answer: StepAnswer::Done(version),
-                    store: with_keys(done, n as u32),
+                    rec: with_keys(done, n as u32),
                 };
             }
-            refused(store, Refusal::BadRecord)
+            refused(rec, Refusal::BadRecord)
         }
-        Built::TooMany => refused(store, Refusal::BadRecord),
+        Built::TooMany => refused(rec, Refusal::BadRecord),
     }
 }
 
 // The entry at a place of the area goes into the index; `done` is the record then, but for its keys.
-fn finish_entry(store: Store, done: Store, area: &[u8], index: &mut [u32], place: usize) -> Stepped
+fn finish_entry(rec: Record, done: Record, area: &[u8], index: &mut [u32], place: usize) -> Stepped
     requires { ⌜ place < 4294967295 ⌝ }
-    ensures { λ r. ⌜ record { stepped = r; cells = now (index .exit) } ≡ finishEntry edition1 store done (now (area .entry)) (now (index .entry)) place ⌝ }
+    ensures { λ r. ⌜ record { stepped = r; cells = now (index .exit) } ≡ finishEntry edition1 rec done (now (area .entry)) (now (index .entry)) place ⌝ }
 {
     if area.len() < place + HEAD_SIZE {
-        return refused(store, Refusal::BadRecord);
+        return refused(rec, Refusal::BadRecord);
     }
     let key = Key {
         table: read16(area, place + 1),
         key: read32(area, place + 3),
     };
-    let version = store.next;
+    let version = rec.next;
     let answer = insert(area, index, place, key, version);
-    let keys = keys_after(answer, store.keys);
-    told(store, done, version, keys)
+    let keys = keys_after(answer, rec.keys);
+    told(rec, done, version, keys)
 }
 
 // The last step of a write or delete whose entry is in the head.
-pub fn finish_append(store: Store, area: &[u8], index: &mut [u32], count: u32) -> Stepped
-    requires { ⌜ (store .head < 32) × (store .size ≤ 2048) × (store .end + count ≤ store .size) ⌝ }
-    ensures { λ r. ⌜ record { stepped = r; cells = now (index .exit) } ≡ finishAppend edition1 store (now (area .entry)) (now (index .entry)) count ⌝ }
+pub fn finish_append(rec: Record, area: &[u8], index: &mut [u32], count: u32) -> Stepped
+    requires { ⌜ (rec .head < 32) × (rec .size ≤ 2048) × (rec .end + count ≤ rec .size) ⌝ }
+    ensures { λ r. ⌜ record { stepped = r; cells = now (index .exit) } ≡ finishAppend edition1 rec (now (area .entry)) (now (index .entry)) count ⌝ }
 {
-    let next = store.next;
+    let next = rec.next;
     if next.0 == VERSION_LIMIT {
-        return refused(store, Refusal::BadRecord);
+        return refused(rec, Refusal::BadRecord);
     }
-    let done = append_done(store, count);
+    let done = append_done(rec, count);
     finish_entry(
-        store,
+        rec,
         done,
         area,
         index,
-        store.head as usize * store.size as usize + store.end as usize,
+        rec.head as usize * rec.size as usize + rec.end as usize,
     )
 }
 
 // The last step of a write or delete whose entry is in a new head.
-pub fn finish_head(store: Store, area: &[u8], index: &mut [u32], slot: u32, count: u32) -> Stepped
-    requires { ⌜ (slot < 32) × (store .size ≤ 2048) ⌝ }
-    ensures { λ r. ⌜ record { stepped = r; cells = now (index .exit) } ≡ finishHead edition1 store (now (area .entry)) (now (index .entry)) slot count ⌝ }
+pub fn finish_head(rec: Record, area: &[u8], index: &mut [u32], slot: u32, count: u32) -> Stepped
+    requires { ⌜ (slot < 32) × (rec .size ≤ 2048) ⌝ }
+    ensures { λ r. ⌜ record { stepped = r; cells = now (index .exit) } ≡ finishHead edition1 rec (now (area .entry)) (now (index .entry)) slot count ⌝ }
 {
-    let next = store.next;
-    let number = store.number;
+    let next = rec.next;
+    let number = rec.digest;
     if next.0 == VERSION_LIMIT {
-        return refused(store, Refusal::BadRecord);
+        return refused(rec, Refusal::BadRecord);
     }
     if number.0 == NUMBER_LIMIT {
-        return refused(store, Refusal::BadRecord);
+        return refused(rec, Refusal::BadRecord);
     }
-    let done = head_done(store, slot, count, with_slot(store.map, slot), next.0 + 1);
+    let done = head_done(rec, slot, count, with_slot(rec.map, slot), next.0 + 1);
     finish_entry(
-        store,
+        rec,
         done,
         area,
         index,
-        slot as usize * store.size as usize + DIGEST_SIZE,
+        slot as usize * rec.size as usize + DIGEST_SIZE,
     )
 }
 
@@ -229,39 +229,39 @@ const SLOTS: [u8; 32] = [
 ];
 
 // The index rebuilt under a map, slot by slot in the order of the first of a list.
-fn rebuild(store: Store, area: &[u8], index: &mut [u32], order: &[u8], map: u32) -> Built
-    requires { ⌜ (store .size ≤ 2048) × (store .slots ≤ length (now order)) ⌝ }
+fn rebuild(rec: Record, area: &[u8], index: &mut [u32], order: &[u8], map: u32) -> Built
+    requires { ⌜ (rec .size ≤ 2048) × (rec .slots ≤ length (now order)) ⌝ }
     ensures { λ r.
         ⌜
         _≡_ {A = Rebuilt} (record { answer = r; cells = now (index .exit) })
-        (built edition1 (now (area .entry)) (store .size) map (take (store .slots) (now (order .entry))) (length (now (index .entry))))
+        (built edition1 (now (area .entry)) (rec .size) map (take (rec .slots) (now (order .entry))) (length (now (index .entry))))
         ⌝ }
 {
-    let slots = store.slots as usize;
-    build(area, index, &order[0..slots], store.size as usize, map)
+    let slots = rec.slots as usize;
+    build(area, index, &order[0..slots], rec.size as usize, map)
 }
 
 // The last step of a cleaning: the index is rebuilt under the new map, slot by slot.
 fn finish_clean(
-    store: Store,
+    rec: Record,
     area: &[u8],
     index: &mut [u32],
     slot: u32,
     victims: u32,
     count: u32,
 ) -> Stepped
-    requires { ⌜ (slot < 32) × (store .size ≤ 2048) × (store .slots ≤ 32) ⌝ }
-    ensures { λ r. ⌜ record { stepped = r; cells = now (index .exit) } ≡ finishClean edition1 store (now (area .entry)) (now (index .entry)) slot victims count ⌝ }
+    requires { ⌜ (slot < 32) × (rec .size ≤ 2048) × (rec .slots ≤ 32) ⌝ }
+    ensures { λ r. ⌜ record { stepped = r; cells = now (index .exit) } ≡ finishClean edition1 rec (now (area .entry)) (now (index .entry)) slot victims count ⌝ }
 {
-    let number = store.number;
-    let next = store.next;
+    let number = rec.digest;
+    let next = rec.next;
     if number.0 == NUMBER_LIMIT {
-        return refused(store, Refusal::BadRecord);
+        return refused(rec, Refusal::BadRecord);
     }
-    let map = with_slot(without_slots(store.map, victims), slot);
-    let done = head_done(store, slot, count, map, next.0);
-    let keys = rebuild(store, area, index, &SLOTS, map);
-    told(store, done, Version(0), keys)
+    let map = with_slot(without_slots(rec.map, victims), slot);
+    let done = head_done(rec, slot, count, map, next.0);
+    let keys = rebuild(rec, area, index, &SLOTS, map);
+    told(rec, done, Version(0), keys)
 }
 
 // The pending operation with one store less.
@@ -295,41 +295,41 @@ fn one_less(pending: Pending) -> Pending
 }
 
 // The last step, by the kind of the operation.
-fn finish(store: Store, area: &[u8], index: &mut [u32]) -> Stepped
-    requires { ⌜ (store .size ≤ 2048) × (store .slots ≤ 32) × PendingIn store (store .pending) ⌝ }
-    ensures { λ r. ⌜ record { stepped = r; cells = now (index .exit) } ≡ finishWith edition1 store (now (area .entry)) (now (index .entry)) (store .pending) ⌝ }
+fn finish(rec: Record, area: &[u8], index: &mut [u32]) -> Stepped
+    requires { ⌜ (rec .size ≤ 2048) × (rec .slots ≤ 32) × PendingIn rec (rec .pending) ⌝ }
+    ensures { λ r. ⌜ record { stepped = r; cells = now (index .exit) } ≡ finishWith edition1 rec (now (area .entry)) (now (index .entry)) (rec .pending) ⌝ }
 {
-    let pending = store.pending;
+    let pending = rec.pending;
     match pending {
-        Pending::Idle => refused(store, Refusal::BadRecord),
-        Pending::Append { length, left: _ } => finish_append(store, area, index, length),
+        Pending::Idle => refused(rec, Refusal::BadRecord),
+        Pending::Append { length, left: _ } => finish_append(rec, area, index, length),
         Pending::NewHead {
             slot,
             length,
             left: _,
-        } => finish_head(store, area, index, slot, length),
+        } => finish_head(rec, area, index, slot, length),
         Pending::Clean {
             slot,
             victims,
             length,
             left: _,
-        } => finish_clean(store, area, index, slot, victims, length),
+        } => finish_clean(rec, area, index, slot, victims, length),
     }
 }
 
 // What comes after a step's store: with stores left they are one less, else the operation is finished.
-pub fn advance(store: Store, area: &[u8], index: &mut [u32]) -> Stepped
-    requires { ⌜ (0 < storesLeft (store .pending)) × (store .size ≤ 2048) × (store .slots ≤ 32) × PendingIn store (store .pending) ⌝ }
-    ensures { λ r. ⌜ record { stepped = r; cells = now (index .exit) } ≡ advanced edition1 store (now (area .entry)) (now (index .entry)) ⌝ }
+pub fn advance(rec: Record, area: &[u8], index: &mut [u32]) -> Stepped
+    requires { ⌜ (0 < storesLeft (rec .pending)) × (rec .size ≤ 2048) × (rec .slots ≤ 32) × PendingIn rec (rec .pending) ⌝ }
+    ensures { λ r. ⌜ record { stepped = r; cells = now (index .exit) } ≡ advanced edition1 rec (now (area .entry)) (now (index .entry)) ⌝ }
 {
-    let pending = store.pending;
+    let pending = rec.pending;
     let left = stores_left(pending);
     if 1 < left {
         let rest = one_less(pending);
         return Stepped {
             answer: StepAnswer::Left(left - 1),
-            store: with_pending(store, rest),
+            rec: with_pending(rec, rest),
         };
     }
-    finish(store, area, index)
+    finish(rec, area, index)
 }

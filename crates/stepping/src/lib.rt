@@ -2,9 +2,9 @@
 use finish::advance;
 use finish::refused;
 use next::next_store;
+use record::Record;
 use record::Refusal;
 use record::Stepped;
-use record::Store;
 use record::range::fits_lent;
 use record::stores_left;
 ghost use Rattle.segment.specs.Layout.{edition1};
@@ -22,25 +22,25 @@ pub enum NextStore {
 // One step of the pending operation. It makes one store, by the one assignment below; for the rest the area is only read, and
 // the work buffer is left as it is. It answers the stores left, and at the last one the version, 0 for a cleaning. Refused
 // with 4, 3 or 6, in this order, it changes nothing.
-pub fn step(store: Store, area: &mut [u8], index: &mut [u32], work: &[u8]) -> Stepped
+pub fn step(rec: Record, area: &mut [u8], index: &mut [u32], work: &[u8]) -> Stepped
     ensures { λ a.
         ⌜
-        StepPromise edition1 store (now (area .entry)) (now (area .exit)) (now (index .entry)) (now (index .exit)) (now (work .entry)) a
+        StepPromise edition1 rec (now (area .entry)) (now (area .exit)) (now (index .entry)) (now (index .exit)) (now (work .entry)) a
         ⌝ }
 {
-    if !fits_lent(store, area.len(), index.len()) {
-        return refused(store, Refusal::BadRecord);
+    if !fits_lent(rec, area.len(), index.len()) {
+        return refused(rec, Refusal::BadRecord);
     }
-    if work.len() < store.size as usize {
-        return refused(store, Refusal::WorkShort);
+    if work.len() < rec.size as usize {
+        return refused(rec, Refusal::WorkShort);
     }
-    let pending = store.pending;
+    let pending = rec.pending;
     if stores_left(pending) == 0 {
-        return refused(store, Refusal::NonePending);
+        return refused(rec, Refusal::NonePending);
     }
-    let NextStore::At { place, byte } = next_store(store, area, work) else {
-        return refused(store, Refusal::BadRecord);
+    let NextStore::At { place, byte } = next_store(rec, area, work) else {
+        return refused(rec, Refusal::BadRecord);
     };
     area[place] = byte;
-    advance(store, area, index)
+    advance(rec, area, index)
 }

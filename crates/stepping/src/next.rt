@@ -1,7 +1,7 @@
 // Place and byte of the next store (01, "Operations, store by store"). Nothing here writes.
 use crate::NextStore;
 use record::Pending;
-use record::Store;
+use record::Record;
 use starting::stores::commit_stores;
 ghost use Prim.Native.Nat.{_+_, _*_, _≤_, _<_};
 ghost use mathlib.Core.Path.{_≡_};
@@ -111,19 +111,19 @@ fn slot_next(
 
 // Where the next store goes and what it stores: an append commits at the head's end, a new head at its start after a store of 0
 // there.
-pub fn next_store(store: Store, area: &[u8], work: &[u8]) -> NextStore
-    ensures { λ r. ⌜ r ≡ nextStore (length (now (area .entry))) (now (work .entry)) store ⌝ }
+pub fn next_store(rec: Record, area: &[u8], work: &[u8]) -> NextStore
+    ensures { λ r. ⌜ r ≡ nextStore (length (now (area .entry))) (now (work .entry)) rec ⌝ }
 {
-    let pending = store.pending;
-    let size = store.size as usize;
+    let pending = rec.pending;
+    let size = rec.size as usize;
     match pending {
         Pending::Idle => NextStore::Bad,
         Pending::Append { length, left } => slot_next(
             area,
             work,
             size,
-            store.head as usize,
-            store.end as usize,
+            rec.head as usize,
+            rec.end as usize,
             length as usize,
             0,
             left as usize,

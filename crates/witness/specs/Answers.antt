@@ -16,11 +16,11 @@ use Rattle.record.specs.declared.Reading.{Reading}
 use Rattle.record.specs.declared.Recovery.{Recovery}
 use Rattle.record.specs.declared.RecoverAnswer.{RecoverAnswer}
 use Rattle.record.specs.declared.Refusal.{Refusal}
-use Rattle.record.specs.declared.Store.{Store}
+use Rattle.record.specs.declared.Record.{Record}
 use Rattle.model.specs.Log.{present}
 use Rattle.model.specs.Causes.{firstCause}
 use Rattle.model.specs.Operations.{Operation, logNow}
-use Rattle.model.specs.Recovery.{recovery, recoveryFor, recoverCauses, storeOf}
+use Rattle.model.specs.Recovery.{recovery, recoveryFor, recoverCauses, recordFrom}
 use Rattle.model.specs.Refused.{readCauses, startCauses}
 use Rattle.model.specs.Promises.{IndexAfter, RecoverPromise, readAnswer, readLengths, ReadPromise, valueAnswer, ValuePromise, Begun, begun, lentLengths, StartPromise}
 use Rattle.laws.specs.CauseLaws.{cause-first}
@@ -32,18 +32,18 @@ use Rattle.stepping.specs.CleanLaws.{recovered-built}
 
 -- ---- read
 
-abbrev pub readBy : Layout → Store → List ℕ → List ℕ → Key → Reading
+abbrev pub readBy : Layout → Record → List ℕ → List ℕ → Key → Reading
 readBy L r area cells k =
     record {
       answer = readAnswer (firstCause (readCauses L r (logNow L area r) (readLengths area cells) k)) (present L (logNow L area r) k);
-      store = r;
+      rec = r;
     }
 
-abbrev pub valueBy : Layout → Store → List ℕ → List ℕ → Key → List ℕ
+abbrev pub valueBy : Layout → Record → List ℕ → List ℕ → Key → List ℕ
 valueBy L r area cells k =
     valueAnswer L (r .size) area (firstCause (readCauses L r (logNow L area r) (readLengths area cells) k)) (present L (logNow L area r) k)
 
-module _ (L : Layout) (r : Store) (area cells : List ℕ) (k : Key) where
+module _ (L : Layout) (r : Record) (area cells : List ℕ) (k : Key) where
   pub read-made : ReadPromise L r area cells k (readBy L r area cells k)
   unfolding readAnswer
   read-made =
@@ -63,11 +63,11 @@ module _ (L : Layout) (r : Store) (area cells : List ℕ) (k : Key) where
 
 -- ---- write, delete and clean
 
-abbrev pub startedBy : Layout → Operation → Store → List ℕ → List ℕ → List ℕ → Begun
+abbrev pub startedBy : Layout → Operation → Record → List ℕ → List ℕ → List ℕ → Begun
 startedBy L o r area cells work =
     begun L r (logNow L area r) o work (firstCause (startCauses L r (logNow L area r) (lentLengths area cells work) o))
 
-module _ (L : Layout) (o : Operation) (r : Store) (area cells work : List ℕ) where
+module _ (L : Layout) (o : Operation) (r : Record) (area cells work : List ℕ) where
   abbrev its : Begun
   its = startedBy L o r area cells work
 
@@ -83,19 +83,19 @@ module _ (L : Layout) (o : Operation) (r : Store) (area cells work : List ℕ) w
 
 -- ---- recovery
 
-unfoldable pub cellsBy : Layout → ℕ → List ℕ → List ℕ → List ℕ → Store → RecoverAnswer → List ℕ
+unfoldable pub cellsBy : Layout → ℕ → List ℕ → List ℕ → List ℕ → Record → RecoverAnswer → List ℕ
 cellsBy L s order area cells r RecoverAnswer.Recovered = built L area s (r .map) order (length cells) .cells
 cellsBy L s order area cells r (RecoverAnswer.Refused c) = pick (eqb (numberOfRefusal c) 20) (replicate (length cells) 0) cells
 
 abbrev pub recoveredCells : Layout → ℕ → List ℕ → List ℕ → List ℕ → Recovery → List ℕ
-recoveredCells L s order area cells r = cellsBy L s order area cells (r .store) (r .answer)
+recoveredCells L s order area cells r = cellsBy L s order area cells (r .rec) (r .answer)
 
 module _ (L : Layout) (n s : ℕ) (order area cells : List ℕ) where
   abbrev m : ℕ
   m = length cells
 
-  abbrev store : Store
-  store = storeOf L n s m area
+  abbrev rec : Record
+  rec = recordFrom L n s m area
 
   abbrev cause : Option Refusal
   cause = firstCause (recoverCauses L n s m order area)
@@ -103,21 +103,21 @@ module _ (L : Layout) (n s : ℕ) (order area cells : List ℕ) where
   abbrev Keeps : Recovery → Type 0
   Keeps r = RecoverPromise L n s order area cells (recoveredCells L s order area cells r) r
 
-  rebuilt : recovery L n s m order area ≡ record { answer = RecoverAnswer.Recovered; store = store } →
-      Holds s m (logNow L area store) (built L area s (store .map) order m)
+  rebuilt : recovery L n s m order area ≡ record { answer = RecoverAnswer.Recovered; rec = rec } →
+      Holds s m (logNow L area rec) (built L area s (rec .map) order m)
   rebuilt e =
-      let recovers = recovery-recovered L n s m area order store e in
-      recovered-built L n s m area order store recovers (recovery-order L n s m area order store e)
-      (omega (arith, between-low 16 4096 m (recovered-facts L n s m area store recovers .lent .cells-good)))
+      let recovers = recovery-recovered L n s m area order rec e in
+      recovered-built L n s m area order rec recovers (recovery-order L n s m area order rec e)
+      (omega (arith, between-low 16 4096 m (recovered-facts L n s m area rec recovers .lent .cells-good)))
 
-  by-cause : (c : Option Refusal) → cause ≡ c → Keeps (recoveryFor c store)
+  by-cause : (c : Option Refusal) → cause ≡ c → Keeps (recoveryFor c rec)
   unfolding recovery recoveryFor cellsBy IndexAfter pick
   by-cause none e =
-      let h = rebuilt (ap (λ (c : Option Refusal). recoveryFor c store) e) in
-      record { answers = ap (λ (c : Option Refusal). recoveryFor c store) (sym e); same-length = h .long; index = h .rule }
+      let h = rebuilt (ap (λ (c : Option Refusal). recoveryFor c rec) e) in
+      record { answers = ap (λ (c : Option Refusal). recoveryFor c rec) (sym e); same-length = h .long; index = h .rule }
   by-cause (some c) e =
       record {
-        answers = ap (λ (d : Option Refusal). recoveryFor d store) (sym e);
+        answers = ap (λ (d : Option Refusal). recoveryFor d rec) (sym e);
         same-length = go (eqb (numberOfRefusal c) 20);
         index = refl;
       }

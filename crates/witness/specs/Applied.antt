@@ -38,9 +38,9 @@ sixteen = refl
 -- What that gives a reader: recovery is accepted, the next version is 3, and the deleted key answers 8.
 pub record Left (cells′ : List ℕ) (r : Recovery) : Type 0 where
   pub is-accepted : r .answer ≡ RecoverAnswer.Recovered
-  pub next-version : r .store .next .0 ≡ 3
+  pub next-version : r .rec .next .0 ≡ 3
   pub absent :
-      (a : Reading) → ReadPromise edition1 (r .store) (all .world .area) cells′ nine a → a .answer ≡ ReadAnswer.Refused Refusal.Absent
+      (a : Reading) → ReadPromise edition1 (r .rec) (all .world .area) cells′ nine a → a .answer ≡ ReadAnswer.Refused Refusal.Absent
 
 pub left :
     (order cells cells′ : List ℕ) (r : Recovery) → orderBad 4 order ≡ false → LargeEnough (some 16) (length cells) →

@@ -47,7 +47,7 @@ steppedWorld w h x =
       world =
           record {
             area = x .area;
-            held = some (record { store = x .after .stepped .store; cells = x .after .cells; work = h .work });
+            held = some (record { rec = x .after .stepped .rec; cells = x .after .cells; work = h .work });
             cells = w .cells;
           };
     }
@@ -65,9 +65,9 @@ restarted L s w order cells r =
 
 -- Without a record only a recovery and a cut can happen: any other command does nothing. A step gets the work buffer of the start.
 unfoldable pub played : Layout → ℕ → ℕ → World → Option Held → Command → Played
-played L n s w (some h) (operate o t work) = startedWorld w h o (startedBy L o (h .store) (w .area) (h .cells) work)
-played L n s w (some h) advance = steppedWorld w h (steppedBy L (h .store) (w .area) (h .cells) (h .work))
-played L n s w (some h) (look k t) = onlyTold w (called (reads k) (readSaid (readBy L (h .store) (w .area) (h .cells) k .answer)))
+played L n s w (some h) (operate o t work) = startedWorld w h o (startedBy L o (h .rec) (w .area) (h .cells) work)
+played L n s w (some h) advance = steppedWorld w h (steppedBy L (h .rec) (w .area) (h .cells) (h .work))
+played L n s w (some h) (look k t) = onlyTold w (called (reads k) (readSaid (readBy L (h .rec) (w .area) (h .cells) k .answer)))
 played L n s w (some h) (lookValue k t) = onlyTold w (called (readsValue k) (refusal 0))
 played L n s w none (operate o t work) = record { events = []; world = w }
 played L n s w none advance = record { events = []; world = w }
@@ -104,10 +104,10 @@ module _ (n s : ℕ) where
   played-run : (area : List ℕ) (m : Option ℕ) (held : Option Held) (c : Command) →
       let w : World = record { area = area; held = held; cells = m } in From w (played edition1 n s w held c)
   unfolding played
-  played-run area m (some h) (operate o t work) = one (start t (start-made edition1 o (h .store) area (h .cells) work))
-  played-run area m (some h) advance = one (step (λ e. refl) (step-made (h .store) area (h .cells) (h .work)))
-  played-run area m (some h) (look k t) = one (read t (read-made edition1 (h .store) area (h .cells) k))
-  played-run area m (some h) (lookValue k t) = one (readValue t (value-made edition1 (h .store) area (h .cells) k))
+  played-run area m (some h) (operate o t work) = one (start t (start-made edition1 o (h .rec) area (h .cells) work))
+  played-run area m (some h) advance = one (step (λ e. refl) (step-made (h .rec) area (h .cells) (h .work)))
+  played-run area m (some h) (look k t) = one (read t (read-made edition1 (h .rec) area (h .cells) k))
+  played-run area m (some h) (lookValue k t) = one (readValue t (value-made edition1 (h .rec) area (h .cells) k))
   played-run area m none (operate o t work) = stop
   played-run area m none advance = stop
   played-run area m none (look k t) = stop

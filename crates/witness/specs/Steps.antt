@@ -13,12 +13,12 @@ use Rattle.record.specs.Answers.{storesLeft}
 use Rattle.record.specs.declared.Pending.{Pending}
 use Rattle.record.specs.declared.Pending.the-variants.{Idle, Append, NewHead, Clean}
 use Rattle.record.specs.declared.Refusal.{Refusal}
-use Rattle.record.specs.declared.Store.{Store}
+use Rattle.record.specs.declared.Record.{Record}
 use Rattle.model.specs.Log.{Placed, placeOf}
 use Rattle.model.specs.Causes.{firstCause}
 use Rattle.model.specs.Refused.{stepCauses}
 use Rattle.model.specs.Promises.{lentLengths, StepPromise}
-use Rattle.laws.specs.StoreKept.{edition1-roomy}
+use Rattle.laws.specs.OperationsKept.{edition1-roomy}
 use Rattle.index.specs.Insert.{Insertion, insertedAt, inserted, Tally, counted, over, tallied, insertNext, insertAll}
 use Rattle.index.specs.Search.{versionAt, searchFor}
 use Rattle.index.specs.Build.{finished, built}
@@ -35,15 +35,15 @@ pub record Moved : Type 0 where
   pub area : List ℕ
   pub after : After
 
-unfoldable pub storedBy : Layout → Store → List ℕ → List ℕ → NextStore → Moved
+unfoldable pub storedBy : Layout → Record → List ℕ → List ℕ → NextStore → Moved
 storedBy L r area cells (At p b) = record { area = set area p b; after = advanced L r (set area p b) cells }
 storedBy L r area cells Bad = record { area = area; after = unfit r cells }
 
-unfoldable pub steppedUnless : Layout → Store → List ℕ → List ℕ → List ℕ → Option Refusal → Moved
+unfoldable pub steppedUnless : Layout → Record → List ℕ → List ℕ → List ℕ → Option Refusal → Moved
 steppedUnless L r area cells work none = storedBy L r area cells (nextStore (length area) work r)
 steppedUnless L r area cells work (some c) = record { area = area; after = record { stepped = refusedWith r c; cells = cells } }
 
-abbrev pub steppedBy : Layout → Store → List ℕ → List ℕ → List ℕ → Moved
+abbrev pub steppedBy : Layout → Record → List ℕ → List ℕ → List ℕ → Moved
 steppedBy L r area cells work = steppedUnless L r area cells work (firstCause (stepCauses L r (lentLengths area cells work)))
 
 -- ---- the index stays as long as it was, whatever the record
@@ -101,7 +101,7 @@ length-built : (L : Layout) (area : List ℕ) (S map : ℕ) (order : List ℕ) (
 length-built L area S map order m =
     finished-cells L area S m _ (all-cells L area S m _ (counted (replicate m 0) 0) (length-replicate m 0))
 
-module _ (L : Layout) (r : Store) (area cells : List ℕ) where
+module _ (L : Layout) (r : Record) (area cells : List ℕ) where
   abbrev Long : After → Type 0
   Long a = length (a .cells) ≡ length cells
 
@@ -111,7 +111,7 @@ module _ (L : Layout) (r : Store) (area cells : List ℕ) where
   either-long true a b p q = p
   either-long false a b p q = q
 
-  entry-long : (done : Store) (place : ℕ) → Long (finishEntry L r done area cells place)
+  entry-long : (done : Record) (place : ℕ) → Long (finishEntry L r done area cells place)
   unfolding finishEntry
   entry-long done place =
       either-long (leb (place + entrySize L 0) (length area)) _ (unfit r cells)
@@ -122,9 +122,9 @@ module _ (L : Layout) (r : Store) (area cells : List ℕ) where
   finish-long Idle = refl
   finish-long (Append n k) = either-long (eqb (r .next .0) (versionLimit L)) (unfit r cells) _ refl (entry-long (appendDone r n) _)
   finish-long (NewHead i n k) =
-      either-long (either (eqb (r .next .0) (versionLimit L)) (eqb (r .number .0) numberLimit)) (unfit r cells) _ refl (entry-long _ _)
+      either-long (either (eqb (r .next .0) (versionLimit L)) (eqb (r .digest .0) numberLimit)) (unfit r cells) _ refl (entry-long _ _)
   finish-long (Clean i v n k) =
-      either-long (eqb (r .number .0) numberLimit) (unfit r cells) _ refl (length-built L area (r .size) (cleanMap r i v) _ (length cells))
+      either-long (eqb (r .digest .0) numberLimit) (unfit r cells) _ refl (length-built L area (r .size) (cleanMap r i v) _ (length cells))
 
   advanced-long : Long (advanced L r area cells)
   unfolding advanced
@@ -132,7 +132,7 @@ module _ (L : Layout) (r : Store) (area cells : List ℕ) where
 
 -- ---- the promise
 
-module _ (r : Store) (area cells work : List ℕ) where
+module _ (r : Record) (area cells work : List ℕ) where
   abbrev Keeps : Moved → Type 0
   Keeps x = StepPromise edition1 r area (x .area) cells (x .after .cells) work (x .after .stepped)
 

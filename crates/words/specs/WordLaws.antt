@@ -13,14 +13,14 @@ use Rattle.segment.specs.Choice.{pick, pick-true, pick-false, both, both-left, 
 use Rattle.record.specs.Answers.{blank, withPending}
 use Rattle.record.specs.declared.Pending.{Pending}
 use Rattle.record.specs.declared.Pending.the-variants.{Idle, Append, NewHead, Clean}
-use Rattle.record.specs.declared.Store.{Store}
-use Rattle.words.specs.Words.{recordWords, numberWords, pendingWords, wordsOf, word, zeros, pendingFits, pendingOf, storeOf, isRecord, decoded}
+use Rattle.record.specs.declared.Record.{Record}
+use Rattle.words.specs.Words.{recordWords, numberWords, pendingWords, wordsOf, word, zeros, pendingFits, pendingOf, recordIn, isRecord, decoded}
 use Rattle.words.specs.declared.Decoded.{Decoded}
 
 -- ---- what the code does, in its steps
 
 -- the numbers first, and then the pending operation
-pub numbers-first : (w w₁ w₂ : List ℕ) (r : Store) → w₁ ≡ sets w 0 (numberWords r) → w₂ ≡ sets w₁ 9 (pendingWords (r .pending))
+pub numbers-first : (w w₁ w₂ : List ℕ) (r : Record) → w₁ ≡ sets w 0 (numberWords r) → w₂ ≡ sets w₁ 9 (pendingWords (r .pending))
     → w₂ ≡ sets w 0 (wordsOf r)
 numbers-first w w₁ w₂ r e₁ e₂ = e₂ ∙ ap (λ (l : List ℕ). sets l 9 (pendingWords (r .pending))) e₁
 
@@ -76,11 +76,11 @@ module _ (t s v n k : ℕ) where
   unfolding pendingOf pick
   of-rest a b c = rw (ne-eqb t 1 a, ne-eqb t 2 b, ne-eqb t 3 c)
 
-pub decoded-record : (w : List ℕ) → isRecord w ≡ true → decoded w ≡ record { ok = true; store = storeOf w }
+pub decoded-record : (w : List ℕ) → isRecord w ≡ true → decoded w ≡ record { ok = true; rec = recordIn w }
 unfolding decoded
 decoded-record w e = pick-true (isRecord w) _ _ e
 
-pub decoded-none : (w : List ℕ) → isRecord w ≡ false → decoded w ≡ record { ok = false; store = blank }
+pub decoded-none : (w : List ℕ) → isRecord w ≡ false → decoded w ≡ record { ok = false; rec = blank }
 unfolding decoded
 decoded-none w e = pick-false (isRecord w) _ _ e
 
@@ -100,21 +100,21 @@ long-enough w h = rw (le-leb recordWords (length w) h)
 -- ---- a record's words decode to the record
 
 -- a run of stores at the front of what is long enough
-filled : (w : List ℕ) (r : Store) (p : Pending) → recordWords ≤ length w
+filled : (w : List ℕ) (r : Record) (p : Pending) → recordWords ≤ length w
     → (rest : List ℕ) × (sets w 0 (numberWords r ++ pendingWords p) ≡ numberWords r ++ pendingWords p ++ rest)
 filled w r Idle h = (_, sets-eq (numberWords r ++ pendingWords Idle) w 0 h)
 filled w r (Append n k) h = (_, sets-eq (numberWords r ++ pendingWords (Append n k)) w 0 h)
 filled w r (NewHead s n k) h = (_, sets-eq (numberWords r ++ pendingWords (NewHead s n k)) w 0 h)
 filled w r (Clean s v n k) h = (_, sets-eq (numberWords r ++ pendingWords (Clean s v n k)) w 0 h)
 
-says : (r : Store) (p : Pending) (rest : List ℕ) → decoded (numberWords r ++ pendingWords p ++ rest) ≡ record { ok = true; store = withPending r p }
+says : (r : Record) (p : Pending) (rest : List ℕ) → decoded (numberWords r ++ pendingWords p ++ rest) ≡ record { ok = true; rec = withPending r p }
 unfolding pendingFits pendingOf zeros pick both
 says r Idle rest = let w = numberWords r ++ pendingWords Idle ++ rest in decoded-record w (long-enough w (omega arith))
 says r (Append n k) rest = let w = numberWords r ++ pendingWords (Append n k) ++ rest in decoded-record w (long-enough w (omega arith))
 says r (NewHead s n k) rest = let w = numberWords r ++ pendingWords (NewHead s n k) ++ rest in decoded-record w (long-enough w (omega arith))
 says r (Clean s v n k) rest = let w = numberWords r ++ pendingWords (Clean s v n k) ++ rest in decoded-record w (long-enough w (omega arith))
 
-pub decode-encode : (r : Store) (w : List ℕ) → recordWords ≤ length w → decoded (sets w 0 (wordsOf r)) ≡ record { ok = true; store = r }
+pub decode-encode : (r : Record) (w : List ℕ) → recordWords ≤ length w → decoded (sets w 0 (wordsOf r)) ≡ record { ok = true; rec = r }
 decode-encode r w h =
     let f = filled w r (r .pending) h in
     ap decoded (f .1) ∙ says r (r .pending) (f .0)
@@ -168,12 +168,12 @@ sets-same w n h =
     let l : length (take n w) ≡ n = length-take-le n w h in
     sets-eq (take n w) w 0 (omega arith) ∙ rw (l, zero-add n) (take-append-drop n w)
 
-pub encode-decode : (w : List ℕ) → isRecord w ≡ true → sets w 0 (wordsOf (storeOf w)) ≡ w
+pub encode-decode : (w : List ℕ) → isRecord w ≡ true → sets w 0 (wordsOf (recordIn w)) ≡ w
 unfolding wordsFrom
 encode-decode w e =
     let long = record-long w e in
     let fits = sym (long-enough w long) ∙ e in
     let back = pending-back (word w 9) (word w 10) (word w 11) (word w 12) (word w 13) fits in
-    ap (λ (l : List ℕ). sets w 0 (numberWords (storeOf w) ++ l)) back
+    ap (λ (l : List ℕ). sets w 0 (numberWords (recordIn w) ++ l)) back
     ∙ ap (λ (l : List ℕ). sets w 0 l) (sym (from-words w 0 14 long))
     ∙ sets-same w 14 long

@@ -10,7 +10,7 @@ use Rattle.segment.specs.Choice.{pick, both}
 use Rattle.record.specs.Answers.{blank}
 use Rattle.record.specs.declared.Pending.{Pending}
 use Rattle.record.specs.declared.Pending.the-variants.{Idle, Append, NewHead, Clean}
-use Rattle.record.specs.declared.Store.{Store}
+use Rattle.record.specs.declared.Record.{Record}
 use Rattle.words.specs.declared.Decoded.{Decoded}
 
 -- how many words a record takes
@@ -25,10 +25,10 @@ pendingWords (Append n k) = 1 ∷ 0 ∷ 0 ∷ n ∷ k ∷ []
 pendingWords (NewHead s n k) = 2 ∷ s ∷ 0 ∷ n ∷ k ∷ []
 pendingWords (Clean s v n k) = 3 ∷ s ∷ v ∷ n ∷ k ∷ []
 
-abbrev pub numberWords : Store → List ℕ
-numberWords r = r .slots ∷ r .size ∷ r .cells ∷ r .head ∷ r .end ∷ r .number .0 ∷ r .map ∷ r .next .0 ∷ r .keys ∷ []
+abbrev pub numberWords : Record → List ℕ
+numberWords r = r .slots ∷ r .size ∷ r .cells ∷ r .head ∷ r .end ∷ r .digest .0 ∷ r .map ∷ r .next .0 ∷ r .keys ∷ []
 
-abbrev pub wordsOf : Store → List ℕ
+abbrev pub wordsOf : Record → List ℕ
 wordsOf r = numberWords r ++ pendingWords (r .pending)
 
 -- ---- the record of words
@@ -47,15 +47,15 @@ pendingOf t s v n k = pick (eqb t 1) (Append n k) (pick (eqb t 2) (NewHead s n k
 abbrev pub word : List ℕ → ℕ → ℕ
 word w i = getD w i 0
 
-abbrev pub storeOf : List ℕ → Store
-storeOf w =
+abbrev pub recordIn : List ℕ → Record
+recordIn w =
     record {
       slots = word w 0;
       size = word w 1;
       cells = word w 2;
       head = word w 3;
       end = word w 4;
-      number = record { 0 = word w 5 };
+      digest = record { 0 = word w 5 };
       map = word w 6;
       next = record { 0 = word w 7 };
       keys = word w 8;
@@ -68,4 +68,4 @@ isRecord w = both (leb recordWords (length w)) (pendingFits (word w 9) (word w 1
 
 -- the record, or the blank one where the words are no record's
 unfoldable pub decoded : List ℕ → Decoded
-decoded w = pick (isRecord w) (record { ok = true; store = storeOf w }) (record { ok = false; store = blank })
+decoded w = pick (isRecord w) (record { ok = true; rec = recordIn w }) (record { ok = false; rec = blank })

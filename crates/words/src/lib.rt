@@ -1,6 +1,6 @@
 // The store record as words: what crosses to a firmware, which lends the words and keeps them from call to call.
 use record::Pending;
-use record::Store;
+use record::Record;
 use record::blank;
 use segment::DigestNumber;
 use segment::Version;
@@ -10,7 +10,7 @@ ghost use mathlib.Core.Bool.{true};
 ghost use mathlib.Core.List.{[], _∷_};
 ghost use lib.ListN.{length};
 ghost use lib.Seq.{sets};
-ghost use Rattle.words.specs.Words.{recordWords, numberWords, pendingWords, zeros, pendingFits, pendingOf, wordsOf, storeOf, isRecord, decoded};
+ghost use Rattle.words.specs.Words.{recordWords, numberWords, pendingWords, zeros, pendingFits, pendingOf, wordsOf, recordIn, isRecord, decoded};
 
 // How many words a record takes.
 pub const WORDS: usize = 14;
@@ -18,7 +18,7 @@ pub const WORDS: usize = 14;
 // Whether words are a record, and the record; the blank one where they are not.
 pub struct Decoded {
     pub ok: bool,
-    pub store: Store,
+    pub rec: Record,
 }
 
 // The five words of a pending operation, from the tenth on.
@@ -51,30 +51,30 @@ fn encode_pending(p: Pending, words: &mut [u32])
 }
 
 // The nine numbers of a record besides its pending operation.
-fn put_numbers(store: Store, words: &mut [u32])
+fn put_numbers(rec: Record, words: &mut [u32])
     requires { ⌜ recordWords ≤ length (now words) ⌝ }
-    ensures { λ _. ⌜ now (words .exit) ≡ sets (now (words .entry)) 0 (numberWords store) ⌝ }
+    ensures { λ _. ⌜ now (words .exit) ≡ sets (now (words .entry)) 0 (numberWords rec) ⌝ }
 {
-    let number = store.number;
-    let next = store.next;
-    words[0] = store.slots;
-    words[1] = store.size;
-    words[2] = store.cells;
-    words[3] = store.head;
-    words[4] = store.end;
+    let number = rec.digest;
+    let next = rec.next;
+    words[0] = rec.slots;
+    words[1] = rec.size;
+    words[2] = rec.cells;
+    words[3] = rec.head;
+    words[4] = rec.end;
     words[5] = number.0;
-    words[6] = store.map;
+    words[6] = rec.map;
     words[7] = next.0;
-    words[8] = store.keys;
+    words[8] = rec.keys;
 }
 
 // The record into the first words of what is lent; the others stay.
-pub fn encode(store: Store, words: &mut [u32])
+pub fn encode(rec: Record, words: &mut [u32])
     requires { ⌜ recordWords ≤ length (now words) ⌝ }
-    ensures { λ _. ⌜ now (words .exit) ≡ sets (now (words .entry)) 0 (wordsOf store) ⌝ }
+    ensures { λ _. ⌜ now (words .exit) ≡ sets (now (words .entry)) 0 (wordsOf rec) ⌝ }
 {
-    let pending = store.pending;
-    put_numbers(store, words);
+    let pending = rec.pending;
+    put_numbers(rec, words);
     encode_pending(pending, words);
 }
 
@@ -115,18 +115,18 @@ fn pending_of(tag: u32, slot: u32, victims: u32, length: u32, left: u32) -> Pend
 }
 
 // The record that the first words say, where there are enough of them.
-fn store_of(words: &[u32]) -> Store
+fn record_in(words: &[u32]) -> Record
     requires { ⌜ recordWords ≤ length (now words) ⌝ }
-    ensures { λ r. ⌜ r ≡ storeOf (now (words .entry)) ⌝ }
+    ensures { λ r. ⌜ r ≡ recordIn (now (words .entry)) ⌝ }
 {
     let pending = pending_of(words[9], words[10], words[11], words[12], words[13]);
-    Store {
+    Record {
         slots: words[0],
         size: words[1],
         cells: words[2],
         head: words[3],
         end: words[4],
-        number: DigestNumber(words[5]),
+        digest: DigestNumber(words[5]),
         map: words[6],
         next: Version(words[7]),
         keys: words[8],
@@ -148,9 +148,9 @@ pub fn decode(words: &[u32]) -> Decoded
     ensures { λ r. ⌜ r ≡ decoded (now (words .entry)) ⌝ }
 {
     if is_record(words) {
-        let store = store_of(words);
-        return Decoded { ok: true, store };
+        let rec = record_in(words);
+        return Decoded { ok: true, rec };
     }
-    let store = blank();
-    Decoded { ok: false, store }
+    let rec = blank();
+    Decoded { ok: false, rec }
 }

@@ -20,7 +20,7 @@ use Rattle.slot_map.specs.Bit.{named}
 use Rattle.record.specs.Answers.{withPending}
 use Rattle.record.specs.RangeLaws.{Lent}
 use Rattle.record.specs.declared.Pending.the-variants.{Idle}
-use Rattle.record.specs.declared.Store.{Store}
+use Rattle.record.specs.declared.Record.{Record}
 use Rattle.model.specs.Log.{Placed, segmentOf, placeOf, viewsOf, scan, latest, objectOnly, present, hasKey, keysOf}
 use Rattle.model.specs.Index.{HasCell}
 use Rattle.model.specs.Operations.{logNow}
@@ -84,10 +84,10 @@ kind-presents L x e = go (isTombstone L (x .entry .kind)) (eqb (kindSize L (x .e
     go false true d = (cc, cc)
     go false false d = (refl, refl)
 
-module _ (L : Layout) (area : List ℕ) (r : Store) (cells : List ℕ) (g : Genuine L area r cells) (h : Lent L r (length area) (length cells)) where
+module _ (L : Layout) (area : List ℕ) (r : Record) (cells : List ℕ) (g : Genuine L area r cells) (h : Lent L r (length area) (length cells)) where
   scans : AllScanned (viewsOf L area (r .size)) (named (r .map)) (r .slots)
   scans =
-      recovered-case L (r .slots) (r .size) (r .cells) area (λ (x : Store). AllScanned (viewsOf L area (r .size)) (named (x .map)) (r .slots))
+      recovered-case L (r .slots) (r .size) (r .cells) area (λ (x : Record). AllScanned (viewsOf L area (r .size)) (named (x .map)) (r .slots))
       (λ top l f. f .scans) (withPending r Idle) (g .recovers)
 
   stands : (x : Placed) → In x (logNow L area r) → entryAt L (segmentOf area (r .size) (x .slot)) (x .offset) ≡ entry (x .entry)

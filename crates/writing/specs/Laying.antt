@@ -19,7 +19,7 @@ use Rattle.slot_map.specs.BitLaws.{bit-of-zero, within-of-le}
 use Rattle.record.specs.RangeLaws.{Lent}
 use Rattle.record.specs.declared.Pending.the-variants.{Append, NewHead}
 use Rattle.record.specs.declared.Start.{Start}
-use Rattle.record.specs.declared.Store.{Store}
+use Rattle.record.specs.declared.Record.{Record}
 use Rattle.model.specs.Operations.{Laid, fitsHead, newSlot, newDigest, laidAppend, laidHead, laidEntry, planOf}
 use Rattle.model.specs.Promises.{Begun}
 use Rattle.starting.specs.Stores.{commitStores, headStores, commit-stores, head-stores}
@@ -27,7 +27,7 @@ use Rattle.starting.specs.NewHead.{NumberLeft, HeadReady, head-ready}
 use Rattle.starting.specs.Answer.{startedWith}
 
 -- What is laid down, told and put into the work buffer.
-unfoldable pub laidBegun : Store → Laid → List ℕ → Begun
+unfoldable pub laidBegun : Record → Laid → List ℕ → Begun
 laidBegun r laid work =
     let left = length (planOf r (laid .pending 0) (laid .bytes)) in
     record { start = startedWith r (laid .pending left) left; work = sets work 0 (laid .bytes) }
@@ -35,7 +35,7 @@ laidBegun r laid work =
 -- ---- what the code may rely on
 
 -- A record in range, and room for the entry of a value of n bytes in a work buffer of w.
-pub record Ready (L : Layout) (r : Store) (n w : ℕ) : Type 0 where
+pub record Ready (L : Layout) (r : Record) (n w : ℕ) : Type 0 where
   pub areaLength : ℕ
   pub indexLength : ℕ
   pub lent : Lent L r areaLength indexLength
@@ -44,13 +44,13 @@ pub record Ready (L : Layout) (r : Store) (n w : ℕ) : Type 0 where
 
 -- ---- a new head
 
-pub ready-head : (L : Layout) (r : Store) (n w : ℕ) → Ready L r n w → NumberLeft r → (slot : ℕ) → slot ≡ newSlot r → HeadReady r 0 slot
+pub ready-head : (L : Layout) (r : Record) (n w : ℕ) → Ready L r n w → NumberLeft r → (slot : ℕ) → slot ≡ newSlot r → HeadReady r 0 slot
 ready-head L r n w h left slot e =
     head-ready L r (h .areaLength) (h .indexLength) (h .lent) 0 (within-of-le 0 (r .map) (λ j. omega (arith, bit-of-zero j))) left slot e
 
 -- ---- what the code tells and leaves in the work buffer
 
-module _ (L : Layout) (r : Store) (e : Entry) (work work′ : List ℕ) where
+module _ (L : Layout) (r : Record) (e : Entry) (work work′ : List ℕ) where
   append-stores : length (planOf r (laidAppend L e .pending 0) (laidAppend L e .bytes)) ≡ commitStores (r .size) (r .end) (sizeOf L e)
   unfolding planOf
   append-stores = commit-stores (r .size) (r .head) (r .end) (sizeOf L e) (encoded L e) (length-encoded L e) (omega arith)
@@ -88,7 +88,7 @@ module _ (L : Layout) (r : Store) (e : Entry) (work work′ : List ℕ) where
       λ i. record { start = told i; work = bytes i }
 
 -- an entry that fits the head, and one that does not: t is what the code finds for the fit
-module _ (L : Layout) (r : Store) (e : Entry) (work : List ℕ) (t : Bool) (f : t ≡ fitsHead L r e) where
+module _ (L : Layout) (r : Record) (e : Entry) (work : List ℕ) (t : Bool) (f : t ≡ fitsHead L r e) where
   pub fits-laid : {b : Begun} → t ≡ true → b ≡ laidBegun r (laidAppend L e) work → b ≡ laidBegun r (laidEntry L r e) work
   fits-laid h g = g ∙ ap (λ (x : Laid). laidBegun r x work) (sym (pick-true (fitsHead L r e) (laidAppend L e) (laidHead L r e) (sym f ∙ h)))
 

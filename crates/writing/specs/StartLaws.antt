@@ -19,7 +19,7 @@ use Rattle.record.specs.RangeLaws.{Lent, lent}
 use Rattle.record.specs.declared.Refusal.{Refusal}
 use Rattle.record.specs.declared.Refusal.the-variants.{BadRecord, Absent, VersionsSpent, KeysFull}
 use Rattle.record.specs.declared.Start.{Start}
-use Rattle.record.specs.declared.Store.{Store}
+use Rattle.record.specs.declared.Record.{Record}
 use Rattle.model.specs.Log.{Placed}
 use Rattle.model.specs.Causes.{Cause, when, firstCause}
 use Rattle.model.specs.Operations.{Operation, write, delete, logNow, kindElse, writtenEntry, tombstoneEntry, Laid, laid, laidEntry}
@@ -43,17 +43,17 @@ use Rattle.writing.specs.Known.{genuine-known, genuine-presents}
 -- ---- any start
 
 -- What is laid down for the operation does not go by the log.
-abbrev LogFree : Layout → Store → Operation → Type 0
+abbrev LogFree : Layout → Record → Operation → Type 0
 LogFree L r o = (log : List Placed) → laid L r [] o ≡ laid L r log o
 
-begun-free : (L : Layout) (r : Store) (o : Operation) → LogFree L r o → (log : List Placed) (work : List ℕ) (c : Option Refusal) →
+begun-free : (L : Layout) (r : Record) (o : Operation) → LogFree L r o → (log : List Placed) (work : List ℕ) (c : Option Refusal) →
     begun L r [] o work c ≡ begun L r log o work c
 unfolding begun laidBegun
 begun-free L r o free log work none = ap (λ x. laidBegun r x work) (free log)
 begun-free L r o free log work (some c) = refl
 
 -- A start whose tests are 4, 3 and 5, some of its own, and 12 and 10 for an entry with a value of n bytes.
-module _ (L : Layout) (o : Operation) (r : Store) (area cells work : List ℕ) (own : List Cause) (n : ℕ) where
+module _ (L : Layout) (o : Operation) (r : Record) (area cells work : List ℕ) (own : List Cause) (n : ℕ) where
   abbrev lengths : Lengths
   lengths = lentLengths area cells work
 
@@ -130,7 +130,7 @@ module _ (L : Layout) (o : Operation) (r : Store) (area cells work : List ℕ) (
     unfolding roomTests both
     start-number f =
         let last = no-cause (roomTests r (entrySize L n)) (none-right own (roomTests r (entrySize L n)) (none-right (lentTests L r lengths) (own ++ roomTests r (entrySize L n)) none-holds)) in
-        eqb-false (r .number .0) numberLimit (rw f at (last .1 .0))
+        eqb-false (r .digest .0) numberLimit (rw f at (last .1 .0))
 
 -- ---- a write
 
@@ -144,7 +144,7 @@ unfolding isNone orZero
 some-kind none p = cc
 some-kind (some n) p = refl
 
-module _ (L : Layout) (r : Store) (area cells work : List ℕ) (k : Key) (value : List ℕ) where
+module _ (L : Layout) (r : Record) (area cells work : List ℕ) (k : Key) (value : List ℕ) where
   abbrev found : Found
   found = searchFor L area cells k
 
@@ -202,7 +202,7 @@ module _ (L : Layout) (r : Store) (area cells work : List ℕ) (k : Key) (value 
 
 -- ---- a delete
 
-module _ (L : Layout) (r : Store) (area cells work : List ℕ) (k : Key) where
+module _ (L : Layout) (r : Record) (area cells work : List ℕ) (k : Key) where
   abbrev seen : Presence
   seen = presenceFor L area cells k
 

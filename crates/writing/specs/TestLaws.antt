@@ -15,7 +15,7 @@ use Rattle.slot_map.specs.Count.{free}
 use Rattle.record.specs.RangeLaws.{lent}
 use Rattle.record.specs.declared.Refusal.{Refusal}
 use Rattle.record.specs.declared.Refusal.the-variants.{BadRecord, ValueLength, VersionsSpent, NumbersSpent, KeysFull, NoRoom}
-use Rattle.record.specs.declared.Store.{Store}
+use Rattle.record.specs.declared.Record.{Record}
 use Rattle.model.specs.Causes.{firstCause}
 use Rattle.model.specs.Refused.{Lengths, isNone}
 use Rattle.laws.specs.Entering.{Roomy}
@@ -31,7 +31,7 @@ use Rattle.writing.specs.Tests.{isAt, isFull, valueTests, keyTests, room
 
 -- ---- 11, by what the search found
 
-module _ (r : Store) where
+module _ (r : Record) where
   pub key-known : (i : ℕ) → Check.Passed ≡ checked (firstCause (keyTests r (At i)))
   unfolding isFull isAt both keyTests
   key-known i = skipped _ _ refl (skipped _ _ refl passed)
@@ -51,7 +51,7 @@ module _ (r : Store) where
 
 -- ---- 12 and 10: t is what the code finds for the fit, and f for the free slots
 
-module _ (r : Store) (n : ℕ) (t : Bool) (e : t ≡ leb (r .end + n) (r .size)) where
+module _ (r : Record) (n : ℕ) (t : Bool) (e : t ≡ leb (r .end + n) (r .size)) where
   pub room-fits : t ≡ true → Check.Passed ≡ checked (firstCause (roomTests r n))
   unfolding roomTests
   room-fits h =
@@ -70,13 +70,13 @@ module _ (r : Store) (n : ℕ) (t : Bool) (e : t ≡ leb (r .end + n) (r .size))
       enough : both (not (leb (r .end + n) (r .size))) (ltb (free (r .slots) (r .map)) 2) ≡ false
       enough = both-false-right _ _ (ap (λ (x : ℕ). ltb x 2) (sym q) ∙ le-ltb f 2 two)
 
-      pub room-spent : r .number .0 ≡ numberLimit → Check.Refused NumbersSpent ≡ checked (firstCause (roomTests r n))
+      pub room-spent : r .digest .0 ≡ numberLimit → Check.Refused NumbersSpent ≡ checked (firstCause (roomTests r n))
       unfolding roomTests
-      room-spent h = skipped _ _ enough (refused _ _ (both-true _ _ new (eq-eqb (r .number .0) numberLimit h)))
+      room-spent h = skipped _ _ enough (refused _ _ (both-true _ _ new (eq-eqb (r .digest .0) numberLimit h)))
 
-      pub room-new : (r .number .0 ≡ numberLimit → ⊥) → Check.Passed ≡ checked (firstCause (roomTests r n))
+      pub room-new : (r .digest .0 ≡ numberLimit → ⊥) → Check.Passed ≡ checked (firstCause (roomTests r n))
       unfolding roomTests
-      room-new h = skipped _ _ enough (skipped _ _ (both-false-right _ _ (ne-eqb (r .number .0) numberLimit h)) passed)
+      room-new h = skipped _ _ enough (skipped _ _ (both-false-right _ _ (ne-eqb (r .digest .0) numberLimit h)) passed)
 
 -- ---- a write: k is what the code finds for the kind of its value
 
@@ -93,7 +93,7 @@ pub kind-room :
     (L : Layout) (n k : ℕ) → Roomy L → k ≡ orZero (objectKind L n) → (k ≡ 0 → ⊥) → digestSize L + entrySize L n ≤ 256
 kind-room L n k roomy e z = roomy .room k n (object-kind L n k (has-kind L n k e z))
 
-module _ (L : Layout) (r : Store) (found : Found) (l : Lengths) (n : ℕ) where
+module _ (L : Layout) (r : Record) (found : Found) (l : Lengths) (n : ℕ) where
   abbrev WriteIs : Check → Type 0
   WriteIs a = a ≡ checked (firstCause (writeTests L r found l n))
 
@@ -164,7 +164,7 @@ module _ (L : Layout) (area cells : List ℕ) (k : Key) where
 
 -- ---- a delete: p is what the code finds for the key
 
-module _ (L : Layout) (r : Store) (p : Presence) (l : Lengths) where
+module _ (L : Layout) (r : Record) (p : Presence) (l : Lengths) where
   abbrev DeleteIs : Check → Type 0
   DeleteIs a = a ≡ checked (firstCause (deleteTests L r p l))
 

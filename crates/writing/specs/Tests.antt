@@ -11,7 +11,7 @@ use Rattle.segment.specs.declared.Key.{Key}
 use Rattle.slot_map.specs.Count.{free}
 use Rattle.record.specs.declared.Refusal.{Refusal}
 use Rattle.record.specs.declared.Refusal.the-variants.{BadRecord, ValueLength, VersionsSpent, NumbersSpent, KeysFull, NoRoom}
-use Rattle.record.specs.declared.Store.{Store}
+use Rattle.record.specs.declared.Record.{Record}
 use Rattle.model.specs.Causes.{Cause, when}
 use Rattle.model.specs.Refused.{Lengths, isNone, versionsSpent, numbersSpent}
 use Rattle.index.specs.Search.{searchFor}
@@ -33,23 +33,23 @@ isFull (Free i) = false
 isFull Full = true
 
 -- 7 and 9
-unfoldable pub valueTests : Layout → Store → ℕ → List Cause
+unfoldable pub valueTests : Layout → Record → ℕ → List Cause
 valueTests L r n = when (isNone (objectKind L n)) ValueLength ∷ when (versionsSpent L r) VersionsSpent ∷ []
 
 -- 11, and 4 where every cell is another key's
-unfoldable pub keyTests : Store → Found → List Cause
+unfoldable pub keyTests : Record → Found → List Cause
 keyTests r found =
     when (isFull found) BadRecord ∷ when (both (not (isAt found)) (eqb (r .keys) (r .cells - 1))) KeysFull ∷ []
 
 -- 12 and 10, for an entry of n bytes
-unfoldable pub roomTests : Store → ℕ → List Cause
+unfoldable pub roomTests : Record → ℕ → List Cause
 roomTests r n =
     when (both (not (leb (r .end + n) (r .size))) (ltb (free (r .slots) (r .map)) 2)) NoRoom
     ∷ when (both (not (leb (r .end + n) (r .size))) (numbersSpent r)) NumbersSpent
     ∷ []
 
 -- Write: 4, 3, 5, 7, 9, 11, 12, 10, for a value of n bytes.
-unfoldable pub writeTests : Layout → Store → Found → Lengths → ℕ → List Cause
+unfoldable pub writeTests : Layout → Record → Found → Lengths → ℕ → List Cause
 writeTests L r found l n = lentTests L r l ++ ((valueTests L r n ++ keyTests r found) ++ roomTests r (entrySize L n))
 
 -- ---- a key's object, by the index
@@ -78,10 +78,10 @@ isBad Absent = false
 isBad Bad = true
 
 -- 8, 4 where the index or the log is none that these rules allow, and 9
-unfoldable pub presentTests : Layout → Store → Presence → List Cause
+unfoldable pub presentTests : Layout → Record → Presence → List Cause
 presentTests L r p =
     when (isBad p) BadRecord ∷ when (isMissing p) Refusal.Absent ∷ when (versionsSpent L r) VersionsSpent ∷ []
 
 -- Delete: 4, 3, 5, 8, 9, 12, 10.
-unfoldable pub deleteTests : Layout → Store → Presence → Lengths → List Cause
+unfoldable pub deleteTests : Layout → Record → Presence → Lengths → List Cause
 deleteTests L r p l = lentTests L r l ++ (presentTests L r p ++ roomTests r (entrySize L 0))

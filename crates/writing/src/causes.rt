@@ -3,8 +3,8 @@ use crate::Presence;
 use crate::find::find;
 use index::Found;
 use index::search::search;
+use record::Record;
 use record::Refusal;
-use record::Store;
 use segment::Key;
 use segment::layout::HEAD_SIZE;
 use segment::layout::NUMBER_LIMIT;
@@ -23,25 +23,25 @@ ghost use Rattle.starting.specs.Checks.{checked};
 ghost use Rattle.writing.specs.Tests.{roomTests, keyTests, writeTests, presenceFor, deleteTests};
 
 // Whether an entry of that length fits the head; it may end exactly at S.
-pub fn fits_head(store: Store, length: usize) -> bool
+pub fn fits_head(rec: Record, length: usize) -> bool
     requires { ⌜ length ≤ 256 ⌝ }
-    ensures { λ r. ⌜ r ≡ leb (store .end + length) (store .size) ⌝ }
+    ensures { λ r. ⌜ r ≡ leb (rec .end + length) (rec .size) ⌝ }
 {
-    store.end as usize + length <= store.size as usize
+    rec.end as usize + length <= rec.size as usize
 }
 
 // 12 and 10, which only a new head brings.
-fn check_room(store: Store, length: usize) -> Check
-    requires { ⌜ (length ≤ 256) × (store .map < 2 ^ store .slots) ⌝ }
-    ensures { λ r. ⌜ r ≡ checked (firstCause (roomTests store length)) ⌝ }
+fn check_room(rec: Record, length: usize) -> Check
+    requires { ⌜ (length ≤ 256) × (rec .map < 2 ^ rec .slots) ⌝ }
+    ensures { λ r. ⌜ r ≡ checked (firstCause (roomTests rec length)) ⌝ }
 {
-    if fits_head(store, length) {
+    if fits_head(rec, length) {
         return Check::Passed;
     }
-    if slot_map::free_slots(store.slots, store.map) < 2 {
+    if slot_map::free_slots(rec.slots, rec.map) < 2 {
         return Check::Refused(Refusal::NoRoom);
     }
-    let number = store.number;
+    let number = rec.digest;
     if number.0 == NUMBER_LIMIT {
         return Check::Refused(Refusal::NumbersSpent);
     }
@@ -49,14 +49,14 @@ fn check_room(store: Store, length: usize) -> Check
 }
 
 // 11, by what the search for the key found; an index without a free cell is none that the rule allows.
-fn check_key(store: Store, found: Found) -> Check
-    requires { ⌜ 1 ≤ store .cells ⌝ }
-    ensures { λ r. ⌜ r ≡ checked (firstCause (keyTests store found)) ⌝ }
+fn check_key(rec: Record, found: Found) -> Check
+    requires { ⌜ 1 ≤ rec .cells ⌝ }
+    ensures { λ r. ⌜ r ≡ checked (firstCause (keyTests rec found)) ⌝ }
 {
     match found {
         Found::At(_) => Check::Passed,
         Found::Free(_) => {
-            if store.keys == store.cells - 1 {
+            if rec.keys == rec.cells - 1 {
                 return Check::Refused(Refusal::KeysFull);
             }
             Check::Passed
@@ -67,7 +67,7 @@ fn check_key(store: Store, found: Found) -> Check
 
 // Write: 4, 3, 5, 7, 9, 11, 12, 10, for a value of so many bytes.
 pub fn check_write(
-    store: Store,
+    rec: Record,
     area: &[u8],
     index: &[u32],
     work: usize,
@@ -78,49 +78,49 @@ pub fn check_write(
         ⌜
         r ≡ checked
         (firstCause
-        (writeTests edition1 store (searchFor edition1 (now (area .entry)) (now (index .entry)) key)
+        (writeTests edition1 rec (searchFor edition1 (now (area .entry)) (now (index .entry)) key)
         (record { area = length (now (area .entry)); index = length (now (index .entry)); work = work }) value))
         ⌝ }
 {
-    match check_lent(store, area.len(), index.len(), work) {
+    match check_lent(rec, area.len(), index.len(), work) {
         Check::Refused(c) => Check::Refused(c),
         Check::Passed => {
             if object_kind(value) == 0 {
                 return Check::Refused(Refusal::ValueLength);
             }
-            let next = store.next;
+            let next = rec.next;
             if next.0 == VERSION_LIMIT {
                 return Check::Refused(Refusal::VersionsSpent);
             }
-            match check_key(store, search(area, index, key)) {
+            match check_key(rec, search(area, index, key)) {
                 Check::Refused(c) => Check::Refused(c),
-                Check::Passed => check_room(store, HEAD_SIZE + value),
+                Check::Passed => check_room(rec, HEAD_SIZE + value),
             }
         }
     }
 }
 
 // Delete: 4, 3, 5, 8, 9, 12, 10.
-pub fn check_delete(store: Store, area: &[u8], index: &[u32], work: usize, key: Key) -> Check
+pub fn check_delete(rec: Record, area: &[u8], index: &[u32], work: usize, key: Key) -> Check
     ensures { λ r.
         ⌜
         r ≡ checked
         (firstCause
-        (deleteTests edition1 store (presenceFor edition1 (now (area .entry)) (now (index .entry)) key)
+        (deleteTests edition1 rec (presenceFor edition1 (now (area .entry)) (now (index .entry)) key)
         (record { area = length (now (area .entry)); index = length (now (index .entry)); work = work })))
         ⌝ }
 {
-    match check_lent(store, area.len(), index.len(), work) {
+    match check_lent(rec, area.len(), index.len(), work) {
         Check::Refused(c) => Check::Refused(c),
         Check::Passed => match find(area, index, key) {
             Presence::Bad => Check::Refused(Refusal::BadRecord),
             Presence::Absent => Check::Refused(Refusal::Absent),
             Presence::Object => {
-                let next = store.next;
+                let next = rec.next;
                 if next.0 == VERSION_LIMIT {
                     return Check::Refused(Refusal::VersionsSpent);
                 }
-                check_room(store, HEAD_SIZE)
+                check_room(rec, HEAD_SIZE)
             }
         },
     }

@@ -1,8 +1,8 @@
 // What a start lays down: the pending operation, and the bytes for the work buffer.
 use crate::causes::fits_head;
 use record::Pending;
+use record::Record;
 use record::Start;
-use record::Store;
 use segment::Key;
 use segment::layout::DIGEST_SIZE;
 use segment::layout::HEAD_SIZE;
@@ -23,55 +23,55 @@ ghost use Rattle.starting.specs.NewHead.{NumberLeft};
 ghost use Rattle.writing.specs.Laying.{laidBegun, Ready};
 
 // An entry that goes to the end of the head.
-fn lay_append(store: Store, work: &mut [u8], kind: u8, key: Key, value: &[u8]) -> Start
-    requires { ⌜ Ready edition1 store (length (now value)) (length (now work)) ⌝ }
-    requires { ⌜ fitsHead edition1 store (entryOf kind key (store .next) (now value)) ≡ true ⌝ }
+fn lay_append(rec: Record, work: &mut [u8], kind: u8, key: Key, value: &[u8]) -> Start
+    requires { ⌜ Ready edition1 rec (length (now value)) (length (now work)) ⌝ }
+    requires { ⌜ fitsHead edition1 rec (entryOf kind key (rec .next) (now value)) ≡ true ⌝ }
     ensures { λ r.
         ⌜
         record { start = r; work = now (work .exit) }
-        ≡ laidBegun store (laidAppend edition1 (entryOf kind key (store .next) (now (value .entry)))) (now (work .entry))
+        ≡ laidBegun rec (laidAppend edition1 (entryOf kind key (rec .next) (now (value .entry)))) (now (work .entry))
         ⌝ }
 {
     let count = HEAD_SIZE + value.len();
-    let next = store.next;
+    let next = rec.next;
     write_entry(work, 0, kind, key, next, value);
-    let left = commit_stores(store.size as usize, store.end as usize, count) as u32;
+    let left = commit_stores(rec.size as usize, rec.end as usize, count) as u32;
     let length = count as u32;
-    started(store, Pending::Append { length, left }, left)
+    started(rec, Pending::Append { length, left }, left)
 }
 
 // An entry that goes to a new head, behind its digest.
-fn lay_head(store: Store, work: &mut [u8], kind: u8, key: Key, value: &[u8]) -> Start
-    requires { ⌜ Ready edition1 store (length (now value)) (length (now work)) ⌝ }
-    requires { ⌜ NumberLeft store ⌝ }
+fn lay_head(rec: Record, work: &mut [u8], kind: u8, key: Key, value: &[u8]) -> Start
+    requires { ⌜ Ready edition1 rec (length (now value)) (length (now work)) ⌝ }
+    requires { ⌜ NumberLeft rec ⌝ }
     ensures { λ r.
         ⌜
         record { start = r; work = now (work .exit) }
-        ≡ laidBegun store (laidHead edition1 store (entryOf kind key (store .next) (now (value .entry)))) (now (work .entry))
+        ≡ laidBegun rec (laidHead edition1 rec (entryOf kind key (rec .next) (now (value .entry)))) (now (work .entry))
         ⌝ }
 {
     let count = DIGEST_SIZE + (HEAD_SIZE + value.len());
-    let next = store.next;
-    let slot = next_free(store.slots, store.map, store.head);
-    write_digest(work, 0, new_digest(store, 0, slot));
+    let next = rec.next;
+    let slot = next_free(rec.slots, rec.map, rec.head);
+    write_digest(work, 0, new_digest(rec, 0, slot));
     write_entry(work, DIGEST_SIZE, kind, key, next, value);
-    let left = head_stores(store.size as usize, count) as u32;
+    let left = head_stores(rec.size as usize, count) as u32;
     let length = count as u32;
-    started(store, Pending::NewHead { slot, length, left }, left)
+    started(rec, Pending::NewHead { slot, length, left }, left)
 }
 
 // An entry is appended to the head if it fits, else it comes to a new head.
-pub fn lay_entry(store: Store, work: &mut [u8], kind: u8, key: Key, value: &[u8]) -> Start
-    requires { ⌜ Ready edition1 store (length (now value)) (length (now work)) ⌝ }
-    requires { ⌜ (fitsHead edition1 store (entryOf kind key (store .next) (now value)) ≡ false → NumberLeft store) ⌝ }
+pub fn lay_entry(rec: Record, work: &mut [u8], kind: u8, key: Key, value: &[u8]) -> Start
+    requires { ⌜ Ready edition1 rec (length (now value)) (length (now work)) ⌝ }
+    requires { ⌜ (fitsHead edition1 rec (entryOf kind key (rec .next) (now value)) ≡ false → NumberLeft rec) ⌝ }
     ensures { λ r.
         ⌜
         record { start = r; work = now (work .exit) }
-        ≡ laidBegun store (laidEntry edition1 store (entryOf kind key (store .next) (now (value .entry)))) (now (work .entry))
+        ≡ laidBegun rec (laidEntry edition1 rec (entryOf kind key (rec .next) (now (value .entry)))) (now (work .entry))
         ⌝ }
 {
-    if fits_head(store, HEAD_SIZE + value.len()) {
-        return lay_append(store, work, kind, key, value);
+    if fits_head(rec, HEAD_SIZE + value.len()) {
+        return lay_append(rec, work, kind, key, value);
     }
-    lay_head(store, work, kind, key, value)
+    lay_head(rec, work, kind, key, value)
 }

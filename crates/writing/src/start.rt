@@ -2,8 +2,8 @@
 use crate::causes::check_delete;
 use crate::causes::check_write;
 use crate::lay::lay_entry;
+use record::Record;
 use record::Start;
-use record::Store;
 use segment::Key;
 use segment::layout::TOMBSTONE;
 use segment::layout::object_kind;
@@ -15,7 +15,7 @@ ghost use Rattle.model.specs.Promises.{StartPromise};
 
 // A value is to come under a key.
 pub fn write(
-    store: Store,
+    rec: Record,
     area: &[u8],
     index: &[u32],
     work: &mut [u8],
@@ -24,25 +24,25 @@ pub fn write(
 ) -> Start
     ensures { λ r.
         ⌜
-        StartPromise edition1 (write key (now (value .entry))) store (now (area .entry)) (now (index .entry)) (now (work .entry))
+        StartPromise edition1 (write key (now (value .entry))) rec (now (area .entry)) (now (index .entry)) (now (work .entry))
         (now (work .exit)) r
         ⌝ }
 {
-    match check_write(store, area, index, work.len(), key, value.len()) {
-        Check::Refused(c) => refused(store, c),
-        Check::Passed => lay_entry(store, work, object_kind(value.len()), key, value),
+    match check_write(rec, area, index, work.len(), key, value.len()) {
+        Check::Refused(c) => refused(rec, c),
+        Check::Passed => lay_entry(rec, work, object_kind(value.len()), key, value),
     }
 }
 
 // A key is to go: a tombstone, which has no value, takes the next version.
-pub fn delete(store: Store, area: &[u8], index: &[u32], work: &mut [u8], key: Key) -> Start
+pub fn delete(rec: Record, area: &[u8], index: &[u32], work: &mut [u8], key: Key) -> Start
     ensures { λ r.
         ⌜
-        StartPromise edition1 (delete key) store (now (area .entry)) (now (index .entry)) (now (work .entry)) (now (work .exit)) r
+        StartPromise edition1 (delete key) rec (now (area .entry)) (now (index .entry)) (now (work .entry)) (now (work .exit)) r
         ⌝ }
 {
-    match check_delete(store, area, index, work.len(), key) {
-        Check::Refused(c) => refused(store, c),
-        Check::Passed => lay_entry(store, work, TOMBSTONE, key, &area[0..0]),
+    match check_delete(rec, area, index, work.len(), key) {
+        Check::Refused(c) => refused(rec, c),
+        Check::Passed => lay_entry(rec, work, TOMBSTONE, key, &area[0..0]),
     }
 }

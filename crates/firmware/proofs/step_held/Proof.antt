@@ -46,11 +46,11 @@ use denote.Triple.Walked.{says, Stays, gave-slice, stay-dropped, walkOf, AllGo, 
 use denote.Exit.{yes}
 use Rattle.segment.specs.Layout.{edition1}
 use Rattle.model.specs.Promises.{StepPromise}
-use Rattle.record.specs.declared.Store.{Store}
+use Rattle.record.specs.declared.Record.{Record}
 use Rattle.record.specs.declared.StepAnswer.{StepAnswer}
 use Rattle.record.specs.declared.Stepped.{Stepped}
-use Rattle.record.proofs.Store as T
-use Rattle.record.proofs.Store.Laws as T′
+use Rattle.record.proofs.Record as T
+use Rattle.record.proofs.Record.Laws as T′
 use Rattle.record.proofs.StepAnswer as Answer
 use Rattle.record.proofs.StepAnswer.Laws as Answer′
 use Rattle.record.proofs.Stepped as Result
@@ -77,19 +77,19 @@ stayed = (
   ),
 )
 
-abbrev val : Store → Val
+abbrev val : Record → Val
 val = LL.val T.the-type T′.the-laws
 
-abbrev vals : Store → List Val
+abbrev vals : Record → List Val
 vals h = val h ∷ []
 
 abbrev answer-val : StepAnswer → Val
 answer-val = EL.val Answer.the-type Answer′.the-laws
 
-abbrev result : StepAnswer → Store → Stepped
-result r h = record { answer = r; store = h }
+abbrev result : StepAnswer → Record → Stepped
+result r h = record { answer = r; rec = h }
 
-result-is : (r : StepAnswer) (h : Store) (w : Val) → Is Answer.the-row r (w ∷ []) → Is T.the-row h (vals h) → Is Result.the-row (result r h) (LL.vals Result.the-type Result′.the-laws (result r h))
+result-is : (r : StepAnswer) (h : Record) (w : Val) → Is Answer.the-row r (w ∷ []) → Is T.the-row h (vals h) → Is Result.the-row (result r h) (LL.vals Result.the-type Result′.the-laws (result r h))
 result-is r h w is was = LL.owes Result.the-type Result′.the-laws (result r h) (subst (Is Answer.the-row r) (EL.tells Answer.the-type Answer′.the-laws r (w ∷ []) is) is, (was, tt))
 
 -- the contract that the proof cites
@@ -98,7 +98,7 @@ Kept 𝓤 H A at-mem run = tripleOf 𝓤 H A step-kept.signature (step-kept.spec
 
 -- ---- a local that holds a record is lent, and comes back
 
-module _ {M : Type 1} (𝓤 : URA M) (H : Heap 𝓤) (A : Atoms 𝓤) (W : Given 𝓤 H A) (h : Store) (b : ℕ) where
+module _ {M : Type 1} (𝓤 : URA M) (H : Heap 𝓤) (A : Atoms 𝓤) (W : Given 𝓤 H A) (h : Record) (b : ℕ) where
   abbrev Cell : Fml
   Cell = fat fullShare T′.mir b 0 (val h)
 
@@ -122,9 +122,9 @@ module _ {M : Type 1} (𝓤 : URA M) (H : Heap 𝓤) (A : Atoms 𝓤) (W : Given
 -- ---- the walk
 
 module _ {M : Type 1} (𝓤 : URA M) (H : Heap 𝓤) (A : Atoms 𝓤) (W : Given 𝓤 H A) (at-mem : Memory → SProp 𝓤) (run : Routine → Fun 𝓤)
-    (κ₁ κ₂ κ₃ : Lft) (q₁ q₂ q₃ : Share) (h : Store) (area index work : RefT (List ℕ)) where
+    (κ₁ κ₂ κ₃ : Lft) (q₁ q₂ q₃ : Share) (h : Record) (area index work : RefT (List ℕ)) where
   abbrev Arg : Type 0
-  Arg = Store × (RefT (List ℕ) × (RefT (List ℕ) × (RefT (List ℕ) × Unit {0})))
+  Arg = Record × (RefT (List ℕ) × (RefT (List ℕ) × (RefT (List ℕ) × Unit {0})))
 
   abbrev a : Arg
   a = (h, (area, (index, (work, tt))))
@@ -156,11 +156,11 @@ module _ {M : Type 1} (𝓤 : URA M) (H : Heap 𝓤) (A : Atoms 𝓤) (W : Given
   Post = walkOf 𝓤 H A step-held.ended stayed (step-held.clauses 𝓤 H A at-mem run) .post (((κ₁, (κ₂, (κ₃, tt))), (q₁, (q₂, (q₃, tt))), tt, a, at), tt)
 
   -- the reference to the local in block b, at a lifetime α and under a name δ
-  abbrev lent : ℕ → GName → RefT Store
+  abbrev lent : ℕ → GName → RefT Record
   lent b δ = record { ptr = (b, 0); name = δ; now = h }
 
   abbrev Passed : Type 0
-  Passed = RefT Store × (RefT (List ℕ) × (RefT (List ℕ) × (RefT (List ℕ) × Unit {0})))
+  Passed = RefT Record × (RefT (List ℕ) × (RefT (List ℕ) × (RefT (List ℕ) × Unit {0})))
 
   abbrev passed : ℕ → GName → Passed
   passed b δ = (lent b δ, (area, (index, (work, tt))))
@@ -210,7 +210,7 @@ module _ {M : Type 1} (𝓤 : URA M) (H : Heap 𝓤) (A : Atoms 𝓤) (W : Given
         use1 W (later (some (λ (r : StepAnswer). ((‵ (flft (α ∷ []) fullShare) ⊛ Tokens) ⊛ ‵ (Answer.the-row .own r (w ∷ []))) ⊛ raw (ensured 𝓤 H A step-kept.ended (step-kept.clauses 𝓤 H A at-mem run) (α ∷ [], (κ₁, (κ₂, (κ₃, tt)))) (passed l₅ δ) tt r)))) (id⊢ 𝓤 _) $ await ! tt $ pick ! (λ r.
         -- what `step_kept` ensures, at some last record and lists
         split ! $ move ! (1 ∷ []) $
-        use1 W (some (λ (zs : Store × (List ℕ × (List ℕ × (Unit {0} × Unit {0})))). ‵ (lasts step-kept.ended (α ∷ [], (κ₁, (κ₂, (κ₃, tt)))) (passed l₅ δ) zs) ⊛ raw (fact 𝓤 (Promised (result r (zs .0)) (zs .1 .0) (zs .1 .1 .0))))) (id⊢ 𝓤 _) $ pick ! (λ zs.
+        use1 W (some (λ (zs : Record × (List ℕ × (List ℕ × (Unit {0} × Unit {0})))). ‵ (lasts step-kept.ended (α ∷ [], (κ₁, (κ₂, (κ₃, tt)))) (passed l₅ δ) zs) ⊛ raw (fact 𝓤 (Promised (result r (zs .0)) (zs .1 .0) (zs .1 .1 .0))))) (id⊢ 𝓤 _) $ pick ! (λ zs.
         split ! $ move ! (1 ∷ []) $ heard ! (Promised (result r (zs .0)) (zs .1 .0) (zs .1 .1 .0)) (λ e. fsplit ! $ move ! (1 ∷ []) $
         fsplit ! $ fsplit ! $ move ! (1 ∷ []) $ feqL ! (λ same₁. move ! (1 ∷ []) $ fsplit ! $ fsplit ! $ move ! (1 ∷ []) $ feqL ! (λ same₂.
         -- [index's last list; true; area's; the last record; the tokens and the answer; the lender's part; _12; …]

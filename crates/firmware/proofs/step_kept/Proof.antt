@@ -44,10 +44,10 @@ use denote.Triple.Walked.{says, Stays, stay-ref, gave-slice, stay-dropped, walkO
 use denote.Exit.{yes}
 use Rattle.segment.specs.Layout.{edition1}
 use Rattle.model.specs.Promises.{StepPromise}
-use Rattle.record.specs.declared.Store.{Store}
+use Rattle.record.specs.declared.Record.{Record}
 use Rattle.record.specs.declared.Stepped.{Stepped}
-use Rattle.record.proofs.Store as T
-use Rattle.record.proofs.Store.Laws as T′
+use Rattle.record.proofs.Record as T
+use Rattle.record.proofs.Record.Laws as T′
 use Rattle.record.proofs.StepAnswer as Answer
 use Rattle.record.proofs.StepAnswer.Laws as Answer′
 use Rattle.record.proofs.Stepped as Result
@@ -74,7 +74,7 @@ stayed = (
   ),
 )
 
-abbrev vals : Store → List Val
+abbrev vals : Record → List Val
 vals = LL.vals T.the-type T′.the-laws
 
 abbrev answer-val : Stepped → Val
@@ -89,12 +89,12 @@ abbrev Step : {M : Type 1} (𝓤 : URA M) (H : Heap 𝓤) (A : Atoms 𝓤) (at-m
 Step 𝓤 H A at-mem run = tripleOf 𝓤 H A step.signature (step.spec 𝓤 H A at-mem run)
 
 module _ {M : Type 1} (𝓤 : URA M) (H : Heap 𝓤) (A : Atoms 𝓤) (W : Given 𝓤 H A) (at-mem : Memory → SProp 𝓤) (run : Routine → Fun 𝓤)
-    (κ κ₁ κ₂ κ₃ : Lft) (q q₁ q₂ q₃ : Share) (b o : ℕ) (γ : GName) (h : Store) (area index work : RefT (List ℕ)) where
-  abbrev kept : RefT Store
+    (κ κ₁ κ₂ κ₃ : Lft) (q q₁ q₂ q₃ : Share) (b o : ℕ) (γ : GName) (h : Record) (area index work : RefT (List ℕ)) where
+  abbrev kept : RefT Record
   kept = record { ptr = (b, o); name = γ; now = h }
 
   abbrev Arg : Type 0
-  Arg = RefT Store × (RefT (List ℕ) × (RefT (List ℕ) × (RefT (List ℕ) × Unit {0})))
+  Arg = RefT Record × (RefT (List ℕ) × (RefT (List ℕ) × (RefT (List ℕ) × Unit {0})))
 
   abbrev a : Arg
   a = (kept, (area, (index, (work, tt))))
@@ -120,8 +120,8 @@ module _ {M : Type 1} (𝓤 : URA M) (H : Heap 𝓤) (A : Atoms 𝓤) (W : Given
   Slices = owns (MutSlice (named 1) κ₁ u8 ∷ MutSlice (named 2) κ₂ u32 ∷ ShrSlice (named 3) κ₃ u8 ∷ []) (area, (index, (work, tt))) (s₁ ∷ [], (s₂ ∷ [], (s₃ ∷ [], tt)))
 
   -- the record that is left behind the reference
-  abbrev after : Stepped → Store
-  after r = r .store
+  abbrev after : Stepped → Record
+  after r = r .rec
 
   after-is : Is T.the-row h (vals h) → (r : Stepped) (w : Val) → Is Result.the-row r (w ∷ []) → Is T.the-row (after r) (vals (after r))
   after-is was r w is = LL.owed Result.the-type Result′.the-laws r _ is .1 .0
@@ -133,7 +133,7 @@ module _ {M : Type 1} (𝓤 : URA M) (H : Heap 𝓤) (A : Atoms 𝓤) (W : Given
   Post = walkOf 𝓤 H A step-kept.ended stayed (step-kept.clauses 𝓤 H A at-mem run) .post (((κ, (κ₁, (κ₂, (κ₃, tt)))), (q, (q₁, (q₂, (q₃, tt)))), tt, a, at), tt)
 
   abbrev Passed : Type 0
-  Passed = Store × (RefT (List ℕ) × (RefT (List ℕ) × (RefT (List ℕ) × Unit {0})))
+  Passed = Record × (RefT (List ℕ) × (RefT (List ℕ) × (RefT (List ℕ) × Unit {0})))
 
   abbrev passed : Passed
   passed = (h, (area, (index, (work, tt))))

@@ -11,7 +11,7 @@ same-length : tie.Need-same-length
 same-length c = search needs
 
 returns : tie.Need-returns
-returns c = kept-on _ _ (c .before .before .before .before .before .before .args .store) (c .before .before .before .before .if1 .taken) (c .before .before .encode .ensures)
+returns c = kept-on _ _ (c .before .before .before .before .before .before .args .rec) (c .before .before .before .before .if1 .taken) (c .before .before .encode .ensures)
 
 returns-2 : tie.Need-returns-2
 returns-2 c = kept-off _ _ (c .if1 .left)

@@ -16,7 +16,7 @@ use Rattle.kurdavel.proofs.kurdavel_read_value.Tie as tie
 -- what the look says, by the record that the words say
 looked : (c : tie.After-look-at)
     → let a = c .before .before .before .before .before .before .before .before .before .before .before .before .args in
-    c .look-at .result ≡ lookedUp edition1 (decoded (a .words .now) .store) (a .area .now) (a .index .now) (record { table = a .table; key = a .key })
+    c .look-at .result ≡ lookedUp edition1 (decoded (a .words .now) .rec) (a .area .now) (a .index .now) (record { table = a .table; key = a .key })
 looked c =
     looked-found _ _ _ _ (c .before .before .before .before .before .before .before .before .decode .ensures) (sym (c .before .before .before .before .fits-lent .ensures) ∙ not-false _ (c .before .before .before .if2 .left))
     (c .before .before .search .ensures) (c .look-at .ensures)

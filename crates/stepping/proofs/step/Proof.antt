@@ -11,7 +11,7 @@ use Rattle.record.specs.RangeLaws.{Lent}
 use Rattle.model.specs.Causes.{firstCause}
 use Rattle.model.specs.Refused.{stepCauses}
 use Rattle.model.specs.Promises.{lentLengths}
-use Rattle.laws.specs.StoreKept.{edition1-roomy}
+use Rattle.laws.specs.OperationsKept.{edition1-roomy}
 use Rattle.stepping.specs.Next.{nextStore, PendingIn}
 use Rattle.stepping.specs.NextLaws.{next-inside}
 use Rattle.stepping.specs.StepLaws.{step-bad, step-lent, step-short, step-none, step-goes, refused-promise, bad-promise, stored-promise}
@@ -21,53 +21,53 @@ use Rattle.stepping.proofs.step.Tie as tie
 
 -- what is known once no cause holds
 no-cause : (c : tie.Else3)
-    → let a = c .before .before .before .before .before .before .before .before .before .args in firstCause (stepCauses edition1 (a .store) (lentLengths (now (a .area)) (now (a .index)) (now (a .work)))) ≡ none
+    → let a = c .before .before .before .before .before .before .before .before .before .args in firstCause (stepCauses edition1 (a .rec) (lentLengths (now (a .area)) (now (a .index)) (now (a .work)))) ≡ none
 no-cause c =
     let a = c .before .before .before .before .before .before .before .before .before .args in
-    step-goes edition1 (a .store) (now (a .area)) (now (a .index)) (now (a .work)) (c .before .before .before .before .before .fits-lent .ensures) (c .before .before .before .before .if1 .left) (c .before .before .if2 .left) (c .before .stores-left .ensures) (c .if3 .left)
+    step-goes edition1 (a .rec) (now (a .area)) (now (a .index)) (now (a .work)) (c .before .before .before .before .before .fits-lent .ensures) (c .before .before .before .before .if1 .left) (c .before .before .if2 .left) (c .before .stores-left .ensures) (c .if3 .left)
 
-in-range : (c : tie.Else3) → let a = c .before .before .before .before .before .before .before .before .before .args in Lent edition1 (a .store) (length (now (a .area))) (length (now (a .index)))
+in-range : (c : tie.Else3) → let a = c .before .before .before .before .before .before .before .before .before .args in Lent edition1 (a .rec) (length (now (a .area))) (length (now (a .index)))
 in-range c =
     let a = c .before .before .before .before .before .before .before .before .before .args in
-    step-lent edition1 (a .store) (now (a .area)) (now (a .index)) (now (a .work)) (c .before .before .before .before .before .fits-lent .ensures) (c .before .before .before .before .if1 .left)
+    step-lent edition1 (a .rec) (now (a .area)) (now (a .index)) (now (a .work)) (c .before .before .before .before .before .fits-lent .ensures) (c .before .before .before .before .if1 .left)
 
 -- and once there is a next store
 next-is : (c : tie.After-place)
-    → let a = c .before .before .before .before .before .before .before .before .before .before .before .before .before .args in nextStore (length (now (a .area))) (now (a .work)) (a .store) ≡ At (c .place .given .0 .0) (c .place .given .0 .1 .0)
+    → let a = c .before .before .before .before .before .before .before .before .before .before .before .before .before .args in nextStore (length (now (a .area))) (now (a .work)) (a .rec) ≡ At (c .place .given .0 .0) (c .place .given .0 .1 .0)
 next-is c = sym (c .before .before .next-store .ensures) ∙ c .place .given .1
 
 inside : (c : tie.After-place)
-    → let a = c .before .before .before .before .before .before .before .before .before .before .before .before .before .args in PendingIn (a .store) (a .store .pending) × (c .place .given .0 .0 < length (now (a .area)))
+    → let a = c .before .before .before .before .before .before .before .before .before .before .before .before .before .args in PendingIn (a .rec) (a .rec .pending) × (c .place .given .0 .0 < length (now (a .area)))
 inside c =
     let a = c .before .before .before .before .before .before .before .before .before .before .before .before .before .args in
     let l = in-range (c .before .before .before .before) in
-    next-inside (length (now (a .area))) (now (a .work)) (a .store) (c .place .given .0 .0) (c .place .given .0 .1 .0) (l .slots-high) (l .head-below)
-    (l .area-own) (a .store .pending) (next-is c)
+    next-inside (length (now (a .area))) (now (a .work)) (a .rec) (c .place .given .0 .0) (c .place .given .0 .1 .0) (l .slots-high) (l .head-below)
+    (l .area-own) (a .rec .pending) (next-is c)
 
 returns : tie.Need-returns
 returns c =
     let a = c .before .before .before .before .before .before .args in
     refused-promise edition1 _ _ _ _ _
-    (step-bad edition1 (a .store) (now (a .area)) (now (a .index)) (now (a .work)) (c .before .before .fits-lent .ensures) (c .before .if1 .taken)) (c .refused .ensures)
+    (step-bad edition1 (a .rec) (now (a .area)) (now (a .index)) (now (a .work)) (c .before .before .fits-lent .ensures) (c .before .if1 .taken)) (c .refused .ensures)
 
 returns-2 : tie.Need-returns-2
 returns-2 c =
     let a = c .before .before .before .before .before .before .before .before .args in
-    refused-promise edition1 _ _ _ _ _ (step-short edition1 (a .store) (now (a .area)) (now (a .index)) (now (a .work)) (c .before .before .before .before .fits-lent .ensures) (c .before .before .before .if1 .left) (c .before .if2 .taken))
+    refused-promise edition1 _ _ _ _ _ (step-short edition1 (a .rec) (now (a .area)) (now (a .index)) (now (a .work)) (c .before .before .before .before .fits-lent .ensures) (c .before .before .before .if1 .left) (c .before .if2 .taken))
     (c .refused2 .ensures)
 
 returns-3 : tie.Need-returns-3
 returns-3 c =
     let a = c .before .before .before .before .before .before .before .before .before .before .args in
     refused-promise edition1 _ _ _ _ _
-    (step-none edition1 (a .store) (now (a .area)) (now (a .index)) (now (a .work)) (c .before .before .before .before .before .before .fits-lent .ensures) (c .before .before .before .before .before .if1 .left) (c .before .before .before .if2 .left) (c .before .before .stores-left .ensures)
+    (step-none edition1 (a .rec) (now (a .area)) (now (a .index)) (now (a .work)) (c .before .before .before .before .before .before .fits-lent .ensures) (c .before .before .before .before .before .if1 .left) (c .before .before .before .if2 .left) (c .before .before .stores-left .ensures)
     (c .before .if3 .taken))
     (c .refused3 .ensures)
 
 returns-4 : tie.Need-returns-4
 returns-4 c =
     let a = c .before .before .before .before .before .before .before .before .before .before .before .before .before .before .args in
-    bad-promise edition1 edition1-roomy (a .store) (now (a .area)) (now (a .index)) (now (a .work)) (no-cause (c .before .before .before .before .before)) (sym (c .before .before .before .next-store .ensures) ∙ c .before .enum-told .given .1)
+    bad-promise edition1 edition1-roomy (a .rec) (now (a .area)) (now (a .index)) (now (a .work)) (no-cause (c .before .before .before .before .before)) (sym (c .before .before .before .next-store .ensures) ∙ c .before .enum-told .given .1)
 
 slice-write-area : tie.Need-slice-write-area
 slice-write-area c = inside (c .before) .1
@@ -81,7 +81,7 @@ advance-requires c κs =
 returns-5 : tie.Need-returns-5
 returns-5 c =
     let a = c .before .before .before .before .before .before .before .before .before .before .before .before .before .before .before .before .before .before .before .args in
-    stored-promise edition1 edition1-roomy (a .store) (now (a .area)) (now (a .index)) (now (a .work)) (no-cause (c .before .before .before .before .before .before .before .before .before .before)) (c .before .before .before .before .before .before .place .given .0 .0)
+    stored-promise edition1 edition1-roomy (a .rec) (now (a .area)) (now (a .index)) (now (a .work)) (no-cause (c .before .before .before .before .before .before .before .before .before .before)) (c .before .before .before .before .before .before .place .given .0 .0)
     (c .before .before .before .before .before .before .place .given .0 .1 .0) (next-is (c .before .before .before .before .before .before)) (c .before .before .advance .ensures)
     (search needs)
 

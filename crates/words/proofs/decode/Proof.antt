@@ -8,8 +8,8 @@ use Rattle.words.proofs.decode.Tie as tie
 is-record-requires : tie.Need-is-record-requires
 is-record-requires c κs = search needs
 
-store-of-requires : tie.Need-store-of-requires
-store-of-requires c κs = record-long _ (sym (c .before .is-record .ensures) ∙ c .if1 .taken)
+record-in-requires : tie.Need-record-in-requires
+record-in-requires c κs = record-long _ (sym (c .before .is-record .ensures) ∙ c .if1 .taken)
 
 returns : tie.Need-returns
 returns c = cc (decoded-record _ (sym (c .before .before .is-record .ensures) ∙ c .before .if1 .taken))
@@ -22,4 +22,4 @@ returns-2 c = cc (decoded-none _ (sym (c .before .before .is-record .ensures) �
 
 pub decode-spec : {M : Type 1} → statement M
 decode-spec =
-    tie.close (tie.spec is-record-requires store-of-requires returns blank-requires returns-2)
+    tie.close (tie.spec is-record-requires record-in-requires returns blank-requires returns-2)

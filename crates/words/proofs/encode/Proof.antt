@@ -16,7 +16,7 @@ same-length c = search needs
 returns : tie.Need-returns
 returns c =
     let a = c .before .before .before .before .before .before .before .before .before .args in
-    numbers-first (a .words .now) _ _ (a .store) (c .before .before .before .before .before .before .put-numbers .ensures) (c .before .before .encode-pending .ensures)
+    numbers-first (a .words .now) _ _ (a .rec) (c .before .before .before .before .before .before .put-numbers .ensures) (c .before .before .encode-pending .ensures)
 
 pub encode-spec : {M : Type 1} → statement M
 encode-spec = tie.close (tie.spec put-numbers-requires encode-pending-requires same-length returns)

@@ -18,12 +18,12 @@ use Rattle.cleaning.proofs.clean.check_clean.Tie as tie
 -- 4, 3 and 5 are passed
 begun : (c : tie.After-enum-told) →
     let a = c .before .before .before .before .before .args in
-    Check.Passed ≡ checked (firstCause (lentTests edition1 (a .store) (record { area = length (now (a .area)); index = length (now (a .index)); work = a .work })))
+    Check.Passed ≡ checked (firstCause (lentTests edition1 (a .rec) (record { area = length (now (a .area)); index = length (now (a .index)); work = a .work })))
 begun c = sym (c .enum-told .given .1) ∙ c .before .before .check-lent .ensures
 
 measured : (c : tie.After-measure) →
     let a = c .before .before .before .before .before .before .before .before .before .args in
-    c .measure .result ≡ length (keptBytes edition1 (now (a .area)) (now (a .index)) (splitOf (a .store) (a .victims)))
+    c .measure .result ≡ length (keptBytes edition1 (now (a .area)) (now (a .index)) (splitOf (a .rec) (a .victims)))
 measured c =
     let a = c .before .before .before .before .before .before .before .before .before .args in
     c .measure .ensures .0 ∙ ap (λ (s : Split). length (keptBytes edition1 (now (a .area)) (now (a .index)) s)) (c .before .split-of .ensures)

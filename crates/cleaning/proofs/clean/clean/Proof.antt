@@ -32,8 +32,8 @@ begin-requires c κs =
     let t = c .before .before in
     let a = c .before .before .before .before .before .before .before .before .args in
     let passed = sym (t .enum-told .given .1) ∙ t .before .before .check-clean .ensures in (
-      ready edition1 (now (a .area)) (now (a .index)) (a .store) (a .victims) (now (a .work)) _ (c .before .split-of .ensures) passed,
-      room edition1 (now (a .area)) (now (a .index)) (a .store) (a .victims) (now (a .work)) _ (c .before .split-of .ensures) passed,
+      ready edition1 (now (a .area)) (now (a .index)) (a .rec) (a .victims) (now (a .work)) _ (c .before .split-of .ensures) passed,
+      room edition1 (now (a .area)) (now (a .index)) (a .rec) (a .victims) (now (a .work)) _ (c .before .split-of .ensures) passed,
     )
 
 returns : tie.Need-returns

@@ -17,7 +17,7 @@ without-slots-requires c κs = search needs
 returns : tie.Need-returns
 returns c =
     let a = c .before .before .before .args in
-    ap (λ (m : ℕ). record { slots = a .store .slots; size = a .store .size; victims = a .victims; outside = m }) (c .without-slots .ensures)
+    ap (λ (m : ℕ). record { slots = a .rec .slots; size = a .rec .size; victims = a .victims; outside = m }) (c .without-slots .ensures)
 
 pub split-of-spec : {M : Type 1} → statement M
 split-of-spec = tie.close (tie.spec cast-t3 cast-t4 without-slots-requires returns)

@@ -6,10 +6,10 @@ use Rattle.images.proofs.outcome.reads.Statement.{statement}
 use Rattle.images.proofs.outcome.reads.Tie as tie
 
 abbrev Inv-loop : tie.InvT-loop
-Inv-loop store area index keys at₀ at = at ≤ length keys
+Inv-loop rec area index keys at₀ at = at ≤ length keys
 
 abbrev μ-loop : tie.MeasureT-loop
-μ-loop store area index keys at₀ at = length keys - at
+μ-loop rec area index keys at₀ at = length keys - at
 
 pub reads-spec : {M : Type 1} → statement M
 reads-spec =

@@ -5,10 +5,10 @@ use Rattle.play.proofs.reads.agrees.Statement.{statement}
 use Rattle.play.proofs.reads.agrees.Tie as tie
 
 abbrev Inv-loop : tie.InvT-loop
-Inv-loop store area index held i₀ i = i ≤ 4
+Inv-loop rec area index held i₀ i = i ≤ 4
 
 abbrev μ-loop : tie.MeasureT-loop
-μ-loop store area index held i₀ i = 4 - i
+μ-loop rec area index held i₀ i = 4 - i
 
 pub agrees-spec : {M : Type 1} → statement M
 agrees-spec =

@@ -10,8 +10,8 @@ use Rattle.record.proofs.range.in_range.Statement.{statement}
 use Rattle.record.proofs.range.in_range.Tie as tie
 
 -- what is known once the limits are passed
-within : (c : tie.Else1) → Limits (c .before .before .args .store)
-within c = limits (c .before .before .args .store) (sym (c .before .limits-good .ensures) ∙ not-false _ (c .if1 .left))
+within : (c : tie.Else1) → Limits (c .before .before .args .rec)
+within c = limits (c .before .before .args .rec) (sym (c .before .limits-good .ensures) ∙ not-false _ (c .if1 .left))
 
 returns : tie.Need-returns
 returns c = stop _ (c .before .limits-good .ensures) (c .if1 .taken) ∙ sym (in-parts edition1 _)

@@ -12,7 +12,7 @@ use Rattle.recovery.proofs.read.find.Statement.{statement}
 use Rattle.recovery.proofs.read.find.Tie as tie
 
 fit : (c : tie.Else1)
-    → let a = c .before .before .before .before .args in fitsLent edition1 (a .store) (length (a .area .now)) (length (a .index .now)) ≡ true
+    → let a = c .before .before .before .before .args in fitsLent edition1 (a .rec) (length (a .area .now)) (length (a .index .now)) ≡ true
 fit c = sym (c .before .fits-lent .ensures) ∙ not-false _ (c .if1 .left)
 
 fits-lent-requires : tie.Need-fits-lent-requires

@@ -12,11 +12,11 @@ use Rattle.report.proofs.listing.put_lines.Statement.{statement}
 use Rattle.report.proofs.listing.put_lines.Tie as tie
 
 abbrev Inv-loop : tie.InvT-loop
-Inv-loop store area index ranks out₀ at end₀ i₀ out end i =
-    LinesLeft edition1 (logNow edition1 area store) (presentKeys edition1 (logNow edition1 area store)) out₀ at out end i
+Inv-loop rec area index ranks out₀ at end₀ i₀ out end i =
+    LinesLeft edition1 (logNow edition1 area rec) (presentKeys edition1 (logNow edition1 area rec)) out₀ at out end i
 
 abbrev μ-loop : tie.MeasureT-loop
-μ-loop store area index ranks out₀ at end₀ i₀ out end i = length ranks - i
+μ-loop rec area index ranks out₀ at end₀ i₀ out end i = length ranks - i
 
 loop-holds : tie.Need-loop-holds Inv-loop μ-loop
 loop-holds c = lines-start _ _ _ _ _

@@ -19,7 +19,7 @@ slice-aggregate-gather c = search needs
 
 -- what is gathered are the ranks of the present keys
 listed : (c : tie.After-gather)
-    → let a = c .before .before .before .before .before .before .before .before .args in Listed edition1 (a .area .now) (a .store) (c .gather .last .1 .1 .1 .0) (c .gather .result)
+    → let a = c .before .before .before .before .before .before .before .before .args in Listed edition1 (a .area .now) (a .rec) (c .gather .last .1 .1 .1 .0) (c .gather .result)
 listed c = gathered-listed edition1 _ _ _ _ _ (c .before .before .before .before .before .before .before .before .pre .0) (c .gather .kept .1 .1 .1 .0) (c .gather .ensures)
 
 gather-requires : tie.Need-gather-requires

@@ -11,13 +11,13 @@ unfolding edition1
 returns c = append-spent edition1 _ _ _ _ (c .before .if1 .taken) (c .refused .ensures)
 
 mul-finish-entry : tie.Need-mul-finish-entry
-mul-finish-entry c = let a = c .before .before .before .before .before .before .before .before .before .args in omega (arith, place-fits (a .store .head) (a .store .size) (a .store .end) (omega arith) (omega arith) (omega arith))
+mul-finish-entry c = let a = c .before .before .before .before .before .before .before .before .before .args in omega (arith, place-fits (a .rec .head) (a .rec .size) (a .rec .end) (omega arith) (omega arith) (omega arith))
 
 add-finish-entry : tie.Need-add-finish-entry
-add-finish-entry c = let a = c .before .before .before .before .before .before .before .before .before .before .args in omega (arith, place-fits (a .store .head) (a .store .size) (a .store .end) (omega arith) (omega arith) (omega arith))
+add-finish-entry c = let a = c .before .before .before .before .before .before .before .before .before .before .args in omega (arith, place-fits (a .rec .head) (a .rec .size) (a .rec .end) (omega arith) (omega arith) (omega arith))
 
 finish-entry-requires : tie.Need-finish-entry-requires
-finish-entry-requires c κs = let a = c .before .before .before .before .before .before .before .before .before .before .args in omega (arith, place-fits (a .store .head) (a .store .size) (a .store .end) (omega arith) (omega arith) (omega arith))
+finish-entry-requires c κs = let a = c .before .before .before .before .before .before .before .before .before .before .args in omega (arith, place-fits (a .rec .head) (a .rec .size) (a .rec .end) (omega arith) (omega arith) (omega arith))
 
 returns-2 : tie.Need-returns-2
 unfolding edition1

@@ -15,13 +15,13 @@ unfolding edition1
 returns-2 c = head-numbers-spent edition1 _ _ _ _ _ (c .before .if2 .taken) (c .refused2 .ensures)
 
 mul-finish-entry : tie.Need-mul-finish-entry
-mul-finish-entry c = let a = c .before .before .before .before .before .before .before .before .before .before .before .before .before .args in omega (arith, place-fits (a .slot) (a .store .size) 13 (omega arith) (omega arith) (omega arith))
+mul-finish-entry c = let a = c .before .before .before .before .before .before .before .before .before .before .before .before .before .args in omega (arith, place-fits (a .slot) (a .rec .size) 13 (omega arith) (omega arith) (omega arith))
 
 add-finish-entry : tie.Need-add-finish-entry
-add-finish-entry c = let a = c .before .before .before .before .before .before .before .before .before .before .before .before .before .args in omega (arith, place-fits (a .slot) (a .store .size) 13 (omega arith) (omega arith) (omega arith))
+add-finish-entry c = let a = c .before .before .before .before .before .before .before .before .before .before .before .before .before .args in omega (arith, place-fits (a .slot) (a .rec .size) 13 (omega arith) (omega arith) (omega arith))
 
 finish-entry-requires : tie.Need-finish-entry-requires
-finish-entry-requires c κs = let a = c .before .before .before .before .before .before .before .before .before .before .before .before .before .args in omega (arith, place-fits (a .slot) (a .store .size) 13 (omega arith) (omega arith) (omega arith))
+finish-entry-requires c κs = let a = c .before .before .before .before .before .before .before .before .before .before .before .before .before .args in omega (arith, place-fits (a .slot) (a .rec .size) 13 (omega arith) (omega arith) (omega arith))
 
 returns-3 : tie.Need-returns-3
 unfolding edition1

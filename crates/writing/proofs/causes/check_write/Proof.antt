@@ -5,7 +5,7 @@ use denote.Ref.{now}
 use lib.ListN.{length}
 use native.Mathlib.Omega.{arith}
 use Rattle.segment.specs.Layout.{edition1, digestSize, entrySize}
-use Rattle.laws.specs.StoreKept.{edition1-roomy}
+use Rattle.laws.specs.OperationsKept.{edition1-roomy}
 use Rattle.starting.specs.CheckLaws.{Begins, begins}
 use Rattle.writing.specs.TestLaws.{kind-room, write-lent, write-value, write-spent, write-key, write-room}
 use borrow.Author.Needs.{needs}
@@ -15,7 +15,7 @@ use Rattle.writing.proofs.causes.check_write.Tie as tie
 -- what is known once 4, 3 and 5 are passed, and 7
 begun : (c : tie.After-enum-told) →
     let a = c .before .before .before .before .before .args in
-    Begins edition1 (a .store) (record { area = length (now (a .area)); index = length (now (a .index)); work = a .work })
+    Begins edition1 (a .rec) (record { area = length (now (a .area)); index = length (now (a .index)); work = a .work })
 begun c = begins edition1 _ _ (sym (c .enum-told .given .1) ∙ c .before .before .check-lent .ensures)
 
 room : (c : tie.Else1) → digestSize edition1 + entrySize edition1 (c .before .before .before .before .before .before .before .args .value) ≤ 256

@@ -28,7 +28,7 @@ unfolding edition1
 returns c =
     let t = c .before .before .before .before in
     let a = t .before .before .before .before .args in
-    fits-laid edition1 (a .store) (entryOf (a .kind) (a .key) (a .store .next) (now (a .value))) _ _ (t .before .fits-head .ensures) (t .if1 .taken) (c .before .before .lay-append .ensures)
+    fits-laid edition1 (a .rec) (entryOf (a .kind) (a .key) (a .rec .next) (now (a .value))) _ _ (t .before .fits-head .ensures) (t .if1 .taken) (c .before .before .lay-append .ensures)
 
 lay-head-requires : tie.Need-lay-head-requires
 unfolding edition1
@@ -44,7 +44,7 @@ unfolding edition1
 returns-2 c =
     let t = c .before .before .before .before in
     let a = t .before .before .before .before .args in
-    new-laid edition1 (a .store) (entryOf (a .kind) (a .key) (a .store .next) (now (a .value))) _ _ (t .before .fits-head .ensures) (t .if1 .left) (c .before .before .lay-head .ensures)
+    new-laid edition1 (a .rec) (entryOf (a .kind) (a .key) (a .rec .next) (now (a .value))) _ _ (t .before .fits-head .ensures) (t .if1 .left) (c .before .before .lay-head .ensures)
 
 pub lay-entry-spec : {M : Type 1} → statement M
 lay-entry-spec =

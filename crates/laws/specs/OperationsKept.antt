@@ -18,10 +18,10 @@ use Rattle.segment.specs.EntryLaws.{found-accepted}
 use Rattle.segment.specs.declared.Key.{Key}
 use Rattle.slot_map.specs.Bit.{named, within}
 use Rattle.record.specs.RangeLaws.{Lent, lent}
-use Rattle.record.specs.declared.Store.{Store}
+use Rattle.record.specs.declared.Record.{Record}
 use Rattle.model.specs.Log.{Placed, placeOf, scan, segmentOf, viewsOf, present, latest, objectOnly, sameKey}
-use Rattle.model.specs.Recovery.{recovered, storeOf}
-use Rattle.model.specs.Operations.{Operation, write, delete, clean, logNow, writtenEntry, tombstoneEntry, newSlot, newDigest, kept, allEncoded, placedFrom, laid, planOf, stored, cleanedStore, finishedStore}
+use Rattle.model.specs.Recovery.{recovered, recordFrom}
+use Rattle.model.specs.Operations.{Operation, write, delete, clean, logNow, writtenEntry, tombstoneEntry, newSlot, newDigest, kept, allEncoded, placedFrom, laid, planOf, stored, cleanedRecord, finishedRecord}
 use Rattle.model.specs.Promises.{valuePart}
 use Rattle.model.specs.Refused.{startCauses, cleanCauses}
 use Rattle.laws.specs.Members.{In}
@@ -36,7 +36,7 @@ use Rattle.laws.specs.LogLaws.{log-in, scan-whole}
 use Rattle.laws.specs.RecoverLaws.{recovered-case, recovered-fits, recovered-apart, recovered-above, recovered-more}
 use Rattle.laws.specs.Headed.{Heads}
 use Rattle.laws.specs.Cleaned.{cleaned-cleaned, cleaned-recovered}
-use Rattle.laws.specs.Operated.{Accepted, planAt, mapAfter, StoreLaws}
+use Rattle.laws.specs.Operated.{Accepted, planAt, mapAfter, OperationLaws}
 use Rattle.laws.specs.Entering.{Roomy, write-object, idle-lent, idle-number, write-enters, delete-enters}
 use Rattle.laws.specs.Planned.{log-formed, kept-in, planned, new-below, new-map-fits, new-next-fits, prefix-stays, prefix-bytes, plan-stores, plan-fits}
 use Rattle.laws.specs.EntryDone.{entry-done}
@@ -44,7 +44,7 @@ use Rattle.laws.specs.CauseLaws.{NoCause, no-cause}
 
 -- ---- a finished cleaning
 
-module _ (L : Layout) (before : List ℕ) (idle : Store) (victims : ℕ) (a : Accepted L before idle (clean victims)) where
+module _ (L : Layout) (before : List ℕ) (idle : Record) (victims : ℕ) (a : Accepted L before idle (clean victims)) where
   facts : Lent L idle (length before) (idle .cells)
   facts = idle-lent L before idle (clean victims) a
 
@@ -61,8 +61,8 @@ module _ (L : Layout) (before : List ℕ) (idle : Store) (victims : ℕ) (a : Ac
   room : digestSize L + length (allEncoded L (kept L victims (logNow L before idle))) ≤ idle .size
   room = ltb-false (idle .size) (digestSize L + length (allEncoded L (kept L victims (logNow L before idle)))) (tests .1 .1 .1 .1 .0)
 
-  number-left : idle .number .0 + 1 < 256 ^ 4
-  number-left = omega (arith, idle-number L before idle (clean victims) a, eqb-false (idle .number .0) numberLimit (tests .1 .1 .1 .1 .1 .0))
+  number-left : idle .digest .0 + 1 < 256 ^ 4
+  number-left = omega (arith, idle-number L before idle (clean victims) a, eqb-false (idle .digest .0) numberLimit (tests .1 .1 .1 .1 .1 .0))
 
   abbrev clean-plan : List (ℕ × ℕ)
   clean-plan = headPlan L (idle .size) (newSlot idle) (newDigest idle victims) (kept L victims (logNow L before idle))
@@ -88,15 +88,15 @@ module _ (L : Layout) (before : List ℕ) (idle : Store) (victims : ℕ) (a : Ac
       }
 
   pub clean-done :
-      (recovered L (idle .slots) (idle .size) (idle .cells) (stored before clean-plan) ≡ some (cleanedStore L before idle victims))
+      (recovered L (idle .slots) (idle .size) (idle .cells) (stored before clean-plan) ≡ some (cleanedRecord L before idle victims))
       × ((j : Key) →
-      valueAt L (logNow L (stored before clean-plan) (cleanedStore L before idle victims)) j ≡ valueAt L (logNow L before idle) j)
+      valueAt L (logNow L (stored before clean-plan) (cleanedRecord L before idle victims)) j ≡ valueAt L (logNow L before idle) j)
   clean-done = (
     cleaned-recovered L (idle .slots) (idle .size) (idle .cells) before (stored before clean-plan) idle victims (a .recovers) sub views
         (length-stored before clean-plan) some-victim,
     log-clean L victims (logNow L before idle)
         (placedFrom L (newSlot idle) (digestSize L) (kept L victims (logNow L before idle)))
-        (logNow L (stored before clean-plan) (cleanedStore L before idle victims))
+        (logNow L (stored before clean-plan) (cleanedRecord L before idle victims))
         (cleaned-cleaned L (idle .slots) (idle .size) (idle .cells) before (stored before clean-plan) idle victims (a .recovers) sub views)
         (recovered-apart L (idle .slots) (idle .size) (idle .cells) before idle (a .recovers)),
   )
@@ -111,16 +111,16 @@ gives-tombstone : (L : Layout) (e : Entry) → isTombstone L (e .kind) ≡ true 
 unfolding gives
 gives-tombstone L e t = pick-true (isTombstone L (e .kind)) none (some e) t
 
-module _ (L : Layout) (roomy : Roomy L) (before : List ℕ) (idle : Store) where
+module _ (L : Layout) (roomy : Roomy L) (before : List ℕ) (idle : Record) where
   abbrev Finishes : Operation → Type 0
   Finishes o =
-      (recovered L (idle .slots) (idle .size) (idle .cells) (stored before (planAt L before idle o)) ≡ some (finishedStore L before idle o))
+      (recovered L (idle .slots) (idle .size) (idle .cells) (stored before (planAt L before idle o)) ≡ some (finishedRecord L before idle o))
       × ((j : Key) →
-      valueAt L (logNow L (stored before (planAt L before idle o)) (finishedStore L before idle o)) j ≡
+      valueAt L (logNow L (stored before (planAt L before idle o)) (finishedRecord L before idle o)) j ≡
       mapAfter L idle o (valueAt L (logNow L before idle)) j)
 
   pub finishes : (o : Operation) → Accepted L before idle o → Finishes o
-  unfolding laid finishedStore mapAfter planOf
+  unfolding laid finishedRecord mapAfter planOf
   finishes (write k value) a =
       let x = writtenEntry L idle k value in
       let f = write-enters L before idle k value a in
@@ -162,11 +162,11 @@ present-in L log k x e = go (latest log k) refl e
 
 -- an entry of the log stands in its segment
 log-found :
-    (L : Layout) (n s m : ℕ) (area : List ℕ) (r : Store) → recovered L n s m area ≡ some r → (x : Placed) → In x (logNow L area r) →
+    (L : Layout) (n s m : ℕ) (area : List ℕ) (r : Record) → recovered L n s m area ≡ some r → (x : Placed) → In x (logNow L area r) →
     (x .slot < n) × (entryAt L (segmentOf area s (x .slot)) (x .offset) ≡ entry (x .entry))
 log-found L n s m area r e x =
     recovered-case L n s m area
-    (λ (k : Store). In x (logNow L area k) → (x .slot < n) × (entryAt L (segmentOf area s (x .slot)) (x .offset) ≡ entry (x .entry)))
+    (λ (k : Record). In x (logNow L area k) → (x .slot < n) × (entryAt L (segmentOf area s (x .slot)) (x .offset) ≡ entry (x .entry)))
     (λ h l f i.
     let at = log-in (viewsOf L area s) (named (h .digest .map)) n x i in (
       at .below,
@@ -198,8 +198,8 @@ value-there L area s x long e =
 
 -- ---- together
 
-pub store-laws : (L : Layout) → Roomy L → StoreLaws L
-store-laws L roomy =
+pub operation-laws : (L : Layout) → Roomy L → OperationLaws L
+operation-laws L roomy =
     record {
       prefix-recovers = λ before idle o a k h. prefix-stays L before idle (a .recovers) _ _ (planned L roomy before idle o a) k h .0;
       prefix-log = λ before idle o a k h. prefix-stays L before idle (a .recovers) _ _ (planned L roomy before idle o a) k h .1;
@@ -209,7 +209,7 @@ store-laws L roomy =
       some-stores = λ before idle o a. plan-stores L before idle (a .recovers) _ _ (planned L roomy before idle o a);
       bytes-fit = λ before idle o a. plan-fits L before idle (a .recovers) _ _ (planned L roomy before idle o a);
       own-lengths = λ n s m area r ab e. recovered-fits L n s m area r e;
-      more-cells = λ n s m k area e good l. recovered-more L n s m k area (storeOf L n s m area) e good l;
+      more-cells = λ n s m k area e good l. recovered-more L n s m k area (recordFrom L n s m area) e good l;
       version-below =
           λ area r e k x p.
           recovered-above L (r .slots) (r .size) (r .cells) area r e x (present-in L (logNow L area r) k x p);
@@ -244,5 +244,5 @@ edition1-roomy = record { wide = lit< tt; room = λ k n e. go (eqb k 4) (eqb k 1
     go false false false true n e = short 56 n e (lit≤ tt)
     go false false false false n e = let z : _≡_ {A = ℕ} 0 1 = cc in absurd (omega arith)
 
-pub edition1-laws : StoreLaws edition1
-edition1-laws = store-laws edition1 edition1-roomy
+pub edition1-laws : OperationLaws edition1
+edition1-laws = operation-laws edition1 edition1-roomy

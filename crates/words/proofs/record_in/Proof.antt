@@ -1,7 +1,7 @@
 -- `words::store_of` meets its contract.
 use borrow.Author.Needs.{needs}
-use Rattle.words.proofs.store_of.Statement.{statement}
-use Rattle.words.proofs.store_of.Tie as tie
+use Rattle.words.proofs.record_in.Statement.{statement}
+use Rattle.words.proofs.record_in.Tie as tie
 
 shared-slice-read-pending-of : tie.Need-shared-slice-read-pending-of
 shared-slice-read-pending-of c = search needs
@@ -51,8 +51,8 @@ shared-slice-read-t27 c = search needs
 returns : tie.Need-returns
 returns c = cc
 
-pub store-of-spec : {M : Type 1} → statement M
-store-of-spec =
+pub record-in-spec : {M : Type 1} → statement M
+record-in-spec =
     tie.close
     (tie.spec
     shared-slice-read-pending-of
