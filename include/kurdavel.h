@@ -36,10 +36,10 @@
  * HOW THE CALLS GO TOGETHER
  *   kurdavel_format once, for a new area. After that, and after each cut, kurdavel_recover: it gives the record and
  *   the index that the other calls take. Then reads at any time; and operations, one at a time: a start
- *   (kurdavel_write, kurdavel_delete, kurdavel_clean) checks all and stores nothing in the area, and each
+ *   (kurdavel_write, kurdavel_delete, kurdavel_clean) checks all and leaves the area alone, and each
  *   kurdavel_step after it stores one byte, until none is left. The operation takes effect with its last store: a cut
  *   before it leaves the store as it was before the start, a cut after it loses nothing. Between a start and its last
- *   step keep the work buffer as it is. Reads meanwhile show the store before the operation.
+ *   step the work buffer must not change. Reads meanwhile show the store before the operation.
  *
  *   An operation that is not to be finished is given up by kurdavel_recover, without a cut: it drops what is pending.
  *   The bytes stored so far stay in the area, where they do not count and the next operation overwrites what it needs.
@@ -226,7 +226,7 @@ uint32_t kurdavel_read_value(const uint32_t *record, size_t record_words, const 
                              uint32_t *bytes);
 
 /*
- * Starts to write a value under a key. Tells the number of stores to come, each a kurdavel_step.
+ * Starts to write a value under a key. Tells how many stores are to come, each by a kurdavel_step.
  * Refused: 4, 3, 5, 7, 9, 11, 12, 10, in this order.
  */
 uint32_t kurdavel_write(uint32_t *record, size_t record_words, const uint8_t *area, size_t area_bytes,
@@ -234,7 +234,7 @@ uint32_t kurdavel_write(uint32_t *record, size_t record_words, const uint8_t *ar
                         uint32_t key, const uint8_t *value, size_t value_bytes, uint32_t *stores);
 
 /*
- * Starts to delete a key. Tells the number of stores to come.
+ * Starts to delete a key. Tells how many stores are to come.
  * Refused: 4, 3, 5, 8, 9, 12, 10, in this order.
  */
 uint32_t kurdavel_delete(uint32_t *record, size_t record_words, const uint8_t *area, size_t area_bytes,
@@ -243,7 +243,7 @@ uint32_t kurdavel_delete(uint32_t *record, size_t record_words, const uint8_t *a
 
 /*
  * Starts to clean the slots of a map (bit i, from the lowest, is slot i): a new head takes over what they hold that
- * still counts, and they become free. The head may be among them. Tells the number of stores to come.
+ * still counts, and they become free. The head may be among them. Tells how many stores are to come.
  * Refused: 4, 3, 5, 13, 14, 10, in this order.
  */
 uint32_t kurdavel_clean(uint32_t *record, size_t record_words, const uint8_t *area, size_t area_bytes,

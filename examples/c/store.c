@@ -1,7 +1,7 @@
 /*
  * A firmware and its store: format, power on, write, a power cut in the middle of a write, power on, read.
- * Prints what happens; `stdout` beside this file is what it must print. With the name of a file it writes the image
- * there at the end, as the program `dump` reads it: N (1 byte), S (2 bytes) and the area.
+ * Prints what happens; `store.stdout` beside this file is what it must print. With the name of a file it writes the
+ * image there at the end, as the program `dump` reads it: N (1 byte), S (2 bytes) and the area.
  */
 #include "kurdavel.h"
 
@@ -49,7 +49,7 @@ static void power_on(struct kurdavel_store *store) {
            (unsigned)store->record.words[KURDAVEL_WORD_KEYS]);
 }
 
-/* Starts a write of eight equal bytes; gives the number of stores to come. */
+/* Starts a write of eight equal bytes; gives how many stores are to come. */
 static uint32_t start_write(struct kurdavel_store *store, struct kurdavel_key key, uint8_t byte) {
     uint8_t value[8];
     uint32_t stores = 0;
@@ -88,20 +88,6 @@ static void show(const struct kurdavel_store *store, struct kurdavel_key key) {
     printf("\n");
 }
 
-/* Calls that are refused: a record that is too short, words that are no record, and an operation that is given up. */
-static void refused(struct kurdavel_store *store, struct kurdavel_key key) {
-    static const uint8_t order[SLOTS] = {0, 1, 2, 3};
-    uint32_t left = 77, version = 77;
-    uint32_t answer = kurdavel_step(store->record.words, KURDAVEL_RECORD_WORDS - 1, medium, sizeof medium, cells,
-                                    CELLS, work, sizeof work, &left, &version);
-    printf("short record: %u, left as it was: %u\n", (unsigned)answer, (unsigned)left);
-    start_write(store, key, 0x33);
-    expect_accepted("recover", kurdavel_store_recover(store, order, sizeof order));
-    printf("given up: step answers %u\n", (unsigned)kurdavel_store_step(store, &left, &version));
-    store->record.words[KURDAVEL_WORD_PENDING] = 4;
-    printf("no record: %u\n", (unsigned)kurdavel_store_step(store, &left, &version));
-}
-
 /* Writes the image for `dump`. */
 static void save(const char *name) {
     static const uint8_t sizes[3] = {SLOTS, SLOT_BYTES & 0xff, SLOT_BYTES >> 8};
@@ -137,7 +123,6 @@ int main(int count, char **arguments) {
     show(&store, key);
     show(&store, other);
 
-    refused(&store, key);
     if (count > 1) save(arguments[1]);
     return 0;
 }

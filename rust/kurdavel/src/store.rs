@@ -100,8 +100,8 @@ impl Record {
         })
     }
 
-    /// The value of a key's object, as a part of the area. Where [`read`](Record::read) is refused it is the empty
-    /// part at the start.
+    /// The value of a key's object, as a part of the area: an empty one, at the area's start, where
+    /// [`read`](Record::read) is refused.
     ///
     /// The part is borrowed from the area, so that no step is made while it is in use. A caller who keeps its place may
     /// use it until the last step of the next operation. Its bytes change only after a cleaning of its slot is finished,
@@ -126,7 +126,7 @@ impl Record {
             .unwrap_or(&area[..0])
     }
 
-    /// Starts to write a value under a key. Answers the number of stores to come.
+    /// Starts to write a value under a key. Answers how many stores are to come.
     #[inline]
     pub fn write(
         &mut self,
@@ -150,7 +150,7 @@ impl Record {
         Refusal::unless_accepted(answer).map(|()| stores)
     }
 
-    /// Starts to delete a key. Answers the number of stores to come.
+    /// Starts to delete a key. Answers how many stores are to come.
     #[inline]
     pub fn delete(
         &mut self,
@@ -172,7 +172,7 @@ impl Record {
         Refusal::unless_accepted(answer).map(|()| stores)
     }
 
-    /// Starts to clean slots: a new head takes over what they hold that still counts. Answers the number of stores to
+    /// Starts to clean slots: a new head takes over what they hold that still counts. Answers how many stores are to
     /// come.
     ///
     /// ```

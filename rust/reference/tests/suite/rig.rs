@@ -156,7 +156,7 @@ impl<R: Rules> Rig<R> {
         Ok(answer)
     }
 
-    /// What the naive reading owes for a start.
+    /// What a start must answer by the naive reading.
     fn plan(&self, operation: &Operation, work: usize, before: Record) -> Result<Owed, Fault> {
         if work < self.slot_bytes as usize {
             return Ok(Err(3));
