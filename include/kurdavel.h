@@ -43,30 +43,32 @@
  *
  *   An operation that is not to be finished is given up by kurdavel_recover, without a cut: it drops what is pending.
  *   The bytes stored so far stay in the area, where they do not count and the next operation overwrites what it needs.
- *   There is no other way: a record kept from before the start does not fit the area any more.
+ *   The rules of use leave no other way: a record kept from before the start is not the newest one.
  *
  * THE PROMISE ABOUT CUTS, AND THE RULES OF USE THAT IT RESTS ON
  *   Wherever the power fails, the next recovery is accepted and gives exactly what the finished operations left,
  *   and a next version above every version told, if
  *   - N and S are at each recovery what they were at the format;
  *   - all other calls are given the record as the last call left it, and the index as it has become since a recovery
- *     was last accepted; a step is also given the work buffer unchanged since its start;
+ *     was last accepted; a step is also given the work buffer unchanged since its start. Nothing but these calls
+ *     changes the area, the index or the record;
  *   - once the area was formatted, the power failed or a recovery answered 20, a recovery is accepted before any call
  *     is given a record again. After 20 this is easily overlooked: the record from before still passes every test, but
- *     the index is empty. Present keys would read as absent (8), and a cleaning would be accepted and lose them.
- *     Recover again, with an index that is large enough;
+ *     the cells that were lent are all 0. Present keys would read as absent (8), and a cleaning would be accepted and
+ *     lose them. Recover again, with an index that is large enough;
  *   - the index of a recovery is no smaller than that of the last accepted one. A smaller one may be answered with 20,
  *     which loses nothing: recover again with a larger one.
  *   With any other words in the record or the index the calls stay safe and end, and a step changes one byte of the
  *   area at the most; nothing else is promised.
  *
  * WHAT IT ASKS OF THE MEDIUM
- *   The area is memory that the processor addresses byte by byte. A byte that a step stored has to be durable before
- *   the next step's store is made. Where a cache or a write buffer lies between, put the barrier that makes it durable
- *   (write back, fence) between the steps: a step makes one store, so one barrier after each is enough. After the last
- *   step it comes before the operation is reported as done. Steps may not be merged either: the archive is machine
- *   code, so link-time optimisation leaves each call as it is. If you build the library in another form, keep it so.
- *   A cut during kurdavel_format is not covered by the promise.
+ *   The area is memory that the processor addresses byte by byte. A cut during a store leaves that byte either as it
+ *   was or as stored, and no other byte is touched. A byte that a step stored has to be durable before the next
+ *   step's store is made. Where a cache or a write buffer lies between, put the barrier that makes it durable (write
+ *   back, fence) between the steps: a step makes one store, so one barrier after each is enough. After the last step
+ *   it comes before the operation is reported as done, and after kurdavel_format before anything else. Steps may not
+ *   be merged: the archive is machine code, so link-time optimisation leaves each call as it is. If you build the
+ *   library in another form, keep it so.
  *
  * INTERRUPTS AND TASKS
  *   One call at a time for each store, but reads, which change nothing, may overlap one another. A read from an
@@ -75,10 +77,10 @@
  *
  * CHOOSING M, AND ROOM
  *   Every key with an entry in the log has one cell, and M - 1 keys is the most. A deleted key counts until no entry
- *   of it is left: its tombstone and older objects go when their slots are cleaned. So M is to be above the number of
- *   live keys and of those deleted whose slots are not cleaned yet. (N - 1) * ((S - 13) / 11) + 1 cells, in whole
- *   numbers, are enough for any log. A search is shorter where more cells are free, and faster where M is a power of
- *   two.
+ *   of it is left: a cleaning drops its older objects from the slots that it names, and its tombstone once no other
+ *   slot has an object of the key. So M is to be above the number of live keys and of deleted ones not yet cleaned
+ *   away, together. (N - 1) * ((S - 13) / 11) + 1 cells, in whole numbers, are enough for any log, where that is no
+ *   more than 4,096. A search is shorter where more cells are free, and faster where M is a power of two.
  *   One slot is always kept free for cleaning. An entry takes 11 bytes and its value (19, 35 or 67), a tombstone 11,
  *   and a slot holds S - 13 bytes of them.
  *
@@ -86,11 +88,12 @@
  *    9  Only a format, which empties the store: no version is left. Reads and cleanings go on.
  *   10  Only a format, which empties the store: no digest number is left. Reads go on, and so do writes and deletes
  *       whose entry fits the head.
- *   11  Clean the slots that hold entries of deleted keys, or recover with a larger index.
+ *   11  Clean the slots that hold entries of deleted keys, objects and tombstone of a key together or the objects
+ *       first; or recover with a larger index.
  *   12  Clean. A cleaning takes one free slot and frees its victims: several at once, of which little still counts,
  *       give slots back; a single one gives back the room of those of its entries that no longer count. It does not
- *       help a store full of live objects; there a delete, whose tombstone needs 11 bytes, is refused with 12 like a
- *       write. So leave room from the start.
+ *       help a store full of live objects; there even a delete, whose tombstone needs 11 bytes, may be refused with
+ *       12. So leave room from the start.
  *   14  Name fewer victims. What a single one holds always fits.
  */
 #ifndef KURDAVEL_H

@@ -50,15 +50,16 @@
 //!
 //! With anything else the calls are still safe and end, and a step changes one byte of the area at the most.
 //!
-//! An operation that is not to be finished is given up by a [`recover`], without a cut. There is no other way: a copy of
-//! the record from before the start does not fit the area once a step is made.
+//! An operation that is not to be finished is given up by a [`recover`], without a cut. The rules leave no other way: a
+//! copy of the record from before the start is not the newest one.
 //!
 //! # The medium
 //!
-//! The area is memory that is addressed byte by byte, and what a step stored has to be durable before the next step's
-//! store. Behind a cache or a write buffer, put the barrier that makes it durable between the steps: each makes one
-//! store, so that one barrier after each is enough. The library is linked as machine code, so that no steps are merged by
-//! link-time optimisation. Reads, also from an interrupt, are allowed between steps and not during one.
+//! The area is memory that is addressed byte by byte. A cut during a store leaves that byte either as it was or as
+//! stored, and no other is touched; and what a step stored has to be durable before the next step's store. Behind a
+//! cache or a write buffer, put the barrier that makes it durable between the steps: each makes one store, so that
+//! one barrier after each is enough. The library is linked as machine code, so that no steps are merged by link-time
+//! optimisation. Reads, also from an interrupt, are allowed between steps and not during one.
 //!
 //! `include/kurdavel.h` says besides how to choose the size of the index, what helps after a refusal, and how much stack
 //! each call takes.
