@@ -1,6 +1,7 @@
-//! What happens where the rule of use after a recovery refused with 20 is broken, and that keeping it is enough.
+//! What happens where the rule of use after a recovery refused with 20 is broken, and that keeping it is enough; how an
+//! operation is given up; and how long the place of a value may be used.
 
-use kurdavel::{format, recover, Key, Progress, Record, Refusal, SlotMap};
+use kurdavel::{format, recover, slices, Key, Progress, Record, Refusal, SlotMap};
 
 const ORDER: [u8; 4] = [0, 1, 2, 3];
 const KEYS: u32 = 20;
@@ -50,10 +51,25 @@ impl Store {
         self.record.step(area, index, &self.work).unwrap()
     }
 
-    fn clean(&mut self, victims: SlotMap) {
+    fn start_delete(&mut self, number: u32) {
+        let (area, index, work) = (&self.area, &self.index, &mut self.work);
+        let answer = self.record.delete(area, index, work, key(number));
+        answer.unwrap();
+    }
+
+    fn start_clean(&mut self, victims: SlotMap) {
         let (area, index, work) = (&self.area, &self.index, &mut self.work);
         self.record.clean(area, index, work, victims).unwrap();
-        while let Progress::More { .. } = self.step() {}
+    }
+
+    /// Where the value of a key lies in the area.
+    fn place(&self, number: u32) -> std::ops::Range<usize> {
+        let (mut place, mut bytes) = (0, 0);
+        let Key { table, key } = key(number);
+        let (words, area, index) = (self.record.words(), &self.area, &self.index);
+        let answer = slices::read_value(words, area, index, table, key, &mut place, &mut bytes);
+        assert_eq!((answer, bytes), (0, 8));
+        place as usize..(place + bytes) as usize
     }
 
     /// How many keys read as present, with their values. The others read as absent.
@@ -97,7 +113,8 @@ fn old_record_after_20_hides_keys() {
 fn cleaning_with_the_old_record_after_20_loses_keys() {
     let mut store = Store::with_keys();
     store.recover_with_too_few();
-    store.clean(SlotMap::of(0));
+    store.start_clean(SlotMap::of(0));
+    while let Progress::More { .. } = store.step() {}
     store.recover_with_all();
     assert!(store.present() < 20);
 }
@@ -124,4 +141,41 @@ fn recovery_gives_an_operation_up() {
     assert_eq!(store.record.left(), 0);
     assert_eq!(store.record.next(), next);
     assert_eq!(store.present(), 20);
+}
+
+/// The bytes at a value's place stay through all steps of the next operation, also of one that replaces or deletes the
+/// value or cleans its slot.
+#[test]
+fn place_of_a_value_stays_through_the_next_operation() {
+    let starts: [fn(&mut Store); 4] = [
+        |store| store.start_write(3, &[0xaa; 8]),
+        |store| store.start_delete(3),
+        |store| store.start_clean(SlotMap::of(0)),
+        |store| store.start_clean(SlotMap::of(1)),
+    ];
+    for start in starts {
+        for number in [3, KEYS - 1] {
+            let mut store = Store::with_keys();
+            let place = store.place(number);
+            start(&mut store);
+            while store.record.left() > 0 {
+                store.step();
+                assert_eq!(store.area[place.clone()], [number as u8; 8]);
+            }
+        }
+    }
+}
+
+/// Once the slot of a value is cleaned, a later operation may store over its place.
+#[test]
+fn place_of_a_value_ends_with_its_slot() {
+    let mut store = Store::with_keys();
+    let place = store.place(3);
+    for slot in [0, 1, 3] {
+        store.start_clean(SlotMap::of(slot));
+        while let Progress::More { .. } = store.step() {}
+    }
+    assert_eq!(store.present(), 20);
+    assert_ne!(store.area[place.clone()], [3; 8]);
+    assert_ne!(store.place(3), place);
 }
