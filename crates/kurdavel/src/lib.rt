@@ -87,9 +87,11 @@ pub extern "C" fn kurdavel_read(
     ensures { λ r.
         ⌜
         ReadCrossed (now (words .entry)) (now (area .entry)) (now (index .entry)) (record { table = table; key = key })
-        (now (version .entry)) (now (kind .entry)) (now (version .exit)) (now (kind .exit)) r
+        (now (version .exit)) (now (kind .exit)) r
         ⌝ }
 {
+    *version = 0;
+    *kind = 0;
     let decoded = decode(words);
     if !decoded.ok {
         return 4;
