@@ -28,7 +28,8 @@ use Rattle.model.specs.Index.{IndexRule}
 use Rattle.model.specs.Operations.{logNow, laid, storesFor, stored, finishedRecord, toldVersion}
 use Rattle.model.specs.Refused.{isPending, stepCauses}
 use Rattle.model.specs.Promises.{Started, StepPromise, StepExact, stepped, IndexStepped, leftAfter, lentLengths}
-use Rattle.laws.specs.CauseLaws.{cause-false, cause-rest, refusal-number}
+use Rattle.laws.specs.CauseLaws.{refusal-number}
+use Rattle.laws.specs.Passed.{step-passed}
 use Rattle.laws.specs.MapLaws.{valueAt}
 use Rattle.laws.specs.Operated.{Accepted, OperationLaws, planAt}
 use Rattle.history.specs.Book.{steps, called, Awaited, Book, feed, feedCall, takeOne, oneOff, finish, versionFor, toldBy}
@@ -324,7 +325,7 @@ module _ (L : Layout) (laws : OperationLaws L) (n s : ℕ) where
       go none e = by-phase (inv .held .phase)
         where
           pending : isPending (h .rec .pending) ≡ true
-          pending = not-false (isPending (h .rec .pending)) (cause-false _ _ (cause-rest _ _ (cause-rest _ _ e)))
+          pending = not-false (isPending (h .rec .pending)) (step-passed L (h .rec) (lentLengths area (h .cells) work) e .some-pending)
 
           same-work : work ≡ h .work
           same-work = own-work pending

@@ -28,13 +28,13 @@ use Rattle.model.specs.Log.{Placed, keysOf}
 use Rattle.model.specs.Index.{IndexRule}
 use Rattle.model.specs.Operations.{Operation, write, delete, clean, Laid, laid, laidAppend, laidHead, laidEntry, laidClean, logNow, newSlot, newDigest, fitsHead, kept, allEncoded, writtenEntry, tombstoneEntry, planOf, commit, stored, appendedRecord, headedRecord, entryRecord, cleanedRecord, finishedRecord, toldVersion}
 use Rattle.model.specs.Recovery.{recovered}
-use Rattle.model.specs.Refused.{startCauses, cleanCauses}
+use Rattle.model.specs.Refused.{keptLength, startCauses}
 use Rattle.laws.specs.RecoverLaws.{recovered-apart, recovered-keys, recovered-fits}
 use Rattle.laws.specs.Operated.{Accepted, planAt}
 use Rattle.laws.specs.Entering.{Roomy, Entering, idle-lent, idle-number, write-enters, delete-enters}
 use Rattle.laws.specs.EntryDone.{appended-added, headed-added}
 use Rattle.laws.specs.OperationsKept.{finishes}
-use Rattle.laws.specs.CauseLaws.{NoCause, no-cause}
+use Rattle.laws.specs.Passed.{CleanPassed, clean-passed}
 use Rattle.index.specs.InsertLaws.{Indexed}
 use Rattle.index.specs.Build.{built}
 use Rattle.index.specs.BuildLaws.{Holds}
@@ -236,13 +236,13 @@ module _ (L : Layout) (roomy : Roomy L) (before cells : List ℕ) (idle : Record
       (within victims (idle .map) ≡ true) × (idle .digest .0 < numberLimit)
   unfolding startCauses
   clean-tests victims a =
-      let tests : NoCause (cleanCauses L idle (logNow L before idle) (a .lengths) victims) =
-      no-cause (startCauses L idle (logNow L before idle) (a .lengths) (clean victims)) (a .no-cause) in (
-        not-false (within victims (idle .map)) (either-false-right _ _ (tests .1 .1 .1 .0)),
+      let tests : CleanPassed L idle (a .lengths) (keptLength L (logNow L before idle) victims) victims =
+      clean-passed L idle (a .lengths) (keptLength L (logNow L before idle) victims) victims (a .no-cause) in (
+        not-false (within victims (idle .map)) (either-false-right _ _ (tests .victims-good)),
         omega (
           arith,
           idle-number L before idle (clean victims) a,
-          eqb-false (idle .digest .0) numberLimit (tests .1 .1 .1 .1 .1 .0),
+          eqb-false (idle .digest .0) numberLimit (tests .number-left),
         ),
       )
 
