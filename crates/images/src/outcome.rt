@@ -5,10 +5,10 @@ use crate::lines;
 use record::ReadAnswer;
 use record::Record;
 use record::RecoverAnswer;
-use recovery::read::read;
-use recovery::read::read_value;
-use recovery::recover::recover;
 use segment::Key;
+use store::read;
+use store::read_value;
+use store::recover;
 
 // What every cell holds before a recovery: it leads to the first entry of slot 0, and no cell is 0.
 pub const OLD: u32 = 14;

@@ -5,9 +5,9 @@ use crate::book::Value;
 use crate::lines;
 use crate::operations::Played;
 use crate::reads;
-use recovery::format::format;
-use recovery::recover::recover;
 use segment::writer::copy_into;
+use store::format;
+use store::recover;
 ghost use Prim.Native.Nat.{_≤_};
 
 // N and S of the store.

@@ -5,15 +5,15 @@ use crate::book::Value;
 use crate::lines;
 use crate::memory;
 use crate::reads;
-use cleaning::clean::clean;
 use record::Pending;
 use record::Record;
 use record::Start;
 use record::StartAnswer;
 use record::StepAnswer;
-use stepping::step;
-use writing::start::delete;
-use writing::start::write;
+use store::clean;
+use store::delete;
+use store::step;
+use store::write;
 
 // The store's record, its book, and after how many stores of the next operation the supply fails, 0 where it does not.
 pub struct Played {

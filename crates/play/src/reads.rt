@@ -7,10 +7,10 @@ use crate::memory;
 use record::ReadAnswer;
 use record::Record;
 use record::RecoverAnswer;
-use recovery::read::read;
-use recovery::read::read_value;
-use recovery::recover::recover;
 use segment::layout::object_kind;
+use store::read;
+use store::read_value;
+use store::recover;
 
 // Whether these are the bytes of a value.
 fn bytes_are(bytes: &[u8], value: Value) -> bool {
