@@ -23,7 +23,7 @@ use Rattle.record.specs.declared.Refusal.{Refusal}
 use Rattle.model.specs.Operations.{Operation, write, delete, clean, TypedKey}
 use Rattle.model.specs.Recovery.{orderBad}
 use Rattle.model.specs.Refused.{Lengths}
-use Rattle.model.specs.Promises.{FormatPromise, RecoverPromise, ReadPromise, ValuePromise}
+use Rattle.model.specs.Promises.{FormatPromise, RecoverPromise, ReadPromise, Part, partOf, ValuePromise}
 use Rattle.history.specs.Book.{Question, reads, readsValue, Call, starts, steps, asks, recovers, Answer, saying, giving, Event, called, cut, accepted, Kept, Awaited, Book, freshBook, sameKeys, finish, versionFor, oneOff, takeOne, feedCall, feed, bookAfter, bookOf, toldBy, highestTold}
 use Rattle.history.specs.Runs.{World, freshWorld, Run}
 use Rattle.history.specs.Demand3.{LargeEnough, bookAnswer, bookValue, GivesBook, StepAgrees, QuestionAgrees, EventAgrees, EventsAgree, Demand3Of}
@@ -144,7 +144,7 @@ module _ (n s : ℕ) (area₀ area : List ℕ) (ab : Bytes area₀) (format : Fo
       noWrite (feed (bookOf before) (called steps l a)) k after ≡ true → (order cells cells′ : List ℕ) (r : Recovery) → orderBad n order ≡ false →
       LargeEnough (w .cells) (length cells) → RecoverPromise edition1 n s order (w .area) cells cells′ r → TypedKey k →
       ((x : Reading) → ReadPromise edition1 (r .rec) (w .area) cells′ k x → x .answer ≡ ReadAnswer.Refused Refusal.Absent)
-      × ((v : List ℕ) → ValuePromise edition1 (r .rec) (w .area) cells′ k v → v ≡ [])
+      × ((p : Part) → ValuePromise edition1 (r .rec) (w .area) cells′ k p → partOf (w .area) p ≡ [])
   unfolding bookAnswer bookValue bookAfter
   deleted-stays-gone before after l a k w run deleting done none-written order cells cells′ r good large promise typed = (
     λ x q. given .answers k typed x q ∙ ap (bookAnswer edition1) gone,

@@ -27,7 +27,7 @@ use Rattle.model.specs.Causes.{when, firstCause}
 use Rattle.model.specs.Recovery.{recovered}
 use Rattle.model.specs.Operations.{Operation, write, delete, clean, logNow, writtenEntry, tombstoneEntry, fitsHead, laidAppend, laidHead, laid, storesFor}
 use Rattle.model.specs.Refused.{Lengths, recordBad, keyAbsent, isAbsent, readCauses}
-use Rattle.model.specs.Promises.{ReadPromise, ValuePromise, readAnswer, presentAnswer, readLengths, valueAnswer, valuePart}
+use Rattle.model.specs.Promises.{ReadPromise, ValuePromise, readAnswer, presentAnswer, readLengths, Part, partOf, valueAnswer, valuePart}
 use Rattle.laws.specs.CauseLaws.{cause-skip}
 use Rattle.laws.specs.MapLaws.{valueAt, entryOf}
 use Rattle.laws.specs.Operated.{OperationLaws}
@@ -116,8 +116,8 @@ module _ (L : Layout) (laws : OperationLaws L) (n s : ℕ) where
 
   present-value :
       (area : List ℕ) (size : ℕ) (k : Key) (p : Option Placed) (x : Option Kept) → entryOf p ≡ bookEntry L k x →
-      ((y : Placed) → p ≡ some y → valuePart L size area (some y) ≡ y .entry .value) →
-      valueAnswer L size area (firstCause (when (isAbsent p) Absent ∷ [])) p ≡ bookValue x
+      ((y : Placed) → p ≡ some y → partOf area (valuePart L size (some y)) ≡ y .entry .value) →
+      partOf area (valueAnswer L size (firstCause (when (isAbsent p) Absent ∷ [])) p) ≡ bookValue x
   unfolding entryOf bookEntry firstCause pick isAbsent valueAnswer valuePart bookValue
   present-value area size k none none e part = refl
   present-value area size k none (some y) e part = cc
@@ -142,10 +142,10 @@ module _ (L : Layout) (laws : OperationLaws L) (n s : ℕ) where
           present-answer k (present L (logNow L area r) k) x same
 
       pub value-answer :
-          valueAnswer L (r .size) area (firstCause (readCauses L r (logNow L area r) (readLengths area cells) k)) (present L (logNow L area r) k) ≡
+          partOf area (valueAnswer L (r .size) (firstCause (readCauses L r (logNow L area r) (readLengths area cells) k)) (present L (logNow L area r) k)) ≡
           bookValue x
       value-answer =
-          ap (λ (c : Option Refusal). valueAnswer L (r .size) area c (present L (logNow L area r) k)) only-absent ∙
+          ap (λ (c : Option Refusal). partOf area (valueAnswer L (r .size) c (present L (logNow L area r) k))) only-absent ∙
           present-value area (r .size) k (present L (logNow L area r) k) x same
           (λ y q. laws .value-part area (withPending r Idle) ab recovers k y q)
 
@@ -198,12 +198,12 @@ module _ (L : Layout) (laws : OperationLaws L) (n s : ℕ) where
               subst⁻¹ (λ (x : ReadAnswer). readSaid x .version < b .next) (p .exact (good .genuine))
               (told-less (firstCause (readCauses L (h .rec) (logNow L area (h .rec)) (readLengths area (h .cells)) k)) (present L (logNow L area (h .rec)) k) refl)
 
-      value-keeps : (l : Lengths) (value : List ℕ) → ValuePromise L (h .rec) area (h .cells) k value → QuestionGoal (readsValue k) l (giving value)
+      value-keeps : (l : Lengths) (p : Part) → ValuePromise L (h .rec) area (h .cells) k p → QuestionGoal (readsValue k) l (giving (partOf area p))
       unfolding feed feedCall toldBy pick EventAgrees QuestionAgrees
-      value-keeps l value p = (
+      value-keeps l p promise = (
         rw (max-zero t) inv,
         ap giving
-            (p .exact (good .genuine) ∙ value-answer area (h .cells) (h .rec) (inv .bytes) (good .genuine .recovers) fits k (b .keys k) map-now),
+            (ap (partOf area) (promise .exact (good .genuine)) ∙ value-answer area (h .cells) (h .rec) (inv .bytes) (good .genuine .recovers) fits k (b .keys k) map-now),
       )
 
   -- A question keeps the invariant, and answers what the book says.
@@ -212,5 +212,5 @@ module _ (L : Layout) (laws : OperationLaws L) (n s : ℕ) where
       Inv L n s w (feed b (called (asks q) l a)) (max t (toldBy (called (asks q) l a))) × EventAgrees L b (called (asks q) l a)
   unfolding HeldGood
   ask-keeps b t (read {area} {h} {m} {k} {a} ty p) inv = read-keeps area h m b t inv (inv .held) k (readLengths area (h .cells)) a p
-  ask-keeps b t (readValue {area} {value} {h} {m} {k} ty p) inv =
-      value-keeps area h m b t inv (inv .held) k (readLengths area (h .cells)) value p
+  ask-keeps b t (readValue {area} {h} {m} {k} {p} ty promise) inv =
+      value-keeps area h m b t inv (inv .held) k (readLengths area (h .cells)) p promise

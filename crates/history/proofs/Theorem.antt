@@ -23,7 +23,7 @@ use Rattle.model.specs.Causes.{when, firstCause}
 use Rattle.model.specs.Recovery.{recovered, recordFrom, orderBad, geometryBad, recovery, recoveryFor}
 use Rattle.model.specs.Operations.{formatted}
 use Rattle.model.specs.Refused.{formatCauses}
-use Rattle.model.specs.Promises.{Genuine, FormatPromise, RecoverPromise, IndexAfter, formatAnswer, areaUnless, readLengths}
+use Rattle.model.specs.Promises.{Genuine, FormatPromise, RecoverPromise, IndexAfter, formatAnswer, areaUnless, readLengths, partOf}
 use Rattle.laws.specs.CauseLaws.{cause-false}
 use Rattle.laws.specs.MapLaws.{valueAt, entryOf}
 use Rattle.laws.specs.Operated.{OperationLaws}
@@ -116,7 +116,7 @@ module _ (L : Layout) (laws : OperationLaws L) (n s : ℕ) where
                 read-answer L laws n s (w .area) cells′ rec (inv .bytes) recovers fits k (b .keys k) (inv .agrees .map-same k);
             values =
                 λ k ty v q.
-                q .exact genuine ∙
+                ap (partOf (w .area)) (q .exact genuine) ∙
                 value-answer L laws n s (w .area) cells′ rec (inv .bytes) recovers fits k (b .keys k) (inv .agrees .map-same k);
           }
 

@@ -6,7 +6,7 @@ use mathlib.Core.Option.{Option, none, some}
 use lib.Dec.{eqb}
 use Rattle.segment.specs.Choice.{pick, both}
 use Rattle.segment.specs.declared.Key.{Key}
-use Rattle.record.specs.Answers.{Said, refusal}
+use Rattle.record.specs.Answers.{Said, taken}
 use Rattle.model.specs.Operations.{Operation, write, delete, clean}
 use Rattle.model.specs.Refused.{Lengths}
 
@@ -33,7 +33,7 @@ abbrev pub saying : Said → Answer
 saying a = record { said = a; value = [] }
 
 abbrev pub giving : List ℕ → Answer
-giving v = record { said = refusal 0; value = v }
+giving v = record { said = taken; value = v }
 
 -- A call with the lengths of what it was lent and with what it answered, or a cut. Of a call's input only what the lent memory
 -- holds is not in its event.

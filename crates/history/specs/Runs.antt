@@ -18,7 +18,7 @@ use Rattle.record.specs.declared.Start.{Start}
 use Rattle.record.specs.declared.Stepped.{Stepped}
 use Rattle.model.specs.Operations.{Operation, Typed, TypedKey}
 use Rattle.model.specs.Refused.{Lengths, isPending}
-use Rattle.model.specs.Promises.{RecoverPromise, readLengths, ReadPromise, ValuePromise, lentLengths, StartPromise, StepPromise}
+use Rattle.model.specs.Promises.{RecoverPromise, readLengths, ReadPromise, Part, partOf, ValuePromise, lentLengths, StartPromise, StepPromise}
 use Rattle.history.specs.Book.{Question, reads, readsValue, starts, steps, asks, recovers, Answer, saying, giving, Event, called, cut, accepted}
 
 -- What the firmware holds from an accepted recovery to the next cut: the newest record, the index of that recovery, and the work
@@ -56,8 +56,8 @@ pub data Asked (L : Layout) : World → Question → Lengths → Answer → Type
       {area : List ℕ} {h : Held} {m : Option ℕ} {k : Key} {a : Reading} → TypedKey k → ReadPromise L (h .rec) area (h .cells) k a →
       Asked L (record { area = area; held = some h; cells = m }) (reads k) (readLengths area (h .cells)) (saying (readSaid (a .answer)))
   readValue :
-      {area value : List ℕ} {h : Held} {m : Option ℕ} {k : Key} → TypedKey k → ValuePromise L (h .rec) area (h .cells) k value →
-      Asked L (record { area = area; held = some h; cells = m }) (readsValue k) (readLengths area (h .cells)) (giving value)
+      {area : List ℕ} {h : Held} {m : Option ℕ} {k : Key} {p : Part} → TypedKey k → ValuePromise L (h .rec) area (h .cells) k p →
+      Asked L (record { area = area; held = some h; cells = m }) (readsValue k) (readLengths area (h .cells)) (giving (partOf area p))
 
 -- One event. A cut takes what is held and leaves the area with the stores made so far. The stores of an operation are made one by
 -- one, each by a step, and no other call stores anything; so a cut during a call is one before it, or one after it once its store

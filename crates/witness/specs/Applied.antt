@@ -10,7 +10,7 @@ use lib.ListN.{length}
 use Rattle.segment.specs.Choice.{pick}
 use Rattle.segment.specs.Layout.{edition1, objectKind, lookBack}
 use Rattle.segment.specs.declared.Key.{Key}
-use Rattle.record.specs.Answers.{Said, readSaid, refusal}
+use Rattle.record.specs.Answers.{Said, readSaid, refusal, saidBy}
 use Rattle.record.specs.declared.FormatAnswer.{FormatAnswer}
 use Rattle.record.specs.declared.Reading.{Reading}
 use Rattle.record.specs.declared.ReadAnswer.{ReadAnswer}
@@ -20,7 +20,7 @@ use Rattle.record.specs.declared.Refusal.{Refusal}
 use Rattle.model.specs.Operations.{write, kindElse}
 use Rattle.model.specs.Play.{opened}
 use Rattle.model.specs.Recovery.{orderBad, recovery}
-use Rattle.model.specs.Promises.{formatAnswer, areaUnless, FormatPromise, RecoverPromise, ReadPromise, ValuePromise}
+use Rattle.model.specs.Promises.{formatAnswer, areaUnless, FormatPromise, RecoverPromise, ReadPromise, Part, partOf, ValuePromise}
 use Rattle.history.specs.Book.{reads, readsValue, asks, Answer, saying, Event, cut, accepted, Kept, Book, freshBook, versionFor, feed, bookOf, highestTold, toldBy}
 use Rattle.history.specs.Demand3.{LargeEnough, bookAnswer, bookValue, GivesBook, StepAgrees, QuestionAgrees, EventAgrees, EventsAgree, Demand3Of}
 use Rattle.history.proofs.Readings.{feed-asks}
@@ -30,8 +30,8 @@ use Rattle.witness.specs.Answers.{recoveredCells, recover-made}
 use Rattle.witness.specs.Example.{computing, booking, bytes-of, nine, nine-typed, ten, ten-typed, ones, threes, told, lent, started, stepped, recovered, readEvent, valueEvent, readsAs, leaving, begins, writes, idles, half, meanwhile, fails, others, deletes, cleans, ends, before, area₀, events, all, run, two, cleaned}
 
 formats : FormatPromise edition1 4 256 before area₀ FormatAnswer.Formatted
-unfolding opened formatAnswer areaUnless
-formats = record { answers = refl; leaves = refl }
+unfolding opened formatAnswer areaUnless saidBy
+formats = record { answers = refl; says = refl; leaves = refl }
 
 -- Demand 3 for these events.
 pub demanded : Demand3Of edition1 4 256 (all .world) events
@@ -53,10 +53,10 @@ pub record Left (cells′ : List ℕ) (r : Recovery) : Type 0 where
   pub above-reads : 2 < r .rec .next .0
   pub absent :
       (a : Reading) → ReadPromise edition1 (r .rec) (all .world .area) cells′ nine a → a .answer ≡ ReadAnswer.Refused Refusal.Absent
-  pub no-value : (v : List ℕ) → ValuePromise edition1 (r .rec) (all .world .area) cells′ nine v → v ≡ []
+  pub no-value : (p : Part) → ValuePromise edition1 (r .rec) (all .world .area) cells′ nine p → partOf (all .world .area) p ≡ []
   pub present :
       (a : Reading) → ReadPromise edition1 (r .rec) (all .world .area) cells′ ten a → a .answer ≡ ReadAnswer.Present (record { 0 = 2 }) 2
-  pub value : (v : List ℕ) → ValuePromise edition1 (r .rec) (all .world .area) cells′ ten v → v ≡ threes
+  pub value : (p : Part) → ValuePromise edition1 (r .rec) (all .world .area) cells′ ten p → partOf (all .world .area) p ≡ threes
 
 -- what the book says of the other key
 ten-answer : bookAnswer edition1 two ≡ ReadAnswer.Present (record { 0 = 2 }) 2

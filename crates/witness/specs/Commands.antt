@@ -11,10 +11,10 @@ use Rattle.record.specs.Answers.{recoverSaid, readSaid, startSaid, stepSaid}
 use Rattle.record.specs.declared.Recovery.{Recovery}
 use Rattle.model.specs.Operations.{Operation, Typed, TypedKey}
 use Rattle.model.specs.Recovery.{recovery}
-use Rattle.model.specs.Promises.{readLengths, Begun, lentLengths}
+use Rattle.model.specs.Promises.{readLengths, partOf, Begun, lentLengths}
 use Rattle.history.specs.Book.{Question, reads, readsValue, starts, steps, asks, recovers, Answer, saying, giving, Event, called, cut}
 use Rattle.history.specs.Runs.{Held, World, heldAfter, recoveredWorld, Asked, read, readValue, Moves, start, step, ask, recover, cuts, Run, stop, go}
-use Rattle.witness.specs.Answers.{readBy, valueBy, read-made, value-made, startedBy, start-made, recoveredCells, recover-made}
+use Rattle.witness.specs.Answers.{readBy, partBy, read-made, value-made, startedBy, start-made, recoveredCells, recover-made}
 use Rattle.witness.specs.Steps.{Moved, steppedBy, step-made}
 
 -- a question's key is of its types
@@ -59,7 +59,7 @@ steppedWorld w h x =
 -- what a question answers
 unfoldable pub answerBy : Layout → Held → List ℕ → Question → Answer
 answerBy L h area (reads k) = saying (readSaid (readBy L (h .rec) area (h .cells) k .answer))
-answerBy L h area (readsValue k) = giving (valueBy L (h .rec) area (h .cells) k)
+answerBy L h area (readsValue k) = giving (partOf area (partBy L (h .rec) area (h .cells) k))
 
 abbrev pub askedWorld : Layout → World → Held → Question → Played
 askedWorld L w h q =

@@ -12,7 +12,7 @@ use Rattle.segment.specs.Choice.{pick, both}
 use Rattle.segment.specs.Layout.{edition1}
 use Rattle.segment.specs.declared.Key.{Key}
 use Rattle.slot_map.specs.Bit.{withBit, less}
-use Rattle.record.specs.Answers.{Said, refusal}
+use Rattle.record.specs.Answers.{Said, refusal, taken}
 use Rattle.model.specs.Index.{around}
 use Rattle.model.specs.Operations.{Operation, write, delete, clean, Typed, TypedKey, formatted}
 use Rattle.model.specs.Play.{opened, keyed}
@@ -105,7 +105,7 @@ abbrev pub stepped : Said → Event
 stepped a = called steps (lent 256) (saying a)
 
 abbrev pub recovered : Event
-recovered = called (recovers 4 256 (0 ∷ 1 ∷ 2 ∷ 3 ∷ [])) (lent 0) (saying (refusal 0))
+recovered = called (recovers 4 256 (0 ∷ 1 ∷ 2 ∷ 3 ∷ [])) (lent 0) (saying taken)
 
 abbrev pub readEvent : Key → Said → Event
 readEvent k a = called (asks (reads k)) (lent 0) (saying a)
