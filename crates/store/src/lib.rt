@@ -25,5 +25,6 @@ pub use writing::start::delete;
 pub use cleaning::clean::clean;
 
 // Makes the next store of the pending operation, one byte, and answers the stores left; the last one makes the operation count,
-// tells its version, and brings record and index up to date. Refused with 4, 3 or 6, it changes nothing.
+// tells its version, and brings record and index up to date. Refused with 4, 3 or 6 by its tests, it changes nothing; with a
+// record that is not the area's own, 4 may also come after the byte is stored.
 pub use stepping::step;
