@@ -7,6 +7,7 @@ pub mod Index
 pub mod Operations
 pub mod Refused
 pub mod Promises
+pub mod PromiseLaws
 pub mod Table
 pub mod Play
 pub mod Cases

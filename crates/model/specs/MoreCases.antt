@@ -310,8 +310,9 @@ cutRows =
     ∷ row 22 (map (λ s. stores (freshOver s) (write a (replicate 8 1))) (0 ∷ 1 ∷ 4 ∷ 5 ∷ [])) (20 ∷ 20 ∷ 20 ∷ 20 ∷ [])
     ∷ row 22 (recovers (played (freshOver 4) (write a (replicate 8 1)))) (0 ∷ 4 ∷ 256 ∷ 16 ∷ 0 ∷ 32 ∷ 1 ∷ 1 ∷ 2 ∷ 1 ∷ 0 ∷ [])
     ∷ row 22 (recovers (played (freshOver 5) (write a (replicate 8 1)))) (0 ∷ 4 ∷ 256 ∷ 16 ∷ 0 ∷ 32 ∷ 1 ∷ 1 ∷ 2 ∷ 1 ∷ 0 ∷ [])
-    -- a new head over an old digest, cut after each store but the last; all of them done
+    -- a new head over an old digest, cut after each store but the last, for a write and for a cleaning; all of the write's done
     ∷ row 23 (cutsBelow 34 (crowded 3 3 1) (oldKey 8)) (times 34 (0 ∷ 4 ∷ 256 ∷ 16 ∷ 0 ∷ 245 ∷ 3 ∷ 3 ∷ 17 ∷ 15 ∷ 0 ∷ []))
+    ∷ row 23 (cutsBelow 15 (crowded 3 3 1) (clean 2)) (times 15 (0 ∷ 4 ∷ 256 ∷ 16 ∷ 0 ∷ 245 ∷ 3 ∷ 3 ∷ 17 ∷ 15 ∷ 0 ∷ []))
     ∷ row 23 (starts (crowded 3 3 1) (oldKey 8)) (0 ∷ 34 ∷ 0 ∷ 0 ∷ 4 ∷ 256 ∷ 16 ∷ 0 ∷ 245 ∷ 3 ∷ 3 ∷ 17 ∷ 15 ∷ 34 ∷ [])
     ∷ row 23 (ends (crowded 3 3 1) (oldKey 8)) (0 ∷ 0 ∷ 17 ∷ 0 ∷ 4 ∷ 256 ∷ 16 ∷ 2 ∷ 32 ∷ 4 ∷ 7 ∷ 18 ∷ 15 ∷ 0 ∷ [])
     ∷ row 23 (recovers (played (crowded 3 3 1) (oldKey 8))) (0 ∷ 4 ∷ 256 ∷ 16 ∷ 2 ∷ 32 ∷ 4 ∷ 7 ∷ 18 ∷ 15 ∷ 0 ∷ [])
