@@ -21,7 +21,7 @@ use Rattle.cleaning.specs.declared.Next.the-variants as N
 -- ---- the slots of an area
 
 -- N and S within their limits, and the area N × S bytes long, as the range test has found them.
-pub record Shape (split : Split) (area : List ℕ) : Type 0 where
+pub record SplitFits (split : Split) (area : List ℕ) : Type 0 where
   pub slots-high : split .slots ≤ 32
   pub size-low : 256 ≤ split .size
   pub size-high : split .size ≤ 2048

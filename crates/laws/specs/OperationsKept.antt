@@ -22,8 +22,8 @@ use Rattle.record.specs.declared.Record.{Record}
 use Rattle.model.specs.Log.{Placed, placeOf, scan, segmentOf, viewsOf, present, latest, objectOnly, sameKey}
 use Rattle.model.specs.Recovery.{recovered, recordFrom}
 use Rattle.model.specs.Operations.{Operation, write, delete, clean, logNow, writtenEntry, tombstoneEntry, newSlot, newDigest, kept, allEncoded, placedFrom, laid, planOf, stored, cleanedRecord, finishedRecord}
-use Rattle.model.specs.Promises.{valuePart}
-use Rattle.model.specs.Refused.{startCauses, cleanCauses}
+use Rattle.model.specs.Promises.{partOf, valuePart}
+use Rattle.model.specs.Refused.{keptLength, startCauses}
 use Rattle.laws.specs.Members.{In}
 use Rattle.laws.specs.Latest.{latest-some}
 use Rattle.laws.specs.MapLaws.{valueAt, gives, log-clean}
@@ -38,9 +38,9 @@ use Rattle.laws.specs.Headed.{Heads}
 use Rattle.laws.specs.Cleaned.{cleaned-cleaned, cleaned-recovered}
 use Rattle.laws.specs.Operated.{Accepted, planAt, mapAfter, OperationLaws}
 use Rattle.laws.specs.Entering.{Roomy, write-object, idle-lent, idle-number, write-enters, delete-enters}
-use Rattle.laws.specs.Planned.{log-formed, kept-in, planned, new-below, new-map-fits, new-next-fits, prefix-stays, prefix-bytes, plan-stores, plan-fits}
+use Rattle.laws.specs.Planned.{log-formed, kept-in, planned, new-below, new-map-fits, new-next-fits, prefix-stays, prefix-bytes, plan-stores, plan-most, plan-fits}
 use Rattle.laws.specs.EntryDone.{entry-done}
-use Rattle.laws.specs.CauseLaws.{NoCause, no-cause}
+use Rattle.laws.specs.Passed.{CleanPassed, clean-passed}
 
 -- ---- a finished cleaning
 
@@ -48,21 +48,21 @@ module _ (L : Layout) (before : List ℕ) (idle : Record) (victims : ℕ) (a : A
   facts : Lent L idle (length before) (idle .cells)
   facts = idle-lent L before idle (clean victims) a
 
-  tests : NoCause (cleanCauses L idle (logNow L before idle) (a .lengths) victims)
+  tests : CleanPassed L idle (a .lengths) (keptLength L (logNow L before idle) victims) victims
   unfolding startCauses
-  tests = no-cause (startCauses L idle (logNow L before idle) (a .lengths) (clean victims)) (a .no-cause)
+  tests = clean-passed L idle (a .lengths) (keptLength L (logNow L before idle) victims) victims (a .no-cause)
 
   sub : within victims (idle .map) ≡ true
-  sub = not-false (within victims (idle .map)) (either-false-right _ _ (tests .1 .1 .1 .0))
+  sub = not-false (within victims (idle .map)) (either-false-right _ _ (tests .victims-good))
 
   some-victim : 0 < victims
-  some-victim = omega (arith, eqb-false victims 0 (either-false-left _ _ (tests .1 .1 .1 .0)))
+  some-victim = omega (arith, eqb-false victims 0 (either-false-left _ _ (tests .victims-good)))
 
   room : digestSize L + length (allEncoded L (kept L victims (logNow L before idle))) ≤ idle .size
-  room = ltb-false (idle .size) (digestSize L + length (allEncoded L (kept L victims (logNow L before idle)))) (tests .1 .1 .1 .1 .0)
+  room = ltb-false (idle .size) (digestSize L + length (allEncoded L (kept L victims (logNow L before idle)))) (tests .kept-fits)
 
   number-left : idle .digest .0 + 1 < 256 ^ 4
-  number-left = omega (arith, idle-number L before idle (clean victims) a, eqb-false (idle .digest .0) numberLimit (tests .1 .1 .1 .1 .1 .0))
+  number-left = omega (arith, idle-number L before idle (clean victims) a, eqb-false (idle .digest .0) numberLimit (tests .number-left))
 
   abbrev clean-plan : List (ℕ × ℕ)
   clean-plan = headPlan L (idle .size) (newSlot idle) (newDigest idle victims) (kept L victims (logNow L before idle))
@@ -178,7 +178,7 @@ log-found L n s m area r e x =
 -- the value of an entry that stands in a segment is a part of the area
 value-there :
     (L : Layout) (area : List ℕ) (s : ℕ) (x : Placed) → length (segmentOf area s (x .slot)) ≡ s →
-    entryAt L (segmentOf area s (x .slot)) (x .offset) ≡ entry (x .entry) → valuePart L s area (some x) ≡ x .entry .value
+    entryAt L (segmentOf area s (x .slot)) (x .offset) ≡ entry (x .entry) → partOf area (valuePart L s (some x)) ≡ x .entry .value
 unfolding valuePart
 value-there L area s x long e =
     ap (λ (p : ℕ). take (length (x .entry .value)) (drop p area)) place ∙
@@ -207,6 +207,7 @@ operation-laws L roomy =
       finish-recovers = λ before idle o a. finishes L roomy before idle o a .0;
       finish-map = λ before idle o a. finishes L roomy before idle o a .1;
       some-stores = λ before idle o a. plan-stores L before idle (a .recovers) _ _ (planned L roomy before idle o a);
+      few-stores = λ before idle o a. plan-most L before idle (a .recovers) _ _ (planned L roomy before idle o a);
       bytes-fit = λ before idle o a. plan-fits L before idle (a .recovers) _ _ (planned L roomy before idle o a);
       own-lengths = λ n s m area r ab e. recovered-fits L n s m area r e;
       more-cells = λ n s m k area e good l. recovered-more L n s m k area (recordFrom L n s m area) e good l;

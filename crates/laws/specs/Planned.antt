@@ -27,7 +27,7 @@ use Rattle.record.specs.declared.Record.{Record}
 use Rattle.model.specs.Log.{View, Placed, scan, itemsOf, segmentOf, viewsOf, logOf}
 use Rattle.model.specs.Recovery.{recovered}
 use Rattle.model.specs.Operations.{Operation, write, delete, clean, logNow, writtenEntry, tombstoneEntry, fitsHead, newSlot, newDigest, isKept, kept, allEncoded, Laid, laidAppend, laidHead, laidEntry, laid, commit, planOf, stored}
-use Rattle.model.specs.Refused.{startCauses, cleanCauses}
+use Rattle.model.specs.Refused.{keptLength, startCauses}
 use Rattle.laws.specs.Members.{In, those, those-in, entry-of}
 use Rattle.laws.specs.MapLaws.{kept-those}
 use Rattle.laws.specs.Stores.{length-commit-within, length-commit-full, length-stored}
@@ -38,7 +38,7 @@ use Rattle.laws.specs.LogLaws.{log-same, log-in, scan-whole}
 use Rattle.laws.specs.RecoverLaws.{recovered-case, recovered-fits, recovered-next, recovered-scan, views-recovered, cut-recovered, cut-log}
 use Rattle.laws.specs.Operated.{Accepted, planAt}
 use Rattle.laws.specs.Entering.{Roomy, Entering, idle-lent, write-enters, delete-enters}
-use Rattle.laws.specs.CauseLaws.{NoCause, no-cause}
+use Rattle.laws.specs.Passed.{CleanPassed, clean-passed}
 
 -- Which plan it is, with what is known of its bytes.
 pub data Planned (L : Layout) (r : Record) : List ℕ → List (ℕ × ℕ) → Type 0 where
@@ -98,10 +98,10 @@ module _ (L : Layout) (roomy : Roomy L) (before : List ℕ) (idle : Record) wher
       (idle-lent L before idle (delete k) a .size-low)
   planned (clean victims) a =
       heads (newDigest idle victims) (kept L victims (logNow L before idle)) formed
-      (ltb-false (idle .size) (digestSize L + length (allEncoded L (kept L victims (logNow L before idle)))) (tests .1 .1 .1 .1 .0))
+      (ltb-false (idle .size) (digestSize L + length (allEncoded L (kept L victims (logNow L before idle)))) (tests .kept-fits))
     where
-      tests : NoCause (cleanCauses L idle (logNow L before idle) (a .lengths) victims)
-      tests = no-cause (startCauses L idle (logNow L before idle) (a .lengths) (clean victims)) (a .no-cause)
+      tests : CleanPassed L idle (a .lengths) (keptLength L (logNow L before idle) victims) victims
+      tests = clean-passed L idle (a .lengths) (keptLength L (logNow L before idle) victims) victims (a .no-cause)
 
       formed : (x : Entry) → List·Memᴰ x (kept L victims (logNow L before idle)) → WellFormed L x
       formed x i =
@@ -185,6 +185,21 @@ module _ (L : Layout) (area : List ℕ) (r : Record) (e : recovered L (r .slots)
       go (yes h) = omega (arith, length-commit-within (r .size) (r .head) (r .end) (encoded L x) (omega arith) h)
       go (no h) = omega (arith, length-commit-full (r .size) (r .head) (r .end) (encoded L x) (omega arith) (omega arith))
   plan-stores bytes plan (heads d es f fits) = omega arith
+
+  -- It has S + 1 stores at the most.
+  pub plan-most : (bytes : List ℕ) (plan : List (ℕ × ℕ)) → Planned L r bytes plan → length plan ≤ r .size + 1
+  plan-most bytes plan (appends x f fits) = go (decLt (r .end + length (encoded L x)) (r .size))
+    where
+      go : Dec (r .end + length (encoded L x) < r .size) → length (commit (r .size) (r .head) (r .end) (encoded L x)) ≤ r .size + 1
+      go (yes h) = omega (arith, length-commit-within (r .size) (r .head) (r .end) (encoded L x) (omega arith) h)
+      go (no h) =
+          omega (arith, length-encoded L x, length-commit-full (r .size) (r .head) (r .end) (encoded L x) (omega arith) (omega arith))
+  plan-most bytes plan (heads d es f fits) = go (decLt (length (headBytes L d es)) (r .size))
+    where
+      go : Dec (length (headBytes L d es) < r .size) → length (headPlan L (r .size) (newSlot r) d es) ≤ r .size + 1
+      go (yes h) = omega (arith, length-commit-within (r .size) (newSlot r) 0 (headBytes L d es) (omega arith) (omega arith))
+      go (no h) =
+          omega (arith, length-headBytes L d es, length-commit-full (r .size) (newSlot r) 0 (headBytes L d es) (omega arith) (omega arith))
 
   pub plan-fits : (bytes : List ℕ) (plan : List (ℕ × ℕ)) → Planned L r bytes plan → length bytes ≤ r .size
   plan-fits bytes plan (appends x f fits) = omega (arith, length-encoded L x, facts .end-low)

@@ -23,11 +23,11 @@ use Rattle.record.specs.declared.Stepped.{Stepped}
 use Rattle.record.specs.declared.Record.{Record}
 use Rattle.model.specs.Operations.{Operation, write, delete, clean, Laid, laid, laidAppend, laidHead, laidEntry, laidClean, logNow, newSlot, fitsHead, kept, allEncoded, writtenEntry, tombstoneEntry}
 use Rattle.model.specs.Causes.{firstCause}
-use Rattle.model.specs.Refused.{startCauses, cleanCauses, stepCauses}
+use Rattle.model.specs.Refused.{keptLength, startCauses, stepCauses}
 use Rattle.model.specs.Promises.{StepRefused, lentLengths}
 use Rattle.laws.specs.Operated.{Accepted}
 use Rattle.laws.specs.Entering.{Entering, idle-lent, idle-number, write-enters, delete-enters}
-use Rattle.laws.specs.CauseLaws.{NoCause, no-cause}
+use Rattle.laws.specs.Passed.{CleanPassed, clean-passed}
 use Rattle.stepping.specs.Next.{nextStore}
 use Rattle.stepping.specs.Agree.{entryAgrees, slotAgrees, victimsAgree, agreesWith, testedStore, StepTested}
 use Rattle.stepping.specs.declared.NextStore.{NextStore}
@@ -230,14 +230,14 @@ module _ (L : Layout) (before : List ℕ) (idle : Record) where
       (within victims (idle .map) ≡ true) × (idle .digest .0 < numberLimit) × (0 < victims)
   unfolding startCauses
   clean-tests victims a =
-      let tests : NoCause (cleanCauses L idle (logNow L before idle) (a .lengths) victims) =
-      no-cause (startCauses L idle (logNow L before idle) (a .lengths) (clean victims)) (a .no-cause) in
-      let some : victims ≡ 0 → ⊥ = eqb-false victims 0 (either-false-left _ _ (tests .1 .1 .1 .0)) in (
-        not-false (within victims (idle .map)) (either-false-right _ _ (tests .1 .1 .1 .0)),
+      let tests : CleanPassed L idle (a .lengths) (keptLength L (logNow L before idle) victims) victims =
+      clean-passed L idle (a .lengths) (keptLength L (logNow L before idle) victims) victims (a .no-cause) in
+      let some : victims ≡ 0 → ⊥ = eqb-false victims 0 (either-false-left _ _ (tests .victims-good)) in (
+        not-false (within victims (idle .map)) (either-false-right _ _ (tests .victims-good)),
         omega (
           arith,
           idle-number L before idle (clean victims) a,
-          eqb-false (idle .digest .0) numberLimit (tests .1 .1 .1 .1 .1 .0),
+          eqb-false (idle .digest .0) numberLimit (tests .number-left),
         ),
         omega arith,
       )

@@ -35,7 +35,7 @@ laidBegun r laid work =
 -- ---- what the code may rely on
 
 -- A record in range, and room for the entry of a value of n bytes in a work buffer of w.
-pub record Ready (L : Layout) (r : Record) (n w : ℕ) : Type 0 where
+pub record EntryReady (L : Layout) (r : Record) (n w : ℕ) : Type 0 where
   pub areaLength : ℕ
   pub indexLength : ℕ
   pub lent : Lent L r areaLength indexLength
@@ -44,7 +44,7 @@ pub record Ready (L : Layout) (r : Record) (n w : ℕ) : Type 0 where
 
 -- ---- a new head
 
-pub ready-head : (L : Layout) (r : Record) (n w : ℕ) → Ready L r n w → NumberLeft r → (slot : ℕ) → slot ≡ newSlot r → HeadReady r 0 slot
+pub ready-head : (L : Layout) (r : Record) (n w : ℕ) → EntryReady L r n w → NumberLeft r → (slot : ℕ) → slot ≡ newSlot r → HeadReady r 0 slot
 ready-head L r n w h left slot e =
     head-ready L r (h .areaLength) (h .indexLength) (h .lent) 0 (within-of-le 0 (r .map) (λ j. omega (arith, bit-of-zero j))) left slot e
 

@@ -20,11 +20,11 @@ ghost use Rattle.segment.specs.Layout.{edition1};
 ghost use Rattle.segment.specs.Written.{entryOf};
 ghost use Rattle.model.specs.Operations.{fitsHead, laidAppend, laidHead, laidEntry};
 ghost use Rattle.starting.specs.NewHead.{NumberLeft};
-ghost use Rattle.writing.specs.Laying.{laidBegun, Ready};
+ghost use Rattle.writing.specs.Laying.{laidBegun, EntryReady};
 
 // An entry that goes to the end of the head.
 fn lay_append(rec: Record, work: &mut [u8], kind: u8, key: Key, value: &[u8]) -> Start
-    requires { ⌜ Ready edition1 rec (length (now value)) (length (now work)) ⌝ }
+    requires { ⌜ EntryReady edition1 rec (length (now value)) (length (now work)) ⌝ }
     requires { ⌜ fitsHead edition1 rec (entryOf kind key (rec .next) (now value)) ≡ true ⌝ }
     ensures { λ r.
         ⌜
@@ -42,7 +42,7 @@ fn lay_append(rec: Record, work: &mut [u8], kind: u8, key: Key, value: &[u8]) ->
 
 // An entry that goes to a new head, behind its digest.
 fn lay_head(rec: Record, work: &mut [u8], kind: u8, key: Key, value: &[u8]) -> Start
-    requires { ⌜ Ready edition1 rec (length (now value)) (length (now work)) ⌝ }
+    requires { ⌜ EntryReady edition1 rec (length (now value)) (length (now work)) ⌝ }
     requires { ⌜ NumberLeft rec ⌝ }
     ensures { λ r.
         ⌜
@@ -62,7 +62,7 @@ fn lay_head(rec: Record, work: &mut [u8], kind: u8, key: Key, value: &[u8]) -> S
 
 // An entry is appended to the head if it fits, else it comes to a new head.
 pub fn lay_entry(rec: Record, work: &mut [u8], kind: u8, key: Key, value: &[u8]) -> Start
-    requires { ⌜ Ready edition1 rec (length (now value)) (length (now work)) ⌝ }
+    requires { ⌜ EntryReady edition1 rec (length (now value)) (length (now work)) ⌝ }
     requires { ⌜ (fitsHead edition1 rec (entryOf kind key (rec .next) (now value)) ≡ false → NumberLeft rec) ⌝ }
     ensures { λ r.
         ⌜
