@@ -1,23 +1,20 @@
 -- One law for each exported call: its contract is a transition of the runs.
 use Prim.Native.Nat.{ℕ, _≤_}
-use native.Mathlib.Omega.{arith}
-use mathlib.Core.Path.{_≡_, refl, sym, ap, ap₂, _∙_, subst, subst⁻¹}
+use mathlib.Core.Path.{_≡_, refl, sym, ap, ap₂, _∙_, subst}
 use mathlib.Core.Bool.{Bool, true, false, not}
 use mathlib.Core.List.{List, [], _∷_, _++_}
 use mathlib.Core.Option.{Option, none, some}
 use lib.Dec.{eqb}
 use lib.ListN.{length, take, drop}
-use lib.Seq.{sets}
-use Rattle.segment.specs.Choice.{pick, pick-true, pick-false}
+use Rattle.segment.specs.Choice.{pick, pick-false}
 use Rattle.segment.specs.Layout.{edition1}
 use Rattle.segment.specs.declared.Key.{Key}
-use Rattle.record.specs.Answers.{Said, refusal, taken, takenWith, recoverSaid, readSaid, startSaid, stepSaid, blank}
+use Rattle.record.specs.Answers.{Said, refusal, taken, takenWith, recoverSaid, readSaid, startSaid, stepSaid}
 use Rattle.record.specs.Range.{fitsLent}
 use Rattle.record.specs.RangeLaws.{blank-unfit}
 use Rattle.record.specs.Refusals.{numberOfRefusal}
 use Rattle.record.specs.declared.Record.{Record}
 use Rattle.record.specs.declared.ReadAnswer.{ReadAnswer}
-use Rattle.record.specs.declared.Recovery.{Recovery}
 use Rattle.record.specs.declared.RecoverAnswer.{RecoverAnswer}
 use Rattle.record.specs.declared.Refusal.{Refusal}
 use Rattle.record.specs.declared.Refusal.the-variants.{BadRecord}
@@ -29,10 +26,10 @@ use Rattle.model.specs.Operations.{Operation, write, delete, clean, Typed}
 use Rattle.model.specs.Refused.{isPending}
 use Rattle.model.specs.Promises.{Begun, begun, readLengths, lentLengths}
 use Rattle.laws.specs.CauseLaws.{cause-first, refusal-number}
-use Rattle.words.specs.Words.{recordWords, wordsOf, isRecord, decoded}
+use Rattle.words.specs.Words.{recordWords, isRecord, decoded}
 use Rattle.words.specs.WordLaws.{record-long, decoded-record, decoded-none, decode-encode}
 use Rattle.words.specs.declared.Decoded.{Decoded}
-use Rattle.history.specs.Book.{reads, readsValue, starts, steps, asks, recovers, saying, giving, Event, called, accepted}
+use Rattle.history.specs.Book.{reads, readsValue, starts, steps, asks, recovers, saying, giving, Event, called}
 use Rattle.history.specs.Runs as Store
 use Rattle.history.specs.Runs.{World, recoveredWorld, Run}
 use Rattle.kurdavel.specs.Crossing.{keptWords, wordsAfter, RecoverCrossed, ReadCrossed, ValueCrossed, storesAfter, StartCrossed, leftAfter, toldAfter, StepCrossed}

@@ -6,7 +6,6 @@ use mathlib.Core.Bool.{Bool, true, false}
 use mathlib.Core.List.{List}
 use lib.ListN.{length}
 use borrow.Author.Tests.{eq-eqb}
-use Rattle.word.specs.Number.{Bytes}
 use Rattle.segment.specs.Layout.{edition1}
 use Rattle.segment.specs.declared.Key.{Key}
 use Rattle.record.specs.Answers.{formatSaid, recoverSaid, readSaid}
@@ -26,7 +25,7 @@ use Rattle.history.specs.Book.{Book, bookOf}
 use Rattle.history.specs.Demand3.{bookAnswer, GivesBook, Demand3Of}
 use Rattle.history.proofs.Theorem.{demand-3}
 use Rattle.kurdavel.specs.Crossing.{wordsAfter, Recovers}
-use Rattle.exported.specs.Runs.{Memory, worldOf, KeyArgument}
+use Rattle.exported.specs.Runs.{worldOf, KeyArgument}
 use Rattle.exported.specs.Demand3.{WordsGiveBook, Demand3Exported}
 use Rattle.exported.proofs.Moves.{read-said, exported-run}
 
