@@ -28,6 +28,7 @@ use Rattle.model.specs.Operations.{clean, logNow, newSlot, newDigest, kept, all
 use Rattle.model.specs.Refused.{Lengths, recordBad, workShort, isPending, victimsBad, keptTooLong, numbersSpent, cleanCauses, startCauses}
 use Rattle.model.specs.Promises.{Begun, begun, Genuine, lentLengths, StartPromise}
 use Rattle.laws.specs.CauseLaws.{cause-first}
+use Rattle.laws.specs.SaidLaws.{start-settled}
 use Rattle.starting.specs.Stores.{headStores, head-stores}
 use Rattle.starting.specs.Checks.{idleCauses}
 use Rattle.starting.specs.NewHead.{NumberLeft}
@@ -175,6 +176,12 @@ module _ (L : Layout) (area cells : List ℕ) (r : Record) (victims : ℕ) (work
       record {
         same-length =
             ap (λ (b : Begun). length (b .work)) e ∙ begun-long L r victims lengths work code-bytes (firstCause (causesWith L r lengths code-bytes victims));
-        unfit = λ bad. e ∙ ap (begunWith L r victims work code-bytes) (cause-first _ _ bad);
+        unfit = unfit;
         exact = λ g. e ∙ same-bytes bytes g ∙ cleaned-same L r (logNow L area r) victims work lengths;
+        says =
+            start-settled L (clean victims) r area cells work work′ a unfit
+            (λ g. e ∙ same-bytes bytes g ∙ cleaned-same L r (logNow L area r) victims work lengths);
       }
+    where
+      unfit : recordBad L r lengths ≡ true → record { start = a; work = work′ } ≡ begun L r [] (clean victims) work (some BadRecord)
+      unfit bad = e ∙ ap (begunWith L r victims work code-bytes) (cause-first _ _ bad)

@@ -2,6 +2,7 @@
 pub mod CauseLaws
 pub mod Passed
 pub mod Starts
+pub mod SaidLaws
 pub mod Members
 pub mod Latest
 pub mod Versions

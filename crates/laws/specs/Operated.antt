@@ -1,6 +1,6 @@
 -- What an accepted operation does to the store: the statements. Each is proved in a file of its own, and together they are all that
 -- the promise about cuts needs of the log.
-use Prim.Native.Nat.{ℕ, _-_, _≤_, _<_}
+use Prim.Native.Nat.{ℕ, _+_, _-_, _≤_, _<_}
 use mathlib.Core.Path.{_≡_}
 use mathlib.Core.Bool.{true, false}
 use mathlib.Core.List.{List, []}
@@ -18,7 +18,7 @@ use Rattle.model.specs.Log.{Placed, present, sameKey}
 use Rattle.model.specs.Causes.{firstCause}
 use Rattle.model.specs.Recovery.{recovered, recordFrom, geometryBad}
 use Rattle.model.specs.Operations.{Operation, write, delete, clean, Typed, logNow, writtenEntry, tombstoneEntry, laid, planFor, stored, finishedRecord, formatted}
-use Rattle.model.specs.Promises.{valuePart}
+use Rattle.model.specs.Promises.{partOf, valuePart}
 use Rattle.model.specs.Refused.{Lengths, startCauses}
 
 -- An operation that a start accepts on the record which recovery of an area of bytes gives.
@@ -60,8 +60,10 @@ pub record OperationLaws (L : Layout) : Type 0 where
       (before : List ℕ) (idle : Record) (o : Operation) → Accepted L before idle o → (j : Key) →
       valueAt L (logNow L (stored before (planAt L before idle o)) (finishedRecord L before idle o)) j ≡
       mapAfter L idle o (valueAt L (logNow L before idle)) j
-  -- An operation has at least one store, and its bytes fit a segment.
+  -- An operation has from 1 to S + 1 stores, and its bytes fit a segment.
   pub some-stores : (before : List ℕ) (idle : Record) (o : Operation) → Accepted L before idle o → 0 < length (planAt L before idle o)
+  pub few-stores :
+      (before : List ℕ) (idle : Record) (o : Operation) → Accepted L before idle o → length (planAt L before idle o) ≤ idle .size + 1
   pub bytes-fit :
       (before : List ℕ) (idle : Record) (o : Operation) → Accepted L before idle o →
       length (laid L idle (logNow L before idle) o .bytes) ≤ idle .size
@@ -78,7 +80,7 @@ pub record OperationLaws (L : Layout) : Type 0 where
       present L (logNow L area r) k ≡ some x → x .entry .version < r .next .0
   pub value-part :
       (area : List ℕ) (r : Record) → Bytes area → recovered L (r .slots) (r .size) (r .cells) area ≡ some r → (k : Key) (x : Placed) →
-      present L (logNow L area r) k ≡ some x → valuePart L (r .size) area (some x) ≡ x .entry .value
+      present L (logNow L area r) k ≡ some x → partOf area (valuePart L (r .size) (some x)) ≡ x .entry .value
   -- A fresh area has an empty log and next version 1, at any number of cells.
   pub format-bytes : (n s : ℕ) (area : List ℕ) → Bytes area → Bytes (formatted L n s area)
   pub format-recovers :

@@ -22,7 +22,7 @@ use Rattle.record.specs.declared.Record.{Record}
 use Rattle.model.specs.Log.{Placed, placeOf, scan, segmentOf, viewsOf, present, latest, objectOnly, sameKey}
 use Rattle.model.specs.Recovery.{recovered, recordFrom}
 use Rattle.model.specs.Operations.{Operation, write, delete, clean, logNow, writtenEntry, tombstoneEntry, newSlot, newDigest, kept, allEncoded, placedFrom, laid, planOf, stored, cleanedRecord, finishedRecord}
-use Rattle.model.specs.Promises.{valuePart}
+use Rattle.model.specs.Promises.{partOf, valuePart}
 use Rattle.model.specs.Refused.{keptLength, startCauses}
 use Rattle.laws.specs.Members.{In}
 use Rattle.laws.specs.Latest.{latest-some}
@@ -38,7 +38,7 @@ use Rattle.laws.specs.Headed.{Heads}
 use Rattle.laws.specs.Cleaned.{cleaned-cleaned, cleaned-recovered}
 use Rattle.laws.specs.Operated.{Accepted, planAt, mapAfter, OperationLaws}
 use Rattle.laws.specs.Entering.{Roomy, write-object, idle-lent, idle-number, write-enters, delete-enters}
-use Rattle.laws.specs.Planned.{log-formed, kept-in, planned, new-below, new-map-fits, new-next-fits, prefix-stays, prefix-bytes, plan-stores, plan-fits}
+use Rattle.laws.specs.Planned.{log-formed, kept-in, planned, new-below, new-map-fits, new-next-fits, prefix-stays, prefix-bytes, plan-stores, plan-most, plan-fits}
 use Rattle.laws.specs.EntryDone.{entry-done}
 use Rattle.laws.specs.Passed.{CleanPassed, clean-passed}
 
@@ -178,7 +178,7 @@ log-found L n s m area r e x =
 -- the value of an entry that stands in a segment is a part of the area
 value-there :
     (L : Layout) (area : List ℕ) (s : ℕ) (x : Placed) → length (segmentOf area s (x .slot)) ≡ s →
-    entryAt L (segmentOf area s (x .slot)) (x .offset) ≡ entry (x .entry) → valuePart L s area (some x) ≡ x .entry .value
+    entryAt L (segmentOf area s (x .slot)) (x .offset) ≡ entry (x .entry) → partOf area (valuePart L s (some x)) ≡ x .entry .value
 unfolding valuePart
 value-there L area s x long e =
     ap (λ (p : ℕ). take (length (x .entry .value)) (drop p area)) place ∙
@@ -207,6 +207,7 @@ operation-laws L roomy =
       finish-recovers = λ before idle o a. finishes L roomy before idle o a .0;
       finish-map = λ before idle o a. finishes L roomy before idle o a .1;
       some-stores = λ before idle o a. plan-stores L before idle (a .recovers) _ _ (planned L roomy before idle o a);
+      few-stores = λ before idle o a. plan-most L before idle (a .recovers) _ _ (planned L roomy before idle o a);
       bytes-fit = λ before idle o a. plan-fits L before idle (a .recovers) _ _ (planned L roomy before idle o a);
       own-lengths = λ n s m area r ab e. recovered-fits L n s m area r e;
       more-cells = λ n s m k area e good l. recovered-more L n s m k area (recordFrom L n s m area) e good l;

@@ -68,10 +68,10 @@ cell-read L S area c part found taken whole e =
 abbrev pub CellsInside : ℕ → List ℕ → List ℕ → Type 0
 CellsInside S area cells = (i : ℕ) → i < length cells → (getD cells i 0 ≡ 0 → ⊥) → (getD cells i 0 - 1) / S * S + S ≤ length area
 
--- ---- the index of a recovered store
+-- ---- the index of a recovered area
 
--- A store as recovery leaves it, in an area of bytes.
-pub record Ready (L : Layout) (area : List ℕ) (r : Record) (cells : List ℕ) : Type 0 where
+-- Record and index as recovery leaves them, with an area of bytes.
+pub record RecoveredArea (L : Layout) (area : List ℕ) (r : Record) (cells : List ℕ) : Type 0 where
   pub genuine : Genuine L area r cells
   pub fit : fitsLent L r (length area) (length cells) ≡ true
   pub bytes : Bytes area
@@ -80,7 +80,7 @@ pub record Ready (L : Layout) (area : List ℕ) (r : Record) (cells : List ℕ) 
 abbrev pub presentRanks : Layout → List ℕ → Record → List ℕ
 presentRanks L area r = ranks (presentKeys L (logNow L area r))
 
-module _ (L : Layout) (area : List ℕ) (r : Record) (cells : List ℕ) (ready : Ready L area r cells) where
+module _ (L : Layout) (area : List ℕ) (r : Record) (cells : List ℕ) (ready : RecoveredArea L area r cells) where
   abbrev S : ℕ
   S = r .size
 

@@ -20,18 +20,18 @@ use Rattle.text.specs.Put.{Put, put-none, put-then}
 use Rattle.report.specs.Report.{keyLine, lineOf, linesOf}
 use Rattle.report.specs.PutLaws.{PutWithin}
 use Rattle.report.specs.Ordered.{rank, ranked, ranks, ranked-rank, AllTyped}
-use Rattle.report.specs.Gather.{Ready, cellRank, presentRanks, index-gathers, cells-few}
+use Rattle.report.specs.Gather.{RecoveredArea, cellRank, presentRanks, index-gathers, cells-few}
 use Rattle.report.specs.Inserting.{Gathered}
 use Rattle.report.specs.Listing.{presentKeys}
 
 -- ---- the line of one key
 
 unfoldable pub lineFound : Key → Lookup → List ℕ
-lineFound k (Lookup.Object p v kind n) = keyLine k (v .0) kind
+lineFound k (Lookup.Object p v kind n) = keyLine k v kind
 lineFound k Lookup.Absent = []
 lineFound k Lookup.Bad = []
 
-pub line-found : (L : Layout) (area : List ℕ) (r : Record) (cells : List ℕ) (k : Key) (found : Lookup) → Ready L area r cells
+pub line-found : (L : Layout) (area : List ℕ) (r : Record) (cells : List ℕ) (k : Key) (found : Lookup) → RecoveredArea L area r cells
     → found ≡ lookedUp L r area cells k → lineFound k found ≡ lineOf k (present L (logNow L area r) k)
 line-found L area r cells k found ready e =
     ap (lineFound k) (e ∙ genuine-lookup L r area cells k (ready .genuine) (ready .fit)) ∙ go (present L (logNow L area r) k)
@@ -118,7 +118,7 @@ module _ (L : Layout) (log : List Placed) (ks : List Key) (xs : List ℕ) (same 
             left .finishes out′ r (subst (Put out out′ end r) (next-line ks xs same typed i h L log key its) (put-then (p .put) q));
       }
 
--- ---- what is gathered for a store
+-- ---- what is gathered from a recovered area
 
 -- The first n of the ranks are those of the present keys.
 pub record Listed (L : Layout) (area : List ℕ) (r : Record) (xs : List ℕ) (n : ℕ) : Type 0 where
@@ -128,7 +128,7 @@ pub record Listed (L : Layout) (area : List ℕ) (r : Record) (xs : List ℕ) (n
   pub stands : take n xs ≡ presentRanks L area r
   pub counts : n ≡ length (presentKeys L (logNow L area r))
 
-pub gathered-listed : (L : Layout) (area : List ℕ) (r : Record) (cells xs : List ℕ) (n : ℕ) → Ready L area r cells → length xs ≡ 4096
+pub gathered-listed : (L : Layout) (area : List ℕ) (r : Record) (cells xs : List ℕ) (n : ℕ) → RecoveredArea L area r cells → length xs ≡ 4096
     → Gathered (cellRank L (r .size) area) cells xs 0 n → Listed L area r xs n
 gathered-listed L area r cells xs n ready long g =
     let few : n ≤ 4096 = omega (arith, cells-few L area r cells ready, g .few) in
