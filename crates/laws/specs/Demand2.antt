@@ -19,21 +19,21 @@ use Rattle.laws.specs.OperationsKept.{finishes}
 module _ (L : Layout) (roomy : Roomy L) (before : List ℕ) (idle : Record) where
   -- the map that reading by the rule gives before an operation, and after its last store
   abbrev old : Key → Option Entry
-  old = valueAt L (logNow L before idle)
+  old = valueAt (logNow L before idle)
 
   abbrev new : Operation → Key → Option Entry
-  new o = valueAt L (logNow L (stored before (planAt L before idle o)) (finishedRecord L before idle o))
+  new o = valueAt (logNow L (stored before (planAt L before idle o)) (finishedRecord L before idle o))
 
   -- a write sets its key to that value at the next version, and no other
   pub demand-2-write :
       (k : Key) (value : List ℕ) → Accepted L before idle (write k value) → (j : Key) →
-      new (write k value) j ≡ pick (sameKey j (writtenEntry L idle k value)) (some (writtenEntry L idle k value)) (old j)
+      new (write k value) j ≡ pick (sameKey j (writtenEntry idle k value)) (some (writtenEntry idle k value)) (old j)
   unfolding mapAfter
   demand-2-write k value a = finishes L roomy before idle (write k value) a .1
 
   -- a delete drops its key, and no other
   pub demand-2-delete :
-      (k : Key) → Accepted L before idle (delete k) → (j : Key) → new (delete k) j ≡ pick (sameKey j (tombstoneEntry L idle k)) none (old j)
+      (k : Key) → Accepted L before idle (delete k) → (j : Key) → new (delete k) j ≡ pick (sameKey j (tombstoneEntry idle k)) none (old j)
   unfolding mapAfter
   demand-2-delete k a = finishes L roomy before idle (delete k) a .1
 

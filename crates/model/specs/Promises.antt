@@ -11,7 +11,7 @@ use lib.Seq.{sets}
 use Rattle.word.specs.Number.{Bytes}
 use Rattle.segment.specs.Choice.{pick}
 use Rattle.segment.specs.Layout.{Layout, entrySize}
-use Rattle.segment.specs.Entry.{Entry}
+use Rattle.segment.specs.Entry.{Entry, bytesIn, kindOf}
 use Rattle.segment.specs.declared.Key.{Key}
 use Rattle.record.specs.Answers.{withPending, storesLeft}
 use Rattle.record.specs.declared.Pending.{Pending}
@@ -90,13 +90,13 @@ pub record RecoverPromise (L : Layout) (n s : ℕ) (order area cells cells′ : 
 
 -- ---- read
 
-unfoldable pub presentAnswer : Option Placed → ReadAnswer
-presentAnswer none = ReadAnswer.Present (record { 0 = 0 }) 0
-presentAnswer (some x) = ReadAnswer.Present (record { 0 = x .entry .version }) (x .entry .kind)
+unfoldable pub presentAnswer : Layout → Option Placed → ReadAnswer
+presentAnswer L none = ReadAnswer.Present (record { 0 = 0 }) 0
+presentAnswer L (some x) = ReadAnswer.Present (record { 0 = x .entry .version }) (kindOf L (x .entry))
 
-unfoldable pub readAnswer : Option Refusal → Option Placed → ReadAnswer
-readAnswer none x = presentAnswer x
-readAnswer (some c) x = ReadAnswer.Refused c
+unfoldable pub readAnswer : Layout → Option Refusal → Option Placed → ReadAnswer
+readAnswer L none x = presentAnswer L x
+readAnswer L (some c) x = ReadAnswer.Refused c
 
 abbrev pub readLengths : List ℕ → List ℕ → Lengths
 readLengths area cells = record { area = length area; index = length cells; work = 0 }
@@ -108,12 +108,12 @@ pub record ReadPromise (L : Layout) (r : Record) (area cells : List ℕ) (k : Ke
   pub unfit : recordBad L r (readLengths area cells) ≡ true → a .answer ≡ ReadAnswer.Refused Refusal.BadRecord
   pub exact :
       Genuine L area r cells → a .answer ≡
-      readAnswer (firstCause (readCauses L r (logNow L area r) (readLengths area cells) k)) (present L (logNow L area r) k)
+      readAnswer L (firstCause (readCauses L r (logNow L area r) (readLengths area cells) k)) (present (logNow L area r) k)
 
 -- the value of an object is a part of the area; where read refuses it is the empty part at the area's start
 unfoldable pub valuePart : Layout → ℕ → List ℕ → Option Placed → List ℕ
 valuePart L S area none = []
-valuePart L S area (some x) = take (length (x .entry .value)) (drop (placeOf S x + entrySize L 0) area)
+valuePart L S area (some x) = take (length (bytesIn (x .entry .value))) (drop (placeOf S x + entrySize L 0) area)
 
 unfoldable pub valueAnswer : Layout → ℕ → List ℕ → Option Refusal → Option Placed → List ℕ
 valueAnswer L S area none x = valuePart L S area x
@@ -123,7 +123,7 @@ pub record ValuePromise (L : Layout) (r : Record) (area cells : List ℕ) (k : K
   pub unfit : recordBad L r (readLengths area cells) ≡ true → value ≡ []
   pub exact :
       Genuine L area r cells → value ≡
-      valueAnswer L (r .size) area (firstCause (readCauses L r (logNow L area r) (readLengths area cells) k)) (present L (logNow L area r) k)
+      valueAnswer L (r .size) area (firstCause (readCauses L r (logNow L area r) (readLengths area cells) k)) (present (logNow L area r) k)
 
 -- ---- write, delete and clean
 

@@ -2,10 +2,9 @@
 use Prim.Native.Nat.{ℕ, _+_, _-_}
 use mathlib.Core.Bool.{Bool, true, false, not}
 use mathlib.Core.List.{List, [], _∷_}
-use mathlib.Core.Option.{Option, none, some}
 use lib.Dec.{eqb, ltb, leb}
 use lib.ListN.{length}
-use Rattle.segment.specs.Choice.{pick, both, either}
+use Rattle.segment.specs.Choice.{pick, both, either, isNone}
 use Rattle.segment.specs.Layout.{Layout, objectKind, digestSize, versionLimit, numberLimit}
 use Rattle.segment.specs.Entry.{Entry}
 use Rattle.segment.specs.declared.Key.{Key}
@@ -43,20 +42,12 @@ isPending (NewHead i n k) = true
 isPending (Clean i v n k) = true
 
 -- 7
-unfoldable pub isNone : Option ℕ → Bool
-isNone none = true
-isNone (some k) = false
-
 abbrev pub valueBad : Layout → List ℕ → Bool
 valueBad L value = isNone (objectKind L (length value))
 
 -- 8
-unfoldable pub isAbsent : Option Placed → Bool
-isAbsent none = true
-isAbsent (some x) = false
-
-abbrev pub keyAbsent : Layout → List Placed → Key → Bool
-keyAbsent L log k = isAbsent (present L log k)
+abbrev pub keyAbsent : List Placed → Key → Bool
+keyAbsent log k = isNone (present log k)
 
 -- 9
 abbrev pub versionsSpent : Layout → Record → Bool
@@ -83,7 +74,7 @@ victimsBad r victims = either (eqb victims 0) (not (within victims (r .map)))
 
 -- 14
 abbrev pub keptTooLong : Layout → Record → List Placed → ℕ → Bool
-keptTooLong L r log victims = ltb (r .size) (digestSize L + length (allEncoded L (kept L victims log)))
+keptTooLong L r log victims = ltb (r .size) (digestSize L + length (allEncoded L (kept victims log)))
 
 -- Format: 1.
 abbrev pub formatCauses : ℕ → ℕ → ℕ → List Cause
@@ -91,7 +82,7 @@ formatCauses n s areaLength = when (geometryBad n s areaLength) Geometry ∷ []
 
 -- Read: 4, 8.
 abbrev pub readCauses : Layout → Record → List Placed → Lengths → Key → List Cause
-readCauses L r log l k = when (recordBad L r l) BadRecord ∷ when (keyAbsent L log k) Absent ∷ []
+readCauses L r log l k = when (recordBad L r l) BadRecord ∷ when (keyAbsent log k) Absent ∷ []
 
 -- Write: 4, 3, 5, 7, 9, 11, 12, 10.
 abbrev pub writeCauses : Layout → Record → List Placed → Lengths → Key → List ℕ → List Cause
@@ -102,8 +93,8 @@ writeCauses L r log l k value =
     ∷ when (valueBad L value) ValueLength
     ∷ when (versionsSpent L r) VersionsSpent
     ∷ when (keysFull r log k) KeysFull
-    ∷ when (noRoom L r (writtenEntry L r k value)) NoRoom
-    ∷ when (noNumber L r (writtenEntry L r k value)) NumbersSpent
+    ∷ when (noRoom L r (writtenEntry r k value)) NoRoom
+    ∷ when (noNumber L r (writtenEntry r k value)) NumbersSpent
     ∷ []
 
 -- Delete: 4, 3, 5, 8, 9, 12, 10.
@@ -112,10 +103,10 @@ deleteCauses L r log l k =
     when (recordBad L r l) BadRecord
     ∷ when (workShort r l) WorkShort
     ∷ when (isPending (r .pending)) Busy
-    ∷ when (keyAbsent L log k) Absent
+    ∷ when (keyAbsent log k) Absent
     ∷ when (versionsSpent L r) VersionsSpent
-    ∷ when (noRoom L r (tombstoneEntry L r k)) NoRoom
-    ∷ when (noNumber L r (tombstoneEntry L r k)) NumbersSpent
+    ∷ when (noRoom L r (tombstoneEntry r k)) NoRoom
+    ∷ when (noNumber L r (tombstoneEntry r k)) NumbersSpent
     ∷ []
 
 -- Clean: 4, 3, 5, 13, 14, 10.

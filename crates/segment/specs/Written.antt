@@ -1,7 +1,7 @@
 -- What the writers of an entry and of a digest leave in a slice.
 use Prim.Native.Nat.{ℕ, _+_, _≤_, _<_}
 use mathlib.Core.Path.{_≡_, sym, _∙_, ap}
-use mathlib.Core.List.{List, _∷_, _++_}
+use mathlib.Core.List.{List, _∷_, _++_, append-assoc}
 use native.Mathlib.Nat.{add-suc}
 use native.Mathlib.Numerals.{add-one}
 use native.Mathlib.Omega.{arith}
@@ -10,7 +10,7 @@ use lib.Seq.{sets, drop-cons}
 use Rattle.word.specs.Number.{bytesOf}
 use Rattle.word.specs.Laws.{length-bytesOf, sets-append}
 use Rattle.segment.specs.Layout.{Layout, entrySize}
-use Rattle.segment.specs.Entry.{Entry}
+use Rattle.segment.specs.Entry.{Entry, keyOf, bytesIn, kindOf, encoded}
 use Rattle.segment.specs.declared.Key.{Key}
 use Rattle.segment.specs.declared.Version.{Version}
 
@@ -18,9 +18,13 @@ use Rattle.segment.specs.declared.Version.{Version}
 abbrev pub encodedHead : Layout → ℕ → Key → Version → List ℕ
 encodedHead L kind key version = kind ∷ bytesOf 2 (key .table) ++ bytesOf 4 (key .key) ++ bytesOf (L .width) (version .0)
 
--- the entry that the writer's arguments say
-abbrev pub entryOf : ℕ → Key → Version → List ℕ → Entry
-entryOf kind key version value = record { kind = kind; table = key .table; key = key .key; version = version .0; value = value }
+-- the bytes of an entry of any kind and any bytes of value
+abbrev pub encodedAs : Layout → ℕ → Key → Version → List ℕ → List ℕ
+encodedAs L kind key version value = encodedHead L kind key version ++ value
+
+-- where kind and bytes are those of an entry's value, the bytes are the entry's
+pub encoded-as : (L : Layout) (e : Entry) → encodedAs L (kindOf L e) (keyOf e) (record { 0 = e .version }) (bytesIn (e .value)) ≡ encoded L e
+encoded-as L e = simp append-assoc
 
 -- bytes stored after those that were stored before
 pub sets-then : (at n : ℕ) (a b s s₁ s₂ : List ℕ) → length a ≡ n → s₁ ≡ sets s at a → s₂ ≡ sets s₁ (at + n) b → s₂ ≡ sets s at (a ++ b)
