@@ -1,37 +1,100 @@
 /*
  * Kurdavel: a parameter store for a drive's firmware, in one log that may be cut anywhere.
  *
- * Link with libkurdavel.a, which `rt staticlib kurdavel` writes to target/staticlib/ (x86-64).
- * The library keeps nothing from call to call, allocates nothing, and calls nothing but memset. Recovery takes some
- * 3.5 KiB of stack, every other call less than 1 KiB.
+ * Link with libkurdavel.a, which `rt staticlib kurdavel` writes to target/staticlib/ (x86-64, the calling convention of
+ * System V). The library keeps nothing from call to call, allocates nothing, and calls nothing but memset, which the
+ * firmware has. Its code uses SSE registers, with the instructions that every x86-64 has (SSE2), and the red zone: the
+ * 128 bytes below the stack pointer. So an interrupt handler on the same stack leaves these bytes alone, and saves the
+ * SSE registers that it changes. How much stack each call takes is said by KURDAVEL_STACK_.. below.
  *
- * Memory that the caller lends
+ * There are two ways to call it: the plain functions, which take each buffer with its length, and the functions
+ * kurdavel_store_.. at the end, which take all that is lent as one struct.
+ *
+ * MEMORY THAT THE CALLER LENDS
  *   area    N slots of S bytes each, exactly N * S bytes; N from 4 to 32, S from 256 to 2,048.
- *           All that survives a cut.
- *   index   M words; M from 16 to 4,096. Lost at a cut.
- *   work    at least S bytes. Lost at a cut.
- *   record  at least KURDAVEL_RECORD_WORDS words; only the first so many are used. Lost at a cut.
+ *           It alone has to survive a cut.
+ *   index   M words; M from 16 to 4,096.
+ *   work    at least S bytes.
+ *   record  at least KURDAVEL_RECORD_WORDS words; only the first so many are used.
  *
  * Every buffer is a pointer with its length counted in elements (bytes or words). No pointer may be NULL, also where
  * its length is 0; a pointer to words is aligned to 4; and no two buffers of a call may overlap if the call may
  * change one of them (it may change what is not const).
  *
- * Every call answers 0 if it is accepted and otherwise the number of the first cause that refuses it (below). A
- * refused call leaves all that is lent as it was, and so what `stores`, `left`, `version` and `kind` point to. Two
- * exceptions: recovery refused with 20 leaves the index all 0; and where kurdavel_read_value is refused, it says that
- * the value is empty.
+ * ANSWERS
+ *   Every call answers 0 if it is accepted and otherwise the number of the first cause that refuses it, in the order
+ *   given with each function. A refused call leaves the memory that is lent as it was, with two exceptions:
+ *   - recovery refused with 20 leaves the index all 0;
+ *   - a step that is given a record, index or work buffer that the rules of use below exclude may find that out, and
+ *     answer 4, only after it has stored its byte and begun to change the index.
+ *   What a refused call does to the numbers that it would tell:
+ *   - kurdavel_read_value sets *place and *bytes to 0;
+ *   - every other call leaves them as they were: *version and *kind of kurdavel_read, *stores of a start, *left and
+ *     *version of a step. Look at the answer first.
+ *   Words that are no record are a refusal like any other (4) and treated so.
  *
- * How the calls go together
+ * HOW THE CALLS GO TOGETHER
  *   kurdavel_format once, for a new area. After that, and after each cut, kurdavel_recover: it gives the record and
  *   the index that the other calls take. Then reads at any time; and operations, one at a time: a start
- *   (kurdavel_write, kurdavel_delete, kurdavel_clean) checks all and stores nothing in the area, and each
- *   kurdavel_step after it stores one byte, until none is left. The last store makes the operation count: a cut
+ *   (kurdavel_write, kurdavel_delete, kurdavel_clean) checks all and leaves the area alone, and each
+ *   kurdavel_step after it stores one byte, until none is left. The operation takes effect with its last store: a cut
  *   before it leaves the store as it was before the start, a cut after it loses nothing. Between a start and its last
- *   step keep the work buffer as it is. Reads meanwhile show the store before the operation.
+ *   step the work buffer must not change. Reads meanwhile show the store before the operation.
  *
- *   The promise about cuts holds if every recovery gets the N and S of the format, and every other call the record
- *   and index that the calls before it left. With any other words in the record or the index the calls stay safe and
- *   end, and a step changes one byte of the area at the most.
+ *   An operation that is not to be finished is given up by kurdavel_recover, without a cut: it drops what is pending.
+ *   The bytes stored so far stay in the area, where they do not count and the next operation overwrites what it needs.
+ *   The rules of use leave no other way: a record kept from before the start is not the newest one.
+ *
+ * THE PROMISE ABOUT CUTS, AND THE RULES OF USE THAT IT RESTS ON
+ *   Wherever the power fails, the next recovery is accepted and gives exactly what the finished operations left,
+ *   and a next version above every version told, if
+ *   - N and S are at each recovery what they were at the format;
+ *   - all other calls are given the record as the last call left it, and the index as it has become since a recovery
+ *     was last accepted; a step is also given the work buffer unchanged since its start. Nothing but these calls
+ *     changes the area, the index or the record;
+ *   - once the area was formatted, the power failed or a recovery answered 20, a recovery is accepted before any call
+ *     is given a record again. After 20 this is easily overlooked: the record from before still passes every test, but
+ *     the cells that were lent are all 0. Present keys would read as absent (8), and a cleaning would be accepted and
+ *     lose them. Recover again, with an index that is large enough;
+ *   - the index of a recovery is no smaller than that of the last accepted one. A smaller one may be answered with 20,
+ *     which loses nothing: recover again with a larger one.
+ *   With any other words in the record or the index the calls stay safe and end, and a step changes one byte of the
+ *   area at the most; nothing else is promised.
+ *
+ * WHAT IT ASKS OF THE MEDIUM
+ *   The area is memory that the processor addresses byte by byte. A cut during a store leaves that byte either as it
+ *   was or as stored, and no other byte is touched. A byte that a step stored has to be durable before the next
+ *   step's store is made. Where a cache or a write buffer lies between, put the barrier that makes it durable (write
+ *   back, fence) between the steps: a step makes one store, so one barrier after each is enough. After the last step
+ *   it comes before the operation is reported as done, and after kurdavel_format before anything else. Steps may not
+ *   be merged: the archive is machine code, so link-time optimisation leaves each call as it is. If you build the
+ *   library in another form, keep it so.
+ *
+ * INTERRUPTS AND TASKS
+ *   One call at a time for each store, but reads, which change nothing, may overlap one another. A read from an
+ *   interrupt or another task is allowed between two steps, not while a call that changes the record, the index or the
+ *   area is under way.
+ *
+ * CHOOSING M, AND ROOM
+ *   Every key with an entry in the log has one cell, and M - 1 keys is the most. A deleted key counts until no entry
+ *   of it is left: a cleaning drops its older objects from the slots that it names, and its tombstone once no other
+ *   slot has an object of the key. So M is to be above the number of live keys and of deleted ones not yet cleaned
+ *   away, together. (N - 1) * ((S - 13) / 11) + 1 cells, in whole numbers, are enough for any log, where that is no
+ *   more than 4,096. A search is shorter where more cells are free, and faster where M is a power of two.
+ *   One slot is always kept free for cleaning. An entry takes 11 bytes and its value (19, 35 or 67), a tombstone 11,
+ *   and a slot holds S - 13 bytes of them.
+ *
+ *   What helps after a refusal
+ *    9  Only a format, which empties the store: no version is left. Reads and cleanings go on.
+ *   10  Only a format, which empties the store: no digest number is left. Reads go on, and so do writes and deletes
+ *       whose entry fits the head.
+ *   11  Clean the slots that hold entries of deleted keys, objects and tombstone of a key together or the objects
+ *       first; or recover with a larger index.
+ *   12  Clean. A cleaning takes one free slot and frees its victims: several at once, of which little still counts,
+ *       give slots back; a single one gives back the room of those of its entries that no longer count. It does not
+ *       help a store full of live objects; there even a delete, whose tombstone needs 11 bytes, may be refused with
+ *       12. So leave room from the start.
+ *   14  Name fewer victims. What a single one holds always fits.
  */
 #ifndef KURDAVEL_H
 #define KURDAVEL_H
@@ -43,6 +106,14 @@
 extern "C" {
 #endif
 
+/*
+ * The version of this interface. MAJOR goes up when a program written for an earlier one may have to change, or an area
+ * written by an earlier one may be refused; MINOR when something is added.
+ */
+#define KURDAVEL_VERSION_MAJOR 1u
+#define KURDAVEL_VERSION_MINOR 0u
+#define KURDAVEL_VERSION (KURDAVEL_VERSION_MAJOR * 1000u + KURDAVEL_VERSION_MINOR)
+
 /* Sizes. */
 #define KURDAVEL_SLOTS_MIN 4u       /* N */
 #define KURDAVEL_SLOTS_MAX 32u
@@ -52,6 +123,19 @@ extern "C" {
 #define KURDAVEL_CELLS_MAX 4096u
 #define KURDAVEL_VALUE_MAX 56u      /* a value is 8, 24 or 56 bytes */
 #define KURDAVEL_RECORD_WORDS 14u
+
+/*
+ * The most bytes of stack that a call takes, with its return address, without arguments that are passed on the stack
+ * and without what memset takes. `.ci/firmware` counts them in the machine code and holds them to these.
+ */
+#define KURDAVEL_STACK_FORMAT 64u
+#define KURDAVEL_STACK_RECOVER 3584u
+#define KURDAVEL_STACK_READ 256u
+#define KURDAVEL_STACK_READ_VALUE 256u
+#define KURDAVEL_STACK_WRITE 512u
+#define KURDAVEL_STACK_DELETE 512u
+#define KURDAVEL_STACK_CLEAN 1024u
+#define KURDAVEL_STACK_STEP 768u
 
 /* The words of a record. The store is the library's to change: read these, and write none. */
 enum kurdavel_word {
@@ -63,7 +147,7 @@ enum kurdavel_word {
     KURDAVEL_WORD_DIGEST = 5,     /* digest number of the head */
     KURDAVEL_WORD_MAP = 6,        /* slots of the log: bit i, from the lowest, is slot i */
     KURDAVEL_WORD_NEXT = 7,       /* next version */
-    KURDAVEL_WORD_KEYS = 8,       /* keys with any entry in the log, deleted ones too */
+    KURDAVEL_WORD_KEYS = 8,       /* keys that have entries in the log, deleted ones too */
     KURDAVEL_WORD_PENDING = 9,    /* see below */
     KURDAVEL_WORD_SLOT = 10,      /* slot of the new head, or 0 */
     KURDAVEL_WORD_VICTIMS = 11,   /* slots that are cleaned, or 0 */
@@ -73,36 +157,36 @@ enum kurdavel_word {
 
 /* What word KURDAVEL_WORD_PENDING says of the operation under way. */
 enum kurdavel_pending {
-    KURDAVEL_IDLE = 0,
-    KURDAVEL_APPEND = 1,   /* a write or delete at the end of the head */
-    KURDAVEL_NEW_HEAD = 2, /* a write or delete into a new head */
-    KURDAVEL_CLEAN = 3
+    KURDAVEL_PENDING_IDLE = 0,
+    KURDAVEL_PENDING_APPEND = 1,   /* a write or delete at the end of the head */
+    KURDAVEL_PENDING_NEW_HEAD = 2, /* a write or delete into a new head */
+    KURDAVEL_PENDING_CLEAN = 3
 };
 
 /* The answers: 0, or the number of the first cause that refuses the call. */
 enum kurdavel_answer {
     KURDAVEL_ACCEPTED = 0,
-    KURDAVEL_GEOMETRY = 1,        /* N or S outside its limits, or the area not N * S bytes */
-    KURDAVEL_CELLS = 2,           /* M outside its limits */
-    KURDAVEL_WORK_SHORT = 3,      /* work buffer shorter than S */
-    KURDAVEL_BAD_RECORD = 4,      /* the words are no record (too few, too), the record is out of range, area or index
-                                     not as long as it says, or a byte of the log met that no store makes */
-    KURDAVEL_BUSY = 5,            /* an operation is pending */
-    KURDAVEL_NONE_PENDING = 6,    /* none is pending */
-    KURDAVEL_VALUE_LENGTH = 7,    /* value not 8, 24 or 56 bytes */
-    KURDAVEL_ABSENT = 8,          /* key not present */
-    KURDAVEL_VERSIONS_SPENT = 9,  /* next version is 4,294,967,295 */
-    KURDAVEL_NUMBERS_SPENT = 10,  /* digest number is 4,294,967,295 and a new head is needed */
-    KURDAVEL_KEYS_FULL = 11,      /* key has no entry in the log and M - 1 keys have */
-    KURDAVEL_NO_ROOM = 12,        /* entry does not fit the head and fewer than two slots are free: clean first */
-    KURDAVEL_BAD_VICTIMS = 13,    /* no victim, or one that is not in the log */
-    KURDAVEL_KEPT_TOO_LONG = 14,  /* what the cleaning keeps does not fit one slot: name fewer victims */
-    KURDAVEL_BAD_ORDER = 15,      /* order does not name each slot once */
-    KURDAVEL_NO_DIGEST = 16,      /* no slot has a digest: not formatted */
-    KURDAVEL_BAD_DIGEST = 17,     /* the highest digest number is 0 or shared, or that digest is impossible */
-    KURDAVEL_DAMAGED_LOG = 18,    /* an entry of the log with an unknown kind, past its slot, or an impossible version */
-    KURDAVEL_SHARED_VERSION = 19, /* two entries of the log have one version */
-    KURDAVEL_TOO_MANY_KEYS = 20   /* over M - 1 keys in the log */
+    KURDAVEL_REFUSED_GEOMETRY = 1,         /* N or S out of its limits, or the area not N * S bytes long */
+    KURDAVEL_REFUSED_CELLS = 2,            /* M out of its limits */
+    KURDAVEL_REFUSED_WORK_SHORT = 3,       /* work buffer of fewer than S bytes */
+    KURDAVEL_REFUSED_BAD_RECORD = 4,       /* the words are no record, or too few; a number of it out of range; area or
+                                              index not as long as it says; or a byte in the log that no store makes */
+    KURDAVEL_REFUSED_BUSY = 5,             /* another operation is under way */
+    KURDAVEL_REFUSED_NONE_PENDING = 6,     /* no operation is under way */
+    KURDAVEL_REFUSED_VALUE_LENGTH = 7,     /* a value is 8, 24 or 56 bytes long, and this is not */
+    KURDAVEL_REFUSED_ABSENT = 8,           /* the key was never written, or is deleted */
+    KURDAVEL_REFUSED_VERSIONS_SPENT = 9,   /* no version is left to give */
+    KURDAVEL_REFUSED_NUMBERS_SPENT = 10,   /* a new head is needed, and no digest number is left for it */
+    KURDAVEL_REFUSED_KEYS_FULL = 11,       /* a new key, and M - 1 others have entries in the log */
+    KURDAVEL_REFUSED_NO_ROOM = 12,         /* no room in the head, and a new head would take the last free slot */
+    KURDAVEL_REFUSED_BAD_VICTIMS = 13,     /* the victims are none, or not all in the log */
+    KURDAVEL_REFUSED_KEPT_TOO_LONG = 14,   /* what is kept of the victims is too long for one slot */
+    KURDAVEL_REFUSED_BAD_ORDER = 15,       /* the order is not each slot once */
+    KURDAVEL_REFUSED_NO_DIGEST = 16,       /* no slot has a digest: not formatted */
+    KURDAVEL_REFUSED_BAD_DIGEST = 17,      /* the highest digest number is 0 or shared, or that digest is impossible */
+    KURDAVEL_REFUSED_DAMAGED_LOG = 18,     /* an entry of unknown kind, past its slot, or with an impossible version */
+    KURDAVEL_REFUSED_SHARED_VERSION = 19,  /* a version stands twice in the log */
+    KURDAVEL_REFUSED_TOO_MANY_KEYS = 20    /* more than M - 1 keys have entries in the log */
 };
 
 /*
@@ -113,15 +197,19 @@ uint32_t kurdavel_format(uint32_t slots, uint32_t slot_bytes, uint8_t *area, siz
 
 /*
  * Reads the log and makes the record and the index. `order` names each slot 0 to N - 1 once, in the order in which
- * they are to be read; every order gives the same store. M is index_words.
- * Refused: 4 (record shorter than KURDAVEL_RECORD_WORDS), 1, 2, 15, 16, 17, 18, 19, 20.
+ * they are to be read; every order gives the same store. M is index_words. A pending operation is dropped.
+ * Refused: 4, 1, 2, 15, 16, 17, 18, 19, 20, in this order. Here 4 has one cause, a record shorter than
+ * KURDAVEL_RECORD_WORDS. It belongs to this interface and not to recovery itself, which takes no record; it is
+ * tested first, so that it hides any other cause.
+ * After 20 no call that takes a record may be made before a recovery is accepted (rules of use).
  */
 uint32_t kurdavel_recover(uint32_t slots, uint32_t slot_bytes, const uint8_t *order, size_t order_bytes,
                           const uint8_t *area, size_t area_bytes, uint32_t *index, size_t index_words,
                           uint32_t *record, size_t record_words);
 
 /*
- * Tells the version and the kind (1, 2 or 3: a value of 8, 24 or 56 bytes) of a key's object.
+ * Tells the version and the kind (1, 2 or 3: a value of 8, 24 or 56 bytes) of a key's object. Where it is refused, both
+ * stay as they were.
  * Refused: 4, 8.
  */
 uint32_t kurdavel_read(const uint32_t *record, size_t record_words, const uint8_t *area, size_t area_bytes,
@@ -131,6 +219,9 @@ uint32_t kurdavel_read(const uint32_t *record, size_t record_words, const uint8_
 /*
  * Tells where the value of a key's object lies in the area: at area + *place, *bytes long. Where it is refused, both
  * are 0.
+ * The place may be used until the last step of the next operation, which may be the one that replaces or deletes the
+ * value. The bytes there stay longer: no store touches an entry while its slot is in the log. A slot leaves the log
+ * with the last step of a cleaning that names it, and the next new head may then be stored over it.
  * Refused: 4, 8.
  */
 uint32_t kurdavel_read_value(const uint32_t *record, size_t record_words, const uint8_t *area, size_t area_bytes,
@@ -138,7 +229,7 @@ uint32_t kurdavel_read_value(const uint32_t *record, size_t record_words, const 
                              uint32_t *bytes);
 
 /*
- * Starts to write a value under a key. Tells the number of stores to come, each a kurdavel_step.
+ * Starts to write a value under a key. Tells how many stores are to come, each by a kurdavel_step.
  * Refused: 4, 3, 5, 7, 9, 11, 12, 10, in this order.
  */
 uint32_t kurdavel_write(uint32_t *record, size_t record_words, const uint8_t *area, size_t area_bytes,
@@ -146,7 +237,7 @@ uint32_t kurdavel_write(uint32_t *record, size_t record_words, const uint8_t *ar
                         uint32_t key, const uint8_t *value, size_t value_bytes, uint32_t *stores);
 
 /*
- * Starts to delete a key. Tells the number of stores to come.
+ * Starts to delete a key. Tells how many stores are to come.
  * Refused: 4, 3, 5, 8, 9, 12, 10, in this order.
  */
 uint32_t kurdavel_delete(uint32_t *record, size_t record_words, const uint8_t *area, size_t area_bytes,
@@ -155,7 +246,7 @@ uint32_t kurdavel_delete(uint32_t *record, size_t record_words, const uint8_t *a
 
 /*
  * Starts to clean the slots of a map (bit i, from the lowest, is slot i): a new head takes over what they hold that
- * still counts, and they become free. The head may be among them. Tells the number of stores to come.
+ * still counts, and they become free. The head may be among them. Tells how many stores are to come.
  * Refused: 4, 3, 5, 13, 14, 10, in this order.
  */
 uint32_t kurdavel_clean(uint32_t *record, size_t record_words, const uint8_t *area, size_t area_bytes,
@@ -170,6 +261,110 @@ uint32_t kurdavel_clean(uint32_t *record, size_t record_words, const uint8_t *ar
  */
 uint32_t kurdavel_step(uint32_t *record, size_t record_words, uint8_t *area, size_t area_bytes, uint32_t *index,
                        size_t index_words, const uint8_t *work, size_t work_bytes, uint32_t *left, uint32_t *version);
+
+/*
+ * All that is lent, in one struct, and the calls over it. Each buffer has a type of its own, so that none is taken for
+ * another. What the functions above say holds for these too.
+ */
+struct kurdavel_area {
+    uint32_t slots;      /* N */
+    uint32_t slot_bytes; /* S */
+    uint8_t *bytes;
+    size_t length; /* N * S */
+};
+
+struct kurdavel_index {
+    uint32_t *cells;
+    size_t length; /* M */
+};
+
+struct kurdavel_work {
+    uint8_t *bytes;
+    size_t length; /* at least S */
+};
+
+struct kurdavel_record {
+    uint32_t words[KURDAVEL_RECORD_WORDS];
+};
+
+/* Before the first recovery let the record's words be 0: every call that takes it then answers 4. */
+struct kurdavel_store {
+    struct kurdavel_area area;
+    struct kurdavel_index index;
+    struct kurdavel_work work;
+    struct kurdavel_record record;
+};
+
+struct kurdavel_key {
+    uint16_t table;
+    uint32_t key;
+};
+
+/* A part of the area that is a value; empty, at the area's start, where there is none. */
+struct kurdavel_value {
+    const uint8_t *bytes;
+    uint32_t length;
+};
+
+static inline uint32_t kurdavel_store_format(const struct kurdavel_area *area) {
+    return kurdavel_format(area->slots, area->slot_bytes, area->bytes, area->length);
+}
+
+/*
+ * Where it is refused with 20, the words of the record are made 0, so that the rule of use is kept: every call that
+ * takes the record answers 4 until a recovery is accepted.
+ */
+static inline uint32_t kurdavel_store_recover(struct kurdavel_store *store, const uint8_t *order, size_t order_bytes) {
+    uint32_t answer = kurdavel_recover(store->area.slots, store->area.slot_bytes, order, order_bytes,
+                                       store->area.bytes, store->area.length, store->index.cells, store->index.length,
+                                       store->record.words, KURDAVEL_RECORD_WORDS);
+    if (answer == KURDAVEL_REFUSED_TOO_MANY_KEYS) {
+        uint32_t i;
+        for (i = 0; i < KURDAVEL_RECORD_WORDS; i++) store->record.words[i] = 0;
+    }
+    return answer;
+}
+
+static inline uint32_t kurdavel_store_read(const struct kurdavel_store *store, struct kurdavel_key key,
+                                           uint32_t *version, uint32_t *kind) {
+    return kurdavel_read(store->record.words, KURDAVEL_RECORD_WORDS, store->area.bytes, store->area.length,
+                         store->index.cells, store->index.length, key.table, key.key, version, kind);
+}
+
+static inline uint32_t kurdavel_store_read_value(const struct kurdavel_store *store, struct kurdavel_key key,
+                                                 struct kurdavel_value *value) {
+    uint32_t place = 0;
+    uint32_t answer = kurdavel_read_value(store->record.words, KURDAVEL_RECORD_WORDS, store->area.bytes,
+                                          store->area.length, store->index.cells, store->index.length, key.table,
+                                          key.key, &place, &value->length);
+    value->bytes = store->area.bytes + place;
+    return answer;
+}
+
+static inline uint32_t kurdavel_store_write(struct kurdavel_store *store, struct kurdavel_key key,
+                                            const uint8_t *value, size_t value_bytes, uint32_t *stores) {
+    return kurdavel_write(store->record.words, KURDAVEL_RECORD_WORDS, store->area.bytes, store->area.length,
+                          store->index.cells, store->index.length, store->work.bytes, store->work.length, key.table,
+                          key.key, value, value_bytes, stores);
+}
+
+static inline uint32_t kurdavel_store_delete(struct kurdavel_store *store, struct kurdavel_key key, uint32_t *stores) {
+    return kurdavel_delete(store->record.words, KURDAVEL_RECORD_WORDS, store->area.bytes, store->area.length,
+                           store->index.cells, store->index.length, store->work.bytes, store->work.length, key.table,
+                           key.key, stores);
+}
+
+static inline uint32_t kurdavel_store_clean(struct kurdavel_store *store, uint32_t victims, uint32_t *stores) {
+    return kurdavel_clean(store->record.words, KURDAVEL_RECORD_WORDS, store->area.bytes, store->area.length,
+                          store->index.cells, store->index.length, store->work.bytes, store->work.length, victims,
+                          stores);
+}
+
+static inline uint32_t kurdavel_store_step(struct kurdavel_store *store, uint32_t *left, uint32_t *version) {
+    return kurdavel_step(store->record.words, KURDAVEL_RECORD_WORDS, store->area.bytes, store->area.length,
+                         store->index.cells, store->index.length, store->work.bytes, store->work.length, left,
+                         version);
+}
 
 #ifdef __cplusplus
 }

@@ -1,6 +1,7 @@
 /*
- * A firmware's life with the store: format, power on, write, lose power in the middle of a write, power on, read.
- * Prints what happens; `stdout` beside this file is what it must print.
+ * A firmware and its store: format, power on, write, a power cut in the middle of a write, power on, read.
+ * Prints what happens; `store.stdout` beside this file is what it must print. With the name of a file it writes the
+ * image there at the end, as the program `dump` reads it: N (1 byte), S (2 bytes) and the area.
  */
 #include "kurdavel.h"
 
@@ -11,14 +12,11 @@
 enum { SLOTS = 4, SLOT_BYTES = 256, CELLS = 16 };
 
 /* The medium: all that survives a cut. */
-static uint8_t area[SLOTS * SLOT_BYTES];
+static uint8_t medium[SLOTS * SLOT_BYTES];
 
 /* Memory that a cut loses. */
-struct memory {
-    uint32_t record[KURDAVEL_RECORD_WORDS];
-    uint32_t index[CELLS];
-    uint8_t work[SLOT_BYTES];
-};
+static uint32_t cells[CELLS];
+static uint8_t work[SLOT_BYTES];
 
 static void expect_accepted(const char *call, uint32_t answer) {
     if (answer != KURDAVEL_ACCEPTED) {
@@ -27,87 +25,104 @@ static void expect_accepted(const char *call, uint32_t answer) {
     }
 }
 
-/* Power on: the medium alone gives the record and the index. The slots are read from the last to the first. */
-static void power_on(struct memory *m) {
-    static const uint8_t order[SLOTS] = {3, 2, 1, 0};
-    memset(m, 0xa5, sizeof *m);
-    expect_accepted("recover", kurdavel_recover(SLOTS, SLOT_BYTES, order, sizeof order, area, sizeof area, m->index,
-                                                CELLS, m->record, KURDAVEL_RECORD_WORDS));
-    printf("power on: next version %u, keys %u\n", (unsigned)m->record[KURDAVEL_WORD_NEXT],
-           (unsigned)m->record[KURDAVEL_WORD_KEYS]);
+/* What is lent, with a record that every call refuses until a recovery is accepted. */
+static void lend(struct kurdavel_store *store) {
+    memset(store, 0, sizeof *store);
+    store->area.slots = SLOTS;
+    store->area.slot_bytes = SLOT_BYTES;
+    store->area.bytes = medium;
+    store->area.length = sizeof medium;
+    store->index.cells = cells;
+    store->index.length = CELLS;
+    store->work.bytes = work;
+    store->work.length = sizeof work;
 }
 
-/* Starts a write of eight equal bytes; gives the number of stores to come. */
-static uint32_t start_write(struct memory *m, uint16_t table, uint32_t key, uint8_t byte) {
+/* Power on: the medium alone gives the record and the index. The slots are read from the last to the first. */
+static void power_on(struct kurdavel_store *store) {
+    static const uint8_t order[SLOTS] = {3, 2, 1, 0};
+    memset(cells, 0xa5, sizeof cells);
+    memset(work, 0xa5, sizeof work);
+    lend(store);
+    expect_accepted("recover", kurdavel_store_recover(store, order, sizeof order));
+    printf("power on: next version %u, keys %u\n", (unsigned)store->record.words[KURDAVEL_WORD_NEXT],
+           (unsigned)store->record.words[KURDAVEL_WORD_KEYS]);
+}
+
+/* Starts a write of eight equal bytes; gives how many stores are to come. */
+static uint32_t start_write(struct kurdavel_store *store, struct kurdavel_key key, uint8_t byte) {
     uint8_t value[8];
     uint32_t stores = 0;
     memset(value, byte, sizeof value);
-    expect_accepted("write", kurdavel_write(m->record, KURDAVEL_RECORD_WORDS, area, sizeof area, m->index, CELLS,
-                                            m->work, sizeof m->work, table, key, value, sizeof value, &stores));
-    printf("write %u/%u: %u stores to come\n", (unsigned)table, (unsigned)key, (unsigned)stores);
+    expect_accepted("write", kurdavel_store_write(store, key, value, sizeof value, &stores));
+    printf("write %u/%u: %u stores to come\n", (unsigned)key.table, (unsigned)key.key, (unsigned)stores);
     return stores;
 }
 
-/* Makes so many stores of the pending operation; gives the version that the last one tells. */
-static uint32_t steps(struct memory *m, uint32_t count) {
-    uint32_t left = 0, version = 0;
-    for (uint32_t i = 0; i < count; i++) {
-        expect_accepted("step", kurdavel_step(m->record, KURDAVEL_RECORD_WORDS, area, sizeof area, m->index, CELLS,
-                                              m->work, sizeof m->work, &left, &version));
+/* Where the medium lies behind a cache or a write buffer: makes what is stored durable. Here there is nothing to do. */
+static void barrier(void) {}
+
+/* Makes so many stores of the pending operation. */
+static void steps(struct kurdavel_store *store, uint32_t count) {
+    uint32_t left = 0, version = 0, i;
+    for (i = 0; i < count; i++) {
+        expect_accepted("step", kurdavel_store_step(store, &left, &version));
+        barrier();
     }
     printf("%u stores made, %u left, version %u\n", (unsigned)count, (unsigned)left, (unsigned)version);
-    return version;
 }
 
-static void show(const struct memory *m, uint16_t table, uint32_t key) {
-    uint32_t version = 0, kind = 0, place = 0, bytes = 0;
-    uint32_t answer = kurdavel_read(m->record, KURDAVEL_RECORD_WORDS, area, sizeof area, m->index, CELLS, table, key,
-                                    &version, &kind);
-    uint32_t again = kurdavel_read_value(m->record, KURDAVEL_RECORD_WORDS, area, sizeof area, m->index, CELLS, table,
-                                         key, &place, &bytes);
-    if (answer != again) exit(1);
-    if (answer == KURDAVEL_ABSENT) {
-        printf("read %u/%u: absent\n", (unsigned)table, (unsigned)key);
+static void show(const struct kurdavel_store *store, struct kurdavel_key key) {
+    struct kurdavel_value value;
+    uint32_t version = 0, kind = 0, i;
+    uint32_t answer = kurdavel_store_read(store, key, &version, &kind);
+    if (kurdavel_store_read_value(store, key, &value) != answer) exit(1);
+    if (answer == KURDAVEL_REFUSED_ABSENT) {
+        printf("read %u/%u: absent\n", (unsigned)key.table, (unsigned)key.key);
         return;
     }
     expect_accepted("read", answer);
-    printf("read %u/%u: version %u, kind %u, value", (unsigned)table, (unsigned)key, (unsigned)version, (unsigned)kind);
-    for (uint32_t i = 0; i < bytes; i++) printf(" %02x", area[place + i]);
+    printf("read %u/%u: version %u, kind %u, value", (unsigned)key.table, (unsigned)key.key, (unsigned)version,
+           (unsigned)kind);
+    for (i = 0; i < value.length; i++) printf(" %02x", value.bytes[i]);
     printf("\n");
 }
 
-int main(void) {
-    struct memory m;
-    expect_accepted("format", kurdavel_format(SLOTS, SLOT_BYTES, area, sizeof area));
-    power_on(&m);
+/* Writes the image for `dump`. */
+static void save(const char *name) {
+    static const uint8_t sizes[3] = {SLOTS, SLOT_BYTES & 0xff, SLOT_BYTES >> 8};
+    FILE *file = fopen(name, "wb");
+    if (file == NULL || fwrite(sizes, 1, sizeof sizes, file) != sizeof sizes ||
+        fwrite(medium, 1, sizeof medium, file) != sizeof medium || fclose(file) != 0) {
+        perror(name);
+        exit(1);
+    }
+}
 
-    uint32_t stores = start_write(&m, 7, 9, 0x11);
-    steps(&m, stores);
-    show(&m, 7, 9);
+int main(int count, char **arguments) {
+    struct kurdavel_store store;
+    struct kurdavel_key key = {7, 9}, other = {7, 10};
+    lend(&store);
+    expect_accepted("format", kurdavel_store_format(&store.area));
+    power_on(&store);
+
+    steps(&store, start_write(&store, key, 0x11));
+    show(&store, key);
 
     /* Power fails one store before the end of a second write of the key: the first one stands. */
-    stores = start_write(&m, 7, 9, 0x22);
-    steps(&m, stores - 1);
-    show(&m, 7, 9);
+    steps(&store, start_write(&store, key, 0x22) - 1);
+    show(&store, key);
     printf("power fails\n");
-    power_on(&m);
-    show(&m, 7, 9);
+    power_on(&store);
+    show(&store, key);
 
     /* Once all stores are made the new value stands, whatever happens. */
-    steps(&m, start_write(&m, 7, 9, 0x22));
+    steps(&store, start_write(&store, key, 0x22));
     printf("power fails\n");
-    power_on(&m);
-    show(&m, 7, 9);
-    show(&m, 7, 10);
+    power_on(&store);
+    show(&store, key);
+    show(&store, other);
 
-    /* A record that is too short, or no record's words, is refused with 4. */
-    uint32_t left = 77, version = 77;
-    uint32_t answer = kurdavel_step(m.record, KURDAVEL_RECORD_WORDS - 1, area, sizeof area, m.index, CELLS, m.work,
-                                    sizeof m.work, &left, &version);
-    printf("short record: %u, left as it was: %u\n", (unsigned)answer, (unsigned)left);
-    m.record[KURDAVEL_WORD_PENDING] = 4;
-    answer = kurdavel_step(m.record, KURDAVEL_RECORD_WORDS, area, sizeof area, m.index, CELLS, m.work, sizeof m.work,
-                           &left, &version);
-    printf("no record: %u\n", (unsigned)answer);
+    if (count > 1) save(arguments[1]);
     return 0;
 }

@@ -27,6 +27,7 @@ use Rattle.model.specs.Operations.{clean, logNow, newSlot, newDigest, kept, all
 use Rattle.model.specs.Refused.{Lengths, recordBad, workShort, isPending, victimsBad, numbersSpent, startCauses}
 use Rattle.model.specs.Promises.{Begun, begun, Genuine, lentLengths, StartPromise}
 use Rattle.laws.specs.CauseLaws.{cause-first}
+use Rattle.laws.specs.SaidLaws.{start-settled}
 use Rattle.starting.specs.Stores.{headStores, head-stores}
 use Rattle.starting.specs.Checks.{lentTests}
 use Rattle.starting.specs.NewHead.{NumberLeft}
@@ -144,10 +145,16 @@ module _ (L : Layout) (area cells : List ℕ) (r : Record) (victims : ℕ) (work
       record {
         same-length =
             ap (λ (b : Begun). length (b .work)) e ∙ begun-long L r victims lengths work code-bytes (firstCause (causesWith L r lengths code-bytes victims));
-        unfit = λ bad. e ∙ ap (begunWith L r victims work code-bytes) (cause-first _ _ bad);
+        unfit = unfit;
         exact = λ g. e ∙ exact g (victimsBad r victims) refl ∙ cleaned-same L r (logNow L area r) victims work lengths;
+        says =
+            start-settled L (clean victims) r area cells work work′ a unfit
+            (λ g. e ∙ exact g (victimsBad r victims) refl ∙ cleaned-same L r (logNow L area r) victims work lengths);
       }
     where
+      unfit : recordBad L r lengths ≡ true → record { start = a; work = work′ } ≡ begun L r [] (clean victims) work (some BadRecord)
+      unfit bad = e ∙ ap (begunWith L r victims work code-bytes) (cause-first _ _ bad)
+
       exact : Genuine L area r cells → (t : Bool) → victimsBad r victims ≡ t →
           cleanedWith L r victims lengths work code-bytes ≡ cleanedWith L r victims lengths work (allEncoded L (kept L victims (logNow L area r)))
       exact g true bad = bad-alike L r victims lengths work code-bytes (allEncoded L (kept L victims (logNow L area r))) bad

@@ -26,7 +26,7 @@ use Rattle.model.specs.Causes.{when, firstCause}
 use Rattle.model.specs.Recovery.{recovered, recordFrom, orderBad, geometryBad, recovery, recoveryFor}
 use Rattle.model.specs.Operations.{logNow, formatted}
 use Rattle.model.specs.Refused.{recordBad, keyAbsent, isAbsent, readCauses, formatCauses}
-use Rattle.model.specs.Promises.{Genuine, FormatPromise, RecoverPromise, IndexAfter, formatAnswer, areaUnless, readAnswer, presentAnswer, readLengths, valueAnswer, valuePart}
+use Rattle.model.specs.Promises.{Genuine, FormatPromise, RecoverPromise, IndexAfter, formatAnswer, areaUnless, readAnswer, presentAnswer, readLengths, Part, partOf, valueAnswer, valuePart}
 use Rattle.laws.specs.CauseLaws.{cause-skip, cause-false}
 use Rattle.laws.specs.MapLaws.{valueAt, entryOf}
 use Rattle.laws.specs.Operated.{OperationLaws}
@@ -52,7 +52,7 @@ module _ (L : Layout) (laws : OperationLaws L) (n s : ℕ) where
   move-keeps b t (start {area} {work} {work′} {h} {m} {o} {a} ty p) inv = start-keeps L laws n s area work work′ h m o a b t ty p inv
   move-keeps b t (step {area} {area′} {cells′} {work} {h} {m} {a} own p) inv = step-keeps L laws n s area area′ cells′ work h m a b t own p inv
   move-keeps b t (read {area} {h} {m} {k} {a} ty p) inv = (read-keeps L laws n s area h m b t inv (inv .held) k a p, tt)
-  move-keeps b t (readValue {area} {value} {h} {m} {k} ty p) inv = (value-keeps L laws n s area h m b t k inv, tt)
+  move-keeps b t (readValue {area} {h} {m} {k} ty p) inv = (value-keeps L laws n s area h m b t k inv, tt)
   move-keeps b t (recover {w} {order} {cells} {cells′} {r} p) inv = (recover-keeps L n s w b t order cells cells′ r p inv, tt)
   move-keeps b t (cuts {w}) inv = (cut-keeps L n s w b t inv, tt)
 
@@ -95,8 +95,8 @@ module _ (L : Layout) (laws : OperationLaws L) (n s : ℕ) where
 
   present-value :
       (area : List ℕ) (size : ℕ) (k : Key) (p : Option Placed) (x : Option Kept) → entryOf p ≡ bookEntry L k x →
-      ((y : Placed) → p ≡ some y → valuePart L size area (some y) ≡ y .entry .value) →
-      valueAnswer L size area (firstCause (when (isAbsent p) Absent ∷ [])) p ≡ bookValue x
+      ((y : Placed) → p ≡ some y → partOf area (valuePart L size (some y)) ≡ y .entry .value) →
+      partOf area (valueAnswer L size (firstCause (when (isAbsent p) Absent ∷ [])) p) ≡ bookValue x
   unfolding entryOf bookEntry firstCause pick isAbsent valueAnswer valuePart bookValue
   present-value area size k none none e part = refl
   present-value area size k none (some y) e part = cc
@@ -120,10 +120,10 @@ module _ (L : Layout) (laws : OperationLaws L) (n s : ℕ) where
           present-answer k (present L (logNow L area r) k) x same
 
       value-answer :
-          valueAnswer L (r .size) area (firstCause (readCauses L r (logNow L area r) (readLengths area cells′) k)) (present L (logNow L area r) k) ≡
+          partOf area (valueAnswer L (r .size) (firstCause (readCauses L r (logNow L area r) (readLengths area cells′) k)) (present L (logNow L area r) k)) ≡
           bookValue x
       value-answer =
-          ap (λ (c : Option Refusal). valueAnswer L (r .size) area c (present L (logNow L area r) k)) only-absent ∙
+          ap (λ (c : Option Refusal). partOf area (valueAnswer L (r .size) c (present L (logNow L area r) k))) only-absent ∙
           present-value area (r .size) k (present L (logNow L area r) k) x same
           (λ y q. laws .value-part area r ab (own-geometry L n s m area r e) k y q)
 
@@ -154,7 +154,7 @@ module _ (L : Layout) (laws : OperationLaws L) (n s : ℕ) where
             is-accepted = refl;
             next-version = inv .agrees .next-same;
             answers = λ k ty a q. q .exact genuine ∙ read-answer (w .area) cells′ (length cells) rec (inv .bytes) recovers (p .same-length) k (b .keys k) (inv .agrees .map-same k);
-            values = λ k ty v q. q .exact genuine ∙ value-answer (w .area) cells′ (length cells) rec (inv .bytes) recovers (p .same-length) k (b .keys k) (inv .agrees .map-same k);
+            values = λ k ty v q. ap (partOf (w .area)) (q .exact genuine) ∙ value-answer (w .area) cells′ (length cells) rec (inv .bytes) recovers (p .same-length) k (b .keys k) (inv .agrees .map-same k);
           }
 
   -- ---- the fresh store

@@ -18,7 +18,7 @@ use Rattle.record.specs.declared.RecoverAnswer.{RecoverAnswer}
 use Rattle.record.specs.declared.Refusal.{Refusal}
 use Rattle.model.specs.Operations.{TypedKey, kindElse}
 use Rattle.model.specs.Recovery.{orderBad}
-use Rattle.model.specs.Promises.{FormatPromise, RecoverPromise, ReadPromise, ValuePromise}
+use Rattle.model.specs.Promises.{FormatPromise, RecoverPromise, ReadPromise, Part, partOf, ValuePromise}
 use Rattle.history.specs.Book.{starts, steps, reads, readsValue, recovers, Event, called, cut, accepted, Kept, Awaited, Book, freshBook, feed, bookOf, versionFor, highestTold}
 use Rattle.history.specs.Runs.{World, freshWorld, Run}
 
@@ -45,7 +45,7 @@ pub record GivesBook (L : Layout) (area cells′ : List ℕ) (r : Recovery) (b :
   pub next-version : r .rec .next .0 ≡ b .next
   -- "the keys, versions and values left by the operations whose last store was done": for each key what a read then answers
   pub answers : (k : Key) → TypedKey k → (a : Reading) → ReadPromise L (r .rec) area cells′ k a → a .answer ≡ bookAnswer L (b .keys k)
-  pub values : (k : Key) → TypedKey k → (v : List ℕ) → ValuePromise L (r .rec) area cells′ k v → v ≡ bookValue (b .keys k)
+  pub values : (k : Key) → TypedKey k → (p : Part) → ValuePromise L (r .rec) area cells′ k p → partOf area p ≡ bookValue (b .keys k)
 
 -- "Each accepted step answers the stores left in the book, and an operation's last step also the book's version for it"
 unfoldable pub StepAgrees : Book → Said → Option Awaited → Type 0

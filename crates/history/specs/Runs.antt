@@ -10,7 +10,7 @@ use lib.ListN.{length}
 use Rattle.segment.specs.Choice.{pick}
 use Rattle.segment.specs.Layout.{Layout}
 use Rattle.segment.specs.declared.Key.{Key}
-use Rattle.record.specs.Answers.{recoverSaid, readSaid, startSaid, stepSaid, refusal}
+use Rattle.record.specs.Answers.{recoverSaid, readSaid, startSaid, stepSaid, taken}
 use Rattle.record.specs.declared.Record.{Record}
 use Rattle.record.specs.declared.Recovery.{Recovery}
 use Rattle.record.specs.declared.Reading.{Reading}
@@ -18,7 +18,7 @@ use Rattle.record.specs.declared.Start.{Start}
 use Rattle.record.specs.declared.Stepped.{Stepped}
 use Rattle.model.specs.Operations.{Operation, Typed, TypedKey}
 use Rattle.model.specs.Refused.{isPending}
-use Rattle.model.specs.Promises.{RecoverPromise, ReadPromise, ValuePromise, StartPromise, StepPromise}
+use Rattle.model.specs.Promises.{RecoverPromise, ReadPromise, Part, ValuePromise, StartPromise, StepPromise}
 use Rattle.history.specs.Book.{starts, steps, reads, readsValue, recovers, Event, called, cut, accepted}
 
 -- What the firmware holds from an accepted recovery to the next cut: the newest record, the index of that recovery, and the work
@@ -74,9 +74,9 @@ pub data Moves (L : Layout) (n s : ℕ) : World → Event → World → Type 0 w
       Moves L n s (record { area = area; held = some h; cells = m }) (called (reads k) (readSaid (a .answer)))
       (record { area = area; held = some h; cells = m })
   readValue :
-      {area value : List ℕ} {h : Held} {m : Option ℕ} {k : Key} → TypedKey k →
-      ValuePromise L (h .rec) area (h .cells) k value →
-      Moves L n s (record { area = area; held = some h; cells = m }) (called (readsValue k) (refusal 0))
+      {area : List ℕ} {h : Held} {m : Option ℕ} {k : Key} {p : Part} → TypedKey k →
+      ValuePromise L (h .rec) area (h .cells) k p →
+      Moves L n s (record { area = area; held = some h; cells = m }) (called (readsValue k) taken)
       (record { area = area; held = some h; cells = m })
   -- a recovery with the N and S of the format, any order list and any index, with or without a cut before it
   recover :

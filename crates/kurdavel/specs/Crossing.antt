@@ -5,7 +5,7 @@ use Prim.Native.Nat.{ℕ, _+_, _≤_, _<_}
 use mathlib.Core.Path.{_≡_}
 use mathlib.Core.Bool.{Bool, true, false}
 use mathlib.Core.List.{List}
-use lib.ListN.{length, take, drop}
+use lib.ListN.{length}
 use lib.Seq.{sets}
 use Rattle.segment.specs.Layout.{edition1}
 use Rattle.segment.specs.declared.Key.{Key}
@@ -75,12 +75,13 @@ pub record ReadCrossed (words area cells : List ℕ) (k : Key) (version kind ver
   pub version-told : version′ ≡ versionAfter (reading .answer) version
   pub kind-told : kind′ ≡ kindAfter (reading .answer) kind
 
--- The value is a part of the area, also on stores that are not genuine; where the read is refused both numbers are 0.
+-- The value is a part of the area: place and length are those that the value read promises, and lie in the area for every input; where
+-- the read is refused both are 0.
 pub record ValueCrossed (words area cells : List ℕ) (k : Key) (place bytes number : ℕ) : Type 0 where
   pub reading : Reading
   pub promised : ReadPromise edition1 (decoded words .rec) area cells k reading
   pub numbered : number ≡ readSaid (reading .answer) .refused
-  pub value : ValuePromise edition1 (decoded words .rec) area cells k (take bytes (drop place area))
+  pub value : ValuePromise edition1 (decoded words .rec) area cells k (record { place = place; bytes = bytes })
   pub inside : place + bytes ≤ length area
   pub nowhere : (number ≡ 0 → ⊥) → (place ≡ 0) × (bytes ≡ 0)
 

@@ -1,12 +1,12 @@
 -- What the exported functions promise, from what the calls behind them ensure: one law for each function, over the case of
 -- the answer that a `match` found.
 use Prim.Native.Nat.{ℕ, _+_, _*_, _≤_, _<_}
-use mathlib.Core.Path.{_≡_, refl, sym, ap, _∙_}
+use mathlib.Core.Path.{_≡_, refl, sym, ap, _∙_, subst⁻¹}
 use mathlib.Core.Bool.{Bool, true, false, not}
 use mathlib.Core.List.{List}
 use native.Mathlib.Nat.{mul-le-mul}
 use native.Mathlib.Omega.{arith}
-use lib.ListN.{length, take, drop}
+use lib.ListN.{length}
 use lib.Seq.{sets}
 use borrow.Author.Tests.{not-true}
 use Rattle.segment.specs.Layout.{edition1}
@@ -25,10 +25,10 @@ use Rattle.record.specs.declared.StartAnswer.{StartAnswer}
 use Rattle.record.specs.declared.Stepped.{Stepped}
 use Rattle.record.specs.declared.StepAnswer.{StepAnswer}
 use Rattle.model.specs.Operations.{Operation}
-use Rattle.model.specs.Promises.{FormatPromise, RecoverPromise, StartPromise, StepPromise}
+use Rattle.model.specs.Promises.{FormatPromise, RecoverPromise, ValuePromise, StartPromise, StepPromise}
 use Rattle.index.specs.Search.{searchFor}
 use Rattle.index.specs.declared.Found.{Found}
-use Rattle.recovery.specs.Lookups.{lookupAt, lookedUp, toldBy, valueBy}
+use Rattle.recovery.specs.Lookups.{lookupAt, lookedUp, toldBy, partBy}
 use Rattle.recovery.specs.LookupLaws.{looked-unfit, looked-fit, read-promise, value-promise}
 use Rattle.recovery.specs.declared.Lookup.{Lookup}
 use Rattle.words.specs.Words.{recordWords, wordsOf, isRecord, decoded}
@@ -141,7 +141,7 @@ found-small r area cells k e = go (fitsLent edition1 r (length area) (length cel
 
 pub value-crossed : {words area cells : List ℕ} {k : Key} {place bytes number : ℕ} {x b : Lookup}
     → x ≡ lookedUp edition1 (decoded words .rec) area cells k → x ≡ b → number ≡ readSaid (toldBy b) .refused
-    → take bytes (drop place area) ≡ valueBy edition1 area b → place + bytes ≤ length area
+    → record { place = place; bytes = bytes } ≡ partBy edition1 b → place + bytes ≤ length area
     → ((number ≡ 0 → ⊥) → (place ≡ 0) × (bytes ≡ 0)) → ValueCrossed words area cells k place bytes number
 value-crossed {words} {area} {cells} {k} {place} {bytes} {b = b} l e m v i w =
     let found : b ≡ lookedUp edition1 (decoded words .rec) area cells k = sym e ∙ l in
@@ -149,7 +149,7 @@ value-crossed {words} {area} {cells} {k} {place} {bytes} {b = b} l e m v i w =
       reading = record { answer = toldBy b; rec = decoded words .rec };
       promised = read-promise edition1 (decoded words .rec) area cells k b (toldBy b) found refl;
       numbered = m;
-      value = value-promise edition1 (decoded words .rec) area cells k b (take bytes (drop place area)) found v;
+      value = subst⁻¹ (ValuePromise edition1 (decoded words .rec) area cells k) v (value-promise edition1 (decoded words .rec) area cells k b found);
       inside = i;
       nowhere = w;
     }

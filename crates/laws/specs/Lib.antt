@@ -1,6 +1,7 @@
 -- Theorems about the definitions of the crate model; no code is in sight here.
 pub mod CauseLaws
 pub mod Starts
+pub mod SaidLaws
 pub mod Members
 pub mod Latest
 pub mod Versions

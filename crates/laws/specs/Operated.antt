@@ -18,7 +18,7 @@ use Rattle.model.specs.Log.{Placed, present, sameKey}
 use Rattle.model.specs.Causes.{firstCause}
 use Rattle.model.specs.Recovery.{recovered, recordFrom, geometryBad}
 use Rattle.model.specs.Operations.{Operation, write, delete, clean, Typed, logNow, writtenEntry, tombstoneEntry, laid, planFor, stored, finishedRecord, formatted}
-use Rattle.model.specs.Promises.{valuePart}
+use Rattle.model.specs.Promises.{partOf, valuePart}
 use Rattle.model.specs.Refused.{Lengths, startCauses}
 
 -- An operation that a start accepts on the record which recovery of an area of bytes gives.
@@ -78,7 +78,7 @@ pub record OperationLaws (L : Layout) : Type 0 where
       present (logNow L area r) k ≡ some x → x .entry .version < r .next .0
   pub value-part :
       (area : List ℕ) (r : Record) → Bytes area → recovered L (r .slots) (r .size) (r .cells) area ≡ some r → (k : Key) (x : Placed) →
-      present (logNow L area r) k ≡ some x → valuePart L (r .size) area (some x) ≡ bytesIn (x .entry .value)
+      present (logNow L area r) k ≡ some x → partOf area (valuePart L (r .size) (some x)) ≡ bytesIn (x .entry .value)
   -- A fresh area has an empty log and next version 1, at any number of cells.
   pub format-bytes : (n s : ℕ) (area : List ℕ) → Bytes area → Bytes (formatted L n s area)
   pub format-recovers :

@@ -21,7 +21,7 @@ use Rattle.record.specs.declared.Record.{Record}
 use Rattle.model.specs.Log.{Placed, placeOf, scan, segmentOf, viewsOf, present, latest, objectOnly, sameKey}
 use Rattle.model.specs.Recovery.{recovered, recordFrom}
 use Rattle.model.specs.Operations.{Operation, write, delete, clean, logNow, writtenEntry, tombstoneEntry, newSlot, newDigest, kept, allEncoded, placedFrom, laid, planOf, stored, cleanedRecord, finishedRecord}
-use Rattle.model.specs.Promises.{valuePart}
+use Rattle.model.specs.Promises.{partOf, valuePart}
 use Rattle.model.specs.Refused.{startCauses, cleanCauses}
 use Rattle.laws.specs.Members.{In}
 use Rattle.laws.specs.Latest.{latest-some}
@@ -177,7 +177,7 @@ log-found L n s m area r e x =
 -- the value of an entry that stands in a segment is a part of the area
 value-there :
     (L : Layout) (area : List ℕ) (s : ℕ) (x : Placed) → length (segmentOf area s (x .slot)) ≡ s →
-    entryAt L (segmentOf area s (x .slot)) (x .offset) ≡ entry (x .entry) → valuePart L s area (some x) ≡ bytesIn (x .entry .value)
+    entryAt L (segmentOf area s (x .slot)) (x .offset) ≡ entry (x .entry) → partOf area (valuePart L s (some x)) ≡ bytesIn (x .entry .value)
 unfolding valuePart
 value-there L area s x long e =
     ap (λ (p : ℕ). take (length (bytesIn (x .entry .value))) (drop p area)) place ∙

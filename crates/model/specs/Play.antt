@@ -23,7 +23,7 @@ use Rattle.model.specs.Causes.{Cause, firstCause}
 use Rattle.model.specs.Recovery.{lists, listsBelow, headElse, hasNumber, sharing, namesNoDigest, logDamaged, recoveryFor, recovery, recordFrom}
 use Rattle.model.specs.Operations.{Operation, logNow, isVersion, objectOutside, keptOf, kept, allEncoded, laid, storesFrom, planOf, planFor, storesFor, stored, toldVersion, countNew, placedFrom, finishedRecord, cleared, formatted}
 use Rattle.model.specs.Refused.{Lengths, isPending, readCauses, startCauses}
-use Rattle.model.specs.Promises.{presentAnswer, readAnswer, valuePart, valueAnswer, Begun, begun, stepped}
+use Rattle.model.specs.Promises.{presentAnswer, readAnswer, partOf, valuePart, valueAnswer, Begun, begun, stepped}
 use Rattle.model.specs.Table.{same, failing}
 
 -- What a computed row looks through: a proof that opens this opens them all.
@@ -150,7 +150,7 @@ readCause r area k = firstCause (readCauses edition1 r (logNow edition1 area r) 
 abbrev pub reads : List ℕ → Key → List ℕ
 reads area k =
     said (readSaid (readAnswer edition1 (readCause (recordNow area) area k) (present (log area) k))) ++
-    valueAnswer edition1 256 area (readCause (recordNow area) area k) (present (log area) k)
+    partOf area (valueAnswer edition1 256 (readCause (recordNow area) area k) (present (log area) k))
 
 -- the bytes that a cleaning keeps
 abbrev pub keeps : List ℕ → ℕ → List ℕ

@@ -1,19 +1,21 @@
 -- 01, "What a contract says": what each call promises, for every input. Each relation below is a contract word for word, and a
 -- transition of the runs over which the whole promise about cuts is stated.
-use Prim.Native.Nat.{ℕ, zero, suc, _+_, _-_, _<_}
+use Prim.Native.Nat.{ℕ, zero, suc, _+_, _-_, _≤_, _<_}
 use mathlib.Core.Path.{_≡_}
 use mathlib.Core.Bool.{Bool, true, false}
 use mathlib.Core.List.{List, [], _∷_}
+use mathlib.Core.Logic.{_⊎_}
 use mathlib.Core.Option.{Option, none, some}
 use lib.Dec.{eqb}
 use lib.ListN.{length, getD, take, drop, set, replicate}
 use lib.Seq.{sets}
+use denote.Ref.{RefT}
 use Rattle.word.specs.Number.{Bytes}
 use Rattle.segment.specs.Choice.{pick}
 use Rattle.segment.specs.Layout.{Layout, entrySize}
 use Rattle.segment.specs.Entry.{Entry, bytesIn, kindOf}
 use Rattle.segment.specs.declared.Key.{Key}
-use Rattle.record.specs.Answers.{withPending, storesLeft}
+use Rattle.record.specs.Answers.{Said, taken, takenWith, refusal, saidBy, formatSaid, recoverSaid, readSaid, startSaid, stepSaid, withPending, storesLeft}
 use Rattle.record.specs.declared.Pending.{Pending}
 use Rattle.record.specs.declared.Pending.the-variants.{Idle, Append, NewHead, Clean}
 use Rattle.record.specs.declared.Refusal.{Refusal}
@@ -30,10 +32,13 @@ use Rattle.record.specs.declared.Stepped.{Stepped}
 use Rattle.record.specs.declared.StepAnswer.{StepAnswer}
 use Rattle.model.specs.Log.{Placed, placeOf, present}
 use Rattle.model.specs.Causes.{Cause, firstCause}
-use Rattle.model.specs.Recovery.{recovered, recovery}
+use Rattle.model.specs.Recovery.{recovered, recovery, recoverCauses}
 use Rattle.model.specs.Index.{IndexRule}
 use Rattle.model.specs.Operations.{Operation, Typed, logNow, laid, planFor, storesFor, startedRecord, stored, toldVersion, finishedRecord, formatted}
 use Rattle.model.specs.Refused.{Lengths, recordBad, formatCauses, readCauses, startCauses, stepCauses}
+
+-- Each answer is fixed twice over, in two languages: as the value that the call returns, and (`says`) as the number and values
+-- that 01 gives it, by the definitions that the events of a list and the book use.
 
 -- ---- the stores on which a call promises its whole answer
 
@@ -60,6 +65,11 @@ pub record Started (L : Layout) (area : List ℕ) (r : Record) (work : List ℕ)
   pub area-now : area ≡ stored before (take since (planFor L idle (logNow L before idle) operation))
   pub work-now : take (length (laid L idle (logNow L before idle) operation .bytes)) work ≡ laid L idle (logNow L before idle) operation .bytes
 
+-- The whole answer of a call with a record is promised where the record fails the tests of range and length, which are its first
+-- cause whatever the log holds, and where record and index are genuine.
+abbrev pub Settled : Layout → List ℕ → Record → List ℕ → Lengths → Type 0
+Settled L area r cells l = (recordBad L r l ≡ true) ⊎ Genuine L area r cells
+
 -- ---- format
 
 unfoldable pub formatAnswer : Option Refusal → FormatAnswer
@@ -73,6 +83,7 @@ areaUnless (some c) new old = old
 -- Accepted or its number; where refused, the area stays.
 pub record FormatPromise (L : Layout) (n s : ℕ) (area area′ : List ℕ) (a : FormatAnswer) : Type 0 where
   pub answers : a ≡ formatAnswer (firstCause (formatCauses n s (length area)))
+  pub says : formatSaid a ≡ saidBy (firstCause (formatCauses n s (length area))) taken
   pub leaves : area′ ≡ areaUnless (firstCause (formatCauses n s (length area))) (formatted L n s area) area
 
 -- ---- recovery
@@ -85,6 +96,7 @@ IndexAfter L area cells cells′ r (RecoverAnswer.Refused c) = cells′ ≡ pick
 -- The record or the first cause, whatever the order of the slots.
 pub record RecoverPromise (L : Layout) (n s : ℕ) (order area cells cells′ : List ℕ) (r : Recovery) : Type 0 where
   pub answers : r ≡ recovery L n s (length cells) order area
+  pub says : recoverSaid (r .answer) ≡ saidBy (firstCause (recoverCauses L n s (length cells) order area)) taken
   pub same-length : length cells′ ≡ length cells
   pub index : IndexAfter L area cells cells′ r (r .answer)
 
@@ -98,6 +110,11 @@ unfoldable pub readAnswer : Layout → Option Refusal → Option Placed → Read
 readAnswer L none x = presentAnswer L x
 readAnswer L (some c) x = ReadAnswer.Refused c
 
+-- what a read of that object says: its version and kind
+unfoldable pub objectSaid : Layout → Option Placed → Said
+objectSaid L none = taken
+objectSaid L (some x) = record { refused = 0; stores = 0; version = x .entry .version; kind = kindOf L (x .entry) }
+
 abbrev pub readLengths : List ℕ → List ℕ → Lengths
 readLengths area cells = record { area = length area; index = length cells; work = 0 }
 
@@ -109,21 +126,53 @@ pub record ReadPromise (L : Layout) (r : Record) (area cells : List ℕ) (k : Ke
   pub exact :
       Genuine L area r cells → a .answer ≡
       readAnswer L (firstCause (readCauses L r (logNow L area r) (readLengths area cells) k)) (present (logNow L area r) k)
+  pub says :
+      Settled L area r cells (readLengths area cells) → readSaid (a .answer) ≡
+      saidBy (firstCause (readCauses L r (logNow L area r) (readLengths area cells) k)) (objectSaid L (present (logNow L area r) k))
 
--- the value of an object is a part of the area; where read refuses it is the empty part at the area's start
-unfoldable pub valuePart : Layout → ℕ → List ℕ → Option Placed → List ℕ
-valuePart L S area none = []
-valuePart L S area (some x) = take (length (bytesIn (x .entry .value))) (drop (placeOf S x + entrySize L 0) area)
+-- A part of the area: the place at which it starts, and how many bytes it has.
+pub record Part : Type 0 where
+  pub place : ℕ
+  pub bytes : ℕ
 
-unfoldable pub valueAnswer : Layout → ℕ → List ℕ → Option Refusal → Option Placed → List ℕ
-valueAnswer L S area none x = valuePart L S area x
-valueAnswer L S area (some c) x = []
+-- what stands there
+abbrev pub partOf : List ℕ → Part → List ℕ
+partOf area p = take (p .bytes) (drop (p .place) area)
 
-pub record ValuePromise (L : Layout) (r : Record) (area cells : List ℕ) (k : Key) (value : List ℕ) : Type 0 where
-  pub unfit : recordBad L r (readLengths area cells) ≡ true → value ≡ []
+-- the empty part at the area's start
+abbrev pub nowhere : Part
+nowhere = record { place = 0; bytes = 0 }
+
+-- An object's value is the part of the area behind what comes before it in its entry; where read refuses it is the empty part at the
+-- area's start.
+unfoldable pub valuePart : Layout → ℕ → Option Placed → Part
+valuePart L S none = nowhere
+valuePart L S (some x) = record { place = placeOf S x + entrySize L 0; bytes = length (bytesIn (x .entry .value)) }
+
+unfoldable pub valueAnswer : Layout → ℕ → Option Refusal → Option Placed → Part
+valueAnswer L S none x = valuePart L S x
+valueAnswer L S (some c) x = nowhere
+
+-- Which part of the area the value is.
+pub record ValuePromise (L : Layout) (r : Record) (area cells : List ℕ) (k : Key) (p : Part) : Type 0 where
+  pub unfit : recordBad L r (readLengths area cells) ≡ true → p ≡ nowhere
   pub exact :
-      Genuine L area r cells → value ≡
-      valueAnswer L (r .size) area (firstCause (readCauses L r (logNow L area r) (readLengths area cells) k)) (present (logNow L area r) k)
+      Genuine L area r cells → p ≡
+      valueAnswer L (r .size) (firstCause (readCauses L r (logNow L area r) (readLengths area cells) k)) (present (logNow L area r) k)
+
+-- A reference to that part of what another reference refers to: the part lies within it, the reference points so many bytes behind the
+-- other's start, and has these bytes.
+pub record RefersTo (part whole : RefT (List ℕ)) (p : Part) : Type 0 where
+  pub inside : p .place + p .bytes ≤ length (whole .now)
+  pub same-block : part .ptr .0 ≡ whole .ptr .0
+  pub starts : part .ptr .1 ≡ p .place + whole .ptr .1
+  pub holds : part .now ≡ partOf (whole .now) p
+
+-- The value as a reference into the lent area: to the part that is promised, and to no other bytes that happen to be equal.
+pub record ValueReference (L : Layout) (r : Record) (area : RefT (List ℕ)) (cells : List ℕ) (k : Key) (value : RefT (List ℕ)) : Type 0 where
+  pub part : Part
+  pub refers : RefersTo value area part
+  pub promised : ValuePromise L r (area .now) cells k part
 
 -- ---- write, delete and clean
 
@@ -154,6 +203,9 @@ pub record StartPromise (L : Layout) (o : Operation) (r : Record) (area cells wo
   pub exact :
       Genuine L area r cells → record { start = a; work = work′ } ≡
       begun L r (logNow L area r) o work (firstCause (startCauses L r (logNow L area r) (lentLengths area cells work) o))
+  pub says :
+      Settled L area r cells (lentLengths area cells work) → startSaid (a .answer) ≡
+      saidBy (firstCause (startCauses L r (logNow L area r) (lentLengths area cells work) o)) (takenWith (storesFor L r (logNow L area r) o))
 
 -- ---- step
 
@@ -164,6 +216,7 @@ OneByte area area′ = (p : ℕ) × (b : ℕ) × (area′ ≡ set area p b)
 -- Where a step is refused nothing changes.
 pub record StepRefused (r : Record) (area area′ cells cells′ : List ℕ) (a : Stepped) (c : Refusal) : Type 0 where
   pub answers : a ≡ record { answer = StepAnswer.Refused c; rec = r }
+  pub says : stepSaid (a .answer) ≡ refusal (numberOfRefusal c)
   pub area-same : area′ ≡ area
   pub index-same : cells′ ≡ cells
 
@@ -176,6 +229,11 @@ stepped L before idle o (suc k) =
       answer = StepAnswer.Left (suc k);
       rec = withPending idle (laid L idle (logNow L before idle) o .pending (suc k));
     }
+
+-- what it says: the stores left, and at the last one the version
+unfoldable pub stepSays : Record → Operation → ℕ → Said
+stepSays idle o zero = record { refused = 0; stores = 0; version = toldVersion idle o; kind = 0 }
+stepSays idle o (suc k) = takenWith (suc k)
 
 -- The index stays until the last step, and then keeps the rule for the new log.
 unfoldable pub IndexStepped : Layout → List ℕ → List ℕ → List ℕ → Record → ℕ → Type 0
@@ -190,6 +248,7 @@ pub record StepExact (L : Layout) (r : Record) (area area′ cells cells′ work
   pub stores :
       area′ ≡ stored (s .before) (take (suc (s .since)) (planFor L (s .idle) (logNow L (s .before) (s .idle)) (s .operation)))
   pub answers : a ≡ stepped L (s .before) (s .idle) (s .operation) (leftAfter L area r work s)
+  pub says : stepSaid (a .answer) ≡ stepSays (s .idle) (s .operation) (leftAfter L area r work s)
   pub index : IndexStepped L area′ cells cells′ (a .rec) (leftAfter L area r work s)
 
 pub record StepPromise (L : Layout) (r : Record) (area area′ cells cells′ work : List ℕ) (a : Stepped) : Type 0 where

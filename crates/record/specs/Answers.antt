@@ -1,6 +1,8 @@
 -- What each answer says in 01's terms: the refusal's number, or the values that the call gives. 0 is no refusal's number.
 use Prim.Native.Nat.{ℕ}
+use mathlib.Core.Option.{Option, none, some}
 use Rattle.record.specs.Refusals.{numberOfRefusal}
+use Rattle.record.specs.declared.Refusal.{Refusal}
 use Rattle.record.specs.declared.Pending.{Pending}
 use Rattle.record.specs.declared.Pending.the-variants.{Idle, Append, NewHead, Clean}
 use Rattle.record.specs.declared.FormatAnswer.{FormatAnswer}
@@ -20,13 +22,26 @@ pub record Said : Type 0 where
 abbrev pub refusal : ℕ → Said
 refusal n = record { refused = n; stores = 0; version = 0; kind = 0 }
 
+-- accepted, where a call has no values to give
+abbrev pub taken : Said
+taken = record { refused = 0; stores = 0; version = 0; kind = 0 }
+
+-- accepted, with a number of stores that are to come or left
+abbrev pub takenWith : ℕ → Said
+takenWith k = record { refused = 0; stores = k; version = 0; kind = 0 }
+
+-- What a call says by the first of its causes that holds: that cause's number, and where none holds its values.
+unfoldable pub saidBy : Option Refusal → Said → Said
+saidBy none s = s
+saidBy (some c) s = refusal (numberOfRefusal c)
+
 -- accepted or its number
 abbrev pub formatSaid : FormatAnswer → Said
-formatSaid FormatAnswer.Formatted = refusal 0
+formatSaid FormatAnswer.Formatted = taken
 formatSaid (FormatAnswer.Refused r) = refusal (numberOfRefusal r)
 
 abbrev pub recoverSaid : RecoverAnswer → Said
-recoverSaid RecoverAnswer.Recovered = refusal 0
+recoverSaid RecoverAnswer.Recovered = taken
 recoverSaid (RecoverAnswer.Refused r) = refusal (numberOfRefusal r)
 
 -- version and kind of the object
@@ -36,12 +51,12 @@ readSaid (ReadAnswer.Refused r) = refusal (numberOfRefusal r)
 
 -- the number of stores to come
 abbrev pub startSaid : StartAnswer → Said
-startSaid (StartAnswer.Started k) = record { refused = 0; stores = k; version = 0; kind = 0 }
+startSaid (StartAnswer.Started k) = takenWith k
 startSaid (StartAnswer.Refused r) = refusal (numberOfRefusal r)
 
 -- the number of stores left; at the last step 0, and the version
 abbrev pub stepSaid : StepAnswer → Said
-stepSaid (StepAnswer.Left k) = record { refused = 0; stores = k; version = 0; kind = 0 }
+stepSaid (StepAnswer.Left k) = takenWith k
 stepSaid (StepAnswer.Done v) = record { refused = 0; stores = 0; version = v .0; kind = 0 }
 stepSaid (StepAnswer.Refused r) = refusal (numberOfRefusal r)
 

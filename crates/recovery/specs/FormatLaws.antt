@@ -14,6 +14,7 @@ use Rattle.segment.specs.Choice.{both, both-left, both-right}
 use Rattle.segment.specs.Layout.{Layout, digestSize}
 use Rattle.segment.specs.Digest.{encodedDigest}
 use Rattle.segment.specs.DigestLaws.{length-encodedDigest}
+use Rattle.record.specs.Answers.{formatSaid}
 use Rattle.record.specs.Range.{slotsGood, sizeGood}
 use Rattle.record.specs.RangeLaws.{between-low, between-high}
 use Rattle.record.specs.declared.FormatAnswer.{FormatAnswer}
@@ -21,8 +22,10 @@ use Rattle.record.specs.declared.Refusal.the-variants.{Geometry}
 use Rattle.model.specs.Operations.{cleared, firstDigest, formatted}
 use Rattle.model.specs.Causes.{firstCause}
 use Rattle.model.specs.Recovery.{geometryBad}
+use Rattle.model.specs.Refused.{formatCauses}
 use Rattle.model.specs.Promises.{FormatPromise, formatAnswer, areaUnless}
 use Rattle.laws.specs.CauseLaws.{cause-first, cause-none}
+use Rattle.laws.specs.SaidLaws.{format-says}
 use Rattle.laws.specs.Stores.{slots-apart, stored-from}
 
 -- ---- the test of cause 1, as the code makes it
@@ -84,15 +87,21 @@ module _ (L : Layout) (n S : ℕ) (area : List ℕ) where
   unfolding formatAnswer areaUnless
   format-refused bad =
       let first = cause-first (record { holds = geometryBad n S (length area); refusal = Geometry }) [] bad in
-      record { answers = rw first; leaves = rw first }
+      record { answers = rw first; says = ap formatSaid answered ∙ format-says _; leaves = rw first }
+    where
+      answered : FormatAnswer.Refused Geometry ≡ formatAnswer (firstCause (formatCauses n S (length area)))
+      answered = rw (cause-first (record { holds = geometryBad n S (length area); refusal = Geometry }) [] bad)
 
   pub format-done : (a₁ a₂ a₃ : List ℕ) → geometryBad n S (length area) ≡ false → a₁ ≡ cleared S n area → a₂ ≡ sets a₁ 0 (encodedDigest L firstDigest)
       → a₃ ≡ set a₂ (digestSize L) 0 → FormatPromise L n S area a₃ FormatAnswer.Formatted
   unfolding formatAnswer areaUnless firstCause
   format-done a₁ a₂ a₃ good e₁ e₂ e₃ =
       let nothing = cause-none (record { holds = geometryBad n S (length area); refusal = Geometry }) [] good refl in
-      record { answers = rw nothing; leaves = rw nothing (whole) }
+      record { answers = rw nothing; says = ap formatSaid answered ∙ format-says _; leaves = rw nothing (whole) }
     where
+      answered : FormatAnswer.Formatted ≡ formatAnswer (firstCause (formatCauses n S (length area)))
+      answered = rw (cause-none (record { holds = geometryBad n S (length area); refusal = Geometry }) [] good refl)
+
       behind : digestSize L ≡ 0 + length (encodedDigest L firstDigest)
       behind = omega (arith, length-encodedDigest L firstDigest)
 

@@ -30,6 +30,7 @@ use Rattle.model.specs.Operations.{logNow}
 use Rattle.model.specs.Refused.{recordBad, keyAbsent, isAbsent, readCauses}
 use Rattle.model.specs.Promises.{Genuine, ReadPromise, ValuePromise, readAnswer, presentAnswer, readLengths, valuePart, valueAnswer}
 use Rattle.laws.specs.CauseLaws.{cause-first, cause-none, cause-skip}
+use Rattle.laws.specs.SaidLaws.{read-settled}
 use Rattle.laws.specs.Members.{In}
 use Rattle.laws.specs.Latest.{latest-some}
 use Rattle.laws.specs.LogLaws.{AllScanned, log-in, scan-whole}
@@ -42,7 +43,7 @@ use Rattle.index.specs.Area.{area-picks}
 use Rattle.index.specs.Finds.{Picks, search-known, search-new}
 use Rattle.index.specs.BuildLaws.{log-in-area}
 use Rattle.index.specs.declared.Found.{Found as Hit}
-use Rattle.recovery.specs.Lookups.{Reached, standsAt, lookupOf, lookupAt, lookedUp, toldBy, valueBy}
+use Rattle.recovery.specs.Lookups.{Reached, standsAt, lookupOf, lookupAt, lookedUp, toldBy, partBy}
 use Rattle.recovery.specs.declared.Lookup.{Lookup}
 
 -- ---- the lookup at each test of the code
@@ -249,10 +250,14 @@ module _ (L : Layout) (r : Record) (area cells : List ℕ) (k : Key) where
   read-promise found said same its =
       record {
         hands-back = refl;
-        unfit = λ e. its ∙ ap toldBy (same ∙ looked-unfit L r area cells k (unfit-false e));
+        unfit = unfit;
         exact = λ g. its ∙ exact g fits refl object refl;
+        says = read-settled L r area cells k said unfit (λ g. its ∙ exact g fits refl object refl);
       }
     where
+      unfit : recordBad L r (readLengths area cells) ≡ true → said ≡ ReadAnswer.Refused Refusal.BadRecord
+      unfit e = its ∙ ap toldBy (same ∙ looked-unfit L r area cells k (unfit-false e))
+
       exact : Genuine L area r cells → (t : Bool) → fits ≡ t → (o : Option Placed) → object ≡ o → toldBy found ≡ readAnswer cause object
       exact g false e o d = ap toldBy (same ∙ looked-unfit L r area cells k e) ∙ sym (ap (λ (c : Option Refusal). readAnswer c object) (cause-unfit e))
       exact g true e none d =
@@ -265,20 +270,18 @@ module _ (L : Layout) (r : Record) (area cells : List ℕ) (k : Key) where
   value-length : (n : ℕ) → entrySize L n - entrySize L 0 ≡ n
   value-length n = omega arith
 
-  pub value-promise : (found : Lookup) (value : List ℕ) → found ≡ lookedUp L r area cells k → value ≡ valueBy L area found
-      → ValuePromise L r area cells k value
-  unfolding valueBy valueAnswer valuePart lookupFor
-  value-promise found value same its =
-      record { unfit = λ e. its ∙ ap (valueBy L area) (same ∙ looked-unfit L r area cells k (unfit-false e)); exact = λ g. exact g fits refl object refl }
+  pub value-promise : (found : Lookup) → found ≡ lookedUp L r area cells k → ValuePromise L r area cells k (partBy L found)
+  unfolding partBy valueAnswer valuePart lookupFor
+  value-promise found same =
+      record { unfit = λ e. ap (partBy L) (same ∙ looked-unfit L r area cells k (unfit-false e)); exact = λ g. exact g fits refl object refl }
     where
-      exact : Genuine L area r cells → (t : Bool) → fits ≡ t → (o : Option Placed) → object ≡ o → value ≡ valueAnswer L (r .size) area cause object
+      exact : Genuine L area r cells → (t : Bool) → fits ≡ t → (o : Option Placed) → object ≡ o → partBy L found ≡ valueAnswer L (r .size) cause object
       exact g false e o d =
-          its ∙ ap (valueBy L area) (same ∙ looked-unfit L r area cells k e)
-          ∙ sym (ap (λ (c : Option Refusal). valueAnswer L (r .size) area c object) (cause-unfit e))
+          ap (partBy L) (same ∙ looked-unfit L r area cells k e) ∙ sym (ap (λ (c : Option Refusal). valueAnswer L (r .size) c object) (cause-unfit e))
       exact g true e none d =
-          its ∙ ap (valueBy L area) (same ∙ genuine-lookup L r area cells k g e ∙ ap (lookupFor L (r .size)) d)
-          ∙ sym (ap (λ (c : Option Refusal). valueAnswer L (r .size) area c object) (cause-absent e d))
+          ap (partBy L) (same ∙ genuine-lookup L r area cells k g e ∙ ap (lookupFor L (r .size)) d)
+          ∙ sym (ap (λ (c : Option Refusal). valueAnswer L (r .size) c object) (cause-absent e d))
       exact g true e (some x) d =
-          its ∙ ap (valueBy L area) (same ∙ genuine-lookup L r area cells k g e ∙ ap (lookupFor L (r .size)) d)
-          ∙ ap (λ (n : ℕ). take n (drop (placeOf (r .size) x + entrySize L 0) area)) (value-length (length (x .entry .value)))
-          ∙ sym (ap (λ (c : Option Refusal). valueAnswer L (r .size) area c object) (cause-present x e d) ∙ ap (valuePart L (r .size) area) d)
+          ap (partBy L) (same ∙ genuine-lookup L r area cells k g e ∙ ap (lookupFor L (r .size)) d)
+          ∙ ap (λ (n : ℕ). record { place = placeOf (r .size) x + entrySize L 0; bytes = n }) (value-length (length (x .entry .value)))
+          ∙ sym (ap (λ (c : Option Refusal). valueAnswer L (r .size) c object) (cause-present x e d) ∙ ap (valuePart L (r .size)) d)

@@ -1,7 +1,7 @@
 -- What a read looks up, as a total function of any record, area and index (01, "Index" and "Read").
 use Prim.Native.Nat.{ℕ, _+_, _-_, _*_, _/_, _%_, _≤_, _<_}
-use mathlib.Core.List.{List, []}
-use lib.ListN.{length, getD, take, drop}
+use mathlib.Core.List.{List}
+use lib.ListN.{length, getD}
 use Rattle.segment.specs.Choice.{pick}
 use Rattle.segment.specs.Layout.{Layout, entrySize}
 use Rattle.segment.specs.Entry.{entryAt, answer}
@@ -12,6 +12,7 @@ use Rattle.record.specs.declared.Record.{Record}
 use Rattle.record.specs.declared.ReadAnswer.{ReadAnswer}
 use Rattle.record.specs.declared.Refusal.{Refusal}
 use Rattle.model.specs.Log.{segmentOf}
+use Rattle.model.specs.Promises.{Part, nowhere}
 use Rattle.index.specs.Search.{searchFor}
 use Rattle.index.specs.declared.Found.{Found}
 use Rattle.recovery.specs.declared.Lookup.{Lookup}
@@ -51,7 +52,7 @@ toldBy Lookup.Absent = ReadAnswer.Refused Refusal.Absent
 toldBy Lookup.Bad = ReadAnswer.Refused Refusal.BadRecord
 
 -- the value's part of the area
-unfoldable pub valueBy : Layout → List ℕ → Lookup → List ℕ
-valueBy L area (Lookup.Object p v kind n) = take (n - entrySize L 0) (drop (p + entrySize L 0) area)
-valueBy L area Lookup.Absent = []
-valueBy L area Lookup.Bad = []
+unfoldable pub partBy : Layout → Lookup → Part
+partBy L (Lookup.Object p v kind n) = record { place = p + entrySize L 0; bytes = n - entrySize L 0 }
+partBy L Lookup.Absent = nowhere
+partBy L Lookup.Bad = nowhere

@@ -30,6 +30,7 @@ use Rattle.model.specs.Index.{IndexRule}
 use Rattle.model.specs.Operations.{logNow}
 use Rattle.model.specs.Promises.{RecoverPromise, IndexAfter}
 use Rattle.laws.specs.CauseLaws.{cause-first, cause-none, NoCause, no-cause, first-some, first-none}
+use Rattle.laws.specs.SaidLaws.{recover-says}
 use Rattle.laws.specs.Versions.{highest-below}
 use Rattle.laws.specs.LogLaws.{AllScanned, undamaged-scans}
 use Rattle.laws.specs.RecoverLaws.{map-bad-good}
@@ -119,8 +120,10 @@ module _ (L : Layout) (n s : ℕ) (order area cells : List ℕ) where
   refused-kept : (c : Refusal) → cause ≡ some c → eqb (numberOfRefusal c) 20 ≡ false → RecoverPromise L n s order area cells cells (refusedWith c)
   unfolding recovery recoveryFor IndexAfter
   refused-kept c e k =
+      let answered = ap (λ (o : Option Refusal). recoveryFor o (recordFrom L n s m area)) (sym e) in
       record {
-        answers = ap (λ (o : Option Refusal). recoveryFor o (recordFrom L n s m area)) (sym e);
+        answers = answered;
+        says = recover-says L n s m order area _ answered;
         same-length = refl;
         index = sym (pick-false (eqb (numberOfRefusal c) 20) (replicate m 0) cells k);
       }
@@ -232,8 +235,10 @@ module _ (L : Layout) (n s : ℕ) (order area cells : List ℕ) where
           go true q =
               let first : cause ≡ some TooManyKeys = on-keys ∙ cause-first (when (keysBad m log) TooManyKeys) [] q in
               let zeros : cells′ ≡ replicate m 0 = ap (λ (r : Rebuilt). r .cells) (e ∙ overfull q) in
+              let answered = ap (λ (o : Option Refusal). recoveryFor o (recordFrom L n s m area)) (sym first) in
               record {
-                answers = ap (λ (o : Option Refusal). recoveryFor o (recordFrom L n s m area)) (sym first);
+                answers = answered;
+                says = recover-says L n s m order area _ answered;
                 same-length = ap length zeros ∙ length-replicate m 0;
                 index = zeros ∙ sym (pick-true (eqb 20 20) (replicate m 0) cells refl);
               }
@@ -276,10 +281,12 @@ module _ (L : Layout) (n s : ℕ) (order area cells : List ℕ) where
           let nothing : cause ≡ none = on-keys ∙ cause-none (when (keysBad m log) TooManyKeys) [] (t .few) nil in
           let same : rec ≡ recordUnder v n s m (record { slot = i; digest = d }) =
           its ∙ (λ j. recordWith L n s (t .long j) area i d (image .top-is j) (t .keys j)) in
+          let answered : record { answer = RecoverAnswer.Recovered; rec = rec } ≡ recovery L n s m order area =
+          ap (λ (x : Record). record { answer = RecoverAnswer.Recovered; rec = x }) (same ∙ ap (recordUnder v n s m) (sym (image .head)))
+          ∙ ap (λ (o : Option Refusal). recoveryFor o (recordFrom L n s m area)) (sym nothing) in
           record {
-            answers =
-                ap (λ (x : Record). record { answer = RecoverAnswer.Recovered; rec = x }) (same ∙ ap (recordUnder v n s m) (sym (image .head)))
-                ∙ ap (λ (o : Option Refusal). recoveryFor o (recordFrom L n s m area)) (sym nothing);
+            answers = answered;
+            says = recover-says L n s m order area _ answered;
             same-length = t .long;
             index = subst (λ (x : Record). IndexRule (x .size) (logNow L area x) cells′) (sym its) (t .rule);
           }

@@ -17,7 +17,7 @@ ghost use mathlib.Core.Path.{_≡_};
 ghost use lib.ListN.{length};
 ghost use Rattle.segment.specs.Layout.{edition1};
 ghost use Rattle.model.specs.Log.{segmentOf};
-ghost use Rattle.model.specs.Promises.{ReadPromise, ValuePromise};
+ghost use Rattle.model.specs.Promises.{ReadPromise, ValueReference};
 ghost use Rattle.index.specs.declared.Found.{Found};
 ghost use Rattle.recovery.specs.Lookups.{standsAt, lookupOf, lookupAt, lookedUp, toldBy, Reached};
 
@@ -106,7 +106,7 @@ pub fn read(rec: Record, area: &[u8], index: &[u32], key: Key) -> Reading
 
 // The value of a key's object, as a part of the area; the empty part at its start where `read` refuses.
 pub fn read_value<'a>(rec: Record, area: &'a [u8], index: &[u32], key: Key) -> &'a [u8]
-    ensures { λ r. ⌜ ValuePromise edition1 rec (now (area .entry)) (now (index .entry)) key (now r) ⌝ }
+    ensures { λ r. ⌜ ValueReference edition1 rec (area .entry) (now (index .entry)) key r ⌝ }
 {
     match find(rec, area, index, key) {
         Lookup::Object {

@@ -11,7 +11,7 @@ use borrow.Author.Tests.{lt-ltb, le-ltb, ltb-false, not-false}
 use Rattle.segment.specs.Choice.{pick, pick-true, pick-false}
 use Rattle.segment.specs.Layout.{Layout}
 use Rattle.segment.specs.Entry.{Entry}
-use Rattle.record.specs.Answers.{storesLeft, withPending}
+use Rattle.record.specs.Answers.{stepSaid, storesLeft, withPending}
 use Rattle.record.specs.Range.{fitsLent}
 use Rattle.record.specs.RangeLaws.{Lent, lent}
 use Rattle.record.specs.declared.Pending.{Pending}
@@ -28,6 +28,7 @@ use Rattle.model.specs.Causes.{firstCause}
 use Rattle.model.specs.Refused.{recordBad, isPending, stepCauses}
 use Rattle.model.specs.Promises.{Genuine, Started, OneByte, StepPromise, StepExact, stepped, IndexStepped, lentLengths}
 use Rattle.laws.specs.CauseLaws.{cause-false, cause-rest, cause-none, cause-first, cause-skip}
+use Rattle.laws.specs.SaidLaws.{step-says}
 use Rattle.laws.specs.Stores.{stored-next, stored-all}
 use Rattle.laws.specs.Operated.{Accepted}
 use Rattle.laws.specs.Entering.{Roomy}
@@ -99,7 +100,12 @@ module _ (L : Layout) (r : Record) (area cells work : List ℕ) (c : Refusal) (f
       record {
         one-byte = same-byte area;
         same-length = refl;
-        refused = λ d f. record { answers = e ∙ ap (refusedWith r) (same d f); area-same = refl; index-same = refl };
+        refused = λ d f. record {
+          answers = e ∙ ap (refusedWith r) (same d f);
+          says = ap (λ (y : Stepped). stepSaid (y .answer)) (e ∙ ap (refusedWith r) (same d f));
+          area-same = refl;
+          index-same = refl;
+        };
         exact = λ f g s. absurd (never f);
       }
     where
@@ -265,7 +271,12 @@ module _ (L : Layout) (roomy : Roomy L) (r : Record) (area cells work : List ℕ
             {x : Stepped} {cells′ : List ℕ} → record { stepped = x; cells = cells′ } ≡ advanced L r (set area p b) cells →
             StepExact L r area (set area p b) cells cells′ work x s
         step-exact {x} {cells′} e =
-            record { stores = stores-next; answers = all .0; index = all .1 }
+            record {
+              stores = stores-next;
+              answers = all .0;
+              says = ap (λ (y : Stepped). stepSaid (y .answer)) (all .0) ∙ step-says L before idle (s .operation) (length plan - suc (s .since));
+              index = all .1;
+            }
           where
             by : (k : ℕ) → length plan - suc (s .since) ≡ k → Gives (advanced L r (set area p b) cells) k
             by zero q = ends-now (omega (arith, s .some-left))

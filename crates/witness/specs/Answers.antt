@@ -22,8 +22,9 @@ use Rattle.model.specs.Causes.{firstCause}
 use Rattle.model.specs.Operations.{Operation, logNow}
 use Rattle.model.specs.Recovery.{recovery, recoveryFor, recoverCauses, recordFrom}
 use Rattle.model.specs.Refused.{readCauses, startCauses}
-use Rattle.model.specs.Promises.{IndexAfter, RecoverPromise, readAnswer, readLengths, ReadPromise, valueAnswer, ValuePromise, Begun, begun, lentLengths, StartPromise}
+use Rattle.model.specs.Promises.{IndexAfter, RecoverPromise, readAnswer, readLengths, ReadPromise, Part, valueAnswer, ValuePromise, Begun, begun, lentLengths, StartPromise}
 use Rattle.laws.specs.CauseLaws.{cause-first}
+use Rattle.laws.specs.SaidLaws.{recover-says, read-settled, start-settled}
 use Rattle.laws.specs.RecoverLaws.{recovery-order, recovery-recovered, recovered-facts}
 use Rattle.laws.specs.Starts.{begun-length, start-bad}
 use Rattle.index.specs.Build.{built}
@@ -39,9 +40,9 @@ readBy L r area cells k =
       rec = r;
     }
 
-abbrev pub valueBy : Layout → Record → List ℕ → List ℕ → Key → List ℕ
-valueBy L r area cells k =
-    valueAnswer L (r .size) area (firstCause (readCauses L r (logNow L area r) (readLengths area cells) k)) (present L (logNow L area r) k)
+abbrev pub partBy : Layout → Record → List ℕ → List ℕ → Key → Part
+partBy L r area cells k =
+    valueAnswer L (r .size) (firstCause (readCauses L r (logNow L area r) (readLengths area cells) k)) (present L (logNow L area r) k)
 
 module _ (L : Layout) (r : Record) (area cells : List ℕ) (k : Key) where
   pub read-made : ReadPromise L r area cells k (readBy L r area cells k)
@@ -51,13 +52,16 @@ module _ (L : Layout) (r : Record) (area cells : List ℕ) (k : Key) where
         hands-back = refl;
         unfit = λ bad. ap (λ (c : Option Refusal). readAnswer c (present L (logNow L area r) k)) (cause-first _ _ bad);
         exact = λ g. refl;
+        says =
+            read-settled L r area cells k _
+            (λ bad. ap (λ (c : Option Refusal). readAnswer c (present L (logNow L area r) k)) (cause-first _ _ bad)) (λ g. refl);
       }
 
-  pub value-made : ValuePromise L r area cells k (valueBy L r area cells k)
+  pub value-made : ValuePromise L r area cells k (partBy L r area cells k)
   unfolding valueAnswer
   value-made =
       record {
-        unfit = λ bad. ap (λ (c : Option Refusal). valueAnswer L (r .size) area c (present L (logNow L area r) k)) (cause-first _ _ bad);
+        unfit = λ bad. ap (λ (c : Option Refusal). valueAnswer L (r .size) c (present L (logNow L area r) k)) (cause-first _ _ bad);
         exact = λ g. refl;
       }
 
@@ -79,6 +83,9 @@ module _ (L : Layout) (o : Operation) (r : Record) (area cells work : List ℕ) 
             begun-length L r (logNow L area r) o work (firstCause (startCauses L r (logNow L area r) (lentLengths area cells work) o));
         unfit = λ bad. ap (begun L r (logNow L area r) o work) (start-bad L r (logNow L area r) (lentLengths area cells work) o bad);
         exact = λ g. refl;
+        says =
+            start-settled L o r area cells work (its .work) (its .start)
+            (λ bad. ap (begun L r (logNow L area r) o work) (start-bad L r (logNow L area r) (lentLengths area cells work) o bad)) (λ g. refl);
       }
 
 -- ---- recovery
@@ -114,10 +121,13 @@ module _ (L : Layout) (n s : ℕ) (order area cells : List ℕ) where
   unfolding recovery recoveryFor cellsBy IndexAfter pick
   by-cause none e =
       let h = rebuilt (ap (λ (c : Option Refusal). recoveryFor c rec) e) in
-      record { answers = ap (λ (c : Option Refusal). recoveryFor c rec) (sym e); same-length = h .long; index = h .rule }
+      let answered = ap (λ (c : Option Refusal). recoveryFor c rec) (sym e) in
+      record { answers = answered; says = recover-says L n s m order area _ answered; same-length = h .long; index = h .rule }
   by-cause (some c) e =
+      let answered = ap (λ (d : Option Refusal). recoveryFor d rec) (sym e) in
       record {
-        answers = ap (λ (d : Option Refusal). recoveryFor d rec) (sym e);
+        answers = answered;
+        says = recover-says L n s m order area _ answered;
         same-length = go (eqb (numberOfRefusal c) 20);
         index = refl;
       }

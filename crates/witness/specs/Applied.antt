@@ -7,6 +7,7 @@ use mathlib.Core.Option.{Option, some}
 use native.Mathlib.Omega.{arith}
 use lib.ListN.{length}
 use Rattle.segment.specs.Layout.{edition1}
+use Rattle.record.specs.Answers.{saidBy}
 use Rattle.record.specs.declared.FormatAnswer.{FormatAnswer}
 use Rattle.record.specs.declared.Reading.{Reading}
 use Rattle.record.specs.declared.ReadAnswer.{ReadAnswer}
@@ -23,8 +24,8 @@ use Rattle.witness.specs.Answers.{recoveredCells, recover-made}
 use Rattle.witness.specs.Example.{computing, bytes-of, nine, nine-typed, before, area₀, events, all, run, cleaned}
 
 formats : FormatPromise edition1 4 256 before area₀ FormatAnswer.Formatted
-unfolding opened formatAnswer areaUnless
-formats = record { answers = refl; leaves = refl }
+unfolding opened formatAnswer areaUnless saidBy
+formats = record { answers = refl; says = refl; leaves = refl }
 
 -- Demand 3 for these events.
 pub holds : Holds edition1 4 256 (all .world) events

@@ -27,6 +27,7 @@ use Rattle.model.specs.Refused.{Lengths, recordBad, versionsSpent, startCauses,
 use Rattle.model.specs.Promises.{Genuine, Begun, begun, lentLengths, StartPromise}
 use Rattle.laws.specs.CauseLaws.{cause-first, none-left, none-right, no-cause, cause-passed}
 use Rattle.laws.specs.Entering.{Roomy}
+use Rattle.laws.specs.SaidLaws.{start-settled}
 use Rattle.laws.specs.Starts.{begun-length, start-bad}
 use Rattle.index.specs.Search.{searchFor}
 use Rattle.index.specs.declared.Found.{Found}
@@ -84,11 +85,18 @@ module _ (L : Layout) (o : Operation) (r : Record) (area cells work : List ℕ) 
     start-promise work′ a e =
         record {
           same-length = ap (λ (b : Begun). length (b .work)) e ∙ begun-length L r [] o work (firstCause tests);
-          unfit = λ h. e ∙ ap (begun L r [] o work) (tests-bad h);
-          exact =
-              λ g.
-              e ∙ begun-free L r o free (logNow L area r) work (firstCause tests) ∙ ap (begun L r (logNow L area r) o work) (same g);
+          unfit = unfit;
+          exact = exact;
+          says = start-settled L o r area cells work work′ a unfit exact;
         }
+      where
+        unfit : recordBad L r lengths ≡ true → record { start = a; work = work′ } ≡ begun L r [] o work (some BadRecord)
+        unfit h = e ∙ ap (begun L r [] o work) (tests-bad h)
+
+        exact :
+            Genuine L area r cells → record { start = a; work = work′ } ≡
+            begun L r (logNow L area r) o work (firstCause (startCauses L r (logNow L area r) lengths o))
+        exact g = e ∙ begun-free L r o free (logNow L area r) work (firstCause tests) ∙ ap (begun L r (logNow L area r) o work) (same g)
 
     -- refused: nothing changes
     start-refused :

@@ -1,4 +1,4 @@
-//! Full areas of the largest size, laid out as a long life of writes and deletes leaves them.
+//! Full areas of the largest size, laid out as a long history of writes and deletes leaves them.
 
 /// Bytes in a slot (S).
 pub const SLOT_BYTES: usize = 2048;
@@ -27,11 +27,15 @@ impl Entry {
 /// An area of `slots` slots, all but the last full of entries in a row, whose versions are in a row too. `entry` gives
 /// the entry of each number from 0 on.
 pub fn full(slots: usize, entry: impl Fn(u32) -> Entry) -> Vec<u8> {
-    aged(slots, entry, |count| count + 1)
+    with_versions(slots, entry, |count| count + 1)
 }
 
 /// The same with versions of their own.
-pub fn aged(slots: usize, entry: impl Fn(u32) -> Entry, version: impl Fn(u32) -> u32) -> Vec<u8> {
+pub fn with_versions(
+    slots: usize,
+    entry: impl Fn(u32) -> Entry,
+    version: impl Fn(u32) -> u32,
+) -> Vec<u8> {
     let mut area = vec![0; slots * SLOT_BYTES];
     let mut count: u32 = 0;
     let map = (1u32 << (slots - 1)) - 1;

@@ -8,7 +8,7 @@ mod timing;
 use std::cell::RefCell;
 use std::hint::black_box;
 
-use image::{aged, full, Entry, SLOT_BYTES};
+use image::{full, with_versions, Entry, SLOT_BYTES};
 use timing::{compare, Timing};
 
 const SLOTS: usize = 32;
@@ -89,10 +89,10 @@ fn recoveries() {
         };
         recovery(&case, slots, mixed);
     }
-    // Versions far apart, as cleanings leave them after a long life.
+    // Versions far apart, as cleanings leave them after a long history.
     let mut rng = reference::rng::Rng::new(5);
     let versions: Vec<u32> = (0..5000).map(|_| rng.within(1, u32::MAX - 1)).collect();
-    let area = aged(SLOTS, mixed, |count| versions[count as usize]);
+    let area = with_versions(SLOTS, mixed, |count| versions[count as usize]);
     recovery_of("recovery, 4,000 distinct keys, scattered versions", area);
 }
 
@@ -130,7 +130,7 @@ struct Bench {
     proved: kurdavel::Record,
     reference: reference::Record,
     /// The index as it stood.
-    settled: Vec<u32>,
+    recovered: Vec<u32>,
 }
 
 impl Bench {
@@ -142,7 +142,7 @@ impl Bench {
         let reference = reference::recover(n, s, &area, &mut index, &order).expect("a store");
         let proved = kurdavel::recover(n, s, &order, &area, &mut index).expect("a store");
         Bench {
-            settled: index.clone(),
+            recovered: index.clone(),
             work: vec![0; slot_bytes],
             area,
             index,
@@ -185,7 +185,7 @@ impl Bench {
     /// The byte that made the operation count goes, and the index is as it was: the store is the one before.
     fn set_back(&mut self, undo: usize) {
         self.area[undo] = 0;
-        self.index.copy_from_slice(&self.settled);
+        self.index.copy_from_slice(&self.recovered);
     }
 }
 

@@ -3,12 +3,12 @@
 use std::hint::black_box;
 use std::time::{Duration, Instant};
 
-/// How long one sample lasts at least: short, so that some go by undisturbed.
+/// How long one sample lasts at least: short, so that nothing else runs during some.
 const SAMPLE: Duration = Duration::from_micros(300);
 /// How many samples each gets.
 const ROUNDS: usize = 400;
 
-/// What timing the two gave. A time is the least of all samples: what disturbs a sample only adds to it.
+/// What timing the two gave. A time is the least of all samples: what else runs only adds to a sample.
 pub struct Timing {
     /// Nanoseconds of the proved one.
     pub proved: f64,
@@ -22,17 +22,17 @@ pub struct Timing {
 pub fn compare(mut proved: impl FnMut(), mut reference: impl FnMut()) -> Timing {
     let times = calibrate(&mut reference);
     let mut least = [f64::INFINITY; 2];
-    let mut owed = [f64::INFINITY; 2];
+    let mut base = [f64::INFINITY; 2];
     for round in 0..2 * ROUNDS {
         let turn = round % 2;
         least[turn] = sample(&mut proved, times).min(least[turn]);
-        owed[turn] = sample(&mut reference, times).min(owed[turn]);
+        base[turn] = sample(&mut reference, times).min(base[turn]);
     }
-    let reference = owed[0].min(owed[1]);
+    let reference = base[0].min(base[1]);
     Timing {
         proved: least[0].min(least[1]),
         reference,
-        noise: owed[0].max(owed[1]) / reference - 1.0,
+        noise: base[0].max(base[1]) / reference - 1.0,
     }
 }
 

@@ -1,4 +1,4 @@
-//! Two stores that live through the same history.
+//! Two stores with the same history.
 
 use std::fmt::Write;
 
@@ -149,7 +149,7 @@ impl Pair {
         Ok(answer)
     }
 
-    /// Sets bytes of both areas, as of a store that has lived long.
+    /// Sets bytes of both areas, as of a store with a long history.
     pub fn age(&mut self, place: usize, bytes: &[u8]) {
         let end = place + bytes.len();
         self.tell(format_args!("bytes {bytes:?} at {place}"));

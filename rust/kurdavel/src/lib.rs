@@ -24,7 +24,7 @@
 //!     assert_eq!(progress, Progress::More { left });
 //! }
 //!
-//! // A cut here would leave the key absent. The last store makes it count.
+//! // A cut here would leave the key absent. The write takes effect with its last store.
 //! let progress = record.step(&mut area, &mut index, &work)?;
 //! assert_eq!(progress, Progress::Done { version: Version(1) });
 //!
@@ -35,8 +35,34 @@
 //! # Ok::<(), kurdavel::Refusal>(())
 //! ```
 //!
-//! The promise about cuts holds as long as each recovery gets the N and S of the format, and every other call the
-//! record and index that the calls before it left. With anything else the calls are still safe and end.
+//! # Rules of use
+//!
+//! The promise about cuts holds if
+//!
+//! - N and S are at each recovery what they were at the format;
+//! - all other calls are given the record as the last call left it, and the index as it has become since a recovery was
+//!   last accepted; a step is also given the work buffer unchanged since its start;
+//! - once the area was formatted, the power failed or a recovery answered [`TooManyKeys`](Refusal::TooManyKeys) (20), a
+//!   recovery is accepted before a record is used again. After 20 the index is all 0, and a [`Record`] from before still
+//!   passes every test: keys that are present would read as absent, and a cleaning would be accepted and lose them;
+//! - the index of a recovery is no smaller than that of the last accepted one. A smaller one may be answered with 20,
+//!   which loses nothing: recover again with a larger one.
+//!
+//! With anything else the calls are still safe and end, and a step changes one byte of the area at the most.
+//!
+//! An operation that is not to be finished is given up by a [`recover`], without a cut. The rules leave no other way: a
+//! copy of the record from before the start is not the newest one.
+//!
+//! # The medium
+//!
+//! The area is memory that is addressed byte by byte. A cut during a store leaves that byte either as it was or as
+//! stored, and no other is touched; and what a step stored has to be durable before the next step's store. Behind a
+//! cache or a write buffer, put the barrier that makes it durable between the steps: each makes one store, so that
+//! one barrier after each is enough. The library is linked as machine code, so that no steps are merged by link-time
+//! optimisation. Reads, also from an interrupt, are allowed between steps and not during one.
+//!
+//! `include/kurdavel.h` says besides how to choose the size of the index, what helps after a refusal, and how much stack
+//! each call takes.
 
 #![deny(unsafe_code)]
 #![warn(missing_docs)]

@@ -99,7 +99,7 @@ pub struct Fields {
     pub map: SlotMap,
     /// The version that the next write or delete takes.
     pub next: Version,
-    /// How many keys have an entry in the log, deleted ones included.
+    /// How many keys have entries in the log, deleted ones too.
     pub keys: u32,
     /// The operation under way.
     pub pending: Pending,

@@ -6,35 +6,38 @@ use std::fmt;
 #[derive(Clone, Copy, PartialEq, Eq, PartialOrd, Ord, Hash, Debug)]
 #[repr(u8)]
 pub enum Refusal {
-    /// N or S is outside its limits, or the area is not N × S bytes long.
+    /// N or S is out of its limits, or the area is not N × S bytes long.
     Geometry = 1,
-    /// The length of the index is outside its limits.
+    /// The length of the index is out of its limits.
     Cells = 2,
-    /// The work buffer is shorter than a slot.
+    /// The work buffer has fewer bytes than a slot.
     WorkShort = 3,
     /// The record is none, is out of range or does not fit what is lent, or the log has a byte that no store makes.
     BadRecord = 4,
-    /// An operation is pending.
+    /// Another operation is under way.
     Busy = 5,
-    /// No operation is pending.
+    /// No operation is under way.
     NonePending = 6,
-    /// The value is not 8, 24 or 56 bytes long.
+    /// No value has this length: it is 8, 24 or 56 bytes.
     ValueLength = 7,
-    /// The key is not present.
+    /// The key was never written, or is deleted.
     Absent = 8,
-    /// The next version is at its limit.
+    /// No version is left to give. Only a format helps; reads and cleanings go on.
     VersionsSpent = 9,
-    /// A new head is needed and the digest number is at its limit.
+    /// A new head is needed, and no digest number is left for it. Only a format helps; reads go on, and so do writes and
+    /// deletes whose entry fits the head.
     NumbersSpent = 10,
-    /// The key has no entry in the log, and as many keys have as the index takes.
+    /// A new key, and as many others have entries in the log as the index takes, deleted keys among them. Clean their
+    /// slots, or recover with a larger index.
     KeysFull = 11,
-    /// The entry does not fit the head, and fewer than two slots are free.
+    /// There is no room in the head, and a new head would take the last free slot. Cleaning gives back what no longer
+    /// counts; it does not help a store full of live objects.
     NoRoom = 12,
-    /// No victim is named, or one that is not in the log.
+    /// The victims are none, or not all in the log.
     BadVictims = 13,
-    /// What the cleaning keeps does not fit one slot.
+    /// What is kept of the victims is too long for one slot. Name fewer; a single one is never too much.
     KeptTooLong = 14,
-    /// The order does not name each slot once.
+    /// The order is not each slot once.
     BadOrder = 15,
     /// No slot has a digest.
     NoDigest = 16,
@@ -42,9 +45,10 @@ pub enum Refusal {
     BadDigest = 17,
     /// An entry of the log cannot be.
     DamagedLog = 18,
-    /// Two entries of the log have one version.
+    /// A version stands twice in the log.
     SharedVersion = 19,
-    /// The log has more keys than the index takes.
+    /// The log has more keys than the index takes. The index is then all 0, and a recovery has to be accepted before a
+    /// record is used again.
     TooManyKeys = 20,
 }
 

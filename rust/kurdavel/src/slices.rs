@@ -3,6 +3,8 @@
 //! Each answers 0 or the number of a refusal, as `include/kurdavel.h` says, and is safe with any arguments: the library
 //! is proved to stay within what it is lent, to change only what it is lent to change, and to end.
 //!
+//! A refused call leaves the numbers that it would tell as they were, but [`read_value`] makes them 0.
+//!
 //! This is the only module with `unsafe` code. What the library asks of its pointers is, in every call here, what Rust
 //! already knows of the references that they come from: valid for the length that goes with them, not null, aligned,
 //! and unlike every other one that the call may write through.
@@ -19,6 +21,17 @@ pub fn format(slots: u32, slot_bytes: u32, area: &mut [u8]) -> u32 {
 }
 
 /// Reads the log of an area, in the order given, and makes its record and index.
+///
+/// A record of too few words is answered with 4 before anything else is looked at. That cause is this interface's:
+/// recovery itself takes no record, and otherwise begins with 1.
+///
+/// ```
+/// use kurdavel::{slices, WORDS};
+/// let (area, mut index) = ([0; 1024], [0; 16]);
+/// let mut words = [0; WORDS];
+/// assert_eq!(slices::recover(3, 256, &[], &area, &mut index, &mut words[1..]), 4);
+/// assert_eq!(slices::recover(3, 256, &[], &area, &mut index, &mut words), 1);
+/// ```
 #[inline]
 pub fn recover(
     slots: u32,
@@ -45,7 +58,7 @@ pub fn recover(
     }
 }
 
-/// Tells version and kind of a key's object.
+/// Tells version and kind of a key's object; both stay as they were where the call is refused.
 #[inline]
 pub fn read(
     record: &[u32],

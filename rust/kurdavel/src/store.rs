@@ -22,7 +22,7 @@ pub enum Progress {
         /// Stores left, at least 1.
         left: u32,
     },
-    /// No stores are left: the operation counts.
+    /// No stores are left: the operation has taken effect.
     Done {
         /// The version that a write or delete took; 0 for a cleaning.
         version: Version,
@@ -45,8 +45,9 @@ pub fn format(slots: u32, slot_bytes: u32, area: &mut [u8]) -> Result<(), Refusa
 
 /// Reads the log of an area and makes its record and index.
 ///
-/// `order` names each slot once; every order gives the same store. The index stays as it was if the call is refused,
-/// but is all 0 after [`TooManyKeys`](Refusal::TooManyKeys).
+/// `order` names each slot once; every order gives the same store. A pending operation is dropped. The index stays as it
+/// was if the call is refused, but is all 0 after [`TooManyKeys`](Refusal::TooManyKeys): no record may then be used
+/// before a recovery is accepted (see the rules of use in the [crate's documentation](crate)).
 ///
 /// ```
 /// use kurdavel::{recover, Refusal};
@@ -99,8 +100,12 @@ impl Record {
         })
     }
 
-    /// The value of a key's object, as a part of the area. Where [`read`](Record::read) is refused it is the empty
-    /// part at the start.
+    /// The value of a key's object, as a part of the area: an empty one, at the area's start, where
+    /// [`read`](Record::read) is refused.
+    ///
+    /// The part is borrowed from the area, so that no step is made while it is in use. A caller who keeps its place may
+    /// use it until the last step of the next operation. Its bytes change only after a cleaning of its slot is finished,
+    /// when a new head may be stored there.
     ///
     /// The library stays within the area for genuine stores and others alike; a place outside it, which it never
     /// tells, would give the empty part too.
@@ -121,7 +126,7 @@ impl Record {
             .unwrap_or(&area[..0])
     }
 
-    /// Starts to write a value under a key. Answers the number of stores to come.
+    /// Starts to write a value under a key. Answers how many stores are to come.
     #[inline]
     pub fn write(
         &mut self,
@@ -145,7 +150,7 @@ impl Record {
         Refusal::unless_accepted(answer).map(|()| stores)
     }
 
-    /// Starts to delete a key. Answers the number of stores to come.
+    /// Starts to delete a key. Answers how many stores are to come.
     #[inline]
     pub fn delete(
         &mut self,
@@ -167,7 +172,7 @@ impl Record {
         Refusal::unless_accepted(answer).map(|()| stores)
     }
 
-    /// Starts to clean slots: a new head takes over what they hold that still counts. Answers the number of stores to
+    /// Starts to clean slots: a new head takes over what they hold that still counts. Answers how many stores are to
     /// come.
     ///
     /// ```
@@ -201,7 +206,8 @@ impl Record {
 
     /// Makes one store of the pending operation.
     ///
-    /// The record is kept in place: the call updates it, and a refused call leaves it as it was.
+    /// The record is kept in place: the call updates it, and a refused call leaves it as it was. Where record, index or
+    /// work buffer are not those of the rules of use, it may be refused with 4 after its store is made.
     ///
     /// ```
     /// # let mut area = [0; 1024];

@@ -8,7 +8,7 @@ pub struct Version(pub u32);
 #[derive(Clone, Copy, PartialEq, Eq, PartialOrd, Ord, Hash, Debug)]
 pub struct DigestNumber(pub u32);
 
-/// A set of slots: bit i, counted from the lowest, stands for slot i.
+/// A set of slots: slot i is in it if bit i, from the lowest, is set.
 #[derive(Clone, Copy, PartialEq, Eq, Hash, Debug)]
 pub struct SlotMap(pub u32);
 

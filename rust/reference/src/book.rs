@@ -63,7 +63,7 @@ impl Book {
         }
     }
 
-    /// Takes in one line. For an accepted step, gives the answer that the step owes.
+    /// Takes in one line. For an accepted step, gives the answer that the step must give.
     pub fn feed(&mut self, event: &Event) -> Option<Progress> {
         match event {
             Event::Start(operation, Some(stores)) => {

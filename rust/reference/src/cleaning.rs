@@ -173,7 +173,7 @@ impl Choice {
         })
     }
 
-    /// A rule that 01 calls wrong, for tests: forgets the kept tombstones of keys whose
+    /// A rule that 01 calls wrong, for tests: drops the kept tombstones of keys whose
     /// newest object is in a victim.
     fn drop_by_newest_object(
         &mut self,

@@ -16,7 +16,7 @@ impl Version {
     /// A next version at which no further entry can be written.
     pub const SPENT: Version = Version(u32::MAX);
 
-    /// Whether an entry may bear this version.
+    /// Whether an entry may have this version.
     #[inline]
     pub fn is_entry_version(self) -> bool {
         self.0.wrapping_sub(1) < Version::LAST.0

@@ -1,4 +1,4 @@
-//! The index (01, "Index"): cells that lead to the highest-version entry of each key.
+//! The index (01, "Index"): cells that lead to each key's newest entry.
 
 use std::collections::{HashMap, HashSet};
 

@@ -13,8 +13,8 @@ use crate::segment::{
 use crate::slot_map::SlotMap;
 use crate::step::{append_stores, new_head_stores};
 
-/// The answer of a start: the record, changed only if the start was accepted, and the
-/// number of stores to come or the refusal.
+/// The answer of a start: the record, changed only if the start was accepted, and how
+/// many stores are to come or the refusal.
 pub type Started = (Record, Result<u32, Refusal>);
 
 /// Lays down an empty store: no slot has a digest but slot 0, which holds nothing else.

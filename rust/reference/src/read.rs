@@ -24,8 +24,8 @@ pub fn read(record: &Record, area: &[u8], index: &[u32], key: Key) -> Result<Fou
     })
 }
 
-/// The value of a key's object as a part of the area. Where [`read`] refuses, it is the
-/// empty part at the start.
+/// The value of a key's object as a part of the area: an empty one, at the area's start,
+/// where [`read`] is refused.
 pub fn read_value<'a>(record: &Record, area: &'a [u8], index: &[u32], key: Key) -> &'a [u8] {
     match find(record, area, index, key) {
         Ok((place, fields)) => &area[place + TOMBSTONE_BYTES..place + fields.length],

@@ -9,11 +9,11 @@ use crate::refusal::Refusal;
 use crate::rules::{AsWritten, Rules};
 use crate::segment::{Digest, DIGEST, DIGEST_BYTES};
 use crate::slot_map::SlotMap;
-use crate::versions::Sieve;
+use crate::versions::Filter;
 
 /// Finds the head, reads the log in the order given and fills the index.
 ///
-/// M is the length of the index. The index stays as it was unless the call is accepted
+/// The index gives M by its length. It stays as it was unless the call is accepted
 /// or refused with 20, which leaves it all 0.
 pub fn recover(
     slots: u32,
@@ -137,19 +137,19 @@ fn survey(
 ) -> Result<Survey, Refusal> {
     let mut end = DIGEST_BYTES;
     let mut highest = Version(0);
-    let mut sieve = Sieve::new();
+    let mut filter = Filter::new();
     for slot in log.clone() {
         let bytes = segment(area, slot_bytes, slot);
         let stop = walk_segment(bytes, Refusal::Entry, |_, fields| {
             highest = highest.max(fields.version);
-            sieve.note(fields.version);
+            filter.note(fields.version);
             Ok(())
         })?;
         if slot == head {
             end = stop;
         }
     }
-    sieve.check(area, slot_bytes, log)?;
+    filter.check(area, slot_bytes, log)?;
     Ok(Survey {
         end: end as u32,
         highest,

@@ -4,7 +4,7 @@
 #[derive(Clone, Copy, PartialEq, Eq, PartialOrd, Ord, Hash, Debug)]
 #[repr(u8)]
 pub enum Refusal {
-    /// N or S is outside its limits, or the area is not N × S long.
+    /// N or S is out of its limits, or the area has another length than N × S.
     Geometry = 1,
     /// The index has a length outside the limits of M.
     IndexLength = 2,
@@ -13,21 +13,21 @@ pub enum Refusal {
     /// The record is out of range or does not fit the lent memory, or a byte that no
     /// log holds was met.
     Record = 4,
-    /// An operation is pending.
+    /// Another operation is under way.
     Pending = 5,
-    /// No operation is pending.
+    /// No operation is under way.
     NonePending = 6,
-    /// The value is not 8, 24 or 56 bytes long.
+    /// No kind of object has a value of this length.
     ValueLength = 7,
-    /// The key is not present.
+    /// The key was never written, or is deleted.
     Absent = 8,
     /// The next version is at its limit.
     VersionsSpent = 9,
     /// The digest number is at its limit and a new head is needed.
     DigestsSpent = 10,
-    /// The key is new to the log and M - 1 keys are in it.
+    /// The key is new, and the index has no cell left for it.
     KeysFull = 11,
-    /// The entry does not fit the head and fewer than two slots are free.
+    /// There is no room in the head, and a new head would take the last free slot.
     SlotsFull = 12,
     /// The victims are none, or not all in the log.
     Victims = 13,
@@ -42,7 +42,7 @@ pub enum Refusal {
     /// An entry of the log has an unknown kind, passes its slot's end or has a
     /// version that no entry can have.
     Entry = 18,
-    /// Two entries of the log have one version.
+    /// A version stands twice in the log.
     VersionShared = 19,
     /// The log has more than M - 1 keys.
     TooManyKeys = 20,

@@ -109,10 +109,12 @@ pub enum Entry {
     Damage,
 }
 
-/// Reads the entry at an offset of a segment.
+/// Reads the entry at an offset of a segment. An offset past its end is damage.
 #[inline]
 pub fn read_entry(segment: &[u8], offset: usize) -> Entry {
-    let rest = segment.get(offset..).unwrap_or(&[]);
+    let Some(rest) = segment.get(offset..) else {
+        return Entry::Damage;
+    };
     let kind = match rest.first() {
         None | Some(&END) => return Entry::End,
         Some(&kind) => kind,

@@ -1,5 +1,5 @@
-//! The slot map (01, "Bytes of a segment" and "The log and its map"): bit i, counted
-//! from the lowest, stands for slot i.
+//! The slot map (01, "Bytes of a segment" and "The log and its map"): slot i is in it if
+//! bit i, from the lowest, is set.
 
 /// A set of slots below 32.
 #[derive(Clone, Copy, PartialEq, Eq, Hash, Debug)]

@@ -25,7 +25,7 @@ pub enum Progress {
         /// Stores left, at least 1.
         left: u32,
     },
-    /// No stores are left: the operation counts.
+    /// No stores are left: the operation has taken effect.
     Done {
         /// The version that a write or delete took; 0 for a cleaning.
         version: Version,
@@ -152,8 +152,8 @@ fn new_head_store<R: Rules>(
     })
 }
 
-/// Makes one store of the pending operation. The last one makes the operation count,
-/// brings the index up to date and tells the version.
+/// Makes one store of the pending operation. With the last one the operation takes effect,
+/// the index is changed to match, and the version is told.
 pub fn step(record: Record, area: &mut [u8], index: &mut [u32], work: &[u8]) -> Stepped {
     step_by::<AsWritten>(record, area, index, work)
 }

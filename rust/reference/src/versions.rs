@@ -14,16 +14,16 @@ const SUSPECTS: usize = 180;
 const MARK_BITS: u32 = 2048;
 
 /// The filter and the suspects gathered so far; with [`Marks`], under 2 KiB in all.
-pub(crate) struct Sieve {
+pub(crate) struct Filter {
     seen: [u32; (FILTER_BITS / 32) as usize],
     suspects: [u32; SUSPECTS],
     count: usize,
     overflowed: bool,
 }
 
-impl Sieve {
-    pub(crate) fn new() -> Sieve {
-        Sieve {
+impl Filter {
+    pub(crate) fn new() -> Filter {
+        Filter {
             seen: [0; (FILTER_BITS / 32) as usize],
             suspects: [0; SUSPECTS],
             count: 0,
@@ -79,7 +79,7 @@ impl Sieve {
         slot_bytes: u32,
         slots: impl Iterator<Item = u32> + Clone,
     ) -> Result<(), Refusal> {
-        *self = Sieve::new();
+        *self = Filter::new();
         walk(
             area,
             slot_bytes,

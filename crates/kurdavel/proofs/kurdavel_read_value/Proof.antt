@@ -4,7 +4,7 @@ use mathlib.Core.Path.{_≡_, refl, sym, _∙_}
 use native.Mathlib.Omega.{arith}
 use lib.ListN.{length}
 use Rattle.segment.specs.Layout.{edition1}
-use Rattle.recovery.specs.Lookups.{lookedUp, toldBy, valueBy}
+use Rattle.recovery.specs.Lookups.{lookedUp, toldBy, partBy}
 use Rattle.recovery.specs.LookupLaws.{reached, ObjectInside, object-inside}
 use Rattle.words.specs.Words.{decoded}
 use Rattle.kurdavel.specs.CrossingLaws.{looked-none, looked-lost, looked-found, found-small, value-crossed}
@@ -33,7 +33,7 @@ decode-requires : tie.Need-decode-requires
 decode-requires c κs = search needs
 
 returns : tie.Need-returns
-unfolding toldBy valueBy
+unfolding toldBy partBy
 returns c =
     value-crossed (looked-none _ _ _ _ (c .before .before .decode .ensures) (c .if1 .taken)) refl refl refl (omega arith) (λ _. (refl, refl))
 
@@ -41,7 +41,7 @@ fits-lent-requires : tie.Need-fits-lent-requires
 fits-lent-requires c κs = search needs
 
 returns-2 : tie.Need-returns-2
-unfolding toldBy valueBy
+unfolding toldBy partBy
 returns-2 c =
     value-crossed (looked-lost _ _ _ _ (c .before .before .before .before .before .decode .ensures) (sym (c .before .fits-lent .ensures) ∙ not-true _ (c .if2 .taken))) refl refl refl
     (omega arith) (λ _. (refl, refl))
@@ -82,17 +82,17 @@ enum-told-2 : tie.Need-enum-told-2
 enum-told-2 c = search needs
 
 returns-3 : tie.Need-returns-3
-unfolding edition1 toldBy valueBy
+unfolding edition1 toldBy partBy
 returns-3 c =
     let h = inside c in
     value-crossed (looked (c .before .before .before)) (c .before .entry .given .1) refl refl (omega arith) (λ refused. absurd (refused refl))
 
 returns-4 : tie.Need-returns-4
-unfolding toldBy valueBy
+unfolding toldBy partBy
 returns-4 c = value-crossed (looked (c .before .before)) (c .enum-told .given .1) refl refl (omega arith) (λ _. (refl, refl))
 
 returns-5 : tie.Need-returns-5
-unfolding toldBy valueBy
+unfolding toldBy partBy
 returns-5 c = value-crossed (looked (c .before .before)) (c .enum-told2 .given .1) refl refl (omega arith) (λ _. (refl, refl))
 
 pub kurdavel-read-value-spec : {M : Type 1} → statement M

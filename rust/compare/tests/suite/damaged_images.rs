@@ -107,7 +107,7 @@ fn shared_versions_in_full_areas() {
     let mut rng = Rng::new(4);
     let mut met = [0; 21];
     for round in 0..300 {
-        let mut image = Image::crowded(&mut rng);
+        let mut image = Image::with_many_keys(&mut rng);
         if round % 2 == 0 {
             image.share_a_version(&mut rng);
         }

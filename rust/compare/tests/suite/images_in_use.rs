@@ -1,4 +1,4 @@
-//! Images that no call of the store made, valid and damaged: where recovery accepts one, both live on alike, through
+//! Images that no call of the store made, valid and damaged: where recovery accepts one, both go on alike, through
 //! operations, cuts and recoveries.
 
 use compare::pair::Pair;
@@ -26,7 +26,7 @@ impl Tally {
 }
 
 /// Recovers an image and, where that is accepted, makes a few operations on it, some of which a cut ends.
-fn live_on(rng: &mut Rng, image: &Image, cells: usize, tally: &mut Tally) -> Result<(), Fault> {
+fn go_on(rng: &mut Rng, image: &Image, cells: usize, tally: &mut Tally) -> Result<(), Fault> {
     let mut pair = Pair::unrecovered(image.slots, image.slot_bytes, cells, &image.area);
     if let Err(refusal) = pair.recover(cells, &rng.order(image.slots))? {
         tally.refused[refusal as usize] += 1;
@@ -62,7 +62,7 @@ fn play_all(seed: u64, rounds: u32, damages: u32) -> Tally {
             image.damage(&mut rng);
         }
         let cells = *rng.pick(&[16, 100, 4096]);
-        if let Err(fault) = live_on(&mut rng, &image, cells, &mut tally) {
+        if let Err(fault) = go_on(&mut rng, &image, cells, &mut tally) {
             panic!("round {round}: {fault}");
         }
     }
@@ -83,7 +83,7 @@ fn valid_images_live_on() {
 }
 
 #[test]
-fn damaged_images_live_on() {
+fn damaged_images_go_on() {
     let tally = play_all(32, 12_000, 3);
     assert!(tally.recovered > 4000 && tally.accepted > 20_000);
     for cause in 17..=20 {

@@ -18,7 +18,7 @@ struct Lent {
 }
 
 impl Lent {
-    /// Whether the range and length tests of 4 let the record pass.
+    /// Whether range and lengths of the record let it pass 4.
     fn passes(&self) -> bool {
         let area = self.record.slots as usize * self.record.slot_bytes as usize;
         let cells = self.record.cells as usize;

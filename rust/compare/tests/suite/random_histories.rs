@@ -150,7 +150,7 @@ impl Player {
         self.pair.cut();
     }
 
-    /// A recovery, with or without a cut before it, and sometimes one that is refused.
+    /// A recovery, sometimes after a cut, and sometimes one that is refused.
     fn recover(&mut self) -> Result<(), Fault> {
         let rng = &mut self.rng;
         let mut order = rng.order(self.pair.slots());
@@ -173,7 +173,7 @@ impl Player {
     }
 }
 
-/// In some stores, counters close to their limits, as after a long life.
+/// In some stores, counters close to their limits, as after a long history.
 fn age(rng: &mut Rng, pair: &mut Pair) {
     if rng.one_in(6) {
         let next = u32::MAX - rng.below(12);

@@ -130,7 +130,7 @@ fn spoil(rng: &mut Rng, words: &mut [u32]) {
     assert_eq!(Record::from_words(words.try_into().unwrap()).fields(), None);
 }
 
-/// Words past those of the record stay, and are no hindrance.
+/// Words past those of the record stay, and change no answer.
 #[test]
 fn longer_records() {
     let mut area = [0; 1024];

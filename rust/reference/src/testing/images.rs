@@ -161,7 +161,7 @@ impl Shape {
 
 impl Image {
     /// A full area of many keys, whose versions may all meet in a filter by their low bits.
-    pub fn crowded(rng: &mut Rng) -> Image {
+    pub fn with_many_keys(rng: &mut Rng) -> Image {
         let shape = Shape {
             slots: 32,
             slot_bytes: rng.within(1900, 2048),

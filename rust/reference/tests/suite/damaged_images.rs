@@ -15,11 +15,11 @@ fn recover_as_naive(rng: &mut Rng, image: &Image, cells: usize) -> u32 {
         let place = rng.below(image.slots) as usize;
         order[place] = rng.bits() as u8;
     }
-    let owed = view(image.slots, image.slot_bytes, &image.area, cells, &order);
+    let expected = view(image.slots, image.slot_bytes, &image.area, cells, &order);
     let mut index = vec![7; cells];
     let (slots, slot_bytes) = (image.slots, image.slot_bytes);
     let answer = recover(slots, slot_bytes, &image.area, &mut index, &order);
-    match (answer, owed) {
+    match (answer, expected) {
         (Ok(record), Ok(view)) => {
             assert_eq!(record, view.record);
             check_reads(&record, image, &index, &view);
@@ -37,7 +37,7 @@ fn recover_as_naive(rng: &mut Rng, image: &Image, cells: usize) -> u32 {
             assert!(index.iter().all(|&cell| cell == left), "index, {refusal:?}");
             cause
         }
-        (answer, owed) => panic!("{answer:?}, not {owed:?}"),
+        (answer, expected) => panic!("{answer:?}, not {expected:?}"),
     }
 }
 
@@ -115,7 +115,7 @@ fn shared_versions_in_full_areas() {
     let mut rng = Rng::new(4);
     let mut met = [0; 21];
     for round in 0..240 {
-        let mut image = Image::crowded(&mut rng);
+        let mut image = Image::with_many_keys(&mut rng);
         if round % 2 == 0 {
             image.share_a_version(&mut rng);
         }

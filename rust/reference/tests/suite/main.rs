@@ -13,3 +13,4 @@ mod refusals;
 mod rig;
 mod short_histories;
 mod stored_images;
+mod stored_output;

@@ -22,7 +22,7 @@ impl Line {
     }
 }
 
-/// All that recovery learns of an area.
+/// All that recovery finds in an area.
 #[derive(Clone, PartialEq, Eq, Debug)]
 pub struct View {
     pub record: Record,
@@ -30,7 +30,7 @@ pub struct View {
     pub lines: Vec<Line>,
 }
 
-/// What an accepted start puts into the work buffer, and the stores it brings.
+/// What an accepted start puts into the work buffer, and its stores.
 #[derive(Clone, PartialEq, Eq, Debug)]
 pub struct Plan {
     pub work: Vec<u8>,
@@ -201,7 +201,7 @@ impl View {
             .collect()
     }
 
-    /// What a start owes on this store, nothing pending and enough work buffer lent.
+    /// What a start must answer on this store, nothing pending and enough work buffer lent.
     pub fn plan(&self, operation: &Operation) -> Result<Plan, u32> {
         match operation {
             Operation::Write(key, value) => self.plan_write(*key, value),

@@ -132,7 +132,7 @@ impl Player {
         self.rig.cut();
     }
 
-    /// A recovery, with or without a cut before it, often as demand 3 has it.
+    /// A recovery, sometimes after a cut, and often as demand 3 has it.
     fn recover(&mut self) -> Result<(), Fault> {
         let rng = &mut self.rng;
         let mut order = rng.order(self.rig.slots);
@@ -190,7 +190,7 @@ impl Player {
     }
 }
 
-/// In some stores, counters close to their limits, as after a long life.
+/// In some stores, counters close to their limits, as after a long history.
 fn age(rng: &mut Rng, rig: &mut Rig<AsWritten>) {
     if rng.one_in(6) {
         let next = u32::MAX - rng.below(12);

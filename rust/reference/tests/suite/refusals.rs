@@ -412,8 +412,8 @@ fn causes_18_19_and_20_in_order_over_the_whole_log() {
     assert_eq!(refused_recovery(4, 256, &first, 16, &[1, 2, 3, 0]), 18);
 }
 
-/// A recovery that is refused with 15 does not disturb a pending operation; one that is
-/// accepted drops it and leaves its stores behind.
+/// A recovery that is refused with 15 leaves a pending operation pending; one that is
+/// accepted drops it, and what it stored stays in the area.
 #[test]
 fn recoveries_in_the_middle_of_an_operation() {
     let mut rig = fresh();

@@ -19,7 +19,7 @@ use crate::naive::{view, Plan, View};
 pub type Fault = String;
 
 /// The naive answer to a start.
-type Owed = Result<Plan, u32>;
+type Expected = Result<Plan, u32>;
 
 /// Fails unless the two are equal.
 macro_rules! same {
@@ -101,9 +101,9 @@ impl<R: Rules> Rig<R> {
     }
 
     fn feed(&mut self, event: Event) -> Option<Progress> {
-        let owed = self.book.feed(&event);
+        let expected = self.book.feed(&event);
         self.events.push(event);
-        owed
+        expected
     }
 
     fn view(&self) -> Result<View, Fault> {
@@ -149,15 +149,15 @@ impl<R: Rules> Rig<R> {
         let (record, answer) = self.call(operation, work_bytes);
         self.record = Some(record);
         if self.strict {
-            let owed = self.plan(operation, work_bytes, before)?;
-            self.check_start(owed, before, &work_before, answer)?;
+            let expected = self.plan(operation, work_bytes, before)?;
+            self.check_start(expected, before, &work_before, answer)?;
         }
         self.feed(Event::Start(operation.clone(), answer.ok()));
         Ok(answer)
     }
 
-    /// What the naive reading owes for a start.
-    fn plan(&self, operation: &Operation, work: usize, before: Record) -> Result<Owed, Fault> {
+    /// What a start must answer by the naive reading.
+    fn plan(&self, operation: &Operation, work: usize, before: Record) -> Result<Expected, Fault> {
         if work < self.slot_bytes as usize {
             return Ok(Err(3));
         }
@@ -169,12 +169,12 @@ impl<R: Rules> Rig<R> {
 
     fn check_start(
         &mut self,
-        owed: Owed,
+        expected: Expected,
         before: Record,
         work_before: &[u8],
         answer: Result<u32, Refusal>,
     ) -> Result<(), Fault> {
-        let plan = match owed {
+        let plan = match expected {
             Ok(plan) => plan,
             Err(cause) => {
                 same!("refusal", answer.map_err(Refusal::number), Err(cause));
@@ -204,8 +204,8 @@ impl<R: Rules> Rig<R> {
         let before = self.record();
         let (record, answer) = step_by::<R>(before, &mut self.area, &mut self.index, &self.work);
         self.record = Some(record);
-        let owed = self.feed(Event::Step(answer.is_ok()));
-        same!("answer of a step", answer.ok(), owed);
+        let expected = self.feed(Event::Step(answer.is_ok()));
+        same!("answer of a step", answer.ok(), expected);
         if self.strict {
             self.check_step(before, answer)?;
         }
@@ -288,11 +288,11 @@ impl<R: Rules> Rig<R> {
         let (slots, slot_bytes) = (self.slots, self.slot_bytes);
         let answer = recover_by::<R>(slots, slot_bytes, &self.area, &mut index, order);
         if self.strict {
-            let owed = view(slots, slot_bytes, &self.area, cells, order);
+            let expected = view(slots, slot_bytes, &self.area, cells, order);
             same!(
                 "recovery",
                 answer.map_err(Refusal::number),
-                owed.map(|view| view.record)
+                expected.map(|view| view.record)
             );
         }
         let left = if answer == Err(Refusal::TooManyKeys) {
@@ -342,7 +342,7 @@ impl<R: Rules> Rig<R> {
         self.check_reads()
     }
 
-    /// Holds the reads of all keys to the book, as they are also owed meanwhile.
+    /// Holds the reads of all keys to the book, also while an operation is pending.
     pub fn check_reads(&self) -> Result<(), Fault> {
         self.keys.iter().try_for_each(|&key| self.check_read(key))
     }

@@ -1,10 +1,11 @@
 -- `recovery::read::read_value` meets its contract: the value is what the entry has behind its head.
 use Prim.Native.Nat.{ℕ, _-_, _+_}
-use mathlib.Core.Path.{_≡_, sym, _∙_, ap}
+use mathlib.Core.Path.{_≡_, refl, sym, _∙_, ap}
 use native.Mathlib.Omega.{arith}
 use lib.ListN.{take, drop}
 use Rattle.segment.specs.Layout.{edition1}
-use Rattle.recovery.specs.Lookups.{valueBy}
+use Rattle.model.specs.Promises.{nowhere}
+use Rattle.recovery.specs.Lookups.{partBy}
 use Rattle.recovery.specs.LookupLaws.{ObjectInside, object-inside, value-promise}
 use borrow.Author.Needs.{needs}
 use Rattle.recovery.proofs.read.read_value.Statement.{statement}
@@ -65,23 +66,42 @@ part-result-end-3 : tie.Need-part-result-end-3
 part-result-end-3 c = search needs
 
 returns : tie.Need-returns
-unfolding edition1 valueBy
+unfolding edition1 partBy
 returns c =
     let k = c .before .before in
+    let h = inside k in
     let p = k .place .given .0 .0 in
     let n = k .place .given .0 .1 .1 .1 .0 in
     let long : p + n - (p + 11) ≡ n - 11 = omega arith in
-    value-promise edition1 _ _ _ _ _ _ (k .before .before .find .ensures)
-    (ap (λ (m : ℕ). take m (drop (p + 11) (k .before .before .before .before .before .args .area .now))) long
-    ∙ ap (valueBy edition1 _) (sym (k .place .given .1)))
+    record {
+      part = record { place = p + 11; bytes = n - 11 };
+      refers =
+          record {
+            inside = omega arith;
+            same-block = refl;
+            starts = refl;
+            holds = ap (λ (m : ℕ). take m (drop (p + 11) (k .before .before .before .before .before .args .area .now))) long;
+          };
+      promised = value-promise edition1 _ _ _ _ _ (sym (k .place .given .1) ∙ k .before .before .find .ensures);
+    }
 
 returns-2 : tie.Need-returns-2
-unfolding edition1 valueBy
-returns-2 c = value-promise edition1 _ _ _ _ _ _ (c .before .before .before .find .ensures) (ap (valueBy edition1 _) (sym (c .before .enum-told .given .1)))
+unfolding edition1 partBy
+returns-2 c =
+    record {
+      part = nowhere;
+      refers = record { inside = omega arith; same-block = refl; starts = refl; holds = refl };
+      promised = value-promise edition1 _ _ _ _ _ (sym (c .before .enum-told .given .1) ∙ c .before .before .before .find .ensures);
+    }
 
 returns-3 : tie.Need-returns-3
-unfolding edition1 valueBy
-returns-3 c = value-promise edition1 _ _ _ _ _ _ (c .before .before .before .find .ensures) (ap (valueBy edition1 _) (sym (c .before .enum-told2 .given .1)))
+unfolding edition1 partBy
+returns-3 c =
+    record {
+      part = nowhere;
+      refers = record { inside = omega arith; same-block = refl; starts = refl; holds = refl };
+      promised = value-promise edition1 _ _ _ _ _ (sym (c .before .enum-told2 .given .1) ∙ c .before .before .before .find .ensures);
+    }
 
 pub read-value-spec : {M : Type 1} → statement M
 read-value-spec =

@@ -289,14 +289,14 @@ fn key_counts() -> Vec<Item> {
     let full = one_slot(&entries(15));
     let over = one_slot(&entries(16));
     let repeated = one_slot(&[entries(15), vec![object(key(3), 16)]].concat());
-    let parted = two_slots(&entries(15), &[object(KEY, 16)]);
+    let split = two_slots(&entries(15), &[object(KEY, 16)]);
     vec![
         Item::new("15 keys and M 16", &full).reading(&[key(1), key(15), key(16)]),
         Item::new("16 keys and M 16", &over),
         Item::new("16 keys and M 17", &over).cells(17),
         Item::new("16 entries of 15 keys and M 16", &repeated).reading(&[key(3), key(4)]),
-        Item::new("16 keys in two slots and M 16", &parted),
-        Item::new("16 keys in two slots and M 4096", &parted).cells(4096),
+        Item::new("16 keys in two slots and M 16", &split),
+        Item::new("16 keys in two slots and M 4096", &split).cells(4096),
     ]
 }
 

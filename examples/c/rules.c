@@ -1,0 +1,132 @@
+/*
+ * The edges of the interface: refusals and what they leave, an operation that is given up, and an index that is too
+ * small for the log. Prints what is answered; `rules.stdout` beside this file is what it must print.
+ */
+#include "kurdavel.h"
+
+#include <stdio.h>
+#include <stdlib.h>
+#include <string.h>
+
+enum { SLOTS = 4, SLOT_BYTES = 256, CELLS = 64, FEW_CELLS = 16, KEYS = 20 };
+
+static uint8_t medium[SLOTS * SLOT_BYTES];
+static uint32_t cells[CELLS];
+static uint8_t work[SLOT_BYTES];
+static const uint8_t order[SLOTS] = {0, 1, 2, 3};
+
+static void expect_accepted(const char *call, uint32_t answer) {
+    if (answer != KURDAVEL_ACCEPTED) {
+        printf("%s: refused %u\n", call, (unsigned)answer);
+        exit(1);
+    }
+}
+
+static struct kurdavel_key key_of(uint32_t number) {
+    struct kurdavel_key key;
+    key.table = 1;
+    key.key = number;
+    return key;
+}
+
+/* What is lent, with a record that every call refuses. */
+static void lend(struct kurdavel_store *store) {
+    memset(store, 0, sizeof *store);
+    store->area.slots = SLOTS;
+    store->area.slot_bytes = SLOT_BYTES;
+    store->area.bytes = medium;
+    store->area.length = sizeof medium;
+    store->index.cells = cells;
+    store->index.length = CELLS;
+    store->work.bytes = work;
+    store->work.length = sizeof work;
+}
+
+/* Makes all stores of the pending operation; gives the version that the last one tells. */
+static uint32_t finish(struct kurdavel_store *store, uint32_t stores) {
+    uint32_t left = stores, version = 0;
+    while (left > 0) expect_accepted("step", kurdavel_store_step(store, &left, &version));
+    return version;
+}
+
+static uint32_t start_write(struct kurdavel_store *store, uint32_t number) {
+    uint8_t value[8];
+    uint32_t stores = 0;
+    memset(value, (int)number, sizeof value);
+    expect_accepted("write", kurdavel_store_write(store, key_of(number), value, sizeof value, &stores));
+    return stores;
+}
+
+static unsigned present(const struct kurdavel_store *store) {
+    uint32_t version = 0, kind = 0, number;
+    unsigned count = 0;
+    for (number = 0; number < KEYS; number++) {
+        count += kurdavel_store_read(store, key_of(number), &version, &kind) == KURDAVEL_ACCEPTED;
+    }
+    return count;
+}
+
+/* What refused calls do to the numbers that they would tell. */
+static void outputs(const struct kurdavel_store *store) {
+    struct kurdavel_value value = {work, 77};
+    uint32_t version = 77, kind = 77, left = 77;
+    struct kurdavel_store copy = *store;
+    unsigned answer = (unsigned)kurdavel_store_read(store, key_of(KEYS), &version, &kind);
+    printf("read of an absent key: %u, version %u and kind %u as they were\n", answer, (unsigned)version,
+           (unsigned)kind);
+    answer = (unsigned)kurdavel_store_read_value(store, key_of(KEYS), &value);
+    printf("its value: %u, %u bytes at %u\n", answer, (unsigned)value.length, (unsigned)(value.bytes - medium));
+    answer = (unsigned)kurdavel_step(copy.record.words, KURDAVEL_RECORD_WORDS - 1, medium, sizeof medium, cells, CELLS,
+                                     work, sizeof work, &left, &version);
+    printf("step with a short record: %u, left %u as it was\n", answer, (unsigned)left);
+    copy.record.words[KURDAVEL_WORD_PENDING] = 4;
+    printf("step with words that are no record: %u\n", (unsigned)kurdavel_store_step(&copy, &left, &version));
+    answer = (unsigned)kurdavel_recover(SLOTS - 1, SLOT_BYTES, order, sizeof order, medium, sizeof medium, cells, CELLS,
+                                        copy.record.words, KURDAVEL_RECORD_WORDS - 1);
+    printf("recovery with a short record and a wrong N: %u\n", answer);
+}
+
+/* A recovery gives up a write of which some stores are made. */
+static void give_up(struct kurdavel_store *store) {
+    uint32_t left = start_write(store, 0), version = 0;
+    expect_accepted("step", kurdavel_store_step(store, &left, &version));
+    printf("a second start meanwhile: %u\n", (unsigned)kurdavel_store_clean(store, 1, &left));
+    expect_accepted("recover", kurdavel_store_recover(store, order, sizeof order));
+    printf("given up: step answers %u, %u keys present\n", (unsigned)kurdavel_store_step(store, &left, &version),
+           present(store));
+}
+
+/* Recovery with too few cells answers 20, and the record is of no use until a recovery is accepted. */
+static void too_few_cells(struct kurdavel_store *store) {
+    uint32_t stores = 0;
+    store->index.length = FEW_CELLS;
+    printf("recovery with %u cells: %u\n", (unsigned)FEW_CELLS,
+           (unsigned)kurdavel_store_recover(store, order, sizeof order));
+    store->index.length = CELLS;
+    printf("cleaning after that: %u\n", (unsigned)kurdavel_store_clean(store, 1, &stores));
+    printf("recovery with %u cells: %u", (unsigned)CELLS, (unsigned)kurdavel_store_recover(store, order, sizeof order));
+    printf(", %u keys present\n", present(store));
+}
+
+int main(void) {
+    struct kurdavel_store store;
+    uint32_t number, stores = 0;
+    lend(&store);
+    expect_accepted("format", kurdavel_store_format(&store.area));
+    printf("cleaning before a recovery: %u\n", (unsigned)kurdavel_store_clean(&store, 1, &stores));
+    expect_accepted("recover", kurdavel_store_recover(&store, order, sizeof order));
+    for (number = 0; number < KEYS; number++) finish(&store, start_write(&store, number));
+    printf("%u keys present\n", present(&store));
+
+    outputs(&store);
+    give_up(&store);
+    too_few_cells(&store);
+
+    expect_accepted("delete", kurdavel_store_delete(&store, key_of(3), &stores));
+    printf("deleted with version %u\n", (unsigned)finish(&store, stores));
+    expect_accepted("clean", kurdavel_store_clean(&store, 1, &stores));
+    finish(&store, stores);
+    printf("slot 0 cleaned: %u keys present, slots of the log %u\n", present(&store),
+           (unsigned)store.record.words[KURDAVEL_WORD_MAP]);
+    return 0;
+}

@@ -1,0 +1,140 @@
+//! The static library, through its wrapper, as a replay drives it.
+
+use kurdavel::{DigestNumber, Fields, Pending, Refusal, SlotMap, Version};
+
+use super::event::{Field, Geometry, Key, Record};
+use super::subject::{
+    part_of, without_edition, without_expected, without_range, Answer, Asked, Memory, No, Progress,
+    Start, Subject,
+};
+
+/// The static library.
+#[derive(Clone, Copy, Debug)]
+pub struct Library;
+
+fn refused(refusal: Refusal) -> No {
+    No::Refused(refusal.number())
+}
+
+fn key_of(key: Key) -> kurdavel::Key {
+    kurdavel::Key {
+        table: key.table,
+        key: key.key,
+    }
+}
+
+impl Subject for Library {
+    type Record = kurdavel::Record;
+
+    const NAME: &'static str = "library";
+
+    fn format(geometry: Geometry, area: &mut [u8]) -> Answer<()> {
+        let (slots, slot_bytes) = without_edition(geometry)?;
+        kurdavel::format(slots, slot_bytes, area).map_err(refused)
+    }
+
+    fn recover(geometry: Geometry, order: &[u8], memory: &mut Memory) -> Answer<kurdavel::Record> {
+        let Memory { area, index, .. } = memory;
+        kurdavel::recover(geometry.slots, geometry.slot_bytes, order, area, index).map_err(refused)
+    }
+
+    fn start(record: &mut kurdavel::Record, memory: &mut Memory, start: Start) -> Answer<u32> {
+        let Memory { area, index, work } = memory;
+        let stores = match start {
+            Start::Write(writing) => {
+                let (key, value) = without_expected(writing)?;
+                record.write(area, index, work, key_of(key), value)
+            }
+            Start::Delete(asked) => record.delete(area, index, work, key_of(without_range(asked)?)),
+            Start::Clean(victims) => record.clean(area, index, work, SlotMap(victims)),
+        };
+        stores.map_err(refused)
+    }
+
+    fn step(record: &mut kurdavel::Record, memory: &mut Memory) -> Answer<Progress> {
+        let Memory { area, index, work } = memory;
+        match record.step(area, index, work).map_err(refused)? {
+            kurdavel::Progress::More { left } => Ok(Progress::More(left)),
+            kurdavel::Progress::Done { version } => Ok(Progress::Done(version.0.into())),
+        }
+    }
+
+    fn read(record: &kurdavel::Record, memory: &Memory, asked: Asked) -> Answer<(u64, u32)> {
+        let key = key_of(without_range(asked)?);
+        let found = record.read(&memory.area, &memory.index, key);
+        let found = found.map_err(refused)?;
+        Ok((found.version.0.into(), found.kind.into()))
+    }
+
+    fn read_value(
+        record: &kurdavel::Record,
+        memory: &Memory,
+        asked: Asked,
+    ) -> Answer<(usize, usize)> {
+        let key = key_of(without_range(asked)?);
+        let value = record.read_value(&memory.area, &memory.index, key);
+        Ok(part_of(&memory.area, value))
+    }
+
+    fn says(record: &kurdavel::Record) -> Option<Record> {
+        let fields = record.fields()?;
+        Some(Record {
+            slots: fields.slots,
+            slot_bytes: fields.slot_bytes,
+            cells: fields.cells,
+            head: fields.head,
+            end: fields.end,
+            number: fields.digest.0,
+            map: fields.map.0,
+            next: fields.next.0.into(),
+            keys: fields.keys,
+            left: (fields.pending != Pending::Idle).then_some(fields.pending.left()),
+            present_bytes: None,
+            edition: None,
+            switched: None,
+        })
+    }
+
+    fn forged(record: &kurdavel::Record, field: Field, value: u64) -> Answer<kurdavel::Record> {
+        let mut fields = record
+            .fields()
+            .ok_or(No::Missing("a record that says nothing"))?;
+        change(&mut fields, field, value)?;
+        Ok(kurdavel::Record::of(fields))
+    }
+}
+
+fn change(fields: &mut Fields, field: Field, value: u64) -> Answer<()> {
+    let number = u32::try_from(value).map_err(|_| No::Missing("a record with wide versions"))?;
+    match field {
+        Field::Slots => fields.slots = number,
+        Field::SlotBytes => fields.slot_bytes = number,
+        Field::Cells => fields.cells = number,
+        Field::Head => fields.head = number,
+        Field::End => fields.end = number,
+        Field::Number => fields.digest = DigestNumber(number),
+        Field::Map => fields.map = SlotMap(number),
+        Field::Next => fields.next = Version(number),
+        Field::Keys => fields.keys = number,
+        Field::Left => fields.pending = with_left(fields.pending, number),
+        Field::Edition => return Err(No::Missing("a record with an edition")),
+        Field::PresentBytes(_) => return Err(No::Missing("a record with present bytes")),
+    }
+    Ok(())
+}
+
+fn with_left(pending: Pending, stores: u32) -> Pending {
+    let mut pending = pending;
+    match &mut pending {
+        Pending::Idle => {
+            return Pending::Append {
+                length: 19,
+                left: stores,
+            }
+        }
+        Pending::Append { left, .. }
+        | Pending::NewHead { left, .. }
+        | Pending::Clean { left, .. } => *left = stores,
+    }
+    pending
+}

@@ -1,0 +1,139 @@
+//! The second implementation, as a replay drives it.
+
+use reference::{DigestNumber, Pending, Refusal, SlotMap, Version};
+
+use super::event::{Field, Geometry, Key, Record};
+use super::subject::{
+    part_of, without_edition, without_expected, without_range, Answer, Asked, Memory, No, Progress,
+    Start, Subject,
+};
+
+/// The reference.
+#[derive(Clone, Copy, Debug)]
+pub struct Second;
+
+fn refused(refusal: Refusal) -> No {
+    No::Refused(refusal.number())
+}
+
+fn key_of(key: Key) -> reference::Key {
+    reference::Key {
+        table: key.table,
+        key: key.key,
+    }
+}
+
+impl Subject for Second {
+    type Record = reference::Record;
+
+    const NAME: &'static str = "reference";
+
+    fn format(geometry: Geometry, area: &mut [u8]) -> Answer<()> {
+        let (slots, slot_bytes) = without_edition(geometry)?;
+        reference::format(slots, slot_bytes, area).map_err(refused)
+    }
+
+    fn recover(geometry: Geometry, order: &[u8], memory: &mut Memory) -> Answer<reference::Record> {
+        let Memory { area, index, .. } = memory;
+        reference::recover(geometry.slots, geometry.slot_bytes, area, index, order).map_err(refused)
+    }
+
+    fn start(record: &mut reference::Record, memory: &mut Memory, start: Start) -> Answer<u32> {
+        let Memory { area, index, work } = memory;
+        let (after, stores) = match start {
+            Start::Write(writing) => {
+                let (key, value) = without_expected(writing)?;
+                reference::write(*record, area, index, work, key_of(key), value)
+            }
+            Start::Delete(asked) => {
+                let key = key_of(without_range(asked)?);
+                reference::delete(*record, area, index, work, key)
+            }
+            Start::Clean(victims) => reference::clean(*record, area, index, work, SlotMap(victims)),
+        };
+        *record = after;
+        stores.map_err(refused)
+    }
+
+    fn step(record: &mut reference::Record, memory: &mut Memory) -> Answer<Progress> {
+        let Memory { area, index, work } = memory;
+        let (after, progress) = reference::step(*record, area, index, work);
+        *record = after;
+        match progress.map_err(refused)? {
+            reference::Progress::More { left } => Ok(Progress::More(left)),
+            reference::Progress::Done { version } => Ok(Progress::Done(version.0.into())),
+        }
+    }
+
+    fn read(record: &reference::Record, memory: &Memory, asked: Asked) -> Answer<(u64, u32)> {
+        let key = key_of(without_range(asked)?);
+        let found = reference::read(record, &memory.area, &memory.index, key);
+        let found = found.map_err(refused)?;
+        Ok((found.version.0.into(), found.kind.into()))
+    }
+
+    fn read_value(
+        record: &reference::Record,
+        memory: &Memory,
+        asked: Asked,
+    ) -> Answer<(usize, usize)> {
+        let key = key_of(without_range(asked)?);
+        let value = reference::read_value(record, &memory.area, &memory.index, key);
+        Ok(part_of(&memory.area, value))
+    }
+
+    fn says(record: &reference::Record) -> Option<Record> {
+        Some(Record {
+            slots: record.slots,
+            slot_bytes: record.slot_bytes,
+            cells: record.cells,
+            head: record.head,
+            end: record.end,
+            number: record.digest.0,
+            map: record.map.0,
+            next: record.next.0.into(),
+            keys: record.keys,
+            left: (record.pending != Pending::None).then_some(record.pending.left()),
+            present_bytes: None,
+            edition: None,
+            switched: None,
+        })
+    }
+
+    fn forged(record: &reference::Record, field: Field, value: u64) -> Answer<reference::Record> {
+        let mut record = *record;
+        let number =
+            u32::try_from(value).map_err(|_| No::Missing("a record with wide versions"))?;
+        match field {
+            Field::Slots => record.slots = number,
+            Field::SlotBytes => record.slot_bytes = number,
+            Field::Cells => record.cells = number,
+            Field::Head => record.head = number,
+            Field::End => record.end = number,
+            Field::Number => record.digest = DigestNumber(number),
+            Field::Map => record.map = SlotMap(number),
+            Field::Next => record.next = Version(number),
+            Field::Keys => record.keys = number,
+            Field::Left => record.pending = with_left(record.pending, number),
+            Field::Edition => return Err(No::Missing("a record with an edition")),
+            Field::PresentBytes(_) => return Err(No::Missing("a record with present bytes")),
+        }
+        Ok(record)
+    }
+}
+
+fn with_left(pending: Pending, stores: u32) -> Pending {
+    let mut pending = pending;
+    match &mut pending {
+        Pending::None => {
+            return Pending::Append {
+                length: 19,
+                left: stores,
+            }
+        }
+        Pending::Append { left, .. }
+        | Pending::NewHead { left, .. }
+        | Pending::Clean { left, .. } => *left = stores,
+    }
+    pending
+}

@@ -1,0 +1,127 @@
+//! The history that `play` plays: the cases of 01, and then a longer list with cuts.
+
+use reference::{Key, SlotMap};
+
+/// The keys, by their numbers in the history.
+pub const KEYS: [Key; 4] = [
+    Key { table: 7, key: 9 },
+    Key { table: 7, key: 10 },
+    Key { table: 0, key: 0 },
+    Key {
+        table: u16::MAX,
+        key: u32::MAX,
+    },
+];
+
+/// A value: its length, its first byte, and what each byte adds to the one before it.
+#[derive(Clone, Copy)]
+pub struct Value(pub usize, pub u8, pub u8);
+
+impl Value {
+    /// The bytes of the value.
+    pub fn bytes(self) -> Vec<u8> {
+        let Value(length, first, rise) = self;
+        std::iter::successors(Some(first), |byte| Some(byte.wrapping_add(rise)))
+            .take(length)
+            .collect()
+    }
+}
+
+/// One line of the history. A key is given by its number.
+#[derive(Clone, Copy)]
+pub enum Event {
+    /// A heading: the number of a case.
+    Case(u32),
+    /// A format of old bytes, and a recovery.
+    Format,
+    /// The store of case 8, laid by hand, and a recovery.
+    Spread,
+    /// A write.
+    Write(usize, Value),
+    /// A delete.
+    Delete(usize),
+    /// A cleaning of these slots.
+    Clean(SlotMap),
+    /// The power fails after so many stores of the next operation.
+    Fails(u32),
+    /// A cut and a recovery.
+    Recover,
+}
+
+use Event::{Case, Delete, Fails, Format, Recover, Spread};
+
+const fn write(key: usize, length: usize, first: u8, rise: u8) -> Event {
+    Event::Write(key, Value(length, first, rise))
+}
+
+const fn clean(slots: u32) -> Event {
+    Event::Clean(SlotMap(slots))
+}
+
+/// The events in order.
+pub const HISTORY: &[Event] = &[
+    Format,
+    Case(2),
+    write(0, 8, 0x11, 0),
+    Case(4),
+    Delete(0),
+    Case(5),
+    clean(0b1),
+    Recover,
+    Case(6),
+    Format,
+    write(0, 56, 1, 1),
+    write(1, 56, 2, 1),
+    write(0, 8, 3, 1),
+    write(1, 8, 4, 1),
+    write(2, 8, 5, 1),
+    write(3, 8, 6, 1),
+    Delete(0),
+    Delete(1),
+    Delete(2),
+    Recover,
+    Case(7),
+    Format,
+    write(0, 7, 0x11, 0),
+    write(0, 8, 0x11, 0),
+    Case(8),
+    Spread,
+    clean(0b10),
+    Spread,
+    clean(0b11),
+    // Keys that are overwritten and deleted, and an entry too long for the head.
+    Format,
+    Delete(0),
+    write(0, 56, 0x20, 1),
+    write(1, 24, 0x60, 3),
+    write(0, 8, 0x80, 1),
+    write(2, 56, 0x90, 1),
+    write(3, 56, 0xd0, 1),
+    Delete(0),
+    // A tombstone that is kept: slot 0 has objects of its key.
+    clean(0b10),
+    Fails(40),
+    write(0, 56, 0x10, 2),
+    Delete(1),
+    // Tombstones that go with the last objects of their keys.
+    Fails(148),
+    clean(0b101),
+    clean(0b101),
+    // A new head below the old one; then one slot is free, and no further head can be begun.
+    write(0, 56, 0x30, 1),
+    Fails(81),
+    write(1, 56, 0x40, 1),
+    write(1, 56, 0x50, 1),
+    write(0, 56, 0x60, 1),
+    write(1, 56, 0x70, 1),
+    write(2, 56, 0x80, 1),
+    write(0, 56, 0x90, 1),
+    write(1, 56, 0xa0, 1),
+    write(3, 56, 0xb0, 1),
+    // Victims of which too much is kept, one outside the log, and one of which nothing is kept.
+    clean(0b1011),
+    clean(0b100),
+    clean(0b1),
+    write(3, 56, 0xc0, 1),
+    Recover,
+];
