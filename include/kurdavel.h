@@ -28,9 +28,9 @@
  *   - a step that is given a record, index or work buffer that the rules of use below exclude may find that out, and
  *     answer 4, only after it has stored its byte and begun to change the index.
  *   What a refused call does to the numbers that it would tell:
- *   - kurdavel_read_value sets *place and *bytes to 0;
- *   - every other call leaves them as they were: *version and *kind of kurdavel_read, *stores of a start, *left and
- *     *version of a step. Look at the answer first.
+ *   - kurdavel_read sets *version and *kind to 0, and kurdavel_read_value *place and *bytes;
+ *   - every other call leaves them as they were: *stores of a start, *left and *version of a step. Look at the answer
+ *     first.
  *   Words that are no record are a refusal like any other (4) and treated so.
  *
  * HOW THE CALLS GO TOGETHER
@@ -209,7 +209,7 @@ uint32_t kurdavel_recover(uint32_t slots, uint32_t slot_bytes, const uint8_t *or
 
 /*
  * Tells the version and the kind (1, 2 or 3: a value of 8, 24 or 56 bytes) of a key's object. Where it is refused, both
- * stay as they were.
+ * are 0.
  * Refused: 4, 8.
  */
 uint32_t kurdavel_read(const uint32_t *record, size_t record_words, const uint8_t *area, size_t area_bytes,

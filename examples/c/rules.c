@@ -72,7 +72,7 @@ static void outputs(const struct kurdavel_store *store) {
     uint32_t version = 77, kind = 77, left = 77;
     struct kurdavel_store copy = *store;
     unsigned answer = (unsigned)kurdavel_store_read(store, key_of(KEYS), &version, &kind);
-    printf("read of an absent key: %u, version %u and kind %u as they were\n", answer, (unsigned)version,
+    printf("read of an absent key: %u, version %u and kind %u\n", answer, (unsigned)version,
            (unsigned)kind);
     answer = (unsigned)kurdavel_store_read_value(store, key_of(KEYS), &value);
     printf("its value: %u, %u bytes at %u\n", answer, (unsigned)value.length, (unsigned)(value.bytes - medium));

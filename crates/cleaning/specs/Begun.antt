@@ -3,9 +3,9 @@ use Prim.Native.Nat.{ℕ, _+_, _*_, _-_, _≤_}
 use mathlib.Core.Path.{_≡_, refl, sym, _∙_, ap}
 use mathlib.Core.Bool.{Bool, true, false, not}
 use mathlib.Core.Option.{Option, none, some}
-use mathlib.Core.List.{List, [], _∷_, _++_}
+use mathlib.Core.List.{List, _++_}
 use native.Mathlib.Omega.{arith}
-use lib.Dec.{eqb, ltb}
+use lib.Dec.{eqb}
 use lib.ListN.{length, length-append}
 use lib.Seq.{sets, length-sets}
 use borrow.Author.Tests.{not-false}
@@ -18,21 +18,20 @@ use Rattle.slot_map.specs.Bit.{within}
 use Rattle.record.specs.RangeLaws.{Lent}
 use Rattle.record.specs.declared.Pending.the-variants.{Clean}
 use Rattle.record.specs.declared.Refusal.{Refusal}
-use Rattle.record.specs.declared.Refusal.the-variants.{BadRecord, WorkShort, Busy, BadVictims, KeptTooLong, NumbersSpent}
+use Rattle.record.specs.declared.Refusal.the-variants.{BadRecord, WorkShort, Busy, BadVictims}
 use Rattle.record.specs.declared.Start.{Start}
 use Rattle.record.specs.declared.Record.{Record}
 use Rattle.model.specs.Log.{Placed}
-use Rattle.model.specs.Causes.{Cause, when, firstCause}
+use Rattle.model.specs.Causes.{Cause, firstCause}
 use Rattle.model.specs.Operations.{clean, logNow, newSlot, newDigest, kept, allEncoded, laid, planOf}
-use Rattle.model.specs.Refused.{Lengths, recordBad, workShort, isPending, victimsBad, numbersSpent, startCauses}
+use Rattle.model.specs.Refused.{Lengths, recordBad, workShort, isPending, victimsBad, cleanCauses, startCauses}
 use Rattle.model.specs.Promises.{Begun, begun, Genuine, lentLengths, StartPromise}
 use Rattle.laws.specs.CauseLaws.{cause-first}
 use Rattle.laws.specs.SaidLaws.{start-settled}
 use Rattle.starting.specs.Stores.{headStores, head-stores}
-use Rattle.starting.specs.Checks.{lentTests}
 use Rattle.starting.specs.NewHead.{NumberLeft}
 use Rattle.starting.specs.Answer.{startedWith, refusedStart}
-use Rattle.cleaning.specs.Entries.{Shape}
+use Rattle.cleaning.specs.Entries.{SplitFits}
 use Rattle.cleaning.specs.Kept.{keptBytes}
 use Rattle.cleaning.specs.KeptModel.{splitOf, bytes-kept}
 use Rattle.cleaning.specs.declared.Split.{Split}
@@ -40,7 +39,7 @@ use Rattle.cleaning.specs.declared.Split.{Split}
 -- ---- what the parts of a start ask
 
 -- A record in range whose log has the victims, and a digest number left.
-pub record Ready (L : Layout) (r : Record) (victims : ℕ) : Type 0 where
+pub record CleanReady (L : Layout) (r : Record) (victims : ℕ) : Type 0 where
   pub areaLength : ℕ
   pub indexLength : ℕ
   pub lent : Lent L r areaLength indexLength
@@ -49,7 +48,7 @@ pub record Ready (L : Layout) (r : Record) (victims : ℕ) : Type 0 where
 
 -- The new head's bytes fit a segment, and the work buffer.
 pub record Room (L : Layout) (r : Record) (split : Split) (area cells work : List ℕ) : Type 0 where
-  pub shape : Shape split area
+  pub shape : SplitFits split area
   pub fits : digestSize L + length (keptBytes L area cells split) ≤ r .size
   pub long : r .size ≤ length work
 
@@ -68,17 +67,9 @@ begunWith L r victims work bytes none =
     }
 begunWith L r victims work bytes (some c) = record { start = refusedStart r c; work = work }
 
--- 13, 14 and 10
-abbrev pub ownTests : Layout → Record → List ℕ → ℕ → List Cause
-ownTests L r bytes victims =
-    when (victimsBad r victims) BadVictims
-    ∷ when (ltb (r .size) (digestSize L + length bytes)) KeptTooLong
-    ∷ when (numbersSpent r) NumbersSpent
-    ∷ []
-
--- Clean: 4, 3, 5, 13, 14, 10.
+-- the causes of a cleaning that keeps these bytes
 unfoldable pub causesWith : Layout → Record → Lengths → List ℕ → ℕ → List Cause
-causesWith L r l bytes victims = lentTests L r l ++ ownTests L r bytes victims
+causesWith L r l bytes victims = cleanCauses L r l (length bytes) victims
 
 abbrev pub cleanedWith : Layout → Record → ℕ → Lengths → List ℕ → List ℕ → Begun
 cleanedWith L r victims l work bytes = begunWith L r victims work bytes (firstCause (causesWith L r l bytes victims))
@@ -87,7 +78,7 @@ cleanedWith L r victims l work bytes = begunWith L r victims work bytes (firstCa
 
 module _ (L : Layout) (r : Record) (log : List Placed) (victims : ℕ) (work : List ℕ) where
   abbrev model-bytes : List ℕ
-  model-bytes = allEncoded L (kept L victims log)
+  model-bytes = allEncoded L (kept victims log)
 
   model-length : length (encodedDigest L (newDigest r victims) ++ model-bytes) ≡ digestSize L + length model-bytes
   model-length =
@@ -105,7 +96,7 @@ module _ (L : Layout) (r : Record) (log : List Placed) (victims : ℕ) (work : L
 
   cleaned-same : (l : Lengths) → cleanedWith L r victims l work model-bytes ≡
       begun L r log (clean victims) work (firstCause (startCauses L r log l (clean victims)))
-  unfolding startCauses lentTests causesWith
+  unfolding startCauses causesWith
   cleaned-same l = begun-same (firstCause (causesWith L r l model-bytes victims))
 
 -- ---- the promise
@@ -118,7 +109,7 @@ module _ (L : Layout) (r : Record) (victims : ℕ) (l : Lengths) (work : List �
 
   -- where the victims are bad, the bytes do not matter
   bad-alike : (a b : List ℕ) → victimsBad r victims ≡ true → cleanedWith L r victims l work a ≡ cleanedWith L r victims l work b
-  unfolding begunWith firstCause pick lentTests causesWith
+  unfolding begunWith firstCause pick causesWith
   bad-alike a b e = rw e (go (recordBad L r l) (workShort r l) (isPending (r .pending)))
     where
       tests : List ℕ → (t u w : Bool) → Begun
@@ -140,7 +131,7 @@ module _ (L : Layout) (area cells : List ℕ) (r : Record) (victims : ℕ) (work
 
   pub cleaned-promise : Bytes area → record { start = a; work = work′ } ≡ cleanedWith L r victims lengths work code-bytes →
       StartPromise L (clean victims) r area cells work work′ a
-  unfolding begunWith begun lentTests causesWith
+  unfolding begunWith begun causesWith
   cleaned-promise bytes e =
       record {
         same-length =
@@ -156,8 +147,8 @@ module _ (L : Layout) (area cells : List ℕ) (r : Record) (victims : ℕ) (work
       unfit bad = e ∙ ap (begunWith L r victims work code-bytes) (cause-first _ _ bad)
 
       exact : Genuine L area r cells → (t : Bool) → victimsBad r victims ≡ t →
-          cleanedWith L r victims lengths work code-bytes ≡ cleanedWith L r victims lengths work (allEncoded L (kept L victims (logNow L area r)))
-      exact g true bad = bad-alike L r victims lengths work code-bytes (allEncoded L (kept L victims (logNow L area r))) bad
+          cleanedWith L r victims lengths work code-bytes ≡ cleanedWith L r victims lengths work (allEncoded L (kept victims (logNow L area r)))
+      exact g true bad = bad-alike L r victims lengths work code-bytes (allEncoded L (kept victims (logNow L area r))) bad
       exact g false good =
           ap (cleanedWith L r victims lengths work)
           (bytes-kept L area cells r g victims (not-false _ (either-false-right (eqb victims 0) (not (within victims (r .map))) good)) bytes)

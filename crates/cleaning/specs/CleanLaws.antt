@@ -19,28 +19,29 @@ use Rattle.segment.specs.Digest.{encodedDigest}
 use Rattle.segment.specs.DigestLaws.{length-encodedDigest}
 use Rattle.segment.specs.declared.Digest.{Digest}
 use Rattle.slot_map.specs.Bit.{within}
+use Rattle.record.specs.Range.{fitsLent}
 use Rattle.record.specs.RangeLaws.{Lent, lent}
 use Rattle.record.specs.declared.Pending.the-variants.{Clean}
 use Rattle.record.specs.declared.Refusal.{Refusal}
-use Rattle.record.specs.declared.Refusal.the-variants.{BadVictims, KeptTooLong, NumbersSpent}
+use Rattle.record.specs.declared.Refusal.the-variants.{BadRecord, BadVictims, KeptTooLong, NumbersSpent}
 use Rattle.record.specs.declared.Start.{Start}
 use Rattle.record.specs.declared.Record.{Record}
-use Rattle.model.specs.Causes.{Cause, when, firstCause}
+use Rattle.model.specs.Causes.{when, firstCause}
 use Rattle.model.specs.Operations.{clean, newSlot, newDigest}
 use Rattle.model.specs.Refused.{Lengths, victimsBad, numbersSpent}
 use Rattle.model.specs.Promises.{lentLengths, StartPromise}
+use Rattle.laws.specs.Passed.{CleanPassed, clean-passed}
 use Rattle.starting.specs.declared.Check.{Check}
 use Rattle.starting.specs.Stores.{headStores}
-use Rattle.starting.specs.Checks.{checked, lentTests}
-use Rattle.starting.specs.CheckLaws.{refused, skipped, passed, checked-some, checked-none, part-refused, part-passed}
+use Rattle.starting.specs.Checks.{checked, idleCauses}
+use Rattle.starting.specs.CheckLaws.{refused, skipped, passed, checked-some, checked-none, record-bad, idle-refuses, idle-goes}
 use Rattle.starting.specs.Answer.{startedWith, refusedStart}
-use Rattle.cleaning.specs.Entries.{Shape}
+use Rattle.cleaning.specs.Entries.{SplitFits}
 use Rattle.cleaning.specs.Kept.{keptBytes}
 use Rattle.cleaning.specs.KeptModel.{splitOf}
 use Rattle.cleaning.specs.Copied.{Copied}
-use Rattle.cleaning.specs.Begun.{Ready, Room, cleaningWith, begunWith, ownTests, causesWith, cleaned-promise}
+use Rattle.cleaning.specs.Begun.{CleanReady, Room, cleaningWith, begunWith, causesWith, cleaned-promise}
 use Rattle.cleaning.specs.declared.Split.{Split}
-use Rattle.laws.specs.CauseLaws.{NoCause, no-cause}
 
 -- ---- single tests
 
@@ -54,39 +55,44 @@ module _ (r : Record) (victims : ℕ) where
 
 -- ---- the tests of a start, by what they told
 
-module _ (L : Layout) (r : Record) (l : Lengths) (bytes : List ℕ) (victims : ℕ) where
+-- t is what the code finds for the range and the lengths, v for the victims, and n for the length of what is kept
+module _ (L : Layout) (r : Record) (l : Lengths) (bytes : List ℕ) (victims : ℕ) {t : Bool} (e : t ≡ fitsLent L r (l .area) (l .index)) where
   abbrev CleanIs : Check → Type 0
   CleanIs a = a ≡ checked (firstCause (causesWith L r l bytes victims))
 
-  pub clean-lent : (c : Refusal) → Check.Refused c ≡ checked (firstCause (lentTests L r l)) → CleanIs (Check.Refused c)
+  pub clean-bad : not t ≡ true → CleanIs (Check.Refused BadRecord)
   unfolding causesWith
-  clean-lent c e = part-refused (lentTests L r l) (ownTests L r bytes victims) c e
+  clean-bad h = refused _ _ (record-bad L r l e h)
 
-  -- t is what the code finds for the victims, and n for the length of what is kept
-  module _ (lent : Check.Passed ≡ checked (firstCause (lentTests L r l))) (t : Bool) (e : t ≡ victimsBad r victims) where
-    pub clean-victims : t ≡ true → CleanIs (Check.Refused BadVictims)
-    unfolding causesWith
-    clean-victims h = part-passed (lentTests L r l) _ lent (refused _ _ (sym e ∙ h))
+  module _ (fits : not t ≡ false) where
+    pub clean-idle : (c : Refusal) → Check.Refused c ≡ checked (firstCause (idleCauses r (l .work))) → CleanIs (Check.Refused c)
+    unfolding causesWith idleCauses
+    clean-idle c h = idle-refuses L r l e fits _ c h
 
-    module _ (good : t ≡ false) (n : ℕ) (m : n ≡ length bytes) where
-      pub clean-long : r .size < digestSize L + n → CleanIs (Check.Refused KeptTooLong)
-      unfolding causesWith
-      clean-long h =
-          part-passed (lentTests L r l) _ lent
-          (skipped _ _ (sym e ∙ good) (refused _ _ (lt-ltb (r .size) (digestSize L + length bytes) (omega arith))))
+    module _ (idle : Check.Passed ≡ checked (firstCause (idleCauses r (l .work)))) (v : Bool) (d : v ≡ victimsBad r victims) where
+      pub clean-victims : v ≡ true → CleanIs (Check.Refused BadVictims)
+      unfolding causesWith idleCauses
+      clean-victims h = idle-goes L r l e fits _ idle (refused _ _ (sym d ∙ h))
 
-      module _ (fits : digestSize L + n ≤ r .size) where
-        own : {a : Check} → a ≡ checked (firstCause (when (numbersSpent r) NumbersSpent ∷ [])) → CleanIs a
-        unfolding causesWith
-        own h =
-            part-passed (lentTests L r l) _ lent
-            (skipped _ _ (sym e ∙ good) (skipped _ _ (le-ltb (r .size) (digestSize L + length bytes) (omega arith)) h))
+      module _ (good : v ≡ false) (n : ℕ) (m : n ≡ length bytes) where
+        pub clean-long : r .size < digestSize L + n → CleanIs (Check.Refused KeptTooLong)
+        unfolding causesWith idleCauses
+        clean-long h =
+            idle-goes L r l e fits _ idle
+            (skipped _ _ (sym d ∙ good) (refused _ _ (lt-ltb (r .size) (digestSize L + length bytes) (omega arith))))
 
-        pub clean-spent : r .digest .0 ≡ numberLimit → CleanIs (Check.Refused NumbersSpent)
-        clean-spent h = own (refused _ _ (eq-eqb (r .digest .0) numberLimit h))
+        module _ (short : digestSize L + n ≤ r .size) where
+          own : {a : Check} → a ≡ checked (firstCause (when (numbersSpent r) NumbersSpent ∷ [])) → CleanIs a
+          unfolding causesWith idleCauses
+          own h =
+              idle-goes L r l e fits _ idle
+              (skipped _ _ (sym d ∙ good) (skipped _ _ (le-ltb (r .size) (digestSize L + length bytes) (omega arith)) h))
 
-        pub clean-passed : (r .digest .0 ≡ numberLimit → ⊥) → CleanIs Check.Passed
-        clean-passed h = own (skipped _ _ (ne-eqb (r .digest .0) numberLimit h) passed)
+          pub clean-spent : r .digest .0 ≡ numberLimit → CleanIs (Check.Refused NumbersSpent)
+          clean-spent h = own (refused _ _ (eq-eqb (r .digest .0) numberLimit h))
+
+          pub clean-all : (r .digest .0 ≡ numberLimit → ⊥) → CleanIs Check.Passed
+          clean-all h = own (skipped _ _ (ne-eqb (r .digest .0) numberLimit h) passed)
 
 -- ---- the promise at each answer
 
@@ -113,45 +119,40 @@ module _ (L : Layout) (area cells : List ℕ) (r : Record) (victims : ℕ) (work
 
 -- ---- what the parts of a start ask
 
-pub split-shape : (L : Layout) (r : Record) (i victims : ℕ) (area : List ℕ) (split : Split) → Lent L r (length area) i → split ≡ splitOf r victims → Shape split area
+pub split-shape : (L : Layout) (r : Record) (i victims : ℕ) (area : List ℕ) (split : Split) → Lent L r (length area) i → split ≡ splitOf r victims → SplitFits split area
 split-shape L r i victims area split f is =
-    subst (λ (s : Split). Shape s area) (sym is)
+    subst (λ (s : Split). SplitFits s area) (sym is)
     (record { slots-high = f .slots-high; size-low = f .size-low; size-high = f .size-high; whole = f .area-own })
 
 -- all tests are passed
 module _ (L : Layout) (area cells : List ℕ) (r : Record) (victims : ℕ) (work : List ℕ) (split : Split) (is : split ≡ splitOf r victims)
     (e : Check.Passed ≡ checked (firstCause (causesWith L r (lentLengths area cells work) (keptBytes L area cells (splitOf r victims)) victims)))
   where
-    abbrev causes : List Cause
-    causes = causesWith L r (lentLengths area cells work) (keptBytes L area cells (splitOf r victims)) victims
-
-    tests : NoCause causes
-    tests = no-cause causes (checked-none (firstCause causes) e)
+    tests : CleanPassed L r (lentLengths area cells work) (length (keptBytes L area cells (splitOf r victims))) victims
+    unfolding causesWith
+    tests = clean-passed L r (lentLengths area cells work) (length (keptBytes L area cells (splitOf r victims))) victims (checked-none _ e)
 
     in-range : Lent L r (length area) (length cells)
-    unfolding lentTests causesWith
-    in-range = lent L r (length area) (length cells) (not-false _ (tests .0))
+    in-range = lent L r (length area) (length cells) (not-false _ (tests .record-good))
 
-    pub ready : Ready L r victims
-    unfolding lentTests causesWith
+    pub ready : CleanReady L r victims
     ready =
         record {
           areaLength = length area;
           indexLength = length cells;
           lent = in-range;
-          all-named = not-false _ (either-false-right (eqb victims 0) (not (within victims (r .map))) (tests .1 .1 .1 .0));
-          number-left = eqb-false (r .digest .0) numberLimit (tests .1 .1 .1 .1 .1 .0);
+          all-named = not-false _ (either-false-right (eqb victims 0) (not (within victims (r .map))) (tests .victims-good));
+          number-left = eqb-false (r .digest .0) numberLimit (tests .number-left);
         }
 
     pub room : Room L r split area cells work
-    unfolding lentTests causesWith
     room =
         record {
           shape = split-shape L r (length cells) victims area split in-range is;
           fits =
               subst (λ (s : Split). digestSize L + length (keptBytes L area cells s) ≤ r .size) (sym is)
-              (ltb-false (r .size) (digestSize L + length (keptBytes L area cells (splitOf r victims))) (tests .1 .1 .1 .1 .0));
-          long = ltb-false (length work) (r .size) (tests .1 .0);
+              (ltb-false (r .size) (digestSize L + length (keptBytes L area cells (splitOf r victims))) (tests .kept-fits));
+          long = ltb-false (length work) (r .size) (tests .work-long);
         }
 
 -- ---- the work buffer filled and the answer

@@ -6,8 +6,8 @@ use mathlib.Core.List.{List, [], _∷_}
 use lib.Dec.{eqb}
 use lib.ListN.{length}
 use Rattle.segment.specs.Choice.{both, either}
-use Rattle.segment.specs.Layout.{Layout, isTombstone, digestSize}
-use Rattle.segment.specs.Entry.{Entry, Found, entry, end, damage, sizeOf, keyOf}
+use Rattle.segment.specs.Layout.{Layout, digestSize}
+use Rattle.segment.specs.Entry.{Entry, Found, entry, end, damage, sizeOf, keyOf, isTombstone}
 use Rattle.segment.specs.declared.Key.{Key}
 use Rattle.slot_map.specs.Bit.{named}
 use Rattle.model.specs.Log.{Item, segmentOf}
@@ -21,7 +21,7 @@ use Rattle.cleaning.specs.declared.Next.the-variants as N
 -- ---- the slots of an area
 
 -- N and S within their limits, and the area N × S bytes long, as the range test has found them.
-pub record Shape (split : Split) (area : List ℕ) : Type 0 where
+pub record SplitFits (split : Split) (area : List ℕ) : Type 0 where
   pub slots-high : split .slots ≤ 32
   pub size-low : 256 ≤ split .size
   pub size-high : split .size ≤ 2048
@@ -34,7 +34,7 @@ slotItems L area S i = entriesAt L (segmentOf area S i) (digestSize L)
 -- ---- one entry
 
 abbrev pub headerOf : Layout → Entry → Header
-headerOf L e = record { key = keyOf e; tombstone = isTombstone L (e .kind); length = sizeOf L e }
+headerOf L e = record { key = keyOf e; tombstone = isTombstone e; length = sizeOf L e }
 
 unfoldable pub nextOf : Layout → Found → Next
 nextOf L (entry e) = N.Entry (headerOf L e)

@@ -24,7 +24,7 @@ use Rattle.laws.specs.Scans.{itemAt}
 use Rattle.laws.specs.Stores.{slot-inside, length-segment}
 use Rattle.index.specs.Build.{entriesAt}
 use Rattle.index.specs.Entries.{entries-entry, entries-end, entries-damage}
-use Rattle.cleaning.specs.Entries.{Shape, headerOf, nextOf, isObject, objectIn}
+use Rattle.cleaning.specs.Entries.{SplitFits, headerOf, nextOf, isObject, objectIn}
 use Rattle.cleaning.specs.declared.Split.{Split}
 use Rattle.cleaning.specs.declared.Header.{Header}
 use Rattle.cleaning.specs.declared.Next.{Next}
@@ -32,7 +32,7 @@ use Rattle.cleaning.specs.declared.Next.the-variants as N
 
 -- ---- where slots and entries lie
 
-module _ {split : Split} {area : List ℕ} (shape : Shape split area) where
+module _ {split : Split} {area : List ℕ} (shape : SplitFits split area) where
   area-short : length area ≤ 65536
   area-short = omega (arith, shape .whole, mul-le-mul (shape .slots-high) (shape .size-high))
 

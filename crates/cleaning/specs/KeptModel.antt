@@ -53,29 +53,29 @@ module _ (L : Layout) where
   encoded-append (x ∷ a) b = ap (λ (l : List ℕ). encoded L x ++ l) (encoded-append a b) ∙ sym (append-assoc (encoded L x) (allEncoded L a) (allEncoded L b))
 
   module _ (victims : ℕ) (log : List Placed) where
-    kept-front : (x : Placed) (xs : List Placed) → isKept L victims log x ≡ true → keptOf L victims log (x ∷ xs) ≡ x .entry ∷ keptOf L victims log xs
+    kept-front : (x : Placed) (xs : List Placed) → isKept victims log x ≡ true → keptOf victims log (x ∷ xs) ≡ x .entry ∷ keptOf victims log xs
     unfolding keptOf
-    kept-front x xs e = pick-true (isKept L victims log x) (x .entry ∷ keptOf L victims log xs) (keptOf L victims log xs) e
+    kept-front x xs e = pick-true (isKept victims log x) (x .entry ∷ keptOf victims log xs) (keptOf victims log xs) e
 
-    kept-behind : (x : Placed) (xs : List Placed) → isKept L victims log x ≡ false → keptOf L victims log (x ∷ xs) ≡ keptOf L victims log xs
+    kept-behind : (x : Placed) (xs : List Placed) → isKept victims log x ≡ false → keptOf victims log (x ∷ xs) ≡ keptOf victims log xs
     unfolding keptOf
-    kept-behind x xs e = pick-false (isKept L victims log x) (x .entry ∷ keptOf L victims log xs) (keptOf L victims log xs) e
+    kept-behind x xs e = pick-false (isKept victims log x) (x .entry ∷ keptOf victims log xs) (keptOf victims log xs) e
 
-    kept-append : (a b : List Placed) → keptOf L victims log (a ++ b) ≡ keptOf L victims log a ++ keptOf L victims log b
+    kept-append : (a b : List Placed) → keptOf victims log (a ++ b) ≡ keptOf victims log a ++ keptOf victims log b
     unfolding keptOf
     kept-append [] b = refl
-    kept-append (x ∷ a) b = go (isKept L victims log x) refl (kept-append a b)
+    kept-append (x ∷ a) b = go (isKept victims log x) refl (kept-append a b)
       where
-        go : (t : Bool) → isKept L victims log x ≡ t → keptOf L victims log (a ++ b) ≡ keptOf L victims log a ++ keptOf L victims log b →
-            keptOf L victims log (x ∷ (a ++ b)) ≡ keptOf L victims log (x ∷ a) ++ keptOf L victims log b
+        go : (t : Bool) → isKept victims log x ≡ t → keptOf victims log (a ++ b) ≡ keptOf victims log a ++ keptOf victims log b →
+            keptOf victims log (x ∷ (a ++ b)) ≡ keptOf victims log (x ∷ a) ++ keptOf victims log b
         go true e ih =
             kept-front x (a ++ b) e
             ∙ ap (λ (l : List Entry). x .entry ∷ l) ih
-            ∙ ap (λ (l : List Entry). l ++ keptOf L victims log b) (sym (kept-front x a e))
-        go false e ih = kept-behind x (a ++ b) e ∙ ih ∙ ap (λ (l : List Entry). l ++ keptOf L victims log b) (sym (kept-behind x a e))
+            ∙ ap (λ (l : List Entry). l ++ keptOf victims log b) (sym (kept-front x a e))
+        go false e ih = kept-behind x (a ++ b) e ∙ ih ∙ ap (λ (l : List Entry). l ++ keptOf victims log b) (sym (kept-behind x a e))
 
     -- of slots that are no victims nothing is kept
-    kept-none : (xs : List Placed) → ((x : Placed) → In x xs → named victims (x .slot) ≡ false) → keptOf L victims log xs ≡ []
+    kept-none : (xs : List Placed) → ((x : Placed) → In x xs → named victims (x .slot) ≡ false) → keptOf victims log xs ≡ []
     unfolding keptOf both
     kept-none [] f = refl
     kept-none (x ∷ xs) f = kept-behind x xs (rw (f x first)) ∙ kept-none xs (λ y m. f y (List·Memᴰ·tail m))
@@ -185,26 +185,26 @@ module _ (L : Layout) (area cells : List ℕ) (r : Record) (g : Genuine L area r
 
   module _ (victims : ℕ) (sub : within victims (r .map) ≡ true) where
     kept-same : (x : Placed) → In x log → named victims (x .slot) ≡ true →
-        keptTest L area cells (splitOf r victims) (headerOf L (x .entry)) (placeOf (r .size) x) ≡ isKept L victims log x
+        keptTest L area cells (splitOf r victims) (headerOf L (x .entry)) (placeOf (r .size) x) ≡ isKept victims log x
     unfolding keptAt both
     kept-same x m e =
         rw (e, latest-highest x m, object-same L area (r .size) (r .map) victims (r .slots) scans (keyOf (x .entry)))
 
     module _ (bytes : Bytes area) where
       gathered-kept : (xs : List Placed) → Within xs log → ((x : Placed) → In x xs → named victims (x .slot) ≡ true) →
-          gathered L area cells (splitOf r victims) xs ≡ allEncoded L (keptOf L victims log xs)
+          gathered L area cells (splitOf r victims) xs ≡ allEncoded L (keptOf victims log xs)
       unfolding gathered allEncoded keptOf
       gathered-kept [] w f = refl
-      gathered-kept (x ∷ xs) w f = go (isKept L victims log x) refl (gathered-kept xs (λ y m. w y (List·Memᴰ·tail m)) (λ y m. f y (List·Memᴰ·tail m)))
+      gathered-kept (x ∷ xs) w f = go (isKept victims log x) refl (gathered-kept xs (λ y m. w y (List·Memᴰ·tail m)) (λ y m. f y (List·Memᴰ·tail m)))
         where
           entry-part : List ℕ
           entry-part = keptEntry L area cells (splitOf r victims) (headerOf L (x .entry)) (placeOf (r .size) x)
 
-          same : (t : Bool) → isKept L victims log x ≡ t → keptTest L area cells (splitOf r victims) (headerOf L (x .entry)) (placeOf (r .size) x) ≡ t
+          same : (t : Bool) → isKept victims log x ≡ t → keptTest L area cells (splitOf r victims) (headerOf L (x .entry)) (placeOf (r .size) x) ≡ t
           same t e = kept-same x (w x first) (f x first) ∙ e
 
-          go : (t : Bool) → isKept L victims log x ≡ t → gathered L area cells (splitOf r victims) xs ≡ allEncoded L (keptOf L victims log xs) →
-              entry-part ++ gathered L area cells (splitOf r victims) xs ≡ allEncoded L (keptOf L victims log (x ∷ xs))
+          go : (t : Bool) → isKept victims log x ≡ t → gathered L area cells (splitOf r victims) xs ≡ allEncoded L (keptOf victims log xs) →
+              entry-part ++ gathered L area cells (splitOf r victims) xs ≡ allEncoded L (keptOf victims log (x ∷ xs))
           go true e ih =
               ap (λ (l : List ℕ). l ++ gathered L area cells (splitOf r victims) xs) (pick-true _ _ _ (same true e) ∙ own-part x (w x first) bytes)
               ∙ ap (λ (l : List ℕ). encoded L (x .entry) ++ l) ih
@@ -237,12 +237,12 @@ module _ (L : Layout) (area cells : List ℕ) (r : Record) (g : Genuine L area r
           go false e = absurd (List·Memᴰ·not-nil (rw (part-passed v (named (r .map)) i e) at m))
 
       part-kept : (i : ℕ) → i < r .slots →
-          keptPart L area cells (splitOf r victims) i ≡ allEncoded L (keptOf L victims log (partOf v (named (r .map)) i))
+          keptPart L area cells (splitOf r victims) i ≡ allEncoded L (keptOf victims log (partOf v (named (r .map)) i))
       unfolding allEncoded
       part-kept i h = go (named victims i) refl
         where
           go : (t : Bool) → named victims i ≡ t →
-              keptPart L area cells (splitOf r victims) i ≡ allEncoded L (keptOf L victims log (partOf v (named (r .map)) i))
+              keptPart L area cells (splitOf r victims) i ≡ allEncoded L (keptOf victims log (partOf v (named (r .map)) i))
           go true e =
               let in-map : named (r .map) i ≡ true =
               set-named (r .map) i (omega (arith, within-le victims (r .map) sub i, named-true victims i e, bit-le (r .map) i)) in
@@ -257,13 +257,13 @@ module _ (L : Layout) (area cells : List ℕ) (r : Record) (g : Genuine L area r
               ∙ sym (ap (allEncoded L) (kept-none L victims log (partOf v (named (r .map)) i) (λ x m. ap (named victims) (part-slot i x m) ∙ e)))
 
       below-kept : (n : ℕ) → n ≤ r .slots →
-          keptBelow L area cells (splitOf r victims) n ≡ allEncoded L (keptOf L victims log (logOf v (named (r .map)) n))
+          keptBelow L area cells (splitOf r victims) n ≡ allEncoded L (keptOf victims log (logOf v (named (r .map)) n))
       unfolding keptBelow logOf keptOf allEncoded
       below-kept zero h = refl
       below-kept (suc n) h =
           (λ i. below-kept n (omega arith) i ++ part-kept n h i)
-          ∙ sym (encoded-append L (keptOf L victims log (logOf v (named (r .map)) n)) (keptOf L victims log (partOf v (named (r .map)) n)))
+          ∙ sym (encoded-append L (keptOf victims log (logOf v (named (r .map)) n)) (keptOf victims log (partOf v (named (r .map)) n)))
           ∙ ap (allEncoded L) (sym (kept-append L victims log (logOf v (named (r .map)) n) (partOf v (named (r .map)) n)))
 
-      pub bytes-kept : keptBytes L area cells (splitOf r victims) ≡ allEncoded L (kept L victims log)
+      pub bytes-kept : keptBytes L area cells (splitOf r victims) ≡ allEncoded L (kept victims log)
       bytes-kept = below-kept (r .slots) (omega arith)

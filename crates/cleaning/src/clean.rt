@@ -6,6 +6,7 @@ use record::Pending;
 use record::Record;
 use record::Refusal;
 use record::Start;
+use record::range::fits_lent;
 use segment::layout::DIGEST_SIZE;
 use segment::layout::NUMBER_LIMIT;
 use segment::writer::write_digest;
@@ -15,7 +16,7 @@ use slot_map::without_slots;
 use starting::Check;
 use starting::answer::refused;
 use starting::answer::started;
-use starting::checks::check_lent;
+use starting::checks::check_idle;
 use starting::digest::new_digest;
 use starting::stores::head_stores;
 ghost use mathlib.Core.Path.{_≡_};
@@ -29,7 +30,7 @@ ghost use Rattle.model.specs.Promises.{StartPromise};
 ghost use Rattle.starting.specs.Checks.{checked};
 ghost use Rattle.cleaning.specs.Kept.{keptBytes};
 ghost use Rattle.cleaning.specs.KeptModel.{splitOf};
-ghost use Rattle.cleaning.specs.Begun.{Ready, Room, causesWith, begunWith};
+ghost use Rattle.cleaning.specs.Begun.{CleanReady, Room, causesWith, begunWith};
 
 // Whether the victims are none, or not all of them slots of the log.
 fn victims_bad(rec: Record, victims: u32) -> bool
@@ -63,7 +64,10 @@ fn check_clean(rec: Record, area: &[u8], index: &[u32], work: usize, victims: u3
         (keptBytes edition1 (now (area .entry)) (now (index .entry)) (splitOf rec victims)) victims))
         ⌝ }
 {
-    match check_lent(rec, area.len(), index.len(), work) {
+    if !fits_lent(rec, area.len(), index.len()) {
+        return Check::Refused(Refusal::BadRecord);
+    }
+    match check_idle(rec, work) {
         Check::Refused(c) => Check::Refused(c),
         Check::Passed => {
             if victims_bad(rec, victims) {
@@ -91,7 +95,7 @@ fn begin(
     victims: u32,
     split: Split,
 ) -> Start
-    requires { ⌜ Ready edition1 rec victims ⌝ }
+    requires { ⌜ CleanReady edition1 rec victims ⌝ }
     requires { ⌜ Room edition1 rec split (now area) (now index) (now work) ⌝ }
     ensures { λ r.
         ⌜

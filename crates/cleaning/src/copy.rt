@@ -11,7 +11,7 @@ use segment::writer::copy_into;
 ghost use Prim.Native.Nat.{_+_, _≤_, _<_};
 ghost use lib.ListN.{length};
 ghost use Rattle.segment.specs.Layout.{edition1};
-ghost use Rattle.cleaning.specs.Entries.{Shape};
+ghost use Rattle.cleaning.specs.Entries.{SplitFits};
 ghost use Rattle.cleaning.specs.Kept.{keptEntry, keptSlot, keptPart, keptBytes};
 ghost use Rattle.cleaning.specs.Copied.{Copied};
 
@@ -26,7 +26,7 @@ fn copy_entry(
     work: &mut [u8],
     to: usize,
 ) -> usize
-    requires { ⌜ Shape split (now area) ⌝ }
+    requires { ⌜ SplitFits split (now area) ⌝ }
     requires { ⌜ place + header .length ≤ length (now area) ⌝ }
     requires { ⌜ place < 65536 ⌝ }
     requires { ⌜ to + length (keptEntry edition1 (now area) (now cells) split header place) ≤ length (now work) ⌝ }
@@ -52,7 +52,7 @@ fn copy_slot(
     work: &mut [u8],
     from: usize,
 ) -> usize
-    requires { ⌜ Shape split (now area) ⌝ }
+    requires { ⌜ SplitFits split (now area) ⌝ }
     requires { ⌜ slot < split .slots ⌝ }
     requires { ⌜ from + length (keptSlot edition1 (now area) (now cells) split slot) ≤ length (now work) ⌝ }
     ensures { λ r.
@@ -84,7 +84,7 @@ fn copy_victim(
     work: &mut [u8],
     to: usize,
 ) -> usize
-    requires { ⌜ Shape split (now area) ⌝ }
+    requires { ⌜ SplitFits split (now area) ⌝ }
     requires { ⌜ slot < split .slots ⌝ }
     requires { ⌜ to + length (keptPart edition1 (now area) (now cells) split slot) ≤ length (now work) ⌝ }
     ensures { λ r.
@@ -98,7 +98,7 @@ fn copy_victim(
 
 // All that is kept, by ascending slot and then offset.
 pub fn copy_kept(area: &[u8], cells: &[u32], split: Split, work: &mut [u8], from: usize) -> usize
-    requires { ⌜ Shape split (now area) ⌝ }
+    requires { ⌜ SplitFits split (now area) ⌝ }
     requires { ⌜ from + length (keptBytes edition1 (now area) (now cells) split) ≤ length (now work) ⌝ }
     ensures { λ r.
         ⌜ Copied (keptBytes edition1 (now (area .entry)) (now (cells .entry)) split) (now (work .entry)) from (now (work .exit)) r ⌝ }

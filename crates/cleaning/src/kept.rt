@@ -14,7 +14,7 @@ ghost use Prim.Native.Nat.{_+_, _*_, _≤_, _<_};
 ghost use mathlib.Core.Path.{_≡_};
 ghost use lib.ListN.{length};
 ghost use Rattle.segment.specs.Layout.{edition1};
-ghost use Rattle.cleaning.specs.Entries.{Shape};
+ghost use Rattle.cleaning.specs.Entries.{SplitFits};
 ghost use Rattle.cleaning.specs.Kept.{latestAt, keptTest, keptEntry, keptSlot, keptPart, keptBytes};
 
 // Whether the index has this place for the key.
@@ -32,7 +32,7 @@ fn is_latest(area: &[u8], cells: &[u32], key: Key, place: usize) -> bool
 // Whether a victim's entry at a place is kept: it is its key's highest version, and a tombstone only where an object of the
 // key stands outside the victims.
 pub fn is_kept(area: &[u8], cells: &[u32], split: Split, header: Header, place: usize) -> bool
-    requires { ⌜ Shape split (now area) ⌝ }
+    requires { ⌜ SplitFits split (now area) ⌝ }
     requires { ⌜ place < 65536 ⌝ }
     ensures { λ r. ⌜ r ≡ keptTest edition1 (now (area .entry)) (now (cells .entry)) split header place ⌝ }
 {
@@ -48,7 +48,7 @@ pub fn is_kept(area: &[u8], cells: &[u32], split: Split, header: Header, place: 
 
 // The length of an entry that is kept, 0 of one that is not.
 fn kept_length(area: &[u8], cells: &[u32], split: Split, header: Header, place: usize) -> usize
-    requires { ⌜ Shape split (now area) ⌝ }
+    requires { ⌜ SplitFits split (now area) ⌝ }
     requires { ⌜ place + header .length ≤ length (now area) ⌝ }
     requires { ⌜ place < 65536 ⌝ }
     ensures { λ r. ⌜ r ≡ length (keptEntry edition1 (now (area .entry)) (now (cells .entry)) split header place) ⌝ }
@@ -61,7 +61,7 @@ fn kept_length(area: &[u8], cells: &[u32], split: Split, header: Header, place: 
 
 // How long what is kept of a slot is.
 fn measure_slot(area: &[u8], cells: &[u32], split: Split, slot: usize) -> usize
-    requires { ⌜ Shape split (now area) ⌝ }
+    requires { ⌜ SplitFits split (now area) ⌝ }
     requires { ⌜ slot < split .slots ⌝ }
     ensures { λ r. ⌜ (r ≡ length (keptSlot edition1 (now (area .entry)) (now (cells .entry)) split slot)) × (r ≤ 2048) ⌝ }
 {
@@ -84,7 +84,7 @@ fn measure_slot(area: &[u8], cells: &[u32], split: Split, slot: usize) -> usize
 
 // The same, 0 where the slot is no victim.
 fn measure_victim(area: &[u8], cells: &[u32], split: Split, slot: usize) -> usize
-    requires { ⌜ Shape split (now area) ⌝ }
+    requires { ⌜ SplitFits split (now area) ⌝ }
     requires { ⌜ slot < split .slots ⌝ }
     ensures { λ r. ⌜ (r ≡ length (keptPart edition1 (now (area .entry)) (now (cells .entry)) split slot)) × (r ≤ 2048) ⌝ }
 {
@@ -96,7 +96,7 @@ fn measure_victim(area: &[u8], cells: &[u32], split: Split, slot: usize) -> usiz
 
 // How long all that is kept is.
 pub fn measure(area: &[u8], cells: &[u32], split: Split) -> usize
-    requires { ⌜ Shape split (now area) ⌝ }
+    requires { ⌜ SplitFits split (now area) ⌝ }
     ensures { λ r.
         ⌜
         (r ≡ length (keptBytes edition1 (now (area .entry)) (now (cells .entry)) split)) × (r ≤ 65536)

@@ -13,7 +13,7 @@ ghost use Rattle.segment.specs.Layout.{edition1, digestSize};
 ghost use Rattle.segment.specs.Choice.{both};
 ghost use Rattle.slot_map.specs.Bit.{named};
 ghost use Rattle.index.specs.Build.{entriesAt};
-ghost use Rattle.cleaning.specs.Entries.{Shape, isObject, objectIn, slotItems, objectBelow};
+ghost use Rattle.cleaning.specs.Entries.{SplitFits, isObject, objectIn, slotItems, objectBelow};
 
 // Whether an entry is an object of the key.
 fn is_object(header: Header, key: Key) -> bool
@@ -51,7 +51,7 @@ fn holds_object(s: &[u8], key: Key) -> bool
 
 // Whether a slot is one outside the victims and holds an object of the key.
 fn slot_holds(area: &[u8], split: Split, key: Key, slot: usize) -> bool
-    requires { ⌜ Shape split (now area) ⌝ }
+    requires { ⌜ SplitFits split (now area) ⌝ }
     requires { ⌜ slot < split .slots ⌝ }
     ensures { λ r. ⌜ r ≡ both (named (split .outside) slot) (objectIn edition1 key (slotItems edition1 (now (area .entry)) (split .size) slot)) ⌝ }
 {
@@ -63,7 +63,7 @@ fn slot_holds(area: &[u8], split: Split, key: Key, slot: usize) -> bool
 
 // Whether a log slot outside the victims holds an object of the key.
 pub fn object_outside(area: &[u8], split: Split, key: Key) -> bool
-    requires { ⌜ Shape split (now area) ⌝ }
+    requires { ⌜ SplitFits split (now area) ⌝ }
     ensures { λ r. ⌜ r ≡ objectBelow edition1 (now (area .entry)) split key ⌝ }
 {
     let mut i = 0;

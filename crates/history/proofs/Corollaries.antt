@@ -19,10 +19,11 @@ use Rattle.record.specs.declared.Reading.{Reading}
 use Rattle.record.specs.declared.ReadAnswer.{ReadAnswer}
 use Rattle.record.specs.declared.Recovery.{Recovery}
 use Rattle.record.specs.declared.Refusal.{Refusal}
+use Rattle.model.specs.Log.{sameKeys}
 use Rattle.model.specs.Operations.{Operation, write, delete, clean, TypedKey}
 use Rattle.model.specs.Recovery.{orderBad}
 use Rattle.model.specs.Promises.{FormatPromise, RecoverPromise, ReadPromise}
-use Rattle.history.specs.Book.{Call, starts, steps, reads, readsValue, recovers, Event, called, cut, accepted, Awaited, Book, freshBook, sameKeys, finish, versionFor, oneOff, takeOne, feedCall, feed, bookAfter, bookOf}
+use Rattle.history.specs.Book.{Call, starts, steps, reads, readsValue, recovers, Event, called, cut, accepted, Awaited, Book, freshBook, finish, versionFor, oneOff, takeOne, feedCall, feed, bookAfter, bookOf}
 use Rattle.history.specs.Runs.{World, freshWorld, Run}
 use Rattle.history.specs.Demand3.{LargeEnough, bookAnswer, EventAgrees, StepAgrees, StepsAgree}
 use Rattle.history.specs.Story.{isWriteOf, lastOfWrite, finishesWrite, noWrite, Finishes}

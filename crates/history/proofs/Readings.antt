@@ -43,7 +43,7 @@ module _ (L : Layout) (laws : OperationLaws L) (n s : ℕ) where
       next-now = sym (next-of L n s (h .rec .cells) area (withPending (h .rec) Idle) idle-recovers) ∙ inv .agrees .next-same
 
       told-less :
-          (c : Option Refusal) (x : Option Placed) → present L (logNow L area (h .rec)) k ≡ x → readSaid (readAnswer c x) .version < b .next
+          (c : Option Refusal) (x : Option Placed) → present (logNow L area (h .rec)) k ≡ x → readSaid (readAnswer L c x) .version < b .next
       unfolding readAnswer presentAnswer
       told-less (some c) x e = omega (arith, inv .below)
       told-less none none e = omega (arith, inv .below)
@@ -62,7 +62,7 @@ module _ (L : Layout) (laws : OperationLaws L) (n s : ℕ) where
           less : readSaid (a .answer) .version < b .next
           less =
               subst⁻¹ (λ (x : ReadAnswer). readSaid x .version < b .next) (p .exact (good .genuine))
-              (told-less (firstCause (readCauses L (h .rec) (logNow L area (h .rec)) (readLengths area (h .cells)) k)) (present L (logNow L area (h .rec)) k) refl)
+              (told-less (firstCause (readCauses L (h .rec) (logNow L area (h .rec)) (readLengths area (h .cells)) k)) (present (logNow L area (h .rec)) k) refl)
 
   pub value-keeps :
       (area : List ℕ) (h : Held) (m : Option ℕ) (b : Book) (t : ℕ) (k : Key) → Inv L n s (record { area = area; held = some h; cells = m }) b t →

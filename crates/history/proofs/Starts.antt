@@ -22,12 +22,13 @@ use Rattle.record.specs.declared.Start.{Start}
 use Rattle.record.specs.declared.StartAnswer.{StartAnswer}
 use Rattle.record.specs.declared.Record.{Record}
 use Rattle.model.specs.Log.{Placed}
-use Rattle.model.specs.Causes.{Cause, firstCause}
+use Rattle.model.specs.Causes.{firstCause}
 use Rattle.model.specs.Recovery.{recovered}
 use Rattle.model.specs.Operations.{Operation, write, delete, clean, Typed, logNow, laid, storesFor, startedRecord, stored}
-use Rattle.model.specs.Refused.{Lengths, recordBad, workShort, isPending, startCauses}
+use Rattle.model.specs.Refused.{isPending, startCauses}
 use Rattle.model.specs.Promises.{Started, StartPromise, Begun, begun, lentLengths}
-use Rattle.laws.specs.CauseLaws.{cause-false, cause-rest, refusal-number}
+use Rattle.laws.specs.CauseLaws.{refusal-number}
+use Rattle.laws.specs.Passed.{StartPassed, start-passed}
 use Rattle.laws.specs.Operated.{Accepted, OperationLaws}
 use Rattle.history.specs.Book.{starts, called, Book, feed, feedCall, toldBy}
 use Rattle.history.specs.Runs.{Held, heldAfter}
@@ -42,25 +43,6 @@ not-pending Idle e = refl
 not-pending (Append n k) e = cc
 not-pending (NewHead i n k) e = cc
 not-pending (Clean i v n k) e = cc
-
-pub record Led (L : Layout) (r : Record) (l : Lengths) : Type 0 where
-  pub fit : recordBad L r l ≡ false
-  pub long : workShort r l ≡ false
-  pub calm : isPending (r .pending) ≡ false
-
-lead : (a b c : Cause) (cs : List Cause) → firstCause (a ∷ b ∷ c ∷ cs) ≡ none → (a .holds ≡ false) × (b .holds ≡ false) × (c .holds ≡ false)
-lead a b c cs e = (
-  cause-false a (b ∷ c ∷ cs) e,
-  cause-false b (c ∷ cs) (cause-rest a (b ∷ c ∷ cs) e),
-  cause-false c cs (cause-rest b (c ∷ cs) (cause-rest a (b ∷ c ∷ cs) e)),
-)
-
-pub start-led :
-    (L : Layout) (r : Record) (log : List Placed) (l : Lengths) (o : Operation) → firstCause (startCauses L r log l o) ≡ none → Led L r l
-unfolding startCauses
-start-led L r log l (write k value) e = let h = lead _ _ _ _ e in record { fit = h .0; long = h .1; calm = h .2 }
-start-led L r log l (delete k) e = let h = lead _ _ _ _ e in record { fit = h .0; long = h .1; calm = h .2 }
-start-led L r log l (clean victims) e = let h = lead _ _ _ _ e in record { fit = h .0; long = h .1; calm = h .2 }
 
 -- ---- the two ways of a start
 
@@ -114,11 +96,11 @@ module _ (L : Layout) (laws : OperationLaws L) (n s : ℕ) where
       log : List Placed
       log = logNow L area r
 
-      led : Led L r (lentLengths area (h .cells) work)
-      led = start-led L r log (lentLengths area (h .cells) work) o e
+      led : StartPassed L r (lentLengths area (h .cells) work)
+      led = start-passed L r log (lentLengths area (h .cells) work) o e
 
       idle : r .pending ≡ Idle
-      idle = not-pending (r .pending) (led .calm)
+      idle = not-pending (r .pending) (led .idle)
 
       recovers : recovered L (r .slots) (r .size) (r .cells) area ≡ some r
       recovers = inv .held .genuine .recovers ∙ ap some (idle-same r idle)
@@ -127,7 +109,7 @@ module _ (L : Layout) (laws : OperationLaws L) (n s : ℕ) where
       acc = record { lengths = lentLengths area (h .cells) work; area-bytes = inv .bytes; typed = ty; recovers = recovers; no-cause = e }
 
       fits : length (laid L r log o .bytes) ≤ length work
-      fits = omega (arith, laws .bytes-fit area r o acc, ltb-false (length work) (r .size) (led .long))
+      fits = omega (arith, laws .bytes-fit area r o acc, ltb-false (length work) (r .size) (led .work-long))
 
       begun-now : Started L area (startedRecord L r log o) (sets work 0 (laid L r log o .bytes))
       begun-now =

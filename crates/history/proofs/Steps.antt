@@ -28,7 +28,8 @@ use Rattle.model.specs.Index.{IndexRule}
 use Rattle.model.specs.Operations.{logNow, laid, storesFor, stored, finishedRecord, toldVersion}
 use Rattle.model.specs.Refused.{isPending, stepCauses}
 use Rattle.model.specs.Promises.{Started, StepPromise, StepExact, stepped, IndexStepped, leftAfter, lentLengths}
-use Rattle.laws.specs.CauseLaws.{cause-false, cause-rest, refusal-number}
+use Rattle.laws.specs.CauseLaws.{refusal-number}
+use Rattle.laws.specs.Passed.{step-passed}
 use Rattle.laws.specs.MapLaws.{valueAt}
 use Rattle.laws.specs.Operated.{Accepted, OperationLaws, planAt}
 use Rattle.history.specs.Book.{steps, called, Awaited, Book, feed, feedCall, takeOne, oneOff, finish, versionFor, toldBy}
@@ -101,9 +102,9 @@ module _ (L : Layout) (laws : OperationLaws L) (n s : ℕ) where
       next-idle : st .idle .next .0 ≡ b .next
       next-idle = sym (next-of L n s (st .idle .cells) area (st .idle) area-recovers) ∙ inv .agrees .next-same
 
-      map-idle : (k : Key) → valueAt L (logNow L (st .before) (st .idle)) k ≡ bookEntry L k (b .keys k)
+      map-idle : (k : Key) → valueAt (logNow L (st .before) (st .idle)) k ≡ bookEntry k (b .keys k)
       map-idle k =
-          ap (λ (x : List Placed). valueAt L x k) (sym area-log ∙ sym (log-of L n s (st .idle .cells) area (st .idle) area-recovers)) ∙
+          ap (λ (x : List Placed). valueAt x k) (sym area-log ∙ sym (log-of L n s (st .idle .cells) area (st .idle) area-recovers)) ∙
           inv .agrees .map-same k
 
       -- the area after one more store
@@ -139,7 +140,7 @@ module _ (L : Layout) (laws : OperationLaws L) (n s : ℕ) where
             (book-left (suc k) 0, max-zero t, e)
             (subst (λ (c : Option ℕ). Inv L n s (record { area = after; held = some held′; cells = c }) b′ t) cells-idle
             (rebuilt L n s (st .idle .cells) after (st .idle) (some held′) b′ t bytes′ recovers′ next-idle
-            (λ j. ap (λ (x : List Placed). valueAt L x j) log′ ∙ map-idle j) (inv .below) holding′)),
+            (λ j. ap (λ (x : List Placed). valueAt x j) log′ ∙ map-idle j) (inv .below) holding′)),
         agrees-with (StepAnswer.Left (suc k)) (sym e) (λ z. absurd (omega (arith, e, z))),
       )
         where
@@ -216,7 +217,7 @@ module _ (L : Layout) (laws : OperationLaws L) (n s : ℕ) where
             (subst (λ (c : Option ℕ). Inv L n s (record { area = after; held = some held′; cells = c }) b′ t′) cells-idle
             (rebuilt L n s (st .idle .cells) after fin (some held′) b′ t′ bytes′ recovers′
             (finished-next L (st .before) (st .idle) b next-idle (st .operation))
-            (λ j. ap (λ (x : List ℕ). valueAt L (logNow L x fin) j) all-stored ∙ laws .finish-map (st .before) (st .idle) (st .operation) acc j ∙ finished-map L (st .before) (st .idle) b next-idle (st .operation) (valueAt L (logNow L (st .before) (st .idle))) map-idle j)
+            (λ j. ap (λ (x : List ℕ). valueAt (logNow L x fin) j) all-stored ∙ laws .finish-map (st .before) (st .idle) (st .operation) acc j ∙ finished-map L (st .before) (st .idle) b next-idle (st .operation) (valueAt (logNow L (st .before) (st .idle))) map-idle j)
             told′ holding′)),
         agrees-with (StepAnswer.Done (record { 0 = toldVersion (st .idle) (st .operation) })) (sym e) (λ z. told-same L (st .before) (st .idle) b next-idle (st .operation)),
       )
@@ -324,7 +325,7 @@ module _ (L : Layout) (laws : OperationLaws L) (n s : ℕ) where
       go none e = by-phase (inv .held .phase)
         where
           pending : isPending (h .rec .pending) ≡ true
-          pending = not-false (isPending (h .rec .pending)) (cause-false _ _ (cause-rest _ _ (cause-rest _ _ e)))
+          pending = not-false (isPending (h .rec .pending)) (step-passed L (h .rec) (lentLengths area (h .cells) work) e .some-pending)
 
           same-work : work ≡ h .work
           same-work = own-work pending

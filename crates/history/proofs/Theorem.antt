@@ -10,9 +10,9 @@ use lib.Dec.{leb}
 use lib.ListN.{length}
 use borrow.Author.Tests.{leb-true}
 use Rattle.word.specs.Number.{Bytes}
-use Rattle.segment.specs.Choice.{pick, both, both-left}
+use Rattle.segment.specs.Choice.{pick, both, both-left, isNone}
 use Rattle.segment.specs.Layout.{Layout, edition1}
-use Rattle.segment.specs.Entry.{Entry}
+use Rattle.segment.specs.Entry.{Entry, kindOf, bytesIn}
 use Rattle.segment.specs.declared.Key.{Key}
 use Rattle.record.specs.Range.{between, fitsLent}
 use Rattle.record.specs.declared.FormatAnswer.{FormatAnswer}
@@ -25,10 +25,10 @@ use Rattle.model.specs.Log.{Placed, present, latest, objectOnly}
 use Rattle.model.specs.Causes.{when, firstCause}
 use Rattle.model.specs.Recovery.{recovered, recordFrom, orderBad, geometryBad, recovery, recoveryFor}
 use Rattle.model.specs.Operations.{logNow, formatted}
-use Rattle.model.specs.Refused.{recordBad, keyAbsent, isAbsent, readCauses, formatCauses}
+use Rattle.model.specs.Refused.{recordBad, keyAbsent, readCauses, formatCauses}
 use Rattle.model.specs.Promises.{Genuine, FormatPromise, RecoverPromise, IndexAfter, formatAnswer, areaUnless, readAnswer, presentAnswer, readLengths, Part, partOf, valueAnswer, valuePart}
 use Rattle.laws.specs.CauseLaws.{cause-skip, cause-false}
-use Rattle.laws.specs.MapLaws.{valueAt, entryOf}
+use Rattle.laws.specs.MapLaws.{valueAt, entryIn}
 use Rattle.laws.specs.Operated.{OperationLaws}
 use Rattle.laws.specs.RecoverLaws.{recovered-recovery}
 use Rattle.laws.specs.OperationsKept.{edition1-laws}
@@ -85,46 +85,46 @@ module _ (L : Layout) (laws : OperationLaws L) (n s : ℕ) where
 
   -- what a read answers of a key is what the book holds of it
   present-answer :
-      (k : Key) (p : Option Placed) (x : Option Kept) → entryOf p ≡ bookEntry L k x →
-      readAnswer (firstCause (when (isAbsent p) Absent ∷ [])) p ≡ bookAnswer L x
-  unfolding entryOf bookEntry firstCause pick isAbsent readAnswer presentAnswer bookAnswer
+      (k : Key) (p : Option Placed) (x : Option Kept) → entryIn p ≡ bookEntry k x →
+      readAnswer L (firstCause (when (isNone p) Absent ∷ [])) p ≡ bookAnswer L x
+  unfolding entryIn bookEntry firstCause pick isNone readAnswer presentAnswer bookAnswer
   present-answer k none none e = refl
   present-answer k none (some y) e = cc
   present-answer k (some p) none e = cc
-  present-answer k (some p) (some y) e = ap (λ (z : Entry). ReadAnswer.Present (record { 0 = z .version }) (z .kind)) (some-same e)
+  present-answer k (some p) (some y) e = ap (λ (z : Entry). ReadAnswer.Present (record { 0 = z .version }) (kindOf L z)) (some-same e)
 
   present-value :
-      (area : List ℕ) (size : ℕ) (k : Key) (p : Option Placed) (x : Option Kept) → entryOf p ≡ bookEntry L k x →
-      ((y : Placed) → p ≡ some y → partOf area (valuePart L size (some y)) ≡ y .entry .value) →
-      partOf area (valueAnswer L size (firstCause (when (isAbsent p) Absent ∷ [])) p) ≡ bookValue x
-  unfolding entryOf bookEntry firstCause pick isAbsent valueAnswer valuePart bookValue
+      (area : List ℕ) (size : ℕ) (k : Key) (p : Option Placed) (x : Option Kept) → entryIn p ≡ bookEntry k x →
+      ((y : Placed) → p ≡ some y → partOf area (valuePart L size (some y)) ≡ bytesIn (y .entry .value)) →
+      partOf area (valueAnswer L size (firstCause (when (isNone p) Absent ∷ [])) p) ≡ bookValue x
+  unfolding entryIn bookEntry firstCause pick isNone valueAnswer valuePart bookValue bytesIn
   present-value area size k none none e part = refl
   present-value area size k none (some y) e part = cc
   present-value area size k (some p) none e part = cc
-  present-value area size k (some p) (some y) e part = part p refl ∙ ap (λ (z : Entry). z .value) (some-same e)
+  present-value area size k (some p) (some y) e part = part p refl ∙ ap (λ (z : Entry). bytesIn (z .value)) (some-same e)
 
   module _ (area cells′ : List ℕ) (m : ℕ) (r : Record) (ab : Bytes area) (e : recovered L n s m area ≡ some r) (long : length cells′ ≡ m) (k : Key)
-      (x : Option Kept) (same : valueAt L (logNow L area r) k ≡ bookEntry L k x)
+      (x : Option Kept) (same : valueAt (logNow L area r) k ≡ bookEntry k x)
     where
       fits : recordBad L r (readLengths area cells′) ≡ false
       fits = ap not (ap (λ (c : ℕ). fitsLent L r (length area) c) long ∙ laws .own-lengths n s m area r ab e)
 
       only-absent :
-          firstCause (readCauses L r (logNow L area r) (readLengths area cells′) k) ≡ firstCause (when (keyAbsent L (logNow L area r) k) Absent ∷ [])
-      only-absent = cause-skip (when (recordBad L r (readLengths area cells′)) BadRecord) (when (keyAbsent L (logNow L area r) k) Absent ∷ []) fits
+          firstCause (readCauses L r (logNow L area r) (readLengths area cells′) k) ≡ firstCause (when (keyAbsent (logNow L area r) k) Absent ∷ [])
+      only-absent = cause-skip (when (recordBad L r (readLengths area cells′)) BadRecord) (when (keyAbsent (logNow L area r) k) Absent ∷ []) fits
 
       read-answer :
-          readAnswer (firstCause (readCauses L r (logNow L area r) (readLengths area cells′) k)) (present L (logNow L area r) k) ≡ bookAnswer L x
+          readAnswer L (firstCause (readCauses L r (logNow L area r) (readLengths area cells′) k)) (present (logNow L area r) k) ≡ bookAnswer L x
       read-answer =
-          ap (λ (c : Option Refusal). readAnswer c (present L (logNow L area r) k)) only-absent ∙
-          present-answer k (present L (logNow L area r) k) x same
+          ap (λ (c : Option Refusal). readAnswer L c (present (logNow L area r) k)) only-absent ∙
+          present-answer k (present (logNow L area r) k) x same
 
       value-answer :
-          partOf area (valueAnswer L (r .size) (firstCause (readCauses L r (logNow L area r) (readLengths area cells′) k)) (present L (logNow L area r) k)) ≡
+          partOf area (valueAnswer L (r .size) (firstCause (readCauses L r (logNow L area r) (readLengths area cells′) k)) (present (logNow L area r) k)) ≡
           bookValue x
       value-answer =
-          ap (λ (c : Option Refusal). partOf area (valueAnswer L (r .size) c (present L (logNow L area r) k))) only-absent ∙
-          present-value area (r .size) k (present L (logNow L area r) k) x same
+          ap (λ (c : Option Refusal). partOf area (valueAnswer L (r .size) c (present (logNow L area r) k))) only-absent ∙
+          present-value area (r .size) k (present (logNow L area r) k) x same
           (λ y q. laws .value-part area r ab (own-geometry L n s m area r e) k y q)
 
   gives-book :
@@ -160,7 +160,7 @@ module _ (L : Layout) (laws : OperationLaws L) (n s : ℕ) where
   -- ---- the fresh store
 
   fresh : (area₀ area : List ℕ) → Bytes area₀ → FormatPromise L n s area₀ area FormatAnswer.Formatted → Inv L n s (freshWorld area) freshBook 0
-  unfolding formatAnswer areaUnless baseCells HeldGood between both present latest objectOnly entryOf bookEntry
+  unfolding formatAnswer areaUnless baseCells HeldGood between both present latest objectOnly entryIn bookEntry
   fresh area₀ area ab p = subst⁻¹ (λ (x : List ℕ). Inv L n s (freshWorld x) freshBook 0) left start′
     where
       cause : Option Refusal
@@ -187,7 +187,7 @@ module _ (L : Layout) (laws : OperationLaws L) (n s : ℕ) where
             agrees =
                 record {
                   next-same = laws .format-log n s 16 area₀ geometry .1;
-                  map-same = λ k. ap (λ (log : List Placed). valueAt L log k) (laws .format-log n s 16 area₀ geometry .0);
+                  map-same = λ k. ap (λ (log : List Placed). valueAt log k) (laws .format-log n s 16 area₀ geometry .0);
                 };
             below = omega arith;
             held = tt;

@@ -4,9 +4,10 @@ use mathlib.Core.Bool.{Bool}
 use mathlib.Core.List.{List, [], _∷_}
 use mathlib.Core.Option.{Option, none, some}
 use lib.Dec.{eqb}
-use Rattle.segment.specs.Choice.{pick, both}
+use Rattle.segment.specs.Choice.{pick}
 use Rattle.segment.specs.declared.Key.{Key}
 use Rattle.record.specs.Answers.{Said}
+use Rattle.model.specs.Log.{sameKeys}
 use Rattle.model.specs.Operations.{Operation, write, delete, clean}
 
 -- A call on the store with what the book is told of its arguments: a start (write, delete or clean), a step, a read, a read
@@ -46,9 +47,6 @@ pub record Book : Type 0 where
 -- After format of any area: no keys, next version 1, nothing pending.
 abbrev pub freshBook : Book
 freshBook = record { keys = λ k. none; next = 1; pending = none }
-
-unfoldable pub sameKeys : Key → Key → Bool
-sameKeys a b = both (eqb (a .table) (b .table)) (eqb (a .key) (b .key))
 
 -- the keys with one of them set or dropped
 abbrev pub withKey : (Key → Option Kept) → Key → Option Kept → (Key → Option Kept)

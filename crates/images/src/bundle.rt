@@ -5,7 +5,9 @@ use segment::Key;
 use word::number::read16;
 use word::number::read32;
 ghost use Prim.Native.Nat.{_≤_, _<_, _+_};
-ghost use lib.ListN.{length};
+ghost use mathlib.Core.Path.{_≡_};
+ghost use lib.ListN.{length, take, drop};
+ghost use Rattle.images.specs.Bundle.{headerOf, itemLength, itemEnd, keyAt};
 
 // The bytes before an item's name.
 pub const HEADER: usize = 16;
@@ -27,6 +29,7 @@ pub struct Header {
 // The header of an item.
 pub fn header_of(item: &[u8]) -> Header
     requires { ⌜ 16 ≤ length (now item) ⌝ }
+    ensures { λ r. ⌜ r ≡ headerOf (now (item .entry)) ⌝ }
 {
     Header {
         slots: item[0],
@@ -42,7 +45,7 @@ pub fn header_of(item: &[u8]) -> Header
 
 // The length of the whole item.
 pub fn item_length(h: Header) -> usize
-    ensures { λ r. ⌜ 16 ≤ r ⌝ }
+    ensures { λ r. ⌜ r ≡ itemLength h ⌝ }
 {
     HEADER + h.name as usize + h.order as usize + h.stored as usize + KEY * (h.keys as usize)
 }
@@ -50,7 +53,7 @@ pub fn item_length(h: Header) -> usize
 // Where the item at a place ends; the bundle's end where it lacks a part of the item.
 pub fn item_end(bundle: &[u8], at: usize) -> usize
     requires { ⌜ at < length (now bundle) ⌝ }
-    ensures { λ r. ⌜ (at < r) × (r ≤ length (now (bundle .entry))) ⌝ }
+    ensures { λ r. ⌜ (r ≡ itemEnd (now (bundle .entry)) at) × (at < r) × (r ≤ length (now (bundle .entry))) ⌝ }
 {
     let left = bundle.len() - at;
     if left < HEADER {
@@ -64,7 +67,9 @@ pub fn item_end(bundle: &[u8], at: usize) -> usize
 }
 
 // The first bytes of a part of an item, as many as are there.
-pub fn first(part: &[u8], count: usize) -> &[u8] {
+pub fn first(part: &[u8], count: usize) -> &[u8]
+    ensures { λ r. ⌜ now r ≡ take count (now (part .entry)) ⌝ }
+{
     if count <= part.len() {
         return &part[0..count];
     }
@@ -72,7 +77,9 @@ pub fn first(part: &[u8], count: usize) -> &[u8] {
 }
 
 // The bytes after them.
-pub fn after(part: &[u8], count: usize) -> &[u8] {
+pub fn after(part: &[u8], count: usize) -> &[u8]
+    ensures { λ r. ⌜ now r ≡ drop count (now (part .entry)) ⌝ }
+{
     if count <= part.len() {
         return &part[count..];
     }
@@ -82,6 +89,7 @@ pub fn after(part: &[u8], count: usize) -> &[u8] {
 // The key at a place of the list of keys.
 pub fn key_at(keys: &[u8], at: usize) -> Key
     requires { ⌜ at + 6 ≤ length (now keys) ⌝ }
+    ensures { λ r. ⌜ r ≡ keyAt (now (keys .entry)) at ⌝ }
 {
     Key {
         table: read16(keys, at),

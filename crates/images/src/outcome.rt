@@ -5,16 +5,20 @@ use crate::lines;
 use record::ReadAnswer;
 use record::Record;
 use record::RecoverAnswer;
-use recovery::read::read;
-use recovery::read::read_value;
-use recovery::recover::recover;
 use segment::Key;
+use store::read;
+use store::read_value;
+use store::recover;
+ghost use mathlib.Core.Path.{_≡_};
+ghost use Rattle.images.specs.Cells.{allAre};
 
 // What every cell holds before a recovery: it leads to the first entry of slot 0, and no cell is 0.
 pub const OLD: u32 = 14;
 
 // Whether every cell of the index is that one.
-fn all_are(index: &[u32], cell: u32) -> bool {
+fn all_are(index: &[u32], cell: u32) -> bool
+    ensures { λ r. ⌜ r ≡ allAre cell (now (index .entry)) ⌝ }
+{
     let mut i = 0;
     while i < index.len() {
         if index[i] != cell {

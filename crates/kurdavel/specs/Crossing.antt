@@ -59,21 +59,13 @@ pub record RecoverCrossed (n s : ℕ) (order area cells cells′ words words′ 
 
 -- ---- read
 
--- what a read tells, or what was there before
-unfoldable pub versionAfter : ReadAnswer → ℕ → ℕ
-versionAfter (ReadAnswer.Present v k) old = v .0
-versionAfter (ReadAnswer.Refused c) old = old
-
-unfoldable pub kindAfter : ReadAnswer → ℕ → ℕ
-kindAfter (ReadAnswer.Present v k) old = k
-kindAfter (ReadAnswer.Refused c) old = old
-
-pub record ReadCrossed (words area cells : List ℕ) (k : Key) (version kind version′ kind′ number : ℕ) : Type 0 where
+-- What the read says; where it is refused version and kind are 0.
+pub record ReadCrossed (words area cells : List ℕ) (k : Key) (version kind number : ℕ) : Type 0 where
   pub reading : Reading
   pub promised : ReadPromise edition1 (decoded words .rec) area cells k reading
   pub numbered : number ≡ readSaid (reading .answer) .refused
-  pub version-told : version′ ≡ versionAfter (reading .answer) version
-  pub kind-told : kind′ ≡ kindAfter (reading .answer) kind
+  pub version-told : version ≡ readSaid (reading .answer) .version
+  pub kind-told : kind ≡ readSaid (reading .answer) .kind
 
 -- The value is a part of the area: place and length are those that the value read promises, and lie in the area for every input; where
 -- the read is refused both are 0.

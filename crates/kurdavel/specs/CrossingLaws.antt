@@ -34,7 +34,7 @@ use Rattle.recovery.specs.declared.Lookup.{Lookup}
 use Rattle.words.specs.Words.{recordWords, wordsOf, isRecord, decoded}
 use Rattle.words.specs.WordLaws.{record-long, decoded-record, decoded-none}
 use Rattle.words.specs.declared.Decoded.{Decoded}
-use Rattle.kurdavel.specs.Crossing.{FormatCrossed, RecoverCrossed, wordsAfter, ReadCrossed, versionAfter, kindAfter, ValueCrossed, Handed, storesAfter, StartCrossed, keptWords, StepCrossed, leftAfter, toldAfter}
+use Rattle.kurdavel.specs.Crossing.{FormatCrossed, RecoverCrossed, wordsAfter, ReadCrossed, ValueCrossed, Handed, storesAfter, StartCrossed, keptWords, StepCrossed, leftAfter, toldAfter}
 
 -- words that decode to a record are enough of them
 pub ok-long : (words : List ℕ) {d : Decoded} → d ≡ decoded words → d .ok ≡ true → recordWords ≤ length words
@@ -115,16 +115,16 @@ looked-none words area cells k {d} f off = go (isRecord words) refl
         sym (ap (λ (r : Record). lookedUp edition1 r area cells k) says
         ∙ looked-unfit edition1 blank area cells k (blank-unfit edition1 (length area) (length cells)))
 
-pub read-crossed : {words area cells : List ℕ} {k : Key} {version kind version′ kind′ number : ℕ} {x : Lookup} {a b : ReadAnswer}
+pub read-crossed : {words area cells : List ℕ} {k : Key} {version kind number : ℕ} {x : Lookup} {a b : ReadAnswer}
     → x ≡ lookedUp edition1 (decoded words .rec) area cells k → a ≡ toldBy x → a ≡ b → number ≡ readSaid b .refused
-    → version′ ≡ versionAfter b version → kind′ ≡ kindAfter b kind → ReadCrossed words area cells k version kind version′ kind′ number
-read-crossed {words} {area} {cells} {k} {version} {kind} {x = x} {a = a} l t e m v w =
+    → version ≡ readSaid b .version → kind ≡ readSaid b .kind → ReadCrossed words area cells k version kind number
+read-crossed {words} {area} {cells} {k} {x = x} {a = a} l t e m v w =
     record {
       reading = record { answer = a; rec = decoded words .rec };
       promised = read-promise edition1 (decoded words .rec) area cells k x a l t;
       numbered = m ∙ ap (λ (c : ReadAnswer). readSaid c .refused) (sym e);
-      version-told = v ∙ ap (λ (c : ReadAnswer). versionAfter c version) (sym e);
-      kind-told = w ∙ ap (λ (c : ReadAnswer). kindAfter c kind) (sym e);
+      version-told = v ∙ ap (λ (c : ReadAnswer). readSaid c .version) (sym e);
+      kind-told = w ∙ ap (λ (c : ReadAnswer). readSaid c .kind) (sym e);
     }
 
 -- a record that an object was looked up with fits what is lent, which is at most the largest area

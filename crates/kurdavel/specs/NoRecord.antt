@@ -24,7 +24,7 @@ use Rattle.laws.specs.CauseLaws.{cause-first}
 use Rattle.words.specs.Words.{recordWords, isRecord, decoded}
 use Rattle.words.specs.WordLaws.{decoded-none}
 use Rattle.words.specs.declared.Decoded.{Decoded}
-use Rattle.kurdavel.specs.Crossing.{RecoverCrossed, ReadCrossed, versionAfter, kindAfter, ValueCrossed, storesAfter, StartCrossed, keptWords, StepCrossed, leftAfter, toldAfter}
+use Rattle.kurdavel.specs.Crossing.{RecoverCrossed, ReadCrossed, ValueCrossed, storesAfter, StartCrossed, keptWords, StepCrossed, leftAfter, toldAfter}
 
 -- such words say the blank record, which fails the tests of 4 whatever is lent
 not-ok : (words : List ℕ) → isRecord words ≡ false → decoded words .ok ≡ false
@@ -44,14 +44,13 @@ pub recover-too-few : {n s : ℕ} {order area cells cells′ words words′ : Li
     → RecoverCrossed n s order area cells cells′ words words′ number → (number ≡ 4) × (cells′ ≡ cells) × (words′ ≡ words)
 recover-too-few h x = let t = x .short h in (t .numbered, t .index-same, t .words-same)
 
-pub read-none : {words area cells : List ℕ} {k : Key} {version kind version′ kind′ number : ℕ} → isRecord words ≡ false
-    → ReadCrossed words area cells k version kind version′ kind′ number → (number ≡ 4) × (version′ ≡ version) × (kind′ ≡ kind)
-unfolding versionAfter kindAfter
-read-none {words = words} {version = version} {kind = kind} f x =
+pub read-none : {words area cells : List ℕ} {k : Key} {version kind number : ℕ} → isRecord words ≡ false
+    → ReadCrossed words area cells k version kind number → (number ≡ 4) × (version ≡ 0) × (kind ≡ 0)
+read-none {words = words} f x =
     let e : x .reading .answer ≡ ReadAnswer.Refused BadRecord = x .promised .unfit (unfit words f _ _) in (
       x .numbered ∙ ap (λ (a : ReadAnswer). readSaid a .refused) e,
-      x .version-told ∙ ap (λ (a : ReadAnswer). versionAfter a version) e,
-      x .kind-told ∙ ap (λ (a : ReadAnswer). kindAfter a kind) e,
+      x .version-told ∙ ap (λ (a : ReadAnswer). readSaid a .version) e,
+      x .kind-told ∙ ap (λ (a : ReadAnswer). readSaid a .kind) e,
     )
 
 pub value-none : {words area cells : List ℕ} {k : Key} {place bytes number : ℕ} → isRecord words ≡ false

@@ -1,7 +1,6 @@
 // The store for a firmware in C or Rust (include/kurdavel.h): the seven calls and the value read, over slices and numbers.
 // Each function decodes the record from the words that are lent, makes the call, and encodes what it hands back. Nothing is
 // required of the caller's values: words that are no record are refused with 4. The answer is 0 or the refusal's number.
-use cleaning::clean::clean;
 use firmware::step_held;
 use index::search::search;
 use record::FormatAnswer;
@@ -14,18 +13,19 @@ use record::StepAnswer;
 use record::number;
 use record::range::fits_lent;
 use recovery::Lookup;
-use recovery::format::format;
 use recovery::read::find;
 use recovery::read::look_at;
 use recovery::read::told;
-use recovery::recover::recover;
 use segment::Key;
 use segment::layout::HEAD_SIZE;
+use store::clean;
+use store::delete;
+use store::format;
+use store::recover;
+use store::write;
 use words::WORDS;
 use words::decode;
 use words::encode;
-use writing::start::delete;
-use writing::start::write;
 ghost use Prim.Native.Nat.{_≤_};
 ghost use mathlib.Core.Path.{_≡_};
 ghost use mathlib.Core.Bool.{true};
@@ -87,9 +87,11 @@ pub extern "C" fn kurdavel_read(
     ensures { λ r.
         ⌜
         ReadCrossed (now (words .entry)) (now (area .entry)) (now (index .entry)) (record { table = table; key = key })
-        (now (version .entry)) (now (kind .entry)) (now (version .exit)) (now (kind .exit)) r
+        (now (version .exit)) (now (kind .exit)) r
         ⌝ }
 {
+    *version = 0;
+    *kind = 0;
     let decoded = decode(words);
     if !decoded.ok {
         return 4;

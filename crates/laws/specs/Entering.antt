@@ -19,12 +19,12 @@ use Rattle.record.specs.RangeLaws.{Lent, lent}
 use Rattle.record.specs.declared.Record.{Record}
 use Rattle.model.specs.Log.{Placed, hasKey, present, latest, objectOnly}
 use Rattle.model.specs.Operations.{Operation, write, delete, logNow, writtenEntry, tombstoneEntry, fitsHead, countNew}
-use Rattle.model.specs.Refused.{startCauses, writeCauses, deleteCauses}
+use Rattle.model.specs.Refused.{keyFacts, startCauses}
 use Rattle.laws.specs.Latest.{latest-has}
 use Rattle.laws.specs.RecoverLaws.{recovered-fits, recovered-next, recovered-number}
 use Rattle.laws.specs.Appended.{Takes}
 use Rattle.laws.specs.Operated.{Accepted}
-use Rattle.laws.specs.CauseLaws.{NoCause, no-cause}
+use Rattle.laws.specs.Passed.{WritePassed, write-passed, DeletePassed, delete-passed}
 use Rattle.laws.specs.LogLaws.{both-true-false}
 
 -- A layout of which every entry fits a fresh segment of the smallest size, and whose versions take a byte at least.
@@ -93,19 +93,19 @@ module _ (L : Layout) (before : List ℕ) (idle : Record) (k : Key) where
       record {
         formed =
             record {
-              length-known = ap not (tests .1 .1 .1 .0);
+              length-known = ap not (tests .value-known);
               table-fits = a .typed .0 .0;
               key-fits = a .typed .0 .1;
-              version-good = version-good L (idle .next .0) (facts .next-some) (omega (arith, idle-next L before idle (write k value) a, eqb-false (idle .next .0) (versionLimit L) (tests .1 .1 .1 .1 .0)));
+              version-good = version-good L (idle .next .0) (facts .next-some) (omega (arith, idle-next L before idle (write k value) a, eqb-false (idle .next .0) (versionLimit L) (tests .versions-left)));
               value-bytes = a .typed .1;
             };
-        takes = record { version = refl; room = new-room (hasKey log k) (idle .keys) (idle .cells) (facts .keys-high) (tests .1 .1 .1 .1 .1 .0) };
-        two-free = λ f. free-two (idle .slots) (used (idle .slots) (idle .map)) (omega (arith, facts .some-free)) (both-true-false _ _ (tests .1 .1 .1 .1 .1 .1 .0) (not-true-of _ f));
-        number-left = λ f. number-below (idle .digest .0) (idle-number L before idle (write k value) a) (both-true-false _ _ (tests .1 .1 .1 .1 .1 .1 .1 .0) (not-true-of _ f));
+        takes = record { version = refl; room = new-room (hasKey log k) (idle .keys) (idle .cells) (facts .keys-high) (tests .key-fits) };
+        two-free = λ f. free-two (idle .slots) (used (idle .slots) (idle .map)) (omega (arith, facts .some-free)) (both-true-false _ _ (tests .room) (not-true-of _ f));
+        number-left = λ f. number-below (idle .digest .0) (idle-number L before idle (write k value) a) (both-true-false _ _ (tests .number-left) (not-true-of _ f));
       }
     where
-      tests : NoCause (writeCauses L idle log (a .lengths) k value)
-      tests = no-cause (startCauses L idle log (a .lengths) (write k value)) (a .no-cause)
+      tests : WritePassed L idle (a .lengths) (keyFacts log k) (length value)
+      tests = write-passed L idle (a .lengths) (keyFacts log k) (length value) (a .no-cause)
 
       facts : Lent L idle (length before) (idle .cells)
       facts = idle-lent L before idle (write k value) a
@@ -121,26 +121,26 @@ module _ (L : Layout) (before : List ℕ) (idle : Record) (k : Key) where
               key-fits = a .typed .1;
               version-good =
                   version-good L (idle .next .0) (facts .next-some)
-                  (omega (arith, idle-next L before idle (delete k) a, eqb-false (idle .next .0) (versionLimit L) (tests .1 .1 .1 .1 .0)));
+                  (omega (arith, idle-next L before idle (delete k) a, eqb-false (idle .next .0) (versionLimit L) (tests .versions-left)));
               value-bytes = λ i. omega arith;
             };
         takes =
             record {
               version = refl;
-              room = rw (present-has log k (tests .1 .1 .1 .0)) (pick-room (idle .keys) (idle .cells) (facts .keys-high));
+              room = rw (present-has log k (tests .present)) (pick-room (idle .keys) (idle .cells) (facts .keys-high));
             };
         two-free =
             λ f.
             free-two (idle .slots) (used (idle .slots) (idle .map)) (omega (arith, facts .some-free))
-            (both-true-false _ _ (tests .1 .1 .1 .1 .1 .0) (not-true-of _ f));
+            (both-true-false _ _ (tests .room) (not-true-of _ f));
         number-left =
             λ f.
             number-below (idle .digest .0) (idle-number L before idle (delete k) a)
-            (both-true-false _ _ (tests .1 .1 .1 .1 .1 .1 .0) (not-true-of _ f));
+            (both-true-false _ _ (tests .number-left) (not-true-of _ f));
       }
     where
-      tests : NoCause (deleteCauses L idle log (a .lengths) k)
-      tests = no-cause (startCauses L idle log (a .lengths) (delete k)) (a .no-cause)
+      tests : DeletePassed L idle (a .lengths) (keyFacts log k)
+      tests = delete-passed L idle (a .lengths) (keyFacts log k) (a .no-cause)
 
       facts : Lent L idle (length before) (idle .cells)
       facts = idle-lent L before idle (delete k) a

@@ -317,7 +317,7 @@ module _ (victims : ℕ) (log moved after : List Placed) (c : Cleaned victims lo
       there : (x y : Placed) → latest log k ≡ some x → Newest log k x → In y after → y .entry ≡ x .entry → valueAt after k ≡ valueAt log k
       there x y e n m p =
           let z = still-latest d k x y n m p (latest after k) (latest-is after k) in
-          value-some after k (z .0) (z .1) ∙ ap (gives) (z .2) ∙ sym (value-some log k x e)
+          value-some after k (z .0) (z .1) ∙ ap gives (z .2) ∙ sym (value-some log k x e)
 
       gone : ((y : Placed) → In y after → sameKey k (y .entry) ≡ true → isTombstone (y .entry) ≡ true) →
           (o : Option Placed) → latest after k ≡ o → LatestIs after k o → valueAt after k ≡ none

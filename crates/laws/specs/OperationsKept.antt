@@ -22,7 +22,7 @@ use Rattle.model.specs.Log.{Placed, placeOf, scan, segmentOf, viewsOf, present,
 use Rattle.model.specs.Recovery.{recovered, recordFrom}
 use Rattle.model.specs.Operations.{Operation, write, delete, clean, logNow, writtenEntry, tombstoneEntry, newSlot, newDigest, kept, allEncoded, placedFrom, laid, planOf, stored, cleanedRecord, finishedRecord}
 use Rattle.model.specs.Promises.{partOf, valuePart}
-use Rattle.model.specs.Refused.{startCauses, cleanCauses}
+use Rattle.model.specs.Refused.{keptLength, startCauses}
 use Rattle.laws.specs.Members.{In}
 use Rattle.laws.specs.Latest.{latest-some}
 use Rattle.laws.specs.MapLaws.{valueAt, gives, log-clean}
@@ -39,7 +39,7 @@ use Rattle.laws.specs.Operated.{Accepted, planAt, mapAfter, OperationLaw
 use Rattle.laws.specs.Entering.{Roomy, idle-lent, idle-number, write-enters, delete-enters}
 use Rattle.laws.specs.Planned.{log-formed, kept-in, planned, new-below, new-map-fits, new-next-fits, prefix-stays, prefix-bytes, plan-stores, plan-fits}
 use Rattle.laws.specs.EntryDone.{entry-done}
-use Rattle.laws.specs.CauseLaws.{NoCause, no-cause}
+use Rattle.laws.specs.Passed.{CleanPassed, clean-passed}
 
 -- ---- a finished cleaning
 
@@ -47,21 +47,21 @@ module _ (L : Layout) (before : List ℕ) (idle : Record) (victims : ℕ) (a : A
   facts : Lent L idle (length before) (idle .cells)
   facts = idle-lent L before idle (clean victims) a
 
-  tests : NoCause (cleanCauses L idle (logNow L before idle) (a .lengths) victims)
+  tests : CleanPassed L idle (a .lengths) (keptLength L (logNow L before idle) victims) victims
   unfolding startCauses
-  tests = no-cause (startCauses L idle (logNow L before idle) (a .lengths) (clean victims)) (a .no-cause)
+  tests = clean-passed L idle (a .lengths) (keptLength L (logNow L before idle) victims) victims (a .no-cause)
 
   sub : within victims (idle .map) ≡ true
-  sub = not-false (within victims (idle .map)) (either-false-right _ _ (tests .1 .1 .1 .0))
+  sub = not-false (within victims (idle .map)) (either-false-right _ _ (tests .victims-good))
 
   some-victim : 0 < victims
-  some-victim = omega (arith, eqb-false victims 0 (either-false-left _ _ (tests .1 .1 .1 .0)))
+  some-victim = omega (arith, eqb-false victims 0 (either-false-left _ _ (tests .victims-good)))
 
   room : digestSize L + length (allEncoded L (kept victims (logNow L before idle))) ≤ idle .size
-  room = ltb-false (idle .size) (digestSize L + length (allEncoded L (kept victims (logNow L before idle)))) (tests .1 .1 .1 .1 .0)
+  room = ltb-false (idle .size) (digestSize L + length (allEncoded L (kept victims (logNow L before idle)))) (tests .kept-fits)
 
   number-left : idle .digest .0 + 1 < 256 ^ 4
-  number-left = omega (arith, idle-number L before idle (clean victims) a, eqb-false (idle .digest .0) numberLimit (tests .1 .1 .1 .1 .1 .0))
+  number-left = omega (arith, idle-number L before idle (clean victims) a, eqb-false (idle .digest .0) numberLimit (tests .number-left))
 
   abbrev clean-plan : List (ℕ × ℕ)
   clean-plan = headPlan L (idle .size) (newSlot idle) (newDigest idle victims) (kept victims (logNow L before idle))

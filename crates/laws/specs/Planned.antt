@@ -27,7 +27,7 @@ use Rattle.record.specs.declared.Record.{Record}
 use Rattle.model.specs.Log.{View, Placed, scan, itemsOf, segmentOf, viewsOf, logOf}
 use Rattle.model.specs.Recovery.{recovered}
 use Rattle.model.specs.Operations.{Operation, write, delete, clean, logNow, writtenEntry, tombstoneEntry, fitsHead, newSlot, newDigest, isKept, kept, allEncoded, Laid, laidAppend, laidHead, laidEntry, laid, commit, planOf, stored}
-use Rattle.model.specs.Refused.{startCauses, cleanCauses}
+use Rattle.model.specs.Refused.{keptLength, startCauses}
 use Rattle.laws.specs.Members.{In, those, those-in, entry-of}
 use Rattle.laws.specs.MapLaws.{kept-those}
 use Rattle.laws.specs.Stores.{length-commit-within, length-commit-full, length-stored}
@@ -38,7 +38,7 @@ use Rattle.laws.specs.LogLaws.{log-same, log-in, scan-whole}
 use Rattle.laws.specs.RecoverLaws.{recovered-case, recovered-fits, recovered-next, recovered-scan, views-recovered, cut-recovered, cut-log}
 use Rattle.laws.specs.Operated.{Accepted, planAt}
 use Rattle.laws.specs.Entering.{Roomy, Entering, idle-lent, write-enters, delete-enters}
-use Rattle.laws.specs.CauseLaws.{NoCause, no-cause}
+use Rattle.laws.specs.Passed.{CleanPassed, clean-passed}
 
 -- Which plan it is, with what is known of its bytes.
 pub data Planned (L : Layout) (r : Record) : List ℕ → List (ℕ × ℕ) → Type 0 where
@@ -98,10 +98,10 @@ module _ (L : Layout) (roomy : Roomy L) (before : List ℕ) (idle : Record) wher
       (idle-lent L before idle (delete k) a .size-low)
   planned (clean victims) a =
       heads (newDigest idle victims) (kept victims (logNow L before idle)) formed
-      (ltb-false (idle .size) (digestSize L + length (allEncoded L (kept victims (logNow L before idle)))) (tests .1 .1 .1 .1 .0))
+      (ltb-false (idle .size) (digestSize L + length (allEncoded L (kept victims (logNow L before idle)))) (tests .kept-fits))
     where
-      tests : NoCause (cleanCauses L idle (logNow L before idle) (a .lengths) victims)
-      tests = no-cause (startCauses L idle (logNow L before idle) (a .lengths) (clean victims)) (a .no-cause)
+      tests : CleanPassed L idle (a .lengths) (keptLength L (logNow L before idle) victims) victims
+      tests = clean-passed L idle (a .lengths) (keptLength L (logNow L before idle) victims) victims (a .no-cause)
 
       formed : (x : Entry) → List·Memᴰ x (kept victims (logNow L before idle)) → WellFormed L x
       formed x i =

@@ -22,7 +22,7 @@ use Rattle.record.specs.declared.Record.{Record}
 use Rattle.model.specs.Log.{View, Item, Placed, scan, scanned, itemsOf, endOf, isDamaged, segmentOf, viewsOf, logOf, placedIn}
 use Rattle.model.specs.Recovery.{recovered}
 use Rattle.model.specs.Operations.{logNow, newSlot, newDigest, kept, allEncoded}
-use Rattle.model.specs.Refused.{keptTooLong}
+use Rattle.model.specs.Refused.{keptTooLong, keptLength}
 use Rattle.laws.specs.Members.{entriesOf}
 use Rattle.laws.specs.MapLaws.{inSlot, kept-size-one}
 use Rattle.laws.specs.Stores.{slot-inside, length-segment}
@@ -79,7 +79,7 @@ module _ (L : Layout) (area : List ℕ) (r : Record) (e : recovered L (r .slots)
           entries-in i (itemsOf (scan L (segmentOf area (r .size) i)))
 
   -- One victim always fits: 14 never holds for a single victim.
-  pub one-victim-fits : (i : ℕ) → named (r .map) i ≡ true → keptTooLong L r (logNow L area r) (2 ^ i) ≡ false
+  pub one-victim-fits : (i : ℕ) → named (r .map) i ≡ true → keptTooLong L r (keptLength L (logNow L area r) (2 ^ i)) ≡ false
   one-victim-fits i q =
       le-ltb (r .size) (digestSize L + length (allEncoded L (kept (2 ^ i) (logNow L area r))))
       (omega (arith, kept-size-one L (2 ^ i) i (logNow L area r) only, slot-fits i (set-below (r .slots) (r .map) i (facts .map-below) (named-true (r .map) i q)) q))

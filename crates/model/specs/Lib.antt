@@ -1,5 +1,6 @@
--- 01 as definitions, in 01's order: the log and its map, recovery, the index, operations store by store, refusals, and what
--- each call promises.
+-- 01 as definitions, a file for each section: the log and its map, recovery, the index, operations store by store, refusals, and what
+-- each call promises. Recovery and the index come before the operations, which speak of them. Then tables of worked cases, and what the
+-- promises leave no freedom in.
 pub mod Log
 pub mod Causes
 pub mod Recovery
@@ -7,7 +8,9 @@ pub mod Index
 pub mod Operations
 pub mod Refused
 pub mod Promises
+pub mod Fixed
 pub mod Table
+pub mod Expected
 pub mod Play
 pub mod Cases
 pub mod MoreCases

@@ -13,6 +13,7 @@ use Rattle.model.specs.Recovery.{recoverCauses, recovery}
 use Rattle.model.specs.Operations.{Operation, write, delete, clean, formatted, allEncoded}
 use Rattle.model.specs.Refused.{formatCauses, readCauses, startCauses, stepCauses}
 use Rattle.model.specs.Play.{opened, freshOver, keyed, object, tombstone, slotWith, segmentWith, first, recoveryNumbers, recovers, lentWith, startNumber, starts, begins, ends, stores, cutAfter, played, playedAll, reads, keeps}
+use Rattle.model.specs.Expected.{holds, gives, refusedBy, toCome, remaining, done, shows}
 use Rattle.model.specs.Table.{Row, row, failing, Hold, joined, rows-hold}
 
 -- an object of 8 bytes, and one of 56
@@ -238,7 +239,7 @@ callRefusals =
     ∷ row 13 (startNumber (wide limit) (clean 7) ∷ []) (13 ∷ [])
     ∷ row 14 (map (λ v. startNumber (wide limit) (clean v)) (3 ∷ 1 ∷ 2 ∷ [])) (14 ∷ 10 ∷ 10 ∷ [])
     -- a refused start leaves record and work buffer
-    ∷ row 14 (starts (wide 2) (clean 3)) (14 ∷ 0 ∷ 0 ∷ 0 ∷ 4 ∷ 256 ∷ 16 ∷ 1 ∷ 214 ∷ 2 ∷ 3 ∷ 7 ∷ 6 ∷ 0 ∷ [])
+    ∷ row 14 (starts (wide 2) (clean 3)) (refusedBy 14 ++ holds (record { head = 1; end = 214; digest = 2; map = 3; next = 7; keys = 6; left = 0 }))
     ∷ row 14 (begins (wide 2) (clean 3) .work) (replicate 256 170)
     ∷ []
 
@@ -276,12 +277,12 @@ mixed =
     seg 2 3 1 (tombstone a 2 ∷ small b 5 ∷ tombstone c 7 ∷ small d 8 ∷ tombstone (keyed 2 1) 9 ∷ []) ++ vacant ++ vacant
 
 -- an older tombstone of a key in slot 0, an object and a newer tombstone in the head
-abbrev buried : List ℕ
-buried = seg 1 1 1 (tombstone a 2 ∷ []) ++ seg 2 3 3 (small a 3 ∷ tombstone a 4 ∷ []) ++ vacant ++ vacant
+abbrev deletedTwice : List ℕ
+deletedTwice = seg 1 1 1 (tombstone a 2 ∷ []) ++ seg 2 3 3 (small a 3 ∷ tombstone a 4 ∷ []) ++ vacant ++ vacant
 
 -- entries of 243 bytes, and a head of them, which ends at S; slot 0 has objects of the tombstones' keys
-abbrev brim : List Entry
-brim =
+abbrev fillingEntries : List Entry
+fillingEntries =
     large (keyed 2 1) 4
     ∷ large (keyed 2 2) 5
     ∷ small (keyed 2 3) 6
@@ -293,8 +294,8 @@ brim =
     ∷ tombstone c 12
     ∷ []
 
-abbrev brimful : List ℕ
-brimful = seg 1 1 1 (small a 1 ∷ small b 2 ∷ small c 3 ∷ []) ++ seg 2 3 4 brim ++ vacant ++ seg 1 8 1 []
+abbrev filledHead : List ℕ
+filledHead = seg 1 1 1 (small a 1 ∷ small b 2 ∷ small c 3 ∷ []) ++ seg 2 3 4 fillingEntries ++ vacant ++ seg 1 8 1 []
 
 abbrev headAlone : ℕ → List Entry → List ℕ
 headAlone next es = seg 1 1 next es ++ vacant ++ vacant ++ vacant
@@ -306,15 +307,15 @@ cutThenWritten = played (cutAfter 60 (freshOver 0) (write a (replicate 56 1))) (
 abbrev cutRows : List Row
 cutRows =
     -- an append, cut after each of its stores but the last, over bytes that are kinds
-    row 21 (cutsBelow 20 (freshOver 4) (write a (replicate 8 1))) (times 20 (0 ∷ 4 ∷ 256 ∷ 16 ∷ 0 ∷ 13 ∷ 1 ∷ 1 ∷ 1 ∷ 0 ∷ 0 ∷ []))
+    row 21 (cutsBelow 20 (freshOver 4) (write a (replicate 8 1))) (times 20 (gives (record { head = 0; end = 13; digest = 1; map = 1; next = 1; keys = 0; left = 0 })))
     ∷ row 22 (map (λ s. stores (freshOver s) (write a (replicate 8 1))) (0 ∷ 1 ∷ 4 ∷ 5 ∷ [])) (20 ∷ 20 ∷ 20 ∷ 20 ∷ [])
-    ∷ row 22 (recovers (played (freshOver 4) (write a (replicate 8 1)))) (0 ∷ 4 ∷ 256 ∷ 16 ∷ 0 ∷ 32 ∷ 1 ∷ 1 ∷ 2 ∷ 1 ∷ 0 ∷ [])
-    ∷ row 22 (recovers (played (freshOver 5) (write a (replicate 8 1)))) (0 ∷ 4 ∷ 256 ∷ 16 ∷ 0 ∷ 32 ∷ 1 ∷ 1 ∷ 2 ∷ 1 ∷ 0 ∷ [])
+    ∷ row 22 (recovers (played (freshOver 4) (write a (replicate 8 1)))) (gives (record { head = 0; end = 32; digest = 1; map = 1; next = 2; keys = 1; left = 0 }))
+    ∷ row 22 (recovers (played (freshOver 5) (write a (replicate 8 1)))) (gives (record { head = 0; end = 32; digest = 1; map = 1; next = 2; keys = 1; left = 0 }))
     -- a new head over an old digest, cut after each store but the last; all of them done
-    ∷ row 23 (cutsBelow 34 (crowded 3 3 1) (oldKey 8)) (times 34 (0 ∷ 4 ∷ 256 ∷ 16 ∷ 0 ∷ 245 ∷ 3 ∷ 3 ∷ 17 ∷ 15 ∷ 0 ∷ []))
-    ∷ row 23 (starts (crowded 3 3 1) (oldKey 8)) (0 ∷ 34 ∷ 0 ∷ 0 ∷ 4 ∷ 256 ∷ 16 ∷ 0 ∷ 245 ∷ 3 ∷ 3 ∷ 17 ∷ 15 ∷ 34 ∷ [])
-    ∷ row 23 (ends (crowded 3 3 1) (oldKey 8)) (0 ∷ 0 ∷ 17 ∷ 0 ∷ 4 ∷ 256 ∷ 16 ∷ 2 ∷ 32 ∷ 4 ∷ 7 ∷ 18 ∷ 15 ∷ 0 ∷ [])
-    ∷ row 23 (recovers (played (crowded 3 3 1) (oldKey 8))) (0 ∷ 4 ∷ 256 ∷ 16 ∷ 2 ∷ 32 ∷ 4 ∷ 7 ∷ 18 ∷ 15 ∷ 0 ∷ [])
+    ∷ row 23 (cutsBelow 34 (crowded 3 3 1) (oldKey 8)) (times 34 (gives (record { head = 0; end = 245; digest = 3; map = 3; next = 17; keys = 15; left = 0 })))
+    ∷ row 23 (starts (crowded 3 3 1) (oldKey 8)) (toCome 34 ++ holds (record { head = 0; end = 245; digest = 3; map = 3; next = 17; keys = 15; left = 34 }))
+    ∷ row 23 (ends (crowded 3 3 1) (oldKey 8)) (done 17 ++ holds (record { head = 2; end = 32; digest = 4; map = 7; next = 18; keys = 15; left = 0 }))
+    ∷ row 23 (recovers (played (crowded 3 3 1) (oldKey 8))) (gives (record { head = 2; end = 32; digest = 4; map = 7; next = 18; keys = 15; left = 0 }))
     -- its digest has the next version before the operation, which is the entry's own
     ∷ row 24 (take 33 (drop 512 (played (crowded 3 3 1) (oldKey 8)))) (segmentWith 4 7 17 (object b 17 (replicate 8 1) ∷ []) ++ 0 ∷ [])
     ∷ []
@@ -322,50 +323,50 @@ cutRows =
 abbrev cleaningRows : List Row
 cleaningRows =
     -- the new head goes round to a slot below the old head, never to a victim's; the slot left behind keeps its lower digest
-    row 25 (ends high (clean 8)) (0 ∷ 0 ∷ 0 ∷ 0 ∷ 4 ∷ 256 ∷ 16 ∷ 0 ∷ 32 ∷ 10 ∷ 3 ∷ 6 ∷ 2 ∷ 0 ∷ [])
-    ∷ row 25 (recovers (played high (clean 8))) (0 ∷ 4 ∷ 256 ∷ 16 ∷ 0 ∷ 32 ∷ 10 ∷ 3 ∷ 6 ∷ 2 ∷ 0 ∷ [])
-    ∷ row 25 (reads (played high (clean 8)) a) (0 ∷ 0 ∷ 5 ∷ 1 ∷ replicate 8 5)
+    row 25 (ends high (clean 8)) (done 0 ++ holds (record { head = 0; end = 32; digest = 10; map = 3; next = 6; keys = 2; left = 0 }))
+    ∷ row 25 (recovers (played high (clean 8))) (gives (record { head = 0; end = 32; digest = 10; map = 3; next = 6; keys = 2; left = 0 }))
+    ∷ row 25 (reads (played high (clean 8)) a) (shows 5 1 (replicate 8 5))
     ∷ row 25 (take 256 (played high (clean 10))) (slotWith 255 (segmentWith 10 1 6 (small b 3 ∷ small a 5 ∷ [])))
-    ∷ row 25 (recovers (playedAll high (clean 10 ∷ delete b ∷ clean 1 ∷ []))) (0 ∷ 4 ∷ 256 ∷ 16 ∷ 1 ∷ 32 ∷ 11 ∷ 2 ∷ 7 ∷ 1 ∷ 0 ∷ [])
+    ∷ row 25 (recovers (playedAll high (clean 10 ∷ delete b ∷ clean 1 ∷ []))) (gives (record { head = 1; end = 32; digest = 11; map = 2; next = 7; keys = 1; left = 0 }))
     -- what is kept: only highest versions, and a tombstone only for an object outside the victims
     ∷ row 26 (keeps mixed 1) (allEncoded edition1 (small a 3 ∷ tombstone b 6 ∷ []))
     ∷ row 26 (keeps mixed 2) (allEncoded edition1 (tombstone c 7 ∷ small d 8 ∷ []))
     ∷ row 26 (keeps mixed 3) (allEncoded edition1 (small a 3 ∷ small d 8 ∷ []))
     ∷ row 26 (map (λ k. length (reads (played mixed (clean 2)) k)) (a ∷ b ∷ c ∷ d ∷ [])) (12 ∷ 4 ∷ 4 ∷ 12 ∷ [])
     -- a tombstone is dropped, an older one still stands outside the victims, and its key still counts
-    ∷ row 27 (ends buried (clean 2)) (0 ∷ 0 ∷ 0 ∷ 0 ∷ 4 ∷ 256 ∷ 16 ∷ 2 ∷ 13 ∷ 3 ∷ 5 ∷ 5 ∷ 1 ∷ 0 ∷ [])
-    ∷ row 27 (recovers (played buried (clean 2))) (0 ∷ 4 ∷ 256 ∷ 16 ∷ 2 ∷ 13 ∷ 3 ∷ 5 ∷ 5 ∷ 1 ∷ 0 ∷ [])
-    ∷ row 27 (reads (played buried (clean 2)) a) (8 ∷ 0 ∷ 0 ∷ 0 ∷ [])
-    ∷ row 27 (recovers (played buried (clean 3))) (0 ∷ 4 ∷ 256 ∷ 16 ∷ 2 ∷ 13 ∷ 3 ∷ 4 ∷ 5 ∷ 0 ∷ 0 ∷ [])
+    ∷ row 27 (ends deletedTwice (clean 2)) (done 0 ++ holds (record { head = 2; end = 13; digest = 3; map = 5; next = 5; keys = 1; left = 0 }))
+    ∷ row 27 (recovers (played deletedTwice (clean 2))) (gives (record { head = 2; end = 13; digest = 3; map = 5; next = 5; keys = 1; left = 0 }))
+    ∷ row 27 (reads (played deletedTwice (clean 2)) a) (refusedBy 8)
+    ∷ row 27 (recovers (played deletedTwice (clean 3))) (gives (record { head = 2; end = 13; digest = 3; map = 4; next = 5; keys = 0; left = 0 }))
     ∷ []
 
 abbrev limitRows : List Row
 limitRows =
     -- the next version: the head digest's, or one more than the log's highest
-    row 28 (recovers (headAlone 7 (small a 3 ∷ []))) (0 ∷ 4 ∷ 256 ∷ 16 ∷ 0 ∷ 32 ∷ 1 ∷ 1 ∷ 7 ∷ 1 ∷ 0 ∷ [])
-    ∷ row 28 (recovers (headAlone 2 (small a 9 ∷ tombstone a 4 ∷ []))) (0 ∷ 4 ∷ 256 ∷ 16 ∷ 0 ∷ 43 ∷ 1 ∷ 1 ∷ 10 ∷ 1 ∷ 0 ∷ [])
-    ∷ row 28 (recovers (headAlone 1 (tombstone a 4294967294 ∷ []))) (0 ∷ 4 ∷ 256 ∷ 16 ∷ 0 ∷ 24 ∷ 1 ∷ 1 ∷ limit ∷ 1 ∷ 0 ∷ [])
+    row 28 (recovers (headAlone 7 (small a 3 ∷ []))) (gives (record { head = 0; end = 32; digest = 1; map = 1; next = 7; keys = 1; left = 0 }))
+    ∷ row 28 (recovers (headAlone 2 (small a 9 ∷ tombstone a 4 ∷ []))) (gives (record { head = 0; end = 43; digest = 1; map = 1; next = 10; keys = 1; left = 0 }))
+    ∷ row 28 (recovers (headAlone 1 (tombstone a 4294967294 ∷ []))) (gives (record { head = 0; end = 24; digest = 1; map = 1; next = limit; keys = 1; left = 0 }))
     -- the last version there is, and none after it
-    ∷ row 29 (ends (headAlone 4294967294 []) (write a (replicate 8 1))) (0 ∷ 0 ∷ 4294967294 ∷ 0 ∷ 4 ∷ 256 ∷ 16 ∷ 0 ∷ 32 ∷ 1 ∷ 1 ∷ limit ∷ 1 ∷ 0 ∷ [])
+    ∷ row 29 (ends (headAlone 4294967294 []) (write a (replicate 8 1))) (done 4294967294 ++ holds (record { head = 0; end = 32; digest = 1; map = 1; next = limit; keys = 1; left = 0 }))
     ∷ row 29 (startNumber (played (headAlone 4294967294 []) (write a (replicate 8 1))) (write a (replicate 8 1)) ∷ []) (9 ∷ [])
     -- the last digest number
-    ∷ row 29 (ends (wide 4294967294) (clean 1)) (0 ∷ 0 ∷ 0 ∷ 0 ∷ 4 ∷ 256 ∷ 16 ∷ 2 ∷ 214 ∷ limit ∷ 6 ∷ 7 ∷ 6 ∷ 0 ∷ [])
+    ∷ row 29 (ends (wide 4294967294) (clean 1)) (done 0 ++ holds (record { head = 2; end = 214; digest = limit; map = 6; next = 7; keys = 6; left = 0 }))
     -- the stores of an operation that was cut short are nothing to the next one
-    ∷ row 30 (recovers cutThenWritten) (0 ∷ 4 ∷ 256 ∷ 16 ∷ 0 ∷ 32 ∷ 1 ∷ 1 ∷ 2 ∷ 1 ∷ 0 ∷ [])
-    ∷ row 30 (reads cutThenWritten a) (8 ∷ 0 ∷ 0 ∷ 0 ∷ [])
-    ∷ row 30 (reads cutThenWritten b) (0 ∷ 0 ∷ 1 ∷ 1 ∷ replicate 8 2)
+    ∷ row 30 (recovers cutThenWritten) (gives (record { head = 0; end = 32; digest = 1; map = 1; next = 2; keys = 1; left = 0 }))
+    ∷ row 30 (reads cutThenWritten a) (refusedBy 8)
+    ∷ row 30 (reads cutThenWritten b) (shows 1 1 (replicate 8 2))
     -- a new head that ends at S: S + 1 stores, no kind 0 after it, and the next slot stays
-    ∷ row 31 (stores brimful (clean 2) ∷ []) (257 ∷ [])
-    ∷ row 31 (drop 512 (played brimful (clean 2))) (segmentWith 3 5 13 brim ++ seg 1 8 1 [])
-    ∷ row 31 (recovers (played brimful (clean 2))) (0 ∷ 4 ∷ 256 ∷ 16 ∷ 2 ∷ 256 ∷ 3 ∷ 5 ∷ 13 ∷ 9 ∷ 0 ∷ [])
+    ∷ row 31 (stores filledHead (clean 2) ∷ []) (257 ∷ [])
+    ∷ row 31 (drop 512 (played filledHead (clean 2))) (segmentWith 3 5 13 fillingEntries ++ seg 1 8 1 [])
+    ∷ row 31 (recovers (played filledHead (clean 2))) (gives (record { head = 2; end = 256; digest = 3; map = 5; next = 13; keys = 9; left = 0 }))
     -- a delete that does not fit such a head
-    ∷ row 31 (ends brimful (delete (keyed 2 1))) (0 ∷ 0 ∷ 13 ∷ 0 ∷ 4 ∷ 256 ∷ 16 ∷ 2 ∷ 24 ∷ 3 ∷ 7 ∷ 14 ∷ 9 ∷ 0 ∷ [])
-    ∷ row 31 (stores brimful (delete (keyed 2 1)) ∷ []) (26 ∷ [])
+    ∷ row 31 (ends filledHead (delete (keyed 2 1))) (done 13 ++ holds (record { head = 2; end = 24; digest = 3; map = 7; next = 14; keys = 9; left = 0 }))
+    ∷ row 31 (stores filledHead (delete (keyed 2 1)) ∷ []) (26 ∷ [])
     -- overwriting a key: the old value up to the last store
     ∷ row 32 (map (λ k. length (reads (cutAfter k (headAlone 1 (small a 1 ∷ [])) (write a (replicate 24 2))) a)) (0 ∷ 17 ∷ 35 ∷ 36 ∷ [])) (12 ∷ 12 ∷ 12 ∷ 28 ∷ [])
     -- the lowest and the highest key are ordinary
-    ∷ row 33 (reads (playedAll (freshOver 0) (write (keyed 0 0) (replicate 8 7) ∷ write (keyed 65535 limit) (replicate 8 8) ∷ [])) (keyed 0 0)) (0 ∷ 0 ∷ 1 ∷ 1 ∷ replicate 8 7)
-    ∷ row 33 (reads (playedAll (freshOver 0) (write (keyed 0 0) (replicate 8 7) ∷ write (keyed 65535 limit) (replicate 8 8) ∷ [])) (keyed 65535 limit)) (0 ∷ 0 ∷ 2 ∷ 1 ∷ replicate 8 8)
+    ∷ row 33 (reads (playedAll (freshOver 0) (write (keyed 0 0) (replicate 8 7) ∷ write (keyed 65535 limit) (replicate 8 8) ∷ [])) (keyed 0 0)) (shows 1 1 (replicate 8 7))
+    ∷ row 33 (reads (playedAll (freshOver 0) (write (keyed 0 0) (replicate 8 7) ∷ write (keyed 65535 limit) (replicate 8 8) ∷ [])) (keyed 65535 limit)) (shows 2 1 (replicate 8 8))
     -- another geometry, and the slots read backwards
     ∷ row 34 (recoveryNumbers (recovery edition1 5 300 20 (4 ∷ 3 ∷ 2 ∷ 1 ∷ 0 ∷ []) (formatted edition1 5 300 (replicate 1500 9)))) (0 ∷ 5 ∷ 300 ∷ 20 ∷ 0 ∷ 13 ∷ 1 ∷ 1 ∷ 1 ∷ 0 ∷ 0 ∷ [])
     ∷ []

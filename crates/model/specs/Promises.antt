@@ -153,12 +153,14 @@ unfoldable pub valueAnswer : Layout → ℕ → Option Refusal → Option Placed
 valueAnswer L S none x = valuePart L S x
 valueAnswer L S (some c) x = nowhere
 
+abbrev pub promisedPart : Layout → Record → List ℕ → List ℕ → Key → Part
+promisedPart L r area cells k =
+    valueAnswer L (r .size) (firstCause (readCauses L r (logNow L area r) (readLengths area cells) k)) (present (logNow L area r) k)
+
 -- Which part of the area the value is.
 pub record ValuePromise (L : Layout) (r : Record) (area cells : List ℕ) (k : Key) (p : Part) : Type 0 where
   pub unfit : recordBad L r (readLengths area cells) ≡ true → p ≡ nowhere
-  pub exact :
-      Genuine L area r cells → p ≡
-      valueAnswer L (r .size) (firstCause (readCauses L r (logNow L area r) (readLengths area cells) k)) (present (logNow L area r) k)
+  pub exact : Genuine L area r cells → p ≡ promisedPart L r area cells k
 
 -- A reference to that part of what another reference refers to: the part lies within it, the reference points so many bytes behind the
 -- other's start, and has these bytes.

@@ -1,12 +1,12 @@
--- 01, "Refused calls": the causes of each call in 01's order. Recovery's stand in the file Recovery.
+-- 01, "Refused calls": the causes of each call in 01's order, over the facts that its tests need: the definitions take these
+-- from the log, the code from area and index. Recovery's causes stand in the file Recovery.
 use Prim.Native.Nat.{ℕ, _+_, _-_}
 use mathlib.Core.Bool.{Bool, true, false, not}
 use mathlib.Core.List.{List, [], _∷_}
 use lib.Dec.{eqb, ltb, leb}
 use lib.ListN.{length}
-use Rattle.segment.specs.Choice.{pick, both, either, isNone}
-use Rattle.segment.specs.Layout.{Layout, objectKind, digestSize, versionLimit, numberLimit}
-use Rattle.segment.specs.Entry.{Entry}
+use Rattle.segment.specs.Choice.{both, either, isNone}
+use Rattle.segment.specs.Layout.{Layout, objectKind, entrySize, digestSize, versionLimit, numberLimit}
 use Rattle.segment.specs.declared.Key.{Key}
 use Rattle.slot_map.specs.Bit.{within}
 use Rattle.slot_map.specs.Count.{free}
@@ -18,7 +18,7 @@ use Rattle.record.specs.declared.Record.{Record}
 use Rattle.model.specs.Log.{Placed, hasKey, present}
 use Rattle.model.specs.Causes.{Cause, when}
 use Rattle.model.specs.Recovery.{geometryBad}
-use Rattle.model.specs.Operations.{Operation, write, delete, clean, writtenEntry, tombstoneEntry, fitsHead, kept, allEncoded}
+use Rattle.model.specs.Operations.{Operation, write, delete, clean, kept, allEncoded}
 
 -- The lengths of what a call is lent.
 pub record Lengths : Type 0 where
@@ -41,13 +41,24 @@ isPending (Append n k) = true
 isPending (NewHead i n k) = true
 isPending (Clean i v n k) = true
 
--- 7
-abbrev pub valueBad : Layout → List ℕ → Bool
-valueBad L value = isNone (objectKind L (length value))
+-- 7, for a value of n bytes
+abbrev pub valueBad : Layout → ℕ → Bool
+valueBad L n = isNone (objectKind L n)
 
 -- 8
 abbrev pub keyAbsent : List Placed → Key → Bool
 keyAbsent log k = isNone (present log k)
+
+-- What a call knows of its key: whether a byte was met that the rules of the log forbid, whether the log has any entry of
+-- the key, and whether no object gives it a value.
+pub record KeyFacts : Type 0 where
+  pub forbidden : Bool
+  pub in-log : Bool
+  pub absent : Bool
+
+-- by the log, whose entries have no such byte
+abbrev pub keyFacts : List Placed → Key → KeyFacts
+keyFacts log k = record { forbidden = false; in-log = hasKey log k; absent = keyAbsent log k }
 
 -- 9
 abbrev pub versionsSpent : Layout → Record → Bool
@@ -58,23 +69,25 @@ abbrev pub numbersSpent : Record → Bool
 numbersSpent r = eqb (r .digest .0) numberLimit
 
 -- 11
-abbrev pub keysFull : Record → List Placed → Key → Bool
-keysFull r log k = both (not (hasKey log k)) (eqb (r .keys) (r .cells - 1))
+abbrev pub keysFull : Record → KeyFacts → Bool
+keysFull r k = both (not (k .in-log)) (eqb (r .keys) (r .cells - 1))
 
--- 12, and 10 where a new head is needed
-abbrev pub noRoom : Layout → Record → Entry → Bool
-noRoom L r e = both (not (fitsHead L r e)) (ltb (free (r .slots) (r .map)) 2)
+-- 12, and 10 where a new head is needed, for an entry of n bytes, which may end exactly at S
+abbrev pub noRoom : Record → ℕ → Bool
+noRoom r n = both (not (leb (r .end + n) (r .size))) (ltb (free (r .slots) (r .map)) 2)
 
-abbrev pub noNumber : Layout → Record → Entry → Bool
-noNumber L r e = both (not (fitsHead L r e)) (numbersSpent r)
+abbrev pub noNumber : Record → ℕ → Bool
+noNumber r n = both (not (leb (r .end + n) (r .size))) (numbersSpent r)
 
 -- 13
 abbrev pub victimsBad : Record → ℕ → Bool
 victimsBad r victims = either (eqb victims 0) (not (within victims (r .map)))
 
--- 14
-abbrev pub keptTooLong : Layout → Record → List Placed → ℕ → Bool
-keptTooLong L r log victims = ltb (r .size) (digestSize L + length (allEncoded L (kept victims log)))
+-- 14, for n bytes kept
+abbrev pub keptTooLong : Layout → Record → ℕ → Bool
+keptTooLong L r n = ltb (r .size) (digestSize L + n)
+
+-- ---- the list of each call: these are the only places where the order of its causes stands
 
 -- Format: 1.
 abbrev pub formatCauses : ℕ → ℕ → ℕ → List Cause
@@ -84,46 +97,54 @@ formatCauses n s areaLength = when (geometryBad n s areaLength) Geometry ∷ []
 abbrev pub readCauses : Layout → Record → List Placed → Lengths → Key → List Cause
 readCauses L r log l k = when (recordBad L r l) BadRecord ∷ when (keyAbsent log k) Absent ∷ []
 
--- Write: 4, 3, 5, 7, 9, 11, 12, 10.
-abbrev pub writeCauses : Layout → Record → List Placed → Lengths → Key → List ℕ → List Cause
-writeCauses L r log l k value =
+-- Write: 4, 3, 5, 7, 9, 11, 12, 10, for a value of n bytes. A forbidden byte is met where the key is looked up, which 11 is
+-- the first to need.
+abbrev pub writeCauses : Layout → Record → Lengths → KeyFacts → ℕ → List Cause
+writeCauses L r l k n =
     when (recordBad L r l) BadRecord
     ∷ when (workShort r l) WorkShort
     ∷ when (isPending (r .pending)) Busy
-    ∷ when (valueBad L value) ValueLength
+    ∷ when (valueBad L n) ValueLength
     ∷ when (versionsSpent L r) VersionsSpent
-    ∷ when (keysFull r log k) KeysFull
-    ∷ when (noRoom L r (writtenEntry r k value)) NoRoom
-    ∷ when (noNumber L r (writtenEntry r k value)) NumbersSpent
+    ∷ when (k .forbidden) BadRecord
+    ∷ when (keysFull r k) KeysFull
+    ∷ when (noRoom r (entrySize L n)) NoRoom
+    ∷ when (noNumber r (entrySize L n)) NumbersSpent
     ∷ []
 
--- Delete: 4, 3, 5, 8, 9, 12, 10.
-abbrev pub deleteCauses : Layout → Record → List Placed → Lengths → Key → List Cause
-deleteCauses L r log l k =
+-- Delete: 4, 3, 5, 8, 9, 12, 10. Here 8 is the first to need the key.
+abbrev pub deleteCauses : Layout → Record → Lengths → KeyFacts → List Cause
+deleteCauses L r l k =
     when (recordBad L r l) BadRecord
     ∷ when (workShort r l) WorkShort
     ∷ when (isPending (r .pending)) Busy
-    ∷ when (keyAbsent log k) Absent
+    ∷ when (k .forbidden) BadRecord
+    ∷ when (k .absent) Absent
     ∷ when (versionsSpent L r) VersionsSpent
-    ∷ when (noRoom L r (tombstoneEntry r k)) NoRoom
-    ∷ when (noNumber L r (tombstoneEntry r k)) NumbersSpent
+    ∷ when (noRoom r (entrySize L 0)) NoRoom
+    ∷ when (noNumber r (entrySize L 0)) NumbersSpent
     ∷ []
 
--- Clean: 4, 3, 5, 13, 14, 10.
-abbrev pub cleanCauses : Layout → Record → List Placed → Lengths → ℕ → List Cause
-cleanCauses L r log l victims =
+-- Clean: 4, 3, 5, 13, 14, 10, for n bytes kept.
+abbrev pub cleanCauses : Layout → Record → Lengths → ℕ → ℕ → List Cause
+cleanCauses L r l n victims =
     when (recordBad L r l) BadRecord
     ∷ when (workShort r l) WorkShort
     ∷ when (isPending (r .pending)) Busy
     ∷ when (victimsBad r victims) BadVictims
-    ∷ when (keptTooLong L r log victims) KeptTooLong
+    ∷ when (keptTooLong L r n) KeptTooLong
     ∷ when (numbersSpent r) NumbersSpent
     ∷ []
 
+-- how many bytes a cleaning of the log keeps
+abbrev pub keptLength : Layout → List Placed → ℕ → ℕ
+keptLength L log victims = length (allEncoded L (kept victims log))
+
+-- The causes of a start, with what the log says.
 unfoldable pub startCauses : Layout → Record → List Placed → Lengths → Operation → List Cause
-startCauses L r log l (write k value) = writeCauses L r log l k value
-startCauses L r log l (delete k) = deleteCauses L r log l k
-startCauses L r log l (clean victims) = cleanCauses L r log l victims
+startCauses L r log l (write k value) = writeCauses L r l (keyFacts log k) (length value)
+startCauses L r log l (delete k) = deleteCauses L r l (keyFacts log k)
+startCauses L r log l (clean victims) = cleanCauses L r l (keptLength L log victims) victims
 
 -- Step: 4, 3, 6.
 abbrev pub stepCauses : Layout → Record → Lengths → List Cause

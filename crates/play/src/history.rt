@@ -5,6 +5,7 @@ use crate::memory;
 use crate::operations;
 use crate::operations::Played;
 ghost use Prim.Native.Nat.{_<_};
+ghost use mathlib.Core.Path.{_≡_};
 
 pub enum Event {
     // A heading with the number of a case.
@@ -101,13 +102,17 @@ pub fn scheduled(i: usize) -> Event
     HISTORY[i]
 }
 
-fn failing(played: Played, fails: u32) -> Played {
+fn failing(played: Played, fails: u32) -> Played
+    ensures { λ r. ⌜ r ≡ record { rec = played .rec; book = played .book; fails = fails } ⌝ }
+{
     let rec = played.rec;
     let book = played.book;
     Played { rec, book, fails }
 }
 
-fn heading(played: Played, case: u32) -> Played {
+fn heading(played: Played, case: u32) -> Played
+    ensures { λ r. ⌜ r ≡ played ⌝ }
+{
     lines::field(b"case ", case);
     lines::text(b"\n");
     played

@@ -58,7 +58,7 @@ pub fn cuts(made: u32, bad: u32) {
         field(b", ", made);
         text(b" cuts");
     } else {
-        field(b", after rec ", bad);
+        field(b", after store ", bad);
     }
     verdict(bad == 0);
 }

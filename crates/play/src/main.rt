@@ -1,5 +1,5 @@
-// Plays a written history on the real calls and writes a line for each operation. After every store the area is handed to
-// recovery as a cut would leave it, and what it gives is compared with the book kept beside the store.
+// Makes the calls of a written history on an area and writes a line for each operation. After every store the area is handed to
+// recovery as a cut would leave it, and what it gives is compared with the book of the history.
 mod book;
 mod history;
 mod lines;

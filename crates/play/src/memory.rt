@@ -5,12 +5,16 @@ use crate::book::Value;
 use crate::lines;
 use crate::operations::Played;
 use crate::reads;
-use recovery::format::format;
-use recovery::recover::recover;
+use segment::Version;
 use segment::writer::copy_into;
-ghost use Prim.Native.Nat.{_≤_};
+use store::format;
+use store::recover;
+ghost use Prim.Native.Nat.{min};
+ghost use mathlib.Core.Path.{_≡_};
+ghost use Rattle.play.specs.Book.{emptyBook, poweredOn};
+ghost use Rattle.play.specs.Values.{rising};
 
-// N and S of the store.
+// N and S.
 pub const SLOTS: u32 = 4;
 
 pub const SIZE: u32 = 256;
@@ -34,7 +38,7 @@ fn spoil(index: &mut [u32; 16]) {
 }
 
 pub fn at_most(limit: usize, n: usize) -> usize
-    ensures { λ r. ⌜ r ≤ limit ⌝ }
+    ensures { λ r. ⌜ r ≡ min n limit ⌝ }
 {
     if n < limit {
         return n;
@@ -43,7 +47,9 @@ pub fn at_most(limit: usize, n: usize) -> usize
 }
 
 // The bytes of a value, and more where it has fewer than 56.
-pub fn value_bytes(value: Value) -> [u8; 56] {
+pub fn value_bytes(value: Value) -> [u8; 56]
+    ensures { λ r. ⌜ r ≡ rising 56 (value .first) (value .rise) ⌝ }
+{
     let mut bytes = [0; 56];
     let mut byte = value.first;
     let mut i = 0;
@@ -56,7 +62,9 @@ pub fn value_bytes(value: Value) -> [u8; 56] {
 }
 
 // A recovery after the supply failed, which lost the index.
-pub fn power_on(area: &[u8; 1024], index: &mut [u32; 16], book: Book) -> Played {
+pub fn power_on(area: &[u8; 1024], index: &mut [u32; 16], book: Book) -> Played
+    ensures { λ r. ⌜ r ≡ poweredOn (now (area .entry)) book ⌝ }
+{
     spoil(index);
     let recovery = recover(SLOTS, SIZE, b"\x00\x01\x02\x03", area, index);
     let rec = recovery.rec;
@@ -70,16 +78,21 @@ pub fn power_on(area: &[u8; 1024], index: &mut [u32; 16], book: Book) -> Played 
     }
 }
 
-// An area of old bytes, formatted and recovered.
-pub fn fresh(area: &mut [u8; 1024], index: &mut [u32; 16]) -> Played {
+// An area of old bytes, formatted and recovered. The contract leaves free what the area then holds.
+pub fn fresh(area: &mut [u8; 1024], index: &mut [u32; 16]) -> Played
+    ensures { λ r. ⌜ r ≡ poweredOn (now (area .exit)) (emptyBook (record { 0 = 1 })) ⌝ }
+{
     fill(area, 0xaa);
     format(SLOTS, SIZE, area);
     lines::bytes(b"format:", area, 14);
-    power_on(area, index, book::empty(1))
+    power_on(area, index, book::empty(Version(1)))
 }
 
-// Case 8: version 1 of a key in slot 0; version 2 and tombstone 3 in slot 1, which is the head.
-pub fn spread(area: &mut [u8; 1024], index: &mut [u32; 16]) -> Played {
+// Case 8: version 1 of a key in slot 0; version 2 and tombstone 3 in slot 1, which is the head. The contract leaves free what
+// the area then holds.
+pub fn spread(area: &mut [u8; 1024], index: &mut [u32; 16]) -> Played
+    ensures { λ r. ⌜ r ≡ poweredOn (now (area .exit)) (emptyBook (record { 0 = 4 })) ⌝ }
+{
     fill(area, 0xff);
     copy_into(
         area,
@@ -91,5 +104,5 @@ pub fn spread(area: &mut [u8; 1024], index: &mut [u32; 16]) -> Played {
         256,
         b"\x05\x02\0\0\0\x03\0\0\0\x02\0\0\0\x01\x07\0\x09\0\0\0\x02\0\0\0\x12\x12\x12\x12\x12\x12\x12\x12\x04\x07\0\x09\0\0\0\x03\0\0\0\0",
     );
-    power_on(area, index, book::empty(4))
+    power_on(area, index, book::empty(Version(4)))
 }

@@ -1,21 +1,29 @@
 // An operation of a history: its start, its steps to the end or to the failing of the supply, and a cut after each of its stores.
+// A function that makes calls has no contract of its own where theirs say nothing of records that are not genuine; what it
+// answers shows in the output.
 use crate::book;
 use crate::book::Book;
 use crate::book::Value;
 use crate::lines;
 use crate::memory;
 use crate::reads;
-use cleaning::clean::clean;
 use record::Pending;
 use record::Record;
 use record::Start;
 use record::StartAnswer;
 use record::StepAnswer;
-use stepping::step;
-use writing::start::delete;
-use writing::start::write;
+use segment::Version;
+use store::clean;
+use store::delete;
+use store::step;
+use store::write;
+ghost use mathlib.Core.Path.{_≡_};
+ghost use lib.Dec.{eqb};
+ghost use Rattle.segment.specs.Choice.{pick};
+ghost use Rattle.play.specs.Book.{played};
+ghost use Rattle.play.specs.Answers.{stepSays, workBytes, firstBad, notMade};
 
-// The store's record, its book, and after how many stores of the next operation the supply fails, 0 where it does not.
+// The record, the book, and after how many stores of the next operation the supply fails, 0 where it does not.
 pub struct Played {
     pub rec: Record,
     pub book: Book,
@@ -30,23 +38,27 @@ struct Turn {
 
 // What an operation is to do: its version, the book before it and after it, and how many of its stores the supply allows.
 struct Due {
-    version: u32,
+    version: Version,
     before: Book,
     after: Book,
     fails: u32,
 }
 
 // Whether a step says that so many stores are left, and after the last one the version.
-fn told(answer: StepAnswer, left: u32, version: u32) -> bool {
+fn told(answer: StepAnswer, left: u32, version: Version) -> bool
+    ensures { λ r. ⌜ r ≡ stepSays answer left version ⌝ }
+{
     match answer {
         StepAnswer::Left(n) => n == left && 0 < left,
-        StepAnswer::Done(v) => v.0 == version && left == 0,
+        StepAnswer::Done(v) => v.0 == version.0 && left == 0,
         StepAnswer::Refused(_) => false,
     }
 }
 
 // The book when so many stores are left.
-fn book_at(left: u32, due: Due) -> Book {
+fn book_at(left: u32, due: Due) -> Book
+    ensures { λ r. ⌜ r ≡ pick (eqb left 0) (due .after) (due .before) ⌝ }
+{
     if left == 0 {
         return due.after;
     }
@@ -65,7 +77,8 @@ fn one_step(
     let stepped = step(rec, area, index, work);
     let answer = stepped.answer;
     let rec = stepped.rec;
-    let said = told(answer, left, due.version);
+    let version = due.version;
+    let said = told(answer, left, version);
     let kept = reads::both_agree(rec, area, index, book_at(left, due));
     Turn {
         rec,
@@ -74,14 +87,16 @@ fn one_step(
 }
 
 // The first store that differs: the one noted before, or this one.
-fn noted(bad: u32, made: u32, agrees: bool) -> u32 {
+fn noted(bad: u32, made: u32, agrees: bool) -> u32
+    ensures { λ r. ⌜ r ≡ firstBad bad made agrees ⌝ }
+{
     if agrees {
         return bad;
     }
-    if bad != 0 {
-        return bad;
+    if bad == 0 {
+        return made;
     }
-    made
+    bad
 }
 
 // Steps of an operation that has so many stores, until `rest` are left, to the end of its line.
@@ -109,7 +124,9 @@ fn steps(
 }
 
 // How many bytes of the work buffer are the operation's.
-fn laid(rec: Record) -> u32 {
+fn work_bytes(rec: Record) -> u32
+    ensures { λ r. ⌜ r ≡ workBytes (rec .pending) ⌝ }
+{
     let pending = rec.pending;
     match pending {
         Pending::Idle => 0,
@@ -129,7 +146,9 @@ fn laid(rec: Record) -> u32 {
 }
 
 // A refused start, which changes nothing.
-fn refused(rec: Record, area: &[u8; 1024], index: &[u32; 16], number: u32, book: Book) -> Played {
+fn refused(rec: Record, area: &[u8; 1024], index: &[u32; 16], number: u32, book: Book) -> Played
+    ensures { λ r. ⌜ r ≡ played rec book ⌝ }
+{
     lines::compared(
         b": refused ",
         number,
@@ -143,7 +162,9 @@ fn refused(rec: Record, area: &[u8; 1024], index: &[u32; 16], number: u32, book:
 }
 
 // How many of an operation's stores are not made: none where the supply does not fail.
-fn unmade(stores: u32, fails: u32) -> u32 {
+fn unmade(stores: u32, fails: u32) -> u32
+    ensures { λ r. ⌜ r ≡ notMade stores fails ⌝ }
+{
     if fails == 0 {
         return 0;
     }
@@ -162,11 +183,12 @@ fn accepted(
     stores: u32,
     due: Due,
 ) -> Played {
-    let count = laid(rec);
+    let count = work_bytes(rec);
     let rest = unmade(stores, due.fails);
     let book = book_at(rest, due);
+    let version = due.version;
     lines::field(b": ", stores);
-    lines::field(b" stores, version ", due.version);
+    lines::field(b" stores, version ", version.0);
     let rec = steps(rec, area, index, work, stores, rest, due);
     lines::bytes(b" ", work, count as usize);
     if due.fails == 0 {
@@ -212,8 +234,9 @@ pub fn write_key(
     let length = memory::at_most(56, value.length);
     lines::operation(b"write", key);
     let start = write(rec, area, index, work, key, &bytes[0..length]);
+    let version = before.next;
     let due = Due {
-        version: before.next,
+        version,
         before,
         after: book::written(before, number, value),
         fails: played.fails,
@@ -233,8 +256,9 @@ pub fn delete_key(
     let key = book::key(number);
     lines::operation(b"delete", key);
     let start = delete(rec, area, index, work, key);
+    let version = before.next;
     let due = Due {
-        version: before.next,
+        version,
         before,
         after: book::deleted(before, number),
         fails: played.fails,
@@ -255,7 +279,7 @@ pub fn clean_slots(
     lines::field(b"clean ", victims);
     let start = clean(rec, area, index, work, victims);
     let due = Due {
-        version: 0,
+        version: Version(0),
         before: book,
         after: book,
         fails: played.fails,

@@ -1,4 +1,4 @@
-// What the running store and a recovery after a cut answer, compared with the book.
+// What reads and a recovery after a cut answer, compared with the book.
 use crate::book;
 use crate::book::Book;
 use crate::book::Held;
@@ -7,13 +7,18 @@ use crate::memory;
 use record::ReadAnswer;
 use record::Record;
 use record::RecoverAnswer;
-use recovery::read::read;
-use recovery::read::read_value;
-use recovery::recover::recover;
 use segment::layout::object_kind;
+use store::read;
+use store::read_value;
+use store::recover;
+ghost use mathlib.Core.Path.{_≡_};
+ghost use Rattle.play.specs.Answers.{readSays};
+ghost use Rattle.play.specs.Values.{bytesAre};
 
 // Whether these are the bytes of a value.
-fn bytes_are(bytes: &[u8], value: Value) -> bool {
+fn bytes_are(bytes: &[u8], value: Value) -> bool
+    ensures { λ r. ⌜ r ≡ bytesAre (now (bytes .entry)) value ⌝ }
+{
     if bytes.len() != value.length {
         return false;
     }
@@ -30,13 +35,16 @@ fn bytes_are(bytes: &[u8], value: Value) -> bool {
 }
 
 // Whether a read's answer is the one for what the key has.
-fn answer_is(answer: ReadAnswer, held: Held) -> bool {
+fn answer_is(answer: ReadAnswer, held: Held) -> bool
+    ensures { λ r. ⌜ r ≡ readSays answer held ⌝ }
+{
     let value = held.value;
+    let has = held.version;
     match answer {
         ReadAnswer::Present { version, kind } => {
-            version.0 == held.version && kind == object_kind(value.length)
+            version.0 == has.0 && kind == object_kind(value.length)
         }
-        ReadAnswer::Refused(cause) => held.version == 0 && record::number(cause) == 8,
+        ReadAnswer::Refused(cause) => has.0 == 0 && record::number(cause) == 8,
     }
 }
 
@@ -55,8 +63,9 @@ fn reads_as(rec: Record, area: &[u8], index: &[u32], number: usize, held: Held) 
 // Whether the next version and the reads of every key are the book's.
 pub fn agrees(rec: Record, area: &[u8], index: &[u32], book: Book) -> bool {
     let next = rec.next;
+    let due = book.next;
     let held = book.held;
-    if next.0 != book.next {
+    if next.0 != due.0 {
         return false;
     }
     let mut i = 0;
@@ -87,7 +96,7 @@ fn cut_agrees(area: &[u8], book: Book) -> bool {
     }
 }
 
-// Whether the reads of the running store, and those after a cut, are the book's.
+// Whether the reads with the record as it is, and those after a cut, are the book's.
 pub fn both_agree(rec: Record, area: &[u8], index: &[u32], book: Book) -> bool {
     if !agrees(rec, area, index, book) {
         return false;

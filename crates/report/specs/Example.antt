@@ -18,7 +18,7 @@ input area = 4 ∷ 0 ∷ 1 ∷ area
 abbrev after : List Operation → List ℕ
 after os = dumpText (input (playedAll (freshOver 255) os))
 
-case-2 : after (write (keyed 7 9) (replicate 8 11) ∷ []) ≡ ascii "next 2 digest 1 keys 1\n7 9 1 1\n"
+case-2 : after (write (keyed 7 9) (replicate 8 0x11) ∷ []) ≡ ascii "next 2 digest 1 keys 1\n7 9 1 1\n"
 unfolding opened digitsIn before inOrder ascending presentOf lineOf linesOf textUnless areaText dumpText
 case-2 = refl
 

@@ -44,16 +44,16 @@ carry-end xs i n c e h w = carry-last xs n c h ∙ ap (λ (k : ℕ). take k xs +
 -- ---- what a cell gives put among the first n
 
 -- The first r are the first n and what the cell gave, in its place.
-pub record Adds (ranks ranks′ : List ℕ) (n r : ℕ) (given : Option ℕ) : Type 0 where
+pub record AddsRank (ranks ranks′ : List ℕ) (n r : ℕ) (given : Option ℕ) : Type 0 where
   pub stands : take r ranks′ ≡ added given (take n ranks)
   pub one-more : r ≤ n + 1
 
-pub adds-none : (ranks : List ℕ) (n : ℕ) {given : Option ℕ} → given ≡ none → Adds ranks ranks n n given
+pub adds-none : (ranks : List ℕ) (n : ℕ) {given : Option ℕ} → given ≡ none → AddsRank ranks ranks n n given
 unfolding added
 adds-none ranks n e = record { stands = ap (λ (o : Option ℕ). added o (take n ranks)) (sym e); one-more = omega arith }
 
 pub adds-rank : {ranks ranks′ : List ℕ} {n x : ℕ} {given : Option ℕ} → given ≡ some x → take (n + 1) ranks′ ≡ carried x (take n ranks)
-    → Adds ranks ranks′ n (n + 1) given
+    → AddsRank ranks ranks′ n (n + 1) given
 unfolding added
 adds-rank {ranks} {ranks′} {n} e p = record { stands = p ∙ ap (λ (o : Option ℕ). added o (take n ranks)) (sym e); one-more = omega arith }
 
@@ -71,7 +71,7 @@ gather-starts f cells ranks =
     record { inside = omega arith; few = omega arith; stands = sym (ap (gathered f) (drop-of-length-le cells {i = length cells} (omega arith))) }
 
 module _ (f : ℕ → Option ℕ) (cells ranks ranks′ : List ℕ) (n r : ℕ) where
-  turn-at : (k : ℕ) → Gathered f cells ranks (suc k) n → Adds ranks ranks′ n r (f (getD cells k 0)) → Gathered f cells ranks′ k r
+  turn-at : (k : ℕ) → Gathered f cells ranks (suc k) n → AddsRank ranks ranks′ n r (f (getD cells k 0)) → Gathered f cells ranks′ k r
   unfolding gathered
   turn-at k g a =
       record {
@@ -82,7 +82,7 @@ module _ (f : ℕ → Option ℕ) (cells ranks ranks′ : List ℕ) (n r : ℕ) 
             ∙ sym (ap (gathered f) (drop-cons cells k 0 (omega (arith, g .inside))));
       }
 
-  pub gather-turn : (i : ℕ) → 0 < i → Gathered f cells ranks i n → Adds ranks ranks′ n r (f (getD cells (i - 1) 0)) → Gathered f cells ranks′ (i - 1) r
+  pub gather-turn : (i : ℕ) → 0 < i → Gathered f cells ranks i n → AddsRank ranks ranks′ n r (f (getD cells (i - 1) 0)) → Gathered f cells ranks′ (i - 1) r
   gather-turn zero h g a = absurd (omega arith)
   gather-turn (suc k) h g a = simp unary-clauses (turn-at k g (simp unary-clauses at a))
 

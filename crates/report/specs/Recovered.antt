@@ -23,8 +23,8 @@ use Rattle.model.specs.Promises.{RecoverPromise, IndexAfter}
 use Rattle.model.specs.Recovery.{lists, listsBelow, orderBad, geometryBad, areaCauses, ifNone, recordFrom, recovered, recoveryFor, recovery}
 use Rattle.laws.specs.CauseLaws.{cause-first}
 use Rattle.laws.specs.RecoverLaws.{order-free, recovered-fits}
-use Rattle.report.specs.Report.{refusedLine, recordText, cellsUsed, textUnless, areaText}
-use Rattle.report.specs.Gather.{Ready}
+use Rattle.report.specs.Report.{refusedLine, listingText, cellsUsed, textUnless, areaText}
+use Rattle.report.specs.Gather.{RecoveredArea}
 
 -- ---- the order list
 
@@ -102,7 +102,7 @@ module _ (L : Layout) (n s : ℕ) (area cells cells′ : List ℕ) (r : Recovery
   text-refused c e = go (cause L n s cellsUsed area) (ap (λ (x : Recovery). x .answer) (sym answered) ∙ e)
     where
       go : (o : Option Refusal) → recoveryFor o (rec L n s cellsUsed area) .answer ≡ RecoverAnswer.Refused c
-          → refusedLine c ≡ textUnless o (recordText L area (rec L n s cellsUsed area))
+          → refusedLine c ≡ textUnless o (listingText L area (rec L n s cellsUsed area))
       go none q = unfold recoveryFor in (let z : _≡_ {A = ℕ} 0 1 = cc in absurd (omega arith))
       go (some d) q = unfold recoveryFor in (let same : d ≡ c = cc in ap refusedLine (sym same))
 
@@ -118,11 +118,11 @@ module _ (L : Layout) (n s : ℕ) (area cells cells′ : List ℕ) (r : Recovery
             let z : _≡_ {A = ℕ} 0 1 = cc in
             absurd (omega arith))
 
-    pub text-recovered : recordText L area (r .rec) ≡ areaText L n s area
+    pub text-recovered : listingText L area (r .rec) ≡ areaText L n s area
     unfolding areaText textUnless
     text-recovered =
-        ap (recordText L area) (accepted .1)
-        ∙ sym (ap (λ (o : Option Refusal). textUnless o (recordText L area (rec L n s cellsUsed area))) (accepted .0))
+        ap (listingText L area) (accepted .1)
+        ∙ sym (ap (λ (o : Option Refusal). textUnless o (listingText L area (rec L n s cellsUsed area))) (accepted .0))
 
     recovers : recovered L n s cellsUsed area ≡ some (rec L n s cellsUsed area)
     unfolding recovered ifNone
@@ -132,10 +132,10 @@ module _ (L : Layout) (n s : ℕ) (area cells cells′ : List ℕ) (r : Recovery
     unfolding IndexAfter
     rule = subst (IndexAfter L area cells cells′ r) e (p .index)
 
-    pub recovered-ready : Bytes area → Ready L area (r .rec) cells′
-    recovered-ready bytes = subst (λ (x : Record). Ready L area x cells′) (sym (accepted .1)) its
+    pub recovered-ready : Bytes area → RecoveredArea L area (r .rec) cells′
+    recovered-ready bytes = subst (λ (x : Record). RecoveredArea L area x cells′) (sym (accepted .1)) its
       where
-        its : Ready L area (rec L n s cellsUsed area) cells′
+        its : RecoveredArea L area (rec L n s cellsUsed area) cells′
         its =
             record {
               genuine =

@@ -8,7 +8,10 @@ use lib.ListN.{length, getD, take, drop}
 use Rattle.word.specs.Number.{numberOf}
 use Rattle.segment.specs.Choice.{pick}
 use Rattle.segment.specs.Layout.{Layout, edition1}
+use Rattle.segment.specs.declared.DigestNumber.{DigestNumber}
 use Rattle.segment.specs.declared.Key.{Key}
+use Rattle.segment.specs.declared.Version.{Version}
+use Rattle.segment.specs.Entry.{kindOf}
 use Rattle.record.specs.Refusals.{numberOfRefusal}
 use Rattle.record.specs.declared.Refusal.{Refusal}
 use Rattle.record.specs.declared.Record.{Record}
@@ -29,30 +32,30 @@ abbrev pub refusedLine : Refusal → List ℕ
 refusedLine c = ascii "refused " ++ field (numberOfRefusal c) (ascii "\n")
 
 -- Next version, digest number and the number of present keys.
-abbrev pub headLine : ℕ → ℕ → ℕ → List ℕ
-headLine next digest keys = ascii "next " ++ field next (ascii " digest ") ++ field digest (ascii " keys ") ++ field keys (ascii "\n")
+abbrev pub headLine : Version → DigestNumber → ℕ → List ℕ
+headLine next digest keys = ascii "next " ++ field (next .0) (ascii " digest ") ++ field (digest .0) (ascii " keys ") ++ field keys (ascii "\n")
 
 -- A present key: table, key, version, kind.
-abbrev pub keyLine : Key → ℕ → ℕ → List ℕ
+abbrev pub keyLine : Key → Version → ℕ → List ℕ
 keyLine k version kind =
-    field (k .table) (ascii " ") ++ field (k .key) (ascii " ") ++ field version (ascii " ") ++ field kind (ascii "\n")
+    field (k .table) (ascii " ") ++ field (k .key) (ascii " ") ++ field (version .0) (ascii " ") ++ field kind (ascii "\n")
 
 -- the line of a key that has this object; a key that has none has no line
-unfoldable pub lineOf : Key → Option Placed → List ℕ
-lineOf k none = []
-lineOf k (some x) = keyLine k (x .entry .version) (x .entry .kind)
+unfoldable pub lineOf : Layout → Key → Option Placed → List ℕ
+lineOf L k none = []
+lineOf L k (some x) = keyLine k (record { 0 = x .entry .version }) (kindOf L (x .entry))
 
 unfoldable pub linesOf : Layout → List Placed → List Key → List ℕ
 linesOf L log [] = []
-linesOf L log (k ∷ ks) = lineOf k (present L log k) ++ linesOf L log ks
+linesOf L log (k ∷ ks) = lineOf L k (present log k) ++ linesOf L log ks
 
 abbrev pub presentLines : Layout → List ℕ → Record → List ℕ
-presentLines L area r = linesOf L (logNow L area r) (presentKeys L (logNow L area r))
+presentLines L area r = linesOf L (logNow L area r) (presentKeys (logNow L area r))
 
--- The text for a store: the head line, then a line for each present key of its log.
-abbrev pub recordText : Layout → List ℕ → Record → List ℕ
-recordText L area r =
-    headLine (r .next .0) (r .digest .0) (length (presentKeys L (logNow L area r))) ++ presentLines L area r
+-- The listing of an area with this record: the head line, then a line for each present key of its log.
+abbrev pub listingText : Layout → List ℕ → Record → List ℕ
+listingText L area r =
+    headLine (r .next) (r .digest) (length (presentKeys (logNow L area r))) ++ presentLines L area r
 
 -- M
 abbrev pub cellsUsed : ℕ
@@ -62,9 +65,9 @@ unfoldable pub textUnless : Option Refusal → List ℕ → List ℕ
 textUnless none text = text
 textUnless (some c) text = refusedLine c
 
--- The text for N, S and an area: of the store that recovery gives, or of its refusal.
+-- The text for N, S and an area: the listing with the record that recovery gives, or its refusal.
 unfoldable pub areaText : Layout → ℕ → ℕ → List ℕ → List ℕ
-areaText L n s area = textUnless (firstCause (areaCauses L n s cellsUsed area)) (recordText L area (recordFrom L n s cellsUsed area))
+areaText L n s area = textUnless (firstCause (areaCauses L n s cellsUsed area)) (listingText L area (recordFrom L n s cellsUsed area))
 
 -- An input too short to hold N and S is of a wrong length, like one whose area is not N × S bytes long.
 unfoldable pub dumpText : List ℕ → List ℕ

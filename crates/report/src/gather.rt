@@ -7,14 +7,15 @@ ghost use Prim.Native.Nat.{_+_, _*_, _-_, _/_, _<_, _≤_};
 ghost use mathlib.Core.Path.{_≡_};
 ghost use lib.ListN.{length};
 ghost use Rattle.segment.specs.Layout.{edition1};
-ghost use Rattle.report.specs.Inserting.{Adds, Gathered};
+ghost use Rattle.report.specs.Inserting.{AddsRank, Gathered};
 ghost use Rattle.report.specs.Gather.{cellRank, CellsInside};
 
-// Puts the rank of the key whose object a cell names among the first n, and answers how many they are then.
+// Puts the rank of the key whose object a cell names among the first n, and answers how many they are then. The contract leaves
+// free what stands behind those.
 fn add_cell(s: usize, area: &[u8], cell: u32, ranks: &mut [u64], n: usize) -> usize
     requires { ⌜ (0 < s) × (n < length (now ranks)) × ((cell ≡ 0 → ⊥) → (cell - 1) / s * s + s ≤ length (now area)) ⌝ }
     ensures { λ r.
-        ⌜ Adds (now (ranks .entry)) (now (ranks .exit)) n r (cellRank edition1 s (now (area .entry)) cell) ⌝ }
+        ⌜ AddsRank (now (ranks .entry)) (now (ranks .exit)) n r (cellRank edition1 s (now (area .entry)) cell) ⌝ }
 {
     if cell == 0 {
         return n;
@@ -40,7 +41,8 @@ fn add_cell(s: usize, area: &[u8], cell: u32, ranks: &mut [u64], n: usize) -> us
     }
 }
 
-// The ranks of the present keys, ascending, and how many they are.
+// The ranks of the present keys, ascending, and how many they are. The contract leaves free what stands behind them, and does not
+// ask that the index keeps its rule: it says what each cell gives, and with the rule these are the present keys.
 pub fn gather(s: usize, area: &[u8], index: &[u32], ranks: &mut [u64]) -> usize
     requires { ⌜ (0 < s) × (length (now index) ≤ length (now ranks)) × CellsInside s (now area) (now index) ⌝ }
     ensures { λ r.

@@ -1,7 +1,7 @@
 // What the program `dump` prints (01, "Values to hold it to"), as a text in a caller's buffer.
 use crate::ascending::recover_area;
 use crate::lines::put_refused;
-use crate::listing::put_store;
+use crate::listing::put_listing;
 use record::RecoverAnswer;
 use record::Refusal;
 use word::number::read16;
@@ -35,7 +35,7 @@ fn put_area(n: u32, s: u32, area: &[u8], out: &mut [u8]) -> usize
     let rec = recovery.rec;
     match answer {
         RecoverAnswer::Refused(cause) => put_refused(out, cause),
-        RecoverAnswer::Recovered => put_store(rec, area, &index, out),
+        RecoverAnswer::Recovered => put_listing(rec, area, &index, out),
     }
 }
 

@@ -1,7 +1,9 @@
 // The lines of a report, each put into the buffer at a place and answering the place behind it.
 use record::Refusal;
 use record::number;
+use segment::DigestNumber;
 use segment::Key;
+use segment::Version;
 use text::put;
 use text::put_number;
 ghost use Prim.Native.Nat.{_+_, _≤_};
@@ -29,23 +31,23 @@ pub fn put_refused(out: &mut [u8], cause: Refusal) -> usize
 }
 
 // Next version, digest number and number of keys.
-pub fn put_head(out: &mut [u8], next: u32, digest: u32, keys: u32) -> usize
+pub fn put_head(out: &mut [u8], next: Version, digest: DigestNumber, keys: u32) -> usize
     requires { ⌜ 64 ≤ length (now out) ⌝ }
     ensures { λ r. ⌜ PutWithin (now (out .entry)) (now (out .exit)) 0 r (headLine next digest keys) 64 ⌝ }
 {
     let at = put(out, 0, b"next ");
-    let at = put_field(out, at, next, b" digest ");
-    let at = put_field(out, at, digest, b" keys ");
+    let at = put_field(out, at, next.0, b" digest ");
+    let at = put_field(out, at, digest.0, b" keys ");
     put_field(out, at, keys, b"\n")
 }
 
 // Table, key, version and kind.
-pub fn put_key(out: &mut [u8], at: usize, key: Key, version: u32, kind: u8) -> usize
+pub fn put_key(out: &mut [u8], at: usize, key: Key, version: Version, kind: u8) -> usize
     requires { ⌜ at + 44 ≤ length (now out) ⌝ }
     ensures { λ r. ⌜ PutWithin (now (out .entry)) (now (out .exit)) at r (keyLine key version kind) 44 ⌝ }
 {
     let at = put_field(out, at, key.table as u32, b" ");
     let at = put_field(out, at, key.key, b" ");
-    let at = put_field(out, at, version, b" ");
+    let at = put_field(out, at, version.0, b" ");
     put_field(out, at, kind as u32, b"\n")
 }

@@ -1,4 +1,4 @@
-// The lines of the present keys, and the whole text of a store.
+// The lines of the present keys, and the listing of a recovered area.
 use crate::CELLS;
 use crate::gather::gather;
 use crate::lines::put_head;
@@ -14,16 +14,16 @@ ghost use lib.ListN.{length};
 ghost use Rattle.segment.specs.Layout.{edition1};
 ghost use Rattle.model.specs.Log.{present};
 ghost use Rattle.model.specs.Operations.{logNow};
-ghost use Rattle.report.specs.Gather.{Ready, presentRanks};
+ghost use Rattle.report.specs.Gather.{RecoveredArea, presentRanks};
 ghost use Rattle.report.specs.PutLaws.{PutWithin};
-ghost use Rattle.report.specs.Report.{lineOf, presentLines, recordText, textRoom};
+ghost use Rattle.report.specs.Report.{lineOf, presentLines, listingText, textRoom};
 
 // The line of a key; no line for a key that is not present.
 fn put_line(rec: Record, area: &[u8], index: &[u32], key: Key, out: &mut [u8], at: usize) -> usize
-    requires { ⌜ Ready edition1 (now area) rec (now index) × (at + 44 ≤ length (now out)) ⌝ }
+    requires { ⌜ RecoveredArea edition1 (now area) rec (now index) × (at + 44 ≤ length (now out)) ⌝ }
     ensures { λ r.
         ⌜ PutWithin (now (out .entry)) (now (out .exit)) at r
-        (lineOf key (present edition1 (logNow edition1 (now (area .entry)) rec) key)) 44 ⌝ }
+        (lineOf edition1 key (present (logNow edition1 (now (area .entry)) rec) key)) 44 ⌝ }
 {
     match find(rec, area, index, key) {
         Lookup::Object {
@@ -31,7 +31,7 @@ fn put_line(rec: Record, area: &[u8], index: &[u32], key: Key, out: &mut [u8], a
             version,
             kind,
             length: _,
-        } => put_key(out, at, key, version.0, kind),
+        } => put_key(out, at, key, version, kind),
         Lookup::Absent => at,
         Lookup::Bad => at,
     }
@@ -46,7 +46,7 @@ fn put_lines(
     out: &mut [u8],
     at: usize,
 ) -> usize
-    requires { ⌜ Ready edition1 (now area) rec (now index)
+    requires { ⌜ RecoveredArea edition1 (now area) rec (now index)
         × (now ranks ≡ presentRanks edition1 (now area) rec)
         × (at + 44 * length (now ranks) ≤ length (now out)) ⌝ }
     ensures { λ r.
@@ -62,16 +62,16 @@ fn put_lines(
     end
 }
 
-// The head line and the lines of the present keys.
-pub fn put_store(rec: Record, area: &[u8], index: &[u32], out: &mut [u8]) -> usize
-    requires { ⌜ Ready edition1 (now area) rec (now index) × (textRoom ≤ length (now out)) ⌝ }
+// The listing of a recovered area: the head line and the lines of the present keys.
+pub fn put_listing(rec: Record, area: &[u8], index: &[u32], out: &mut [u8]) -> usize
+    requires { ⌜ RecoveredArea edition1 (now area) rec (now index) × (textRoom ≤ length (now out)) ⌝ }
     ensures { λ r.
-        ⌜ PutWithin (now (out .entry)) (now (out .exit)) 0 r (recordText edition1 (now (area .entry)) rec) textRoom ⌝ }
+        ⌜ PutWithin (now (out .entry)) (now (out .exit)) 0 r (listingText edition1 (now (area .entry)) rec) textRoom ⌝ }
 {
-    let number = rec.digest;
+    let digest = rec.digest;
     let next = rec.next;
     let mut ranks = [0; CELLS];
     let keys = gather(rec.size as usize, area, index, &mut ranks);
-    let at = put_head(out, next.0, number.0, keys as u32);
+    let at = put_head(out, next, digest, keys as u32);
     put_lines(rec, area, index, &ranks[..keys], out, at)
 }

@@ -36,6 +36,7 @@ fn higher(a: u64, b: u64) -> u64
 }
 
 // Puts a rank in its place among the first n, which ascend: it is carried along them, and at each place the lower one stays.
+// The contract leaves free what stands behind the first n + 1.
 pub fn insert(ranks: &mut [u64], n: usize, rank: u64)
     requires { ⌜ n < length (now ranks) ⌝ }
     ensures { λ _. ⌜ take (n + 1) (now (ranks .exit)) ≡ carried rank (take n (now (ranks .entry))) ⌝ }

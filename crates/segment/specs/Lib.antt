@@ -11,4 +11,5 @@ pub mod EntryLaws
 pub mod Kinds
 pub mod AnswerLaws
 pub mod ReaderLaws
+pub mod Area
 pub mod Written

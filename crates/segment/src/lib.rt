@@ -1,4 +1,5 @@
 // The bytes of one segment: its counters, the entry reader, the digest, and what is written.
+pub mod area;
 pub mod layout;
 pub mod reader;
 pub mod writer;

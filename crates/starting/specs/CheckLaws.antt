@@ -1,10 +1,10 @@
 -- The tests at each return of the code: premises are what the code's tests and callees told.
-use Prim.Native.Nat.{_≤_, _<_}
+use Prim.Native.Nat.{ℕ, _≤_, _<_}
 use mathlib.Core.Path.{_≡_, refl, sym, _∙_, ap}
 use mathlib.Core.Bool.{Bool, true, false, not}
 use mathlib.Core.List.{List, [], _∷_, _++_}
 use mathlib.Core.Option.{Option, none, some}
-use borrow.Author.Tests.{lt-ltb, le-ltb, not-false, ltb-false}
+use borrow.Author.Tests.{lt-ltb, le-ltb, not-false}
 use Rattle.segment.specs.Layout.{Layout}
 use Rattle.record.specs.Range.{fitsLent}
 use Rattle.record.specs.RangeLaws.{Lent, lent}
@@ -13,11 +13,11 @@ use Rattle.record.specs.declared.Pending.the-variants.{Idle, Append, NewHead, C
 use Rattle.record.specs.declared.Refusal.{Refusal}
 use Rattle.record.specs.declared.Refusal.the-variants.{WorkShort, BadRecord, Busy}
 use Rattle.record.specs.declared.Record.{Record}
-use Rattle.model.specs.Causes.{Cause, firstCause}
-use Rattle.model.specs.Refused.{Lengths, isPending}
-use Rattle.laws.specs.CauseLaws.{cause-first, cause-skip, NoCause, no-cause, first-some, first-none}
+use Rattle.model.specs.Causes.{Cause, when, firstCause}
+use Rattle.model.specs.Refused.{Lengths, recordBad, isPending}
+use Rattle.laws.specs.CauseLaws.{cause-first, cause-skip, first-some, first-none}
 use Rattle.starting.specs.declared.Check.{Check}
-use Rattle.starting.specs.Checks.{checked, lentTests}
+use Rattle.starting.specs.Checks.{checked, idleCauses}
 
 -- ---- one test after the other
 
@@ -65,41 +65,38 @@ other-pending (Append n k) m = refl
 other-pending (NewHead i n k) m = refl
 other-pending (Clean i v n k) m = refl
 
--- ---- 4, 3 and 5: t is what the code finds for the range and the lengths, p for a pending operation
+-- ---- 3 and 5: p is what the code finds for a pending operation
 
-module _ (L : Layout) (r : Record) (l : Lengths) (t : Bool) (e : t ≡ fitsLent L r (l .area) (l .index)) where
-  pub lent-bad : not t ≡ true → Check.Refused BadRecord ≡ checked (firstCause (lentTests L r l))
-  unfolding lentTests
-  lent-bad h = refused _ _ (sym (ap not e) ∙ h)
+module _ (r : Record) (n : ℕ) where
+  pub idle-short : n < r .size → Check.Refused WorkShort ≡ checked (firstCause (idleCauses r n))
+  unfolding idleCauses
+  idle-short h = refused _ _ (lt-ltb n (r .size) h)
+
+  module _ (long : r .size ≤ n) (p : Bool) (q : p ≡ isPending (r .pending)) where
+    pub idle-busy : p ≡ true → Check.Refused Busy ≡ checked (firstCause (idleCauses r n))
+    unfolding idleCauses
+    idle-busy h = skipped _ _ (le-ltb n (r .size) long) (refused _ _ (sym q ∙ h))
+
+    pub idle-passed : p ≡ false → Check.Passed ≡ checked (firstCause (idleCauses r n))
+    unfolding idleCauses
+    idle-passed h = skipped _ _ (le-ltb n (r .size) long) (skipped _ _ (sym q ∙ h) passed)
+
+-- ---- 4, where t is what the code finds for the range and the lengths, before 3 and 5
+
+module _ (L : Layout) (r : Record) (l : Lengths) {t : Bool} (e : t ≡ fitsLent L r (l .area) (l .index)) where
+  pub record-bad : not t ≡ true → recordBad L r l ≡ true
+  record-bad h = sym (ap not e) ∙ h
 
   module _ (fits : not t ≡ false) where
-    pub lent-short : l .work < r .size → Check.Refused WorkShort ≡ checked (firstCause (lentTests L r l))
-    unfolding lentTests
-    lent-short h = skipped _ _ (sym (ap not e) ∙ fits) (refused _ _ (lt-ltb (l .work) (r .size) h))
+    pub record-lent : Lent L r (l .area) (l .index)
+    record-lent = lent L r (l .area) (l .index) (sym e ∙ not-false t fits)
 
-    module _ (long : r .size ≤ l .work) (p : Bool) (q : p ≡ isPending (r .pending)) where
-      pub lent-busy : p ≡ true → Check.Refused Busy ≡ checked (firstCause (lentTests L r l))
-      unfolding lentTests
-      lent-busy h =
-          skipped _ _ (sym (ap not e) ∙ fits) (skipped _ _ (le-ltb (l .work) (r .size) long) (refused _ _ (sym q ∙ h)))
+    module _ (cs : List Cause) where
+      abbrev FirstOf : Check → Type 0
+      FirstOf a = a ≡ checked (firstCause (when (recordBad L r l) BadRecord ∷ idleCauses r (l .work) ++ cs))
 
-      pub lent-idle : p ≡ false → Check.Passed ≡ checked (firstCause (lentTests L r l))
-      unfolding lentTests
-      lent-idle h =
-          skipped _ _ (sym (ap not e) ∙ fits) (skipped _ _ (le-ltb (l .work) (r .size) long) (skipped _ _ (sym q ∙ h) passed))
+      pub idle-refuses : (c : Refusal) → Check.Refused c ≡ checked (firstCause (idleCauses r (l .work))) → FirstOf (Check.Refused c)
+      idle-refuses c h = skipped _ _ (sym (ap not e) ∙ fits) (part-refused (idleCauses r (l .work)) cs c h)
 
--- What is known once they are passed.
-pub record Begins (L : Layout) (r : Record) (l : Lengths) : Type 0 where
-  pub lent : Lent L r (l .area) (l .index)
-  pub long : r .size ≤ l .work
-  pub idle : isPending (r .pending) ≡ false
-
-pub begins : (L : Layout) (r : Record) (l : Lengths) → Check.Passed ≡ checked (firstCause (lentTests L r l)) → Begins L r l
-unfolding lentTests
-begins L r l e =
-    let tests : NoCause (lentTests L r l) = no-cause (lentTests L r l) (checked-none (firstCause (lentTests L r l)) e) in
-    record {
-      lent = lent L r (l .area) (l .index) (not-false (fitsLent L r (l .area) (l .index)) (tests .0));
-      long = ltb-false (l .work) (r .size) (tests .1 .0);
-      idle = tests .1 .1 .0;
-    }
+      pub idle-goes : {a : Check} → Check.Passed ≡ checked (firstCause (idleCauses r (l .work))) → a ≡ checked (firstCause cs) → FirstOf a
+      idle-goes h g = skipped _ _ (sym (ap not e) ∙ fits) (part-passed (idleCauses r (l .work)) cs h g)

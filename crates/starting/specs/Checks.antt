@@ -1,12 +1,13 @@
--- 01, "Refused calls": the tests with which every start begins.
+-- 01, "Refused calls": tests that every start makes.
+use Prim.Native.Nat.{ℕ}
 use mathlib.Core.List.{List, [], _∷_}
 use mathlib.Core.Option.{Option, none, some}
-use Rattle.segment.specs.Layout.{Layout}
+use lib.Dec.{ltb}
 use Rattle.record.specs.declared.Refusal.{Refusal}
-use Rattle.record.specs.declared.Refusal.the-variants.{WorkShort, BadRecord, Busy}
+use Rattle.record.specs.declared.Refusal.the-variants.{WorkShort, Busy}
 use Rattle.record.specs.declared.Record.{Record}
 use Rattle.model.specs.Causes.{Cause, when}
-use Rattle.model.specs.Refused.{Lengths, recordBad, workShort, isPending}
+use Rattle.model.specs.Refused.{isPending}
 use Rattle.starting.specs.declared.Check.{Check}
 
 -- the answer of a check: the first cause, if any
@@ -14,6 +15,6 @@ unfoldable pub checked : Option Refusal → Check
 checked none = Check.Passed
 checked (some c) = Check.Refused c
 
--- 4, 3 and 5
-unfoldable pub lentTests : Layout → Record → Lengths → List Cause
-lentTests L r l = when (recordBad L r l) BadRecord ∷ when (workShort r l) WorkShort ∷ when (isPending (r .pending)) Busy ∷ []
+-- 3 and 5, for a work buffer of n bytes
+unfoldable pub idleCauses : Record → ℕ → List Cause
+idleCauses r n = when (ltb n (r .size)) WorkShort ∷ when (isPending (r .pending)) Busy ∷ []

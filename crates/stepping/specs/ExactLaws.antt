@@ -28,13 +28,13 @@ use Rattle.model.specs.Log.{Placed, keysOf}
 use Rattle.model.specs.Index.{IndexRule}
 use Rattle.model.specs.Operations.{Operation, write, delete, clean, Laid, laid, laidAppend, laidHead, laidEntry, laidClean, logNow, newSlot, newDigest, fitsHead, kept, allEncoded, writtenEntry, tombstoneEntry, planOf, commit, stored, appendedRecord, headedRecord, entryRecord, cleanedRecord, finishedRecord, toldVersion}
 use Rattle.model.specs.Recovery.{recovered}
-use Rattle.model.specs.Refused.{startCauses, cleanCauses}
+use Rattle.model.specs.Refused.{keptLength, startCauses}
 use Rattle.laws.specs.RecoverLaws.{recovered-apart, recovered-keys, recovered-fits}
 use Rattle.laws.specs.Operated.{Accepted, planAt}
 use Rattle.laws.specs.Entering.{Roomy, Entering, idle-lent, idle-number, write-enters, delete-enters}
 use Rattle.laws.specs.EntryDone.{appended-added, headed-added}
 use Rattle.laws.specs.OperationsKept.{finishes}
-use Rattle.laws.specs.CauseLaws.{NoCause, no-cause}
+use Rattle.laws.specs.Passed.{CleanPassed, clean-passed}
 use Rattle.index.specs.InsertLaws.{Indexed}
 use Rattle.index.specs.Build.{built}
 use Rattle.index.specs.BuildLaws.{Holds}
@@ -168,7 +168,7 @@ module _ (L : Layout) (roomy : Roomy L) (before cells : List ℕ) (idle : Record
           (next-clear (idle .slots) (idle .map) (idle .head) (facts .head-below) (facts .some-free))
 
       abbrev count : ℕ
-      count = digestSize L + length (allEncoded L (kept L victims (logNow L before idle)))
+      count = digestSize L + length (allEncoded L (kept victims (logNow L before idle)))
 
       abbrev after-clean : List ℕ
       after-clean =
@@ -236,13 +236,13 @@ module _ (L : Layout) (roomy : Roomy L) (before cells : List ℕ) (idle : Record
       (within victims (idle .map) ≡ true) × (idle .digest .0 < numberLimit)
   unfolding startCauses
   clean-tests victims a =
-      let tests : NoCause (cleanCauses L idle (logNow L before idle) (a .lengths) victims) =
-      no-cause (startCauses L idle (logNow L before idle) (a .lengths) (clean victims)) (a .no-cause) in (
-        not-false (within victims (idle .map)) (either-false-right _ _ (tests .1 .1 .1 .0)),
+      let tests : CleanPassed L idle (a .lengths) (keptLength L (logNow L before idle) victims) victims =
+      clean-passed L idle (a .lengths) (keptLength L (logNow L before idle) victims) victims (a .no-cause) in (
+        not-false (within victims (idle .map)) (either-false-right _ _ (tests .victims-good)),
         omega (
           arith,
           idle-number L before idle (clean victims) a,
-          eqb-false (idle .digest .0) numberLimit (tests .1 .1 .1 .1 .1 .0),
+          eqb-false (idle .digest .0) numberLimit (tests .number-left),
         ),
       )
 
@@ -254,10 +254,10 @@ module _ (L : Layout) (roomy : Roomy L) (before cells : List ℕ) (idle : Record
   unfolding laid finishedRecord toldVersion
   operation-ends (write key value) a long rule k =
       entry-ends L roomy before cells idle (a .recovers) (a .area-bytes) (idle-lent L before idle (write key value) a) long rule
-      (writtenEntry L idle key value) (write-enters L before idle key value a) k (finishes L roomy before idle (write key value) a .0)
+      (writtenEntry idle key value) (write-enters L before idle key value a) k (finishes L roomy before idle (write key value) a .0)
   operation-ends (delete key) a long rule k =
       entry-ends L roomy before cells idle (a .recovers) (a .area-bytes) (idle-lent L before idle (delete key) a) long rule
-      (tombstoneEntry L idle key) (delete-enters L before idle key a) k (finishes L roomy before idle (delete key) a .0)
+      (tombstoneEntry idle key) (delete-enters L before idle key a) k (finishes L roomy before idle (delete key) a .0)
   operation-ends (clean victims) a long rule k =
       let t = clean-tests victims a in
       clean-ends L roomy before cells idle (a .recovers) (a .area-bytes) (idle-lent L before idle (clean victims) a) long rule victims (t .0) (t .1) k

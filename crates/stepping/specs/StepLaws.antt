@@ -27,7 +27,8 @@ use Rattle.model.specs.Operations.{Operation, write, delete, clean, Laid, laid,
 use Rattle.model.specs.Causes.{firstCause}
 use Rattle.model.specs.Refused.{recordBad, isPending, stepCauses}
 use Rattle.model.specs.Promises.{Genuine, Started, OneByte, StepPromise, StepExact, stepped, IndexStepped, lentLengths}
-use Rattle.laws.specs.CauseLaws.{cause-false, cause-rest, cause-none, cause-first, cause-skip}
+use Rattle.laws.specs.CauseLaws.{cause-none, cause-first, cause-skip}
+use Rattle.laws.specs.Passed.{step-passed}
 use Rattle.laws.specs.SaidLaws.{step-says}
 use Rattle.laws.specs.Stores.{stored-next, stored-all}
 use Rattle.laws.specs.Operated.{Accepted}
@@ -133,8 +134,8 @@ module _ (L : Layout) (idle : Record) (log : List Placed) where
   pub counts-down : (o : Operation) → CountsDown (laid L idle log o)
   unfolding laid oneLess
   counts-down (write key value) =
-      entry-counts (fitsHead L idle (writtenEntry L idle key value)) (writtenEntry L idle key value)
-  counts-down (delete key) = entry-counts (fitsHead L idle (tombstoneEntry L idle key)) (tombstoneEntry L idle key)
+      entry-counts (fitsHead L idle (writtenEntry idle key value)) (writtenEntry idle key value)
+  counts-down (delete key) = entry-counts (fitsHead L idle (tombstoneEntry idle key)) (tombstoneEntry idle key)
   counts-down (clean victims) = λ k. (refl, refl)
 
 -- ---- a step of a started operation
@@ -142,10 +143,10 @@ module _ (L : Layout) (idle : Record) (log : List Placed) where
 module _ (L : Layout) (roomy : Roomy L) (r : Record) (area cells work : List ℕ)
     (first : firstCause (stepCauses L r (lentLengths area cells work)) ≡ none) where
   step-fits : Lent L r (length area) (length cells)
-  step-fits = lent L r (length area) (length cells) (not-false _ (cause-false _ _ first))
+  step-fits = lent L r (length area) (length cells) (not-false _ (step-passed L r (lentLengths area cells work) first .record-good))
 
   work-long : r .size ≤ length work
-  work-long = ltb-false (length work) (r .size) (cause-false _ _ (cause-rest _ _ first))
+  work-long = ltb-false (length work) (r .size) (step-passed L r (lentLengths area cells work) first .work-long)
 
   no-refusal : (c : Refusal) → firstCause (stepCauses L r (lentLengths area cells work)) ≡ some c → ⊥
   no-refusal c f =

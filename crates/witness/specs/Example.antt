@@ -13,11 +13,12 @@ use Rattle.segment.specs.Layout.{edition1}
 use Rattle.segment.specs.declared.Key.{Key}
 use Rattle.slot_map.specs.Bit.{withBit, less}
 use Rattle.record.specs.Answers.{Said, refusal}
+use Rattle.model.specs.Log.{sameKeys}
 use Rattle.model.specs.Index.{around}
 use Rattle.model.specs.Operations.{Operation, write, delete, clean, Typed, TypedKey, formatted}
 use Rattle.model.specs.Play.{opened, keyed}
 use Rattle.model.specs.Table.{failing}
-use Rattle.history.specs.Book.{starts, steps, reads, readsValue, recovers, Event, called, cut, Kept, Awaited, Book, sameKeys, finish, oneOff, takeOne, feedCall, feed, bookAfter, bookOf}
+use Rattle.history.specs.Book.{starts, steps, reads, readsValue, recovers, Event, called, cut, Kept, Awaited, Book, finish, oneOff, takeOne, feedCall, feed, bookAfter, bookOf}
 use Rattle.history.specs.Runs.{freshWorld, Run}
 use Rattle.index.specs.Build.{entriesFrom, inLog, listed, finished}
 use Rattle.index.specs.Insert.{insertedAt, tallied, insertNext, insertAll}

@@ -2,52 +2,53 @@
 use Prim.Native.Nat.{ℕ, _+_, _-_, _≤_, _<_}
 use mathlib.Core.Path.{_≡_, refl, sym, _∙_, ap}
 use mathlib.Core.Bool.{Bool, true, false, not}
-use mathlib.Core.List.{List, _++_}
+use mathlib.Core.List.{List, _∷_, _++_}
 use lib.Dec.{ltb, leb}
 use lib.ListN.{getD}
 use borrow.Author.Tests.{lt-ltb, le-ltb, eq-eqb, ne-eqb}
-use Rattle.segment.specs.Choice.{both, pick, both-true, both-false-left, both-false-right}
+use Rattle.segment.specs.Choice.{both, both-true, both-false-left, both-false-right, isNone, orZero}
 use Rattle.segment.specs.Layout.{Layout, objectKind, entrySize, digestSize, versionLimit, numberLimit}
 use Rattle.segment.specs.LayoutLaws.{object-kind}
-use Rattle.segment.specs.Kinds.{orZero, kindSize, no-kind, has-kind}
+use Rattle.segment.specs.Area.{standsAt}
+use Rattle.segment.specs.Kinds.{no-kind, has-kind}
 use Rattle.segment.specs.declared.Key.{Key}
 use Rattle.slot_map.specs.Count.{free}
-use Rattle.record.specs.RangeLaws.{lent}
+use Rattle.record.specs.Range.{fitsLent}
 use Rattle.record.specs.declared.Refusal.{Refusal}
 use Rattle.record.specs.declared.Refusal.the-variants.{BadRecord, ValueLength, VersionsSpent, NumbersSpent, KeysFull, NoRoom}
 use Rattle.record.specs.declared.Record.{Record}
-use Rattle.model.specs.Causes.{firstCause}
-use Rattle.model.specs.Refused.{Lengths, isNone}
+use Rattle.model.specs.Causes.{Cause, when, firstCause}
+use Rattle.model.specs.Refused.{Lengths, writeCauses, deleteCauses}
 use Rattle.laws.specs.Entering.{Roomy}
 use Rattle.index.specs.Search.{searchFor}
 use Rattle.index.specs.declared.Found.{Found}
 use Rattle.index.specs.declared.Found.the-variants.{At, Free, Full}
 use Rattle.starting.specs.declared.Check.{Check}
-use Rattle.starting.specs.Checks.{checked, lentTests}
-use Rattle.starting.specs.CheckLaws.{refused, skipped, passed, part-refused, part-passed}
+use Rattle.starting.specs.Checks.{checked, idleCauses}
+use Rattle.starting.specs.CheckLaws.{refused, skipped, passed, part-refused, part-passed, record-bad, idle-refuses, idle-goes}
 use Rattle.writing.specs.declared.Presence.{Presence}
-use Rattle.writing.specs.declared.Presence.the-variants.{Object, Absent, Bad}
-use Rattle.writing.specs.Tests.{isAt, isFull, valueTests, keyTests, roomTests, writeTests, kindPresence, presenceAt, presenceFor, isMissing, isBad, presentTests, deleteTests}
+use Rattle.writing.specs.declared.Presence.the-variants.{Object, Tombstone, Nothing, Forbidden}
+use Rattle.writing.specs.Tests.{factsOf, presenceOf, presenceAt, presenceFor, keyTests, roomTests}
 
--- ---- 11, by what the search found
+-- ---- 4 and 11, by what is known of the key
 
 module _ (r : Record) where
-  pub key-known : (i : ℕ) → Check.Passed ≡ checked (firstCause (keyTests r (At i)))
-  unfolding isFull isAt both keyTests
-  key-known i = skipped _ _ refl (skipped _ _ refl passed)
+  -- a key that the log has
+  pub key-known : (p : Presence) → factsOf p .forbidden ≡ false → factsOf p .in-log ≡ true → Check.Passed ≡ checked (firstCause (keyTests r (factsOf p)))
+  unfolding keyTests
+  key-known p sound known = skipped _ _ sound (skipped _ _ (both-false-left (not (factsOf p .in-log)) _ (ap not known)) passed)
 
-  pub key-no-cell : Check.Refused BadRecord ≡ checked (firstCause (keyTests r Full))
-  unfolding isFull keyTests
-  key-no-cell = refused _ _ refl
+  pub key-forbidden : Check.Refused BadRecord ≡ checked (firstCause (keyTests r (factsOf Forbidden)))
+  unfolding factsOf keyTests
+  key-forbidden = refused _ _ refl
 
-  module _ (i : ℕ) where
-    pub key-over : r .keys ≡ r .cells - 1 → Check.Refused KeysFull ≡ checked (firstCause (keyTests r (Free i)))
-    unfolding isFull isAt both keyTests
-    key-over e = skipped _ _ refl (refused _ _ (eq-eqb (r .keys) (r .cells - 1) e))
+  pub key-over : r .keys ≡ r .cells - 1 → Check.Refused KeysFull ≡ checked (firstCause (keyTests r (factsOf Nothing)))
+  unfolding factsOf both keyTests
+  key-over e = skipped _ _ refl (refused _ _ (eq-eqb (r .keys) (r .cells - 1) e))
 
-    pub key-new : (r .keys ≡ r .cells - 1 → ⊥) → Check.Passed ≡ checked (firstCause (keyTests r (Free i)))
-    unfolding isFull isAt both keyTests
-    key-new n = skipped _ _ refl (skipped _ _ (ne-eqb (r .keys) (r .cells - 1) n) passed)
+  pub key-new : (r .keys ≡ r .cells - 1 → ⊥) → Check.Passed ≡ checked (firstCause (keyTests r (factsOf Nothing)))
+  unfolding factsOf both keyTests
+  key-new n = skipped _ _ refl (skipped _ _ (ne-eqb (r .keys) (r .cells - 1) n) passed)
 
 -- ---- 12 and 10: t is what the code finds for the fit, and f for the free slots
 
@@ -93,105 +94,102 @@ pub kind-room :
     (L : Layout) (n k : ℕ) → Roomy L → k ≡ orZero (objectKind L n) → (k ≡ 0 → ⊥) → digestSize L + entrySize L n ≤ 256
 kind-room L n k roomy e z = roomy .room k n (object-kind L n k (has-kind L n k e z))
 
-module _ (L : Layout) (r : Record) (found : Found) (l : Lengths) (n : ℕ) where
+-- t is what the code finds for the range and the lengths, and p for the key
+module _ (L : Layout) (r : Record) (l : Lengths) (p : Presence) (n : ℕ) {t : Bool} (e : t ≡ fitsLent L r (l .area) (l .index)) where
   abbrev WriteIs : Check → Type 0
-  WriteIs a = a ≡ checked (firstCause (writeTests L r found l n))
+  WriteIs a = a ≡ checked (firstCause (writeCauses L r l (factsOf p) n))
 
-  pub write-lent : (c : Refusal) → Check.Refused c ≡ checked (firstCause (lentTests L r l)) → WriteIs (Check.Refused c)
-  unfolding writeTests
-  write-lent c e = part-refused (lentTests L r l) ((valueTests L r n ++ keyTests r found) ++ roomTests r (entrySize L n)) c e
+  pub write-bad : not t ≡ true → WriteIs (Check.Refused BadRecord)
+  write-bad h = refused _ _ (record-bad L r l e h)
 
-  module _ (lent : Check.Passed ≡ checked (firstCause (lentTests L r l))) where
-    pub write-value : (k : ℕ) → k ≡ orZero (objectKind L n) → k ≡ 0 → WriteIs (Check.Refused ValueLength)
-    unfolding writeTests valueTests
-    write-value k e z = part-passed (lentTests L r l) _ lent (refused _ _ (kind-none L n k e z))
+  module _ (fits : not t ≡ false) where
+    pub write-idle : (c : Refusal) → Check.Refused c ≡ checked (firstCause (idleCauses r (l .work))) → WriteIs (Check.Refused c)
+    unfolding idleCauses
+    write-idle c h = idle-refuses L r l e fits _ c h
 
-    module _ (k : ℕ) (e : k ≡ orZero (objectKind L n)) (some-kind : k ≡ 0 → ⊥) where
-      pub write-spent : r .next .0 ≡ versionLimit L → WriteIs (Check.Refused VersionsSpent)
-      unfolding writeTests valueTests
-      write-spent h =
-          part-passed (lentTests L r l) _ lent
-          (skipped _ _ (kind-some L n k e some-kind) (refused _ _ (eq-eqb (r .next .0) (versionLimit L) h)))
+    module _ (idle : Check.Passed ≡ checked (firstCause (idleCauses r (l .work)))) where
+      pub write-value : (m : ℕ) → m ≡ orZero (objectKind L n) → m ≡ 0 → WriteIs (Check.Refused ValueLength)
+      unfolding idleCauses
+      write-value m d z = idle-goes L r l e fits _ idle (refused _ _ (kind-none L n m d z))
 
-      module _ (left : r .next .0 ≡ versionLimit L → ⊥) where
-        pub write-key : (c : Refusal) → Check.Refused c ≡ checked (firstCause (keyTests r found)) → WriteIs (Check.Refused c)
-        unfolding writeTests valueTests
-        write-key c h =
-            part-passed (lentTests L r l) _ lent
-            (skipped _ _ (kind-some L n k e some-kind)
-            (skipped _ _ (ne-eqb (r .next .0) (versionLimit L) left) (part-refused (keyTests r found) (roomTests r (entrySize L n)) c h)))
+      module _ (m : ℕ) (d : m ≡ orZero (objectKind L n)) (some-kind : m ≡ 0 → ⊥) where
+        pub write-spent : r .next .0 ≡ versionLimit L → WriteIs (Check.Refused VersionsSpent)
+        unfolding idleCauses
+        write-spent h =
+            idle-goes L r l e fits _ idle
+            (skipped _ _ (kind-some L n m d some-kind) (refused _ _ (eq-eqb (r .next .0) (versionLimit L) h)))
 
-        pub write-room :
-            {a : Check} → Check.Passed ≡ checked (firstCause (keyTests r found)) →
-            a ≡ checked (firstCause (roomTests r (entrySize L n))) → WriteIs a
-        unfolding writeTests valueTests
-        write-room h g =
-            part-passed (lentTests L r l) _ lent
-            (skipped _ _ (kind-some L n k e some-kind)
-            (skipped _ _ (ne-eqb (r .next .0) (versionLimit L) left) (part-passed (keyTests r found) (roomTests r (entrySize L n)) h g)))
+        module _ (left : r .next .0 ≡ versionLimit L → ⊥) where
+          goes-on : {a : Check} → a ≡ checked (firstCause (keyTests r (factsOf p) ++ roomTests r (entrySize L n))) → WriteIs a
+          unfolding idleCauses keyTests roomTests
+          goes-on h =
+              idle-goes L r l e fits _ idle
+              (skipped _ _ (kind-some L n m d some-kind) (skipped _ _ (ne-eqb (r .next .0) (versionLimit L) left) h))
 
--- ---- what the index says of a key's object
+          pub write-key : (c : Refusal) → Check.Refused c ≡ checked (firstCause (keyTests r (factsOf p))) → WriteIs (Check.Refused c)
+          write-key c h = goes-on (part-refused (keyTests r (factsOf p)) (roomTests r (entrySize L n)) c h)
 
-module _ (L : Layout) (kind : ℕ) where
-  pub kind-tombstone : kind ≡ L .tombstoneKind → Absent ≡ kindPresence L kind
-  unfolding kindPresence pick
-  kind-tombstone e = rw (eq-eqb kind (L .tombstoneKind) e)
+          pub write-room :
+              {a : Check} → Check.Passed ≡ checked (firstCause (keyTests r (factsOf p))) →
+              a ≡ checked (firstCause (roomTests r (entrySize L n))) → WriteIs a
+          write-room h g = goes-on (part-passed (keyTests r (factsOf p)) (roomTests r (entrySize L n)) h g)
 
-  module _ (other : kind ≡ L .tombstoneKind → ⊥) (n : ℕ) (e : n ≡ kindSize L kind) where
-    pub kind-bad : n ≡ 0 → Bad ≡ kindPresence L kind
-    unfolding kindPresence pick
-    kind-bad z = rw (ne-eqb kind (L .tombstoneKind) other, eq-eqb (kindSize L kind) 0 (sym e ∙ z))
+-- ---- what the index says of a key
 
-    pub kind-object : (n ≡ 0 → ⊥) → Object ≡ kindPresence L kind
-    unfolding kindPresence pick
-    kind-object z = rw (ne-eqb kind (L .tombstoneKind) other, ne-eqb (kindSize L kind) 0 (λ d. z (e ∙ d)))
-
-module _ (L : Layout) (area cells : List ℕ) (k : Key) where
-  pub presence-full : Full ≡ searchFor L area cells k → Bad ≡ presenceFor L area cells k
+module _ (L : Layout) (S : ℕ) (area cells : List ℕ) (k : Key) where
+  pub presence-full : Full ≡ searchFor L area cells k → Forbidden ≡ presenceFor L S area cells k
   unfolding presenceAt
-  presence-full e = ap (presenceAt L area cells) e
+  presence-full e = ap (presenceAt L S area cells) e
 
   module _ (i : ℕ) where
-    pub presence-free : Free i ≡ searchFor L area cells k → Absent ≡ presenceFor L area cells k
+    pub presence-free : Free i ≡ searchFor L area cells k → Nothing ≡ presenceFor L S area cells k
     unfolding presenceAt
-    presence-free e = ap (presenceAt L area cells) e
+    presence-free e = ap (presenceAt L S area cells) e
 
     pub presence-at :
-        {p : Presence} → At i ≡ searchFor L area cells k → p ≡ kindPresence L (getD area (getD cells i 0 - 1) 0) →
-        p ≡ presenceFor L area cells k
+        {p : Presence} → At i ≡ searchFor L area cells k → p ≡ presenceOf (standsAt L S area (getD cells i 0 - 1)) →
+        p ≡ presenceFor L S area cells k
     unfolding presenceAt
-    presence-at e h = h ∙ ap (presenceAt L area cells) e
+    presence-at e h = h ∙ ap (presenceAt L S area cells) e
 
 -- ---- a delete: p is what the code finds for the key
 
-module _ (L : Layout) (r : Record) (p : Presence) (l : Lengths) where
+module _ (L : Layout) (r : Record) (l : Lengths) (p : Presence) {t : Bool} (e : t ≡ fitsLent L r (l .area) (l .index)) where
   abbrev DeleteIs : Check → Type 0
-  DeleteIs a = a ≡ checked (firstCause (deleteTests L r p l))
+  DeleteIs a = a ≡ checked (firstCause (deleteCauses L r l (factsOf p)))
 
-  pub delete-lent : (c : Refusal) → Check.Refused c ≡ checked (firstCause (lentTests L r l)) → DeleteIs (Check.Refused c)
-  unfolding deleteTests
-  delete-lent c e = part-refused (lentTests L r l) (presentTests L r p ++ roomTests r (entrySize L 0)) c e
+  pub delete-bad : not t ≡ true → DeleteIs (Check.Refused BadRecord)
+  delete-bad h = refused _ _ (record-bad L r l e h)
 
-  module _ (lent : Check.Passed ≡ checked (firstCause (lentTests L r l))) where
-    pub delete-bad : Bad ≡ p → DeleteIs (Check.Refused BadRecord)
-    unfolding deleteTests presentTests isBad
-    delete-bad e = part-passed (lentTests L r l) _ lent (refused _ _ (ap isBad (sym e)))
+  module _ (fits : not t ≡ false) where
+    pub delete-idle : (c : Refusal) → Check.Refused c ≡ checked (firstCause (idleCauses r (l .work))) → DeleteIs (Check.Refused c)
+    unfolding idleCauses
+    delete-idle c h = idle-refuses L r l e fits _ c h
 
-    pub delete-absent : Absent ≡ p → DeleteIs (Check.Refused Refusal.Absent)
-    unfolding deleteTests presentTests isBad isMissing
-    delete-absent e =
-        part-passed (lentTests L r l) _ lent (skipped _ _ (ap isBad (sym e)) (refused _ _ (ap isMissing (sym e))))
+    module _ (idle : Check.Passed ≡ checked (firstCause (idleCauses r (l .work)))) where
+      pub delete-forbidden : Forbidden ≡ p → DeleteIs (Check.Refused BadRecord)
+      unfolding idleCauses factsOf
+      delete-forbidden q = idle-goes L r l e fits _ idle (refused _ _ (ap (λ (x : Presence). factsOf x .forbidden) (sym q)))
 
-    module _ (e : Object ≡ p) where
-      pub delete-spent : r .next .0 ≡ versionLimit L → DeleteIs (Check.Refused VersionsSpent)
-      unfolding deleteTests presentTests isBad isMissing
-      delete-spent h =
-          part-passed (lentTests L r l) _ lent
-          (skipped _ _ (ap isBad (sym e)) (skipped _ _ (ap isMissing (sym e)) (refused _ _ (eq-eqb (r .next .0) (versionLimit L) h))))
+      pub delete-absent : (x : Presence) → x ≡ p → factsOf x .forbidden ≡ false → factsOf x .absent ≡ true → DeleteIs (Check.Refused Refusal.Absent)
+      unfolding idleCauses
+      delete-absent x q sound absent =
+          idle-goes L r l e fits _ idle
+          (skipped _ _ (ap (λ (y : Presence). factsOf y .forbidden) (sym q) ∙ sound)
+          (refused _ _ (ap (λ (y : Presence). factsOf y .absent) (sym q) ∙ absent)))
 
-      pub delete-room :
-          {a : Check} → (r .next .0 ≡ versionLimit L → ⊥) → a ≡ checked (firstCause (roomTests r (entrySize L 0))) → DeleteIs a
-      unfolding deleteTests presentTests isBad isMissing
-      delete-room left g =
-          part-passed (lentTests L r l) _ lent
-          (skipped _ _ (ap isBad (sym e)) (skipped _ _ (ap isMissing (sym e)) (skipped _ _ (ne-eqb (r .next .0) (versionLimit L) left) g)))
+      module _ (q : Object ≡ p) where
+        known-goes : {a : Check} (cs : List Cause) → a ≡ checked (firstCause cs) →
+            a ≡ checked (firstCause (when (factsOf p .forbidden) BadRecord ∷ when (factsOf p .absent) Refusal.Absent ∷ cs))
+        unfolding factsOf
+        known-goes cs h =
+            skipped _ _ (ap (λ (y : Presence). factsOf y .forbidden) (sym q)) (skipped _ _ (ap (λ (y : Presence). factsOf y .absent) (sym q)) h)
+
+        pub delete-spent : r .next .0 ≡ versionLimit L → DeleteIs (Check.Refused VersionsSpent)
+        unfolding idleCauses
+        delete-spent h = idle-goes L r l e fits _ idle (known-goes _ (refused _ _ (eq-eqb (r .next .0) (versionLimit L) h)))
+
+        pub delete-room :
+            {a : Check} → (r .next .0 ≡ versionLimit L → ⊥) → a ≡ checked (firstCause (roomTests r (entrySize L 0))) → DeleteIs a
+        unfolding idleCauses roomTests
+        delete-room left g = idle-goes L r l e fits _ idle (known-goes _ (skipped _ _ (ne-eqb (r .next .0) (versionLimit L) left) g))

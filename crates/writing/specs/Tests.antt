@@ -1,87 +1,57 @@
--- 01, "Refused calls": the tests of a write and of a delete as the code makes them, by what the index says in place of the log.
-use Prim.Native.Nat.{ℕ, _+_, _-_}
-use mathlib.Core.Bool.{Bool, true, false, not}
-use mathlib.Core.List.{List, [], _∷_, _++_}
-use lib.Dec.{eqb, ltb, leb}
+-- What the starts of a write and of a delete find out about a key from area and index in place of the log, and the parts of
+-- the lists of causes that functions of their own test.
+use Prim.Native.Nat.{ℕ, _-_}
+use mathlib.Core.Bool.{Bool, true, false}
+use mathlib.Core.List.{List, [], _∷_}
 use lib.ListN.{getD}
-use Rattle.segment.specs.Choice.{pick, both}
-use Rattle.segment.specs.Layout.{Layout, objectKind, isTombstone, entrySize}
-use Rattle.segment.specs.Kinds.{kindSize}
+use Rattle.segment.specs.Layout.{Layout}
+use Rattle.segment.specs.Area.{standsAt}
 use Rattle.segment.specs.declared.Key.{Key}
-use Rattle.slot_map.specs.Count.{free}
-use Rattle.record.specs.declared.Refusal.{Refusal}
-use Rattle.record.specs.declared.Refusal.the-variants.{BadRecord, ValueLength, VersionsSpent, NumbersSpent, KeysFull, NoRoom}
+use Rattle.segment.specs.declared.Read.{Read}
+use Rattle.record.specs.declared.Refusal.the-variants.{BadRecord, NumbersSpent, KeysFull, NoRoom}
 use Rattle.record.specs.declared.Record.{Record}
 use Rattle.model.specs.Causes.{Cause, when}
-use Rattle.model.specs.Refused.{Lengths, isNone, versionsSpent, numbersSpent}
+use Rattle.model.specs.Refused.{KeyFacts, keysFull, noRoom, noNumber}
 use Rattle.index.specs.Search.{searchFor}
 use Rattle.index.specs.declared.Found.{Found}
 use Rattle.index.specs.declared.Found.the-variants.{At, Free, Full}
-use Rattle.starting.specs.Checks.{lentTests}
 use Rattle.writing.specs.declared.Presence.{Presence}
-use Rattle.writing.specs.declared.Presence.the-variants.{Object, Absent, Bad}
+use Rattle.writing.specs.declared.Presence.the-variants.{Object, Tombstone, Nothing, Forbidden}
 
--- what a search says of a key: it has a cell, or the index has none left
-unfoldable pub isAt : Found → Bool
-isAt (At i) = true
-isAt (Free i) = false
-isAt Full = false
+-- ---- a key, by the index
 
-unfoldable pub isFull : Found → Bool
-isFull (At i) = false
-isFull (Free i) = false
-isFull Full = true
+-- the facts that the causes go by
+unfoldable pub factsOf : Presence → KeyFacts
+factsOf Object = record { forbidden = false; in-log = true; absent = false }
+factsOf Tombstone = record { forbidden = false; in-log = true; absent = true }
+factsOf Nothing = record { forbidden = false; in-log = false; absent = true }
+factsOf Forbidden = record { forbidden = true; in-log = false; absent = true }
 
--- 7 and 9
-unfoldable pub valueTests : Layout → Record → ℕ → List Cause
-valueTests L r n = when (isNone (objectKind L n)) ValueLength ∷ when (versionsSpent L r) VersionsSpent ∷ []
+-- what stands at the place of a key's entry
+unfoldable pub presenceOf : Read → Presence
+presenceOf (Read.Object k v kind n) = Object
+presenceOf (Read.Tombstone k v n) = Tombstone
+presenceOf Read.End = Forbidden
+presenceOf Read.Damage = Forbidden
 
--- 11, and 4 where every cell is another key's
-unfoldable pub keyTests : Record → Found → List Cause
-keyTests r found =
-    when (isFull found) BadRecord ∷ when (both (not (isAt found)) (eqb (r .keys) (r .cells - 1))) KeysFull ∷ []
+-- what the search found: the cell of the key's entry, no cell, or no end to the search
+unfoldable pub presenceAt : Layout → ℕ → List ℕ → List ℕ → Found → Presence
+presenceAt L S area cells (At i) = presenceOf (standsAt L S area (getD cells i 0 - 1))
+presenceAt L S area cells (Free i) = Nothing
+presenceAt L S area cells Full = Forbidden
+
+abbrev pub presenceFor : Layout → ℕ → List ℕ → List ℕ → Key → Presence
+presenceFor L S area cells k = presenceAt L S area cells (searchFor L area cells k)
+
+abbrev pub factsFor : Layout → Record → List ℕ → List ℕ → Key → KeyFacts
+factsFor L r area cells k = factsOf (presenceFor L (r .size) area cells k)
+
+-- ---- parts of the lists of causes
+
+-- 4, where a forbidden byte was met, and 11
+unfoldable pub keyTests : Record → KeyFacts → List Cause
+keyTests r k = when (k .forbidden) BadRecord ∷ when (keysFull r k) KeysFull ∷ []
 
 -- 12 and 10, for an entry of n bytes
 unfoldable pub roomTests : Record → ℕ → List Cause
-roomTests r n =
-    when (both (not (leb (r .end + n) (r .size))) (ltb (free (r .slots) (r .map)) 2)) NoRoom
-    ∷ when (both (not (leb (r .end + n) (r .size))) (numbersSpent r)) NumbersSpent
-    ∷ []
-
--- Write: 4, 3, 5, 7, 9, 11, 12, 10, for a value of n bytes.
-unfoldable pub writeTests : Layout → Record → Found → Lengths → ℕ → List Cause
-writeTests L r found l n = lentTests L r l ++ ((valueTests L r n ++ keyTests r found) ++ roomTests r (entrySize L n))
-
--- ---- a key's object, by the index
-
--- an entry of that kind: a tombstone, none that these rules allow, or an object
-unfoldable pub kindPresence : Layout → ℕ → Presence
-kindPresence L kind = pick (isTombstone L kind) Absent (pick (eqb (kindSize L kind) 0) Bad Object)
-
--- what the search found: no cell, the cell of the key's entry, or no end to the search
-unfoldable pub presenceAt : Layout → List ℕ → List ℕ → Found → Presence
-presenceAt L area cells (At i) = kindPresence L (getD area (getD cells i 0 - 1) 0)
-presenceAt L area cells (Free i) = Absent
-presenceAt L area cells Full = Bad
-
-abbrev pub presenceFor : Layout → List ℕ → List ℕ → Key → Presence
-presenceFor L area cells k = presenceAt L area cells (searchFor L area cells k)
-
-unfoldable pub isMissing : Presence → Bool
-isMissing Object = false
-isMissing Absent = true
-isMissing Bad = false
-
-unfoldable pub isBad : Presence → Bool
-isBad Object = false
-isBad Absent = false
-isBad Bad = true
-
--- 8, 4 where the index or the log is none that these rules allow, and 9
-unfoldable pub presentTests : Layout → Record → Presence → List Cause
-presentTests L r p =
-    when (isBad p) BadRecord ∷ when (isMissing p) Refusal.Absent ∷ when (versionsSpent L r) VersionsSpent ∷ []
-
--- Delete: 4, 3, 5, 8, 9, 12, 10.
-unfoldable pub deleteTests : Layout → Record → Presence → Lengths → List Cause
-deleteTests L r p l = lentTests L r l ++ (presentTests L r p ++ roomTests r (entrySize L 0))
+roomTests r n = when (noRoom r n) NoRoom ∷ when (noNumber r n) NumbersSpent ∷ []

@@ -1,26 +1,25 @@
 // The tests of a write and of a delete, in the order of 01, "Refused calls".
 use crate::Presence;
 use crate::find::find;
-use index::Found;
-use index::search::search;
 use record::Record;
 use record::Refusal;
+use record::range::fits_lent;
 use segment::Key;
 use segment::layout::HEAD_SIZE;
 use segment::layout::NUMBER_LIMIT;
 use segment::layout::VERSION_LIMIT;
 use segment::layout::object_kind;
 use starting::Check;
-use starting::checks::check_lent;
+use starting::checks::check_idle;
 ghost use Prim.Native.Nat.{_+_, _^_, _≤_, _<_};
 ghost use mathlib.Core.Path.{_≡_};
 ghost use lib.Dec.{leb};
 ghost use lib.ListN.{length};
 ghost use Rattle.segment.specs.Layout.{edition1};
 ghost use Rattle.model.specs.Causes.{firstCause};
-ghost use Rattle.index.specs.Search.{searchFor};
+ghost use Rattle.model.specs.Refused.{writeCauses, deleteCauses};
 ghost use Rattle.starting.specs.Checks.{checked};
-ghost use Rattle.writing.specs.Tests.{roomTests, keyTests, writeTests, presenceFor, deleteTests};
+ghost use Rattle.writing.specs.Tests.{roomTests, keyTests, factsOf, factsFor};
 
 // Whether an entry of that length fits the head; it may end exactly at S.
 pub fn fits_head(rec: Record, length: usize) -> bool
@@ -48,20 +47,21 @@ fn check_room(rec: Record, length: usize) -> Check
     Check::Passed
 }
 
-// 11, by what the search for the key found; an index without a free cell is none that the rule allows.
-fn check_key(rec: Record, found: Found) -> Check
+// 4, where a forbidden byte was met, and 11, by what is known of the key.
+fn check_key(rec: Record, presence: Presence) -> Check
     requires { ⌜ 1 ≤ rec .cells ⌝ }
-    ensures { λ r. ⌜ r ≡ checked (firstCause (keyTests rec found)) ⌝ }
+    ensures { λ r. ⌜ r ≡ checked (firstCause (keyTests rec (factsOf presence))) ⌝ }
 {
-    match found {
-        Found::At(_) => Check::Passed,
-        Found::Free(_) => {
+    match presence {
+        Presence::Object => Check::Passed,
+        Presence::Tombstone => Check::Passed,
+        Presence::Nothing => {
             if rec.keys == rec.cells - 1 {
                 return Check::Refused(Refusal::KeysFull);
             }
             Check::Passed
         }
-        Found::Full => Check::Refused(Refusal::BadRecord),
+        Presence::Forbidden => Check::Refused(Refusal::BadRecord),
     }
 }
 
@@ -78,11 +78,15 @@ pub fn check_write(
         ⌜
         r ≡ checked
         (firstCause
-        (writeTests edition1 rec (searchFor edition1 (now (area .entry)) (now (index .entry)) key)
-        (record { area = length (now (area .entry)); index = length (now (index .entry)); work = work }) value))
+        (writeCauses edition1 rec
+        (record { area = length (now (area .entry)); index = length (now (index .entry)); work = work })
+        (factsFor edition1 rec (now (area .entry)) (now (index .entry)) key) value))
         ⌝ }
 {
-    match check_lent(rec, area.len(), index.len(), work) {
+    if !fits_lent(rec, area.len(), index.len()) {
+        return Check::Refused(Refusal::BadRecord);
+    }
+    match check_idle(rec, work) {
         Check::Refused(c) => Check::Refused(c),
         Check::Passed => {
             if object_kind(value) == 0 {
@@ -92,7 +96,7 @@ pub fn check_write(
             if next.0 == VERSION_LIMIT {
                 return Check::Refused(Refusal::VersionsSpent);
             }
-            match check_key(rec, search(area, index, key)) {
+            match check_key(rec, find(rec.size as usize, area, index, key)) {
                 Check::Refused(c) => Check::Refused(c),
                 Check::Passed => check_room(rec, HEAD_SIZE + value),
             }
@@ -106,15 +110,20 @@ pub fn check_delete(rec: Record, area: &[u8], index: &[u32], work: usize, key: K
         ⌜
         r ≡ checked
         (firstCause
-        (deleteTests edition1 rec (presenceFor edition1 (now (area .entry)) (now (index .entry)) key)
-        (record { area = length (now (area .entry)); index = length (now (index .entry)); work = work })))
+        (deleteCauses edition1 rec
+        (record { area = length (now (area .entry)); index = length (now (index .entry)); work = work })
+        (factsFor edition1 rec (now (area .entry)) (now (index .entry)) key)))
         ⌝ }
 {
-    match check_lent(rec, area.len(), index.len(), work) {
+    if !fits_lent(rec, area.len(), index.len()) {
+        return Check::Refused(Refusal::BadRecord);
+    }
+    match check_idle(rec, work) {
         Check::Refused(c) => Check::Refused(c),
-        Check::Passed => match find(area, index, key) {
-            Presence::Bad => Check::Refused(Refusal::BadRecord),
-            Presence::Absent => Check::Refused(Refusal::Absent),
+        Check::Passed => match find(rec.size as usize, area, index, key) {
+            Presence::Forbidden => Check::Refused(Refusal::BadRecord),
+            Presence::Nothing => Check::Refused(Refusal::Absent),
+            Presence::Tombstone => Check::Refused(Refusal::Absent),
             Presence::Object => {
                 let next = rec.next;
                 if next.0 == VERSION_LIMIT {

@@ -1,37 +1,47 @@
-// Whether a key has an object, by the index.
+// What the log holds of a key, by the index.
 use crate::Presence;
 use index::Found;
 use index::search::search;
 use segment::Key;
-use segment::layout::TOMBSTONE;
-use segment::layout::kind_size;
+use segment::Read;
+use segment::area::entry_at;
+ghost use Prim.Native.Nat.{_<_};
 ghost use mathlib.Core.Path.{_≡_};
 ghost use Rattle.segment.specs.Layout.{edition1};
-ghost use Rattle.writing.specs.Tests.{kindPresence, presenceFor};
+ghost use Rattle.writing.specs.Tests.{presenceOf, presenceFor};
 
-// What an entry of that kind says of its key.
-fn presence(kind: u8) -> Presence
-    ensures { λ r. ⌜ r ≡ kindPresence edition1 kind ⌝ }
+// What an entry says of its key.
+fn presence(read: Read) -> Presence
+    ensures { λ r. ⌜ r ≡ presenceOf read ⌝ }
 {
-    if kind == TOMBSTONE {
-        return Presence::Absent;
+    match read {
+        Read::Object {
+            key: _,
+            version: _,
+            kind: _,
+            length: _,
+        } => Presence::Object,
+        Read::Tombstone {
+            key: _,
+            version: _,
+            length: _,
+        } => Presence::Tombstone,
+        Read::End => Presence::Forbidden,
+        Read::Damage => Presence::Forbidden,
     }
-    if kind_size(kind) == 0 {
-        return Presence::Bad;
-    }
-    Presence::Object
 }
 
-// Whether a key is present.
-pub fn find(area: &[u8], index: &[u32], key: Key) -> Presence
-    ensures { λ r. ⌜ r ≡ presenceFor edition1 (now (area .entry)) (now (index .entry)) key ⌝ }
+// What a key's latest entry is. An index in which the search finds no end is none that its rule allows.
+pub fn find(size: usize, area: &[u8], index: &[u32], key: Key) -> Presence
+    requires { ⌜ (0 < size) × (size < 4294967296) ⌝ }
+    ensures { λ r. ⌜ r ≡ presenceFor edition1 size (now (area .entry)) (now (index .entry)) key ⌝ }
 {
     match search(area, index, key) {
-        Found::Full => Presence::Bad,
-        Found::Free(_) => Presence::Absent,
+        Found::Full => Presence::Forbidden,
+        Found::Free(_) => Presence::Nothing,
         Found::At(i) => {
             let place = (index[i] - 1) as usize;
-            presence(area[place])
+            presence(entry_at(size, area, place))
         }
     }
 }

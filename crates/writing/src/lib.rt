@@ -4,9 +4,11 @@ pub mod find;
 pub mod lay;
 pub mod start;
 
-// What the index says of a key: it has an object, it has none, or what was met is nothing that these rules allow.
+// What the index says of a key: its latest entry is an object or a tombstone, it has none, or a byte was met that the rules of
+// the log forbid.
 pub enum Presence {
     Object,
-    Absent,
-    Bad,
+    Tombstone,
+    Nothing,
+    Forbidden,
 }

@@ -3,7 +3,7 @@
 //! Each answers 0 or the number of a refusal, as `include/kurdavel.h` says, and is safe with any arguments: the library
 //! is proved to stay within what it is lent, to change only what it is lent to change, and to end.
 //!
-//! A refused call leaves the numbers that it would tell as they were, but [`read_value`] makes them 0.
+//! A refused call leaves the numbers that it would tell as they were, but [`read`] and [`read_value`] make them 0.
 //!
 //! This is the only module with `unsafe` code. What the library asks of its pointers is, in every call here, what Rust
 //! already knows of the references that they come from: valid for the length that goes with them, not null, aligned,
@@ -58,7 +58,7 @@ pub fn recover(
     }
 }
 
-/// Tells version and kind of a key's object; both stay as they were where the call is refused.
+/// Tells version and kind of a key's object; both are 0 where the call is refused.
 #[inline]
 pub fn read(
     record: &[u32],

@@ -1,6 +1,5 @@
 -- `kurdavel::kurdavel_read` meets its contract.
 use mathlib.Core.Path.{refl}
-use Rattle.kurdavel.specs.Crossing.{versionAfter, kindAfter}
 use Rattle.kurdavel.specs.CrossingLaws.{looked-crossed, looked-none, read-crossed}
 use Rattle.recovery.specs.Lookups.{toldBy}
 use borrow.Author.Needs.{needs}
@@ -11,7 +10,7 @@ decode-requires : tie.Need-decode-requires
 decode-requires c κs = search needs
 
 returns : tie.Need-returns
-unfolding toldBy versionAfter kindAfter
+unfolding toldBy
 returns c = read-crossed (looked-none _ _ _ _ (c .before .before .decode .ensures) (c .if1 .taken)) refl refl refl refl refl
 
 find-requires : tie.Need-find-requires
@@ -33,13 +32,11 @@ cast-kind : tie.Need-cast-kind
 cast-kind c = search needs
 
 returns-2 : tie.Need-returns-2
-unfolding versionAfter kindAfter
 returns-2 c =
     read-crossed (looked-crossed _ _ _ _ (c .before .before .before .before .before .before .before .before .before .decode .ensures) (c .before .before .before .before .before .find .ensures)) (c .before .before .before .before .told .ensures) (c .before .before .answer .given .1)
     (c .number .ensures) refl refl
 
 returns-3 : tie.Need-returns-3
-unfolding versionAfter kindAfter
 returns-3 c =
     read-crossed (looked-crossed _ _ _ _ (c .before .before .before .before .before .before .before .before .decode .ensures) (c .before .before .before .before .find .ensures)) (c .before .before .before .told .ensures) (c .before .answer2 .given .1)
     refl refl refl

@@ -27,11 +27,11 @@ put-refused-requires c κs = search needs
 enum-told : tie.Need-enum-told
 enum-told c = search needs
 
-slice-aggregate-put-store : tie.Need-slice-aggregate-put-store
-slice-aggregate-put-store c = search needs
+slice-aggregate-put-listing : tie.Need-slice-aggregate-put-listing
+slice-aggregate-put-listing c = search needs
 
-put-store-requires : tie.Need-put-store-requires
-put-store-requires c κs = (
+put-listing-requires : tie.Need-put-listing-requires
+put-listing-requires c κs = (
   recovered-ready edition1 _ _ _ _ _ _ refl (c .before .before .before .before .before .before .recover-area .ensures) (c .before .before .enum-told .given .1) (bytes (c .before .before .before .before .before .before .before .before .before)),
   c .before .before .before .before .before .before .before .before .before .before .pre,
 )
@@ -48,7 +48,7 @@ same-length-2 : tie.Need-same-length-2
 same-length-2 c = search needs
 
 returns-2 : tie.Need-returns-2
-returns-2 c = within-same (text-recovered edition1 _ _ _ _ _ _ refl (c .before .before .before .before .before .before .before .before .before .recover-area .ensures) (c .before .before .before .before .before .enum-told .given .1)) (c .before .before .put-store .ensures)
+returns-2 c = within-same (text-recovered edition1 _ _ _ _ _ _ refl (c .before .before .before .before .before .before .before .before .before .recover-area .ensures) (c .before .before .before .before .before .enum-told .given .1)) (c .before .before .put-listing .ensures)
 
 pub put-area-spec : {M : Type 1} → statement M
 put-area-spec =
@@ -59,8 +59,8 @@ put-area-spec =
     enum-known-answer
     put-refused-requires
     enum-told
-    slice-aggregate-put-store
-    put-store-requires
+    slice-aggregate-put-listing
+    put-listing-requires
     same-length
     returns
     same-length-2

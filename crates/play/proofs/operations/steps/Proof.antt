@@ -5,10 +5,10 @@ use Rattle.play.proofs.operations.steps.Statement.{statement}
 use Rattle.play.proofs.operations.steps.Tie as tie
 
 abbrev Inv-loop : tie.InvT-loop
-Inv-loop area₀ index₀ work stores rest due store₀ left₀ bad₀ area index rec left bad = left ≤ stores
+Inv-loop area₀ index₀ work stores rest due rec₀ left₀ bad₀ area index rec left bad = left ≤ stores
 
 abbrev μ-loop : tie.MeasureT-loop
-μ-loop area₀ index₀ work stores rest due store₀ left₀ bad₀ area index rec left bad = left
+μ-loop area₀ index₀ work stores rest due rec₀ left₀ bad₀ area index rec left bad = left
 
 pub steps-spec : {M : Type 1} → statement M
 steps-spec =

@@ -1,9 +1,10 @@
 -- `writing::find::find` meets its contract.
-use mathlib.Core.Path.{sym, _∙_}
+use mathlib.Core.Path.{sym, _∙_, ap}
 use denote.Ref.{now}
 use native.Mathlib.Omega.{arith}
 use Rattle.segment.specs.Layout.{edition1}
 use Rattle.index.specs.SearchLaws.{Inside, search-inside}
+use Rattle.writing.specs.Tests.{presenceOf}
 use Rattle.writing.specs.TestLaws.{presence-full, presence-free, presence-at}
 use borrow.Author.Needs.{needs, scaled-fits}
 use Rattle.writing.proofs.find.find.Statement.{statement}
@@ -28,7 +29,7 @@ enum-known-i : tie.Need-enum-known-i
 enum-known-i c = search needs
 
 mul-place : tie.Need-mul-place
-mul-place c = scaled-fits _ _ 4 (inside (c .before) .below) (c .before .before .before .before .before .before .good .1 .0 .1)
+mul-place c = scaled-fits _ _ 4 (inside (c .before) .below) (c .before .before .before .before .before .before .good .1 .1 .0 .1)
 
 shared-slice-read-place : tie.Need-shared-slice-read-place
 shared-slice-read-place c = inside (c .before .before) .below
@@ -39,22 +40,24 @@ sub-place c = inside (c .before .before) .taken
 cast-place : tie.Need-cast-place
 cast-place c = omega (arith, c .shared-slice-known3 .given (c .before .before .i .given .0 .0))
 
-shared-slice-read-presence : tie.Need-shared-slice-read-presence
-shared-slice-read-presence c = omega (arith, inside (c .before .before .before) .fits)
+entry-at-requires : tie.Need-entry-at-requires
+entry-at-requires c κs =
+    let p = c .before .before .before .before .before .before .before .pre in
+    (p .0, p .1, omega (arith, c .shared-slice-known3 .given (c .before .before .i .given .0 .0)))
 
 presence-requires : tie.Need-presence-requires
 presence-requires c κs = search needs
 
 returns : tie.Need-returns
-returns c = presence-full edition1 _ _ _ (sym (c .enum-told .given .1) ∙ c .before .before .search .ensures)
+returns c = presence-full edition1 _ _ _ _ (sym (c .enum-told .given .1) ∙ c .before .before .search .ensures)
 
 returns-2 : tie.Need-returns-2
-returns-2 c = presence-free edition1 _ _ _ _ (sym (c .enum-told2 .given .1) ∙ c .before .before .search .ensures)
+returns-2 c = presence-free edition1 _ _ _ _ _ (sym (c .enum-told2 .given .1) ∙ c .before .before .search .ensures)
 
 returns-3 : tie.Need-returns-3
 returns-3 c =
     let t = c .before .before .before .before in
-    presence-at edition1 _ _ _ _ (sym (t .i .given .1) ∙ t .before .before .search .ensures) (c .presence .ensures)
+    presence-at edition1 _ _ _ _ _ (sym (t .i .given .1) ∙ t .before .before .search .ensures) (c .presence .ensures ∙ ap presenceOf (c .before .entry-at .ensures))
 
 pub find-spec : {M : Type 1} → statement M
 find-spec =
@@ -68,7 +71,7 @@ find-spec =
     shared-slice-read-place
     sub-place
     cast-place
-    shared-slice-read-presence
+    entry-at-requires
     presence-requires
     returns
     returns-2

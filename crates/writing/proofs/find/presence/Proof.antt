@@ -1,24 +1,39 @@
 -- `writing::find::presence` meets its contract.
-use Rattle.segment.specs.Layout.{edition1}
-use Rattle.writing.specs.TestLaws.{kind-tombstone, kind-bad, kind-object}
+use mathlib.Core.Path.{sym, ap}
+use Rattle.writing.specs.Tests.{presenceOf}
 use borrow.Author.Needs.{needs}
 use Rattle.writing.proofs.find.presence.Statement.{statement}
 use Rattle.writing.proofs.find.presence.Tie as tie
 
-returns : tie.Need-returns
-unfolding edition1
-returns c = kind-tombstone edition1 _ (c .if1 .taken)
+enum-told : tie.Need-enum-told
+enum-told c = search needs
 
-kind-size-requires : tie.Need-kind-size-requires
-kind-size-requires c κs = search needs
+enum-told-2 : tie.Need-enum-told-2
+enum-told-2 c = search needs
+
+enum-told-3 : tie.Need-enum-told-3
+enum-told-3 c = search needs
+
+enum-told-4 : tie.Need-enum-told-4
+enum-told-4 c = search needs
+
+returns : tie.Need-returns
+unfolding presenceOf
+returns c = sym (ap presenceOf (c .enum-told .given .1))
 
 returns-2 : tie.Need-returns-2
-unfolding edition1
-returns-2 c = kind-bad edition1 _ (c .before .before .if1 .left) _ (c .before .kind-size .ensures) (c .if2 .taken)
+unfolding presenceOf
+returns-2 c = sym (ap presenceOf (c .enum-told2 .given .1))
 
 returns-3 : tie.Need-returns-3
-unfolding edition1
-returns-3 c = kind-object edition1 _ (c .before .before .if1 .left) _ (c .before .kind-size .ensures) (c .if2 .left)
+unfolding presenceOf
+returns-3 c = sym (ap presenceOf (c .enum-told3 .given .1))
+
+returns-4 : tie.Need-returns-4
+unfolding presenceOf
+returns-4 c = sym (ap presenceOf (c .enum-told4 .given .1))
 
 pub presence-spec : {M : Type 1} → statement M
-presence-spec = tie.close (tie.spec returns kind-size-requires returns-2 returns-3)
+presence-spec =
+    tie.close
+    (tie.spec enum-told enum-told-2 enum-told-3 enum-told-4 returns returns-2 returns-3 returns-4)

@@ -1,4 +1,4 @@
--- `report::listing::put_store` meets its contract.
+-- `report::listing::put_listing` meets its contract.
 use mathlib.Core.Path.{sym, ap}
 use native.Mathlib.Omega.{arith}
 use Rattle.segment.specs.Layout.{edition1}
@@ -8,8 +8,8 @@ use Rattle.report.specs.Gather.{size-some, cells-few, cells-inside}
 use Rattle.report.specs.PutLaws.{within-same, within-then, within-more}
 use Rattle.report.specs.LineLaws.{Listed, gathered-listed}
 use borrow.Author.Needs.{needs}
-use Rattle.report.proofs.listing.put_store.Statement.{statement}
-use Rattle.report.proofs.listing.put_store.Tie as tie
+use Rattle.report.proofs.listing.put_listing.Statement.{statement}
+use Rattle.report.proofs.listing.put_listing.Tie as tie
 
 cast-gather : tie.Need-cast-gather
 cast-gather c = search needs
@@ -55,8 +55,8 @@ returns c =
     within-more (omega (arith, g .few, g .long))
     (within-then (within-same (ap (headLine _ _) (g .counts)) (c .before .before .before .before .before .before .before .put-head .ensures)) (c .before .before .put-lines .ensures))
 
-pub put-store-spec : {M : Type 1} → statement M
-put-store-spec =
+pub put-listing-spec : {M : Type 1} → statement M
+put-listing-spec =
     tie.close
     (tie.spec
     cast-gather

@@ -1,0 +1,3 @@
+-- What the parts of a bundle are.
+pub mod Bundle
+pub mod Cells

@@ -1,0 +1,110 @@
+-- What is known once no cause of a call holds: a field for each cause of its list. A law turns the list into the record, and only
+-- these laws go by places in the list.
+use Prim.Native.Nat.{ℕ}
+use mathlib.Core.Path.{_≡_}
+use mathlib.Core.Bool.{Bool, false, not}
+use mathlib.Core.List.{List}
+use mathlib.Core.Option.{Option, none}
+use lib.ListN.{length}
+use Rattle.segment.specs.Layout.{Layout, entrySize}
+use Rattle.record.specs.declared.Record.{Record}
+use Rattle.model.specs.Log.{Placed}
+use Rattle.model.specs.Causes.{Cause, firstCause}
+use Rattle.model.specs.Operations.{Operation, write, delete, clean}
+use Rattle.model.specs.Refused.{Lengths, KeyFacts, keyFacts, keptLength, recordBad, workShort, isPending, valueBad, versionsSpent, numbersSpent, keysFull, noRoom, noNumber, victimsBad, keptTooLong, writeCauses, deleteCauses, cleanCauses, startCauses, stepCauses}
+use Rattle.laws.specs.CauseLaws.{NoCause, no-cause}
+
+pub record WritePassed (L : Layout) (r : Record) (l : Lengths) (k : KeyFacts) (n : ℕ) : Type 0 where
+  pub record-good : recordBad L r l ≡ false
+  pub work-long : workShort r l ≡ false
+  pub idle : isPending (r .pending) ≡ false
+  pub value-known : valueBad L n ≡ false
+  pub versions-left : versionsSpent L r ≡ false
+  pub log-sound : k .forbidden ≡ false
+  pub key-fits : keysFull r k ≡ false
+  pub room : noRoom r (entrySize L n) ≡ false
+  pub number-left : noNumber r (entrySize L n) ≡ false
+
+pub write-passed : (L : Layout) (r : Record) (l : Lengths) (k : KeyFacts) (n : ℕ) → firstCause (writeCauses L r l k n) ≡ none → WritePassed L r l k n
+write-passed L r l k n e =
+    let t : NoCause (writeCauses L r l k n) = no-cause (writeCauses L r l k n) e in
+    record {
+      record-good = t .0;
+      work-long = t .1 .0;
+      idle = t .1 .1 .0;
+      value-known = t .1 .1 .1 .0;
+      versions-left = t .1 .1 .1 .1 .0;
+      log-sound = t .1 .1 .1 .1 .1 .0;
+      key-fits = t .1 .1 .1 .1 .1 .1 .0;
+      room = t .1 .1 .1 .1 .1 .1 .1 .0;
+      number-left = t .1 .1 .1 .1 .1 .1 .1 .1 .0;
+    }
+
+pub record DeletePassed (L : Layout) (r : Record) (l : Lengths) (k : KeyFacts) : Type 0 where
+  pub record-good : recordBad L r l ≡ false
+  pub work-long : workShort r l ≡ false
+  pub idle : isPending (r .pending) ≡ false
+  pub log-sound : k .forbidden ≡ false
+  pub present : k .absent ≡ false
+  pub versions-left : versionsSpent L r ≡ false
+  pub room : noRoom r (entrySize L 0) ≡ false
+  pub number-left : noNumber r (entrySize L 0) ≡ false
+
+pub delete-passed : (L : Layout) (r : Record) (l : Lengths) (k : KeyFacts) → firstCause (deleteCauses L r l k) ≡ none → DeletePassed L r l k
+delete-passed L r l k e =
+    let t : NoCause (deleteCauses L r l k) = no-cause (deleteCauses L r l k) e in
+    record {
+      record-good = t .0;
+      work-long = t .1 .0;
+      idle = t .1 .1 .0;
+      log-sound = t .1 .1 .1 .0;
+      present = t .1 .1 .1 .1 .0;
+      versions-left = t .1 .1 .1 .1 .1 .0;
+      room = t .1 .1 .1 .1 .1 .1 .0;
+      number-left = t .1 .1 .1 .1 .1 .1 .1 .0;
+    }
+
+pub record CleanPassed (L : Layout) (r : Record) (l : Lengths) (n victims : ℕ) : Type 0 where
+  pub record-good : recordBad L r l ≡ false
+  pub work-long : workShort r l ≡ false
+  pub idle : isPending (r .pending) ≡ false
+  pub victims-good : victimsBad r victims ≡ false
+  pub kept-fits : keptTooLong L r n ≡ false
+  pub number-left : numbersSpent r ≡ false
+
+pub clean-passed : (L : Layout) (r : Record) (l : Lengths) (n victims : ℕ) → firstCause (cleanCauses L r l n victims) ≡ none → CleanPassed L r l n victims
+clean-passed L r l n victims e =
+    let t : NoCause (cleanCauses L r l n victims) = no-cause (cleanCauses L r l n victims) e in
+    record {
+      record-good = t .0;
+      work-long = t .1 .0;
+      idle = t .1 .1 .0;
+      victims-good = t .1 .1 .1 .0;
+      kept-fits = t .1 .1 .1 .1 .0;
+      number-left = t .1 .1 .1 .1 .1 .0;
+    }
+
+-- what every start has tested
+pub record StartPassed (L : Layout) (r : Record) (l : Lengths) : Type 0 where
+  pub record-good : recordBad L r l ≡ false
+  pub work-long : workShort r l ≡ false
+  pub idle : isPending (r .pending) ≡ false
+
+pub start-passed : (L : Layout) (r : Record) (log : List Placed) (l : Lengths) (o : Operation) → firstCause (startCauses L r log l o) ≡ none → StartPassed L r l
+unfolding startCauses
+start-passed L r log l (write k value) e =
+    let t = write-passed L r l (keyFacts log k) (length value) e in record { record-good = t .record-good; work-long = t .work-long; idle = t .idle }
+start-passed L r log l (delete k) e =
+    let t = delete-passed L r l (keyFacts log k) e in record { record-good = t .record-good; work-long = t .work-long; idle = t .idle }
+start-passed L r log l (clean victims) e =
+    let t = clean-passed L r l (keptLength L log victims) victims e in record { record-good = t .record-good; work-long = t .work-long; idle = t .idle }
+
+pub record StepPassed (L : Layout) (r : Record) (l : Lengths) : Type 0 where
+  pub record-good : recordBad L r l ≡ false
+  pub work-long : workShort r l ≡ false
+  pub some-pending : not (isPending (r .pending)) ≡ false
+
+pub step-passed : (L : Layout) (r : Record) (l : Lengths) → firstCause (stepCauses L r l) ≡ none → StepPassed L r l
+step-passed L r l e =
+    let t : NoCause (stepCauses L r l) = no-cause (stepCauses L r l) e in
+    record { record-good = t .0; work-long = t .1 .0; some-pending = t .1 .1 .0 }

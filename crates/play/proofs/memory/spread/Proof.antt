@@ -1,0 +1,17 @@
+-- `play::memory::spread` meets its contract.
+use borrow.Author.Needs.{needs}
+use Rattle.play.proofs.memory.spread.Statement.{statement}
+use Rattle.play.proofs.memory.spread.Tie as tie
+
+pub spread-spec : {M : Type 1} → statement M
+spread-spec =
+    tie.close
+    (tie.spec
+    (λ c κs. search needs)
+    (λ c. search needs)
+    (λ c κs. search needs)
+    (λ c. search needs)
+    (λ c κs. search needs)
+    (λ c κs. search needs)
+    (λ c κs. search needs)
+    (λ c. cc))
