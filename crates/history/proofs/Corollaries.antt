@@ -1,5 +1,6 @@
--- Two corollaries of demand 3. A deleted key stays gone, whatever is cleaned and wherever the power fails, until a write of it is
--- finished. And no two finished operations are told the same version, but for the 0 of cleanings.
+-- Corollaries of demand 3. A deleted key stays gone, whatever is cleaned and wherever the power fails, until a write of it is
+-- finished. No two finished operations are told the same version, but for the 0 of cleanings, and every version told, by a read
+-- too, is below the next version that a later recovery gives. A step is accepted only where the book has an operation pending.
 use Prim.Native.Nat.{ℕ, zero, suc, _+_, _-_, _≤_, _<_}
 use native.Mathlib.Omega.{arith}
 use mathlib.Core.Path.{_≡_, refl, sym, ap, _∙_, subst}
@@ -13,7 +14,7 @@ use Rattle.word.specs.Number.{Bytes}
 use Rattle.segment.specs.Choice.{pick, both, both-left, both-right, both-true, pick-true, pick-false}
 use Rattle.segment.specs.Layout.{edition1}
 use Rattle.segment.specs.declared.Key.{Key}
-use Rattle.record.specs.Answers.{Said}
+use Rattle.record.specs.Answers.{readSaid, refusal}
 use Rattle.record.specs.declared.FormatAnswer.{FormatAnswer}
 use Rattle.record.specs.declared.Reading.{Reading}
 use Rattle.record.specs.declared.ReadAnswer.{ReadAnswer}
@@ -22,11 +23,12 @@ use Rattle.record.specs.declared.Refusal.{Refusal}
 use Rattle.model.specs.Log.{sameKeys}
 use Rattle.model.specs.Operations.{Operation, write, delete, clean, TypedKey}
 use Rattle.model.specs.Recovery.{orderBad}
-use Rattle.model.specs.Promises.{FormatPromise, RecoverPromise, ReadPromise}
-use Rattle.history.specs.Book.{Call, starts, steps, reads, readsValue, recovers, Event, called, cut, accepted, Awaited, Book, freshBook, finish, versionFor, oneOff, takeOne, feedCall, feed, bookAfter, bookOf}
+use Rattle.model.specs.Refused.{Lengths}
+use Rattle.model.specs.Promises.{FormatPromise, RecoverPromise, ReadPromise, Part, partOf, ValuePromise}
+use Rattle.history.specs.Book.{Question, reads, readsValue, Call, starts, steps, asks, recovers, Answer, saying, giving, Event, called, cut, accepted, Kept, Awaited, Book, freshBook, finish, versionFor, oneOff, takeOne, feedCall, feed, bookAfter, bookOf, toldBy, highestTold}
 use Rattle.history.specs.Runs.{World, freshWorld, Run}
-use Rattle.history.specs.Demand3.{LargeEnough, bookAnswer, EventAgrees, StepAgrees, StepsAgree}
-use Rattle.history.specs.Story.{isWriteOf, lastOfWrite, finishesWrite, noWrite, Finishes}
+use Rattle.history.specs.Demand3.{LargeEnough, bookAnswer, bookValue, GivesBook, StepAgrees, QuestionAgrees, EventAgrees, EventsAgree, Demand3Of}
+use Rattle.history.specs.Finishing.{isWriteOf, lastOfWrite, finishesWrite, noWrite, Finishes}
 use Rattle.history.proofs.Theorem.{demand-3}
 
 -- ---- a list in two parts
@@ -36,13 +38,13 @@ unfolding bookAfter
 book-append b [] ys = refl
 book-append b (x ∷ xs) ys = book-append (feed b x) xs ys
 
-agree-at : (b : Book) (xs : List Event) (e : Event) (ys : List Event) → StepsAgree b (xs ++ e ∷ ys) → EventAgrees (bookAfter b xs) e
-unfolding StepsAgree bookAfter
+pub agree-at : (b : Book) (xs : List Event) (e : Event) (ys : List Event) → EventsAgree edition1 b (xs ++ e ∷ ys) → EventAgrees edition1 (bookAfter b xs) e
+unfolding EventsAgree bookAfter
 agree-at b [] e ys h = h .0
 agree-at b (x ∷ xs) e ys h = agree-at (feed b x) xs e ys (h .1)
 
-agree-behind : (b : Book) (xs : List Event) (e : Event) (ys : List Event) → StepsAgree b (xs ++ e ∷ ys) → StepsAgree (feed (bookAfter b xs) e) ys
-unfolding StepsAgree bookAfter
+pub agree-behind : (b : Book) (xs : List Event) (e : Event) (ys : List Event) → EventsAgree edition1 b (xs ++ e ∷ ys) → EventsAgree edition1 (feed (bookAfter b xs) e) ys
+unfolding EventsAgree bookAfter
 agree-behind b [] e ys h = h .1
 agree-behind b (x ∷ xs) e ys h = agree-behind (feed b x) xs e ys (h .1)
 
@@ -77,29 +79,24 @@ gone-step b k (some p) g h = go (p .left - 1) h
 
 gone-event : (b : Book) (k : Key) (e : Event) → b .keys k ≡ none → finishesWrite b e k ≡ false → feed b e .keys k ≡ none
 unfolding feed feedCall finishesWrite pick both
-gone-event b k (called (starts o) a) g h = go (accepted a)
+gone-event b k (called steps l a) g h = go (accepted a) h
   where
-    go : (t : Bool) → pick t (feedCall b (starts o) a) b .keys k ≡ none
-    go true = g
-    go false = g
-gone-event b k (called steps a) g h = go (accepted a) h
-  where
-    go : (t : Bool) → both t (lastOfWrite k (b .pending)) ≡ false → pick t (feedCall b steps a) b .keys k ≡ none
+    go : (t : Bool) → both t (lastOfWrite k (b .pending)) ≡ false → pick t (feedCall b steps (a .said .stores)) b .keys k ≡ none
     go true q = gone-step b k (b .pending) g q
     go false q = g
-gone-event b k (called (reads j) a) g h = go (accepted a)
+gone-event b k (called (starts o) l a) g h = go (accepted a)
   where
-    go : (t : Bool) → pick t (feedCall b (reads j) a) b .keys k ≡ none
+    go : (t : Bool) → pick t (feedCall b (starts o) (a .said .stores)) b .keys k ≡ none
     go true = g
     go false = g
-gone-event b k (called (readsValue j) a) g h = go (accepted a)
+gone-event b k (called (asks q) l a) g h = go (accepted a)
   where
-    go : (t : Bool) → pick t (feedCall b (readsValue j) a) b .keys k ≡ none
+    go : (t : Bool) → pick t (feedCall b (asks q) (a .said .stores)) b .keys k ≡ none
     go true = g
     go false = g
-gone-event b k (called recovers a) g h = go (accepted a)
+gone-event b k (called (recovers n s order) l a) g h = go (accepted a)
   where
-    go : (t : Bool) → pick t (feedCall b recovers a) b .keys k ≡ none
+    go : (t : Bool) → pick t (feedCall b (recovers n s order) (a .said .stores)) b .keys k ≡ none
     go true = g
     go false = g
 gone-event b k cut g h = g
@@ -118,36 +115,84 @@ unfolding sameKeys
 sameKeys-own k = both-true (eqb (k .table) (k .table)) (eqb (k .key) (k .key)) (eq-eqb (k .table) (k .table) refl) (eq-eqb (k .key) (k .key) refl)
 
 deleted-gone :
-    (b : Book) (k : Key) (a : Said) → b .pending ≡ some (record { operation = delete k; left = 1 }) → accepted a ≡ true →
-    feed b (called steps a) .keys k ≡ none
+    (b : Book) (k : Key) (l : Lengths) (a : Answer) → b .pending ≡ some (record { operation = delete k; left = 1 }) → accepted a ≡ true →
+    feed b (called steps l a) .keys k ≡ none
 unfolding feed feedCall takeOne oneOff finish
-deleted-gone b k a p q =
+deleted-gone b k l a p q =
     ap (λ (x : Book). x .keys k) (pick-true (accepted a) (takeOne b (b .pending)) b q) ∙ ap (λ (x : Option Awaited). takeOne b x .keys k) p ∙
     pick-true (sameKeys k k) none (b .keys k) (sameKeys-own k)
 
--- The story of the two drives: once the last store of a delete is done, no later recovery gives the key a value until a write of it
--- is finished.
-pub deleted-stays-gone :
-    (n s : ℕ) (area₀ area : List ℕ) → Bytes area₀ → FormatPromise edition1 n s area₀ area FormatAnswer.Formatted →
-    (before after : List Event) (a : Said) (k : Key) (w : World) → Run edition1 n s (freshWorld area) (before ++ called steps a ∷ after) w →
-    bookOf before .pending ≡ some (record { operation = delete k; left = 1 }) → accepted a ≡ true →
-    noWrite (bookAfter freshBook (before ++ called steps a ∷ [])) k after ≡ true →
-    (order cells cells′ : List ℕ) (r : Recovery) → orderBad n order ≡ false → LargeEnough (w .cells) (length cells) →
-    RecoverPromise edition1 n s order (w .area) cells cells′ r → TypedKey k → (x : Reading) →
-    ReadPromise edition1 (r .rec) (w .area) cells′ k x → x .answer ≡ ReadAnswer.Refused Refusal.Absent
-unfolding bookAnswer bookAfter
-deleted-stays-gone n s area₀ area ab f before after a k w run p q none-written order cells cells′ r good large promise typed x read-promise =
-    demand-3 n s area₀ area ab f (before ++ called steps a ∷ after) w run .recovery order cells cells′ r good large promise .answers k typed x read-promise ∙
-    ap (bookAnswer edition1) gone
+-- a deleted key, and events in which no write of it is finished
+module _ (before : List Event) (l : Lengths) (a : Answer) (k : Key) (deleting : bookOf before .pending ≡ some (record { operation = delete k; left = 1 }))
+    (done : accepted a ≡ true) (since : List Event) (none-written : noWrite (feed (bookOf before) (called steps l a)) k since ≡ true)
   where
-    at : bookAfter freshBook (before ++ called steps a ∷ []) ≡ feed (bookOf before) (called steps a)
-    at = book-append freshBook before (called steps a ∷ [])
+    gone-since : bookAfter (feed (bookOf before) (called steps l a)) since .keys k ≡ none
+    gone-since =
+        gone-after (feed (bookOf before) (called steps l a)) k since (deleted-gone (bookOf before) k l a deleting done) none-written
 
-    gone : bookOf (before ++ called steps a ∷ after) .keys k ≡ none
-    gone =
-        ap (λ (b : Book). b .keys k) (book-append freshBook before (called steps a ∷ after)) ∙
-        gone-after (feed (bookOf before) (called steps a)) k after (deleted-gone (bookOf before) k a p q)
-        (ap (λ (b : Book). noWrite b k after) (sym at) ∙ none-written)
+module _ (n s : ℕ) (area₀ area : List ℕ) (ab : Bytes area₀) (format : FormatPromise edition1 n s area₀ area FormatAnswer.Formatted) where
+  -- a list of events from the fresh store to a world, and what demand 3 says of it
+  abbrev Leads : List Event → World → Type 0
+  Leads es w = Run edition1 n s (freshWorld area) es w
+
+  demanded : (es : List Event) (w : World) → Leads es w → Demand3Of edition1 n s w es
+  demanded es w run = demand-3 n s area₀ area ab format es w run
+
+  -- Once the last store of a delete is done, no later recovery gives the key a version or a value until a write of it is finished.
+  pub deleted-stays-gone :
+      (before after : List Event) (l : Lengths) (a : Answer) (k : Key) (w : World) → Leads (before ++ called steps l a ∷ after) w →
+      bookOf before .pending ≡ some (record { operation = delete k; left = 1 }) → accepted a ≡ true →
+      noWrite (feed (bookOf before) (called steps l a)) k after ≡ true → (order cells cells′ : List ℕ) (r : Recovery) → orderBad n order ≡ false →
+      LargeEnough (w .cells) (length cells) → RecoverPromise edition1 n s order (w .area) cells cells′ r → TypedKey k →
+      ((x : Reading) → ReadPromise edition1 (r .rec) (w .area) cells′ k x → x .answer ≡ ReadAnswer.Refused Refusal.Absent)
+      × ((p : Part) → ValuePromise edition1 (r .rec) (w .area) cells′ k p → partOf (w .area) p ≡ [])
+  unfolding bookAnswer bookValue bookAfter
+  deleted-stays-gone before after l a k w run deleting done none-written order cells cells′ r good large promise typed = (
+    λ x q. given .answers k typed x q ∙ ap (bookAnswer edition1) gone,
+    λ v q. given .values k typed v q ∙ ap bookValue gone,
+  )
+    where
+      given : GivesBook edition1 (w .area) cells′ r (bookOf (before ++ called steps l a ∷ after))
+      given = demanded (before ++ called steps l a ∷ after) w run .recovery order cells cells′ r good large promise
+
+      gone : bookOf (before ++ called steps l a ∷ after) .keys k ≡ none
+      gone =
+          ap (λ (b : Book). b .keys k) (book-append freshBook before (called steps l a ∷ after)) ∙
+          gone-since before l a k deleting done after none-written
+
+  -- And no read of it meanwhile: it answers 8, and the value is empty, whether an operation is pending or not.
+  pub deleted-reads-gone :
+      (before between after : List Event) (l lent : Lengths) (a x : Answer) (k : Key) (q : Question) (w : World) →
+      Leads (before ++ called steps l a ∷ (between ++ called (asks q) lent x ∷ after)) w →
+      bookOf before .pending ≡ some (record { operation = delete k; left = 1 }) → accepted a ≡ true →
+      noWrite (feed (bookOf before) (called steps l a)) k between ≡ true →
+      (q ≡ reads k → x ≡ saying (refusal 8)) × (q ≡ readsValue k → x ≡ giving [])
+  unfolding EventAgrees QuestionAgrees bookAnswer bookValue
+  deleted-reads-gone before between after l lent a x k q w run deleting done none-written = (
+    λ e. subst (λ (y : Question). QuestionAgrees edition1 now y x) e agrees ∙ ap (λ (y : Option Kept). saying (readSaid (bookAnswer edition1 y))) gone,
+    λ e. subst (λ (y : Question). QuestionAgrees edition1 now y x) e agrees ∙ ap (λ (y : Option Kept). giving (bookValue y)) gone,
+  )
+    where
+      now : Book
+      now = bookAfter (feed (bookOf before) (called steps l a)) between
+
+      gone : now .keys k ≡ none
+      gone = gone-since before l a k deleting done between none-written
+
+      agrees : QuestionAgrees edition1 now q x
+      agrees =
+          agree-at (feed (bookOf before) (called steps l a)) between (called (asks q) lent x) after
+          (agree-behind freshBook before (called steps l a) (between ++ called (asks q) lent x ∷ after)
+          (demanded (before ++ called steps l a ∷ (between ++ called (asks q) lent x ∷ after)) w run .agrees))
+
+  -- A step is accepted only where the book has an operation pending.
+  pub accepted-awaited :
+      (before after : List Event) (l : Lengths) (a : Answer) (w : World) → Leads (before ++ called steps l a ∷ after) w → accepted a ≡ true →
+      bookOf before .pending ≡ none → ⊥
+  unfolding EventAgrees StepAgrees
+  accepted-awaited before after l a w run done none-pending =
+      subst (λ (x : Option Awaited). StepAgrees (bookOf before) (a .said) x) none-pending
+      (agree-at freshBook before (called steps l a) after (demanded (before ++ called steps l a ∷ after) w run .agrees) done)
 
 -- ---- versions told
 
@@ -172,14 +217,13 @@ step-rises b (some p) = go (p .left - 1)
 
 event-rises : (b : Book) (e : Event) → b .next ≤ feed b e .next
 unfolding feed feedCall pick
-event-rises b (called c a) = go (accepted a) c
+event-rises b (called c l a) = go (accepted a) c
   where
-    go : (t : Bool) (c : Call) → b .next ≤ pick t (feedCall b c a) b .next
+    go : (t : Bool) (c : Call) → b .next ≤ pick t (feedCall b c (a .said .stores)) b .next
     go true (starts o) = omega arith
     go true steps = step-rises b (b .pending)
-    go true (reads k) = omega arith
-    go true (readsValue k) = omega arith
-    go true recovers = omega arith
+    go true (asks q) = omega arith
+    go true (recovers n s order) = omega arith
     go false c = omega arith
 event-rises b cut = omega arith
 
@@ -196,50 +240,68 @@ told-is b (delete k) h = (refl, omega arith)
 told-is b (clean victims) h = absurd (h refl)
 
 -- what a finished operation was told, at the book of the list before it
-told-at : (b : Book) (a : Said) → EventAgrees b (called steps a) → (f : Finishes b a) → a .version ≡ versionFor b (f .awaited .operation)
+told-at :
+    (b : Book) (l : Lengths) (a : Answer) → EventAgrees edition1 b (called steps l a) → (f : Finishes b a) →
+    a .said .version ≡ versionFor b (f .awaited .operation)
 unfolding EventAgrees StepAgrees
-told-at b a h f = subst (λ (x : Option Awaited). StepAgrees b a x) (f .pending) (h (f .is-accepted)) .1 (f .one-left)
+told-at b l a h f = subst (λ (x : Option Awaited). StepAgrees b (a .said) x) (f .pending) (h (f .is-accepted)) .1 (f .one-left)
 
-book-at : (b : Book) (a : Said) (f : Finishes b a) → feed b (called steps a) ≡ finish b (f .awaited .operation)
+book-at : (b : Book) (l : Lengths) (a : Answer) (f : Finishes b a) → feed b (called steps l a) ≡ finish b (f .awaited .operation)
 unfolding feed feedCall takeOne oneOff
-book-at b a f =
+book-at b l a f =
     pick-true (accepted a) (takeOne b (b .pending)) b (f .is-accepted) ∙ ap (takeOne b) (f .pending) ∙
     ap (λ (m : ℕ). oneOff b (f .awaited .operation) (m - 1)) (f .one-left)
 
--- No two finished operations are told the same version, but for the 0 of cleanings: of two, the later is told a higher one, whatever
--- stands between them.
-pub told-rises :
-    (n s : ℕ) (area₀ area : List ℕ) → Bytes area₀ → FormatPromise edition1 n s area₀ area FormatAnswer.Formatted →
-    (first between last : List Event) (a c : Said) (w : World) →
-    Run edition1 n s (freshWorld area) (first ++ called steps a ∷ (between ++ called steps c ∷ last)) w → (f : Finishes (bookOf first) a) →
-    (g : Finishes (bookAfter (feed (bookOf first) (called steps a)) between) c) → (a .version ≡ 0 → ⊥) → (c .version ≡ 0 → ⊥) →
-    a .version < c .version
-told-rises n s area₀ area ab p first between last a c w run f g na nc =
-    omega (arith, told-a, told-c, is-a .0, is-a .1, is-c .0, rises, ap (λ (b : Book). b .next) (book-at b₁ a f))
-  where
-    b₁ : Book
-    b₁ = bookOf first
+told-in : (before : List Event) (e : Event) (after : List Event) → toldBy e ≤ highestTold (before ++ e ∷ after)
+unfolding highestTold
+told-in [] e after = omega arith
+told-in (x ∷ xs) e after = omega (arith, told-in xs e after)
 
-    b₂ : Book
-    b₂ = bookAfter (feed (bookOf first) (called steps a)) between
+module _ (n s : ℕ) (area₀ area : List ℕ) (ab : Bytes area₀) (format : FormatPromise edition1 n s area₀ area FormatAnswer.Formatted) where
+  -- Whatever version a call told, a later recovery gives a higher next version.
+  pub told-below-next :
+      (before after : List Event) (c : Call) (l : Lengths) (a : Answer) (w : World) →
+      Leads n s area₀ area ab format (before ++ called c l a ∷ after) w → (order cells cells′ : List ℕ) (r : Recovery) →
+      orderBad n order ≡ false → LargeEnough (w .cells) (length cells) → RecoverPromise edition1 n s order (w .area) cells cells′ r →
+      a .said .version < r .rec .next .0
+  unfolding toldBy
+  told-below-next before after c l a w run order cells cells′ r good large promise =
+      let all = demanded n s area₀ area ab format (before ++ called c l a ∷ after) w run in
+      omega (arith, told-in before (called c l a) after, all .above-told, all .recovery order cells cells′ r good large promise .next-version)
 
-    agree : StepsAgree freshBook (first ++ called steps a ∷ (between ++ called steps c ∷ last))
-    agree = demand-3 n s area₀ area ab p (first ++ called steps a ∷ (between ++ called steps c ∷ last)) w run .steps-agree
+  -- No two finished operations are told the same version, but for the 0 of cleanings: of two, the later is told a higher one, whatever
+  -- stands between them.
+  pub told-rises :
+      (first between last : List Event) (l k : Lengths) (a c : Answer) (w : World) →
+      Leads n s area₀ area ab format (first ++ called steps l a ∷ (between ++ called steps k c ∷ last)) w → (f : Finishes (bookOf first) a) →
+      (g : Finishes (bookAfter (feed (bookOf first) (called steps l a)) between) c) → (a .said .version ≡ 0 → ⊥) →
+      (c .said .version ≡ 0 → ⊥) → a .said .version < c .said .version
+  told-rises first between last l k a c w run f g na nc =
+      omega (arith, told-a, told-c, is-a .0, is-a .1, is-c .0, rises, ap (λ (b : Book). b .next) (book-at b₁ l a f))
+    where
+      b₁ : Book
+      b₁ = bookOf first
 
-    told-a : a .version ≡ versionFor b₁ (f .awaited .operation)
-    told-a = told-at b₁ a (agree-at freshBook first (called steps a) (between ++ called steps c ∷ last) agree) f
+      b₂ : Book
+      b₂ = bookAfter (feed (bookOf first) (called steps l a)) between
 
-    told-c : c .version ≡ versionFor b₂ (g .awaited .operation)
-    told-c =
-        told-at b₂ c
-        (agree-at (feed b₁ (called steps a)) between (called steps c) last
-        (agree-behind freshBook first (called steps a) (between ++ called steps c ∷ last) agree)) g
+      agree : EventsAgree edition1 freshBook (first ++ called steps l a ∷ (between ++ called steps k c ∷ last))
+      agree = demanded n s area₀ area ab format (first ++ called steps l a ∷ (between ++ called steps k c ∷ last)) w run .agrees
 
-    is-a : (versionFor b₁ (f .awaited .operation) ≡ b₁ .next) × (b₁ .next < finish b₁ (f .awaited .operation) .next)
-    is-a = told-is b₁ (f .awaited .operation) (λ z. na (told-a ∙ z))
+      told-a : a .said .version ≡ versionFor b₁ (f .awaited .operation)
+      told-a = told-at b₁ l a (agree-at freshBook first (called steps l a) (between ++ called steps k c ∷ last) agree) f
 
-    is-c : (versionFor b₂ (g .awaited .operation) ≡ b₂ .next) × (b₂ .next < finish b₂ (g .awaited .operation) .next)
-    is-c = told-is b₂ (g .awaited .operation) (λ z. nc (told-c ∙ z))
+      told-c : c .said .version ≡ versionFor b₂ (g .awaited .operation)
+      told-c =
+          told-at b₂ k c
+          (agree-at (feed b₁ (called steps l a)) between (called steps k c) last
+          (agree-behind freshBook first (called steps l a) (between ++ called steps k c ∷ last) agree)) g
 
-    rises : feed b₁ (called steps a) .next ≤ b₂ .next
-    rises = list-rises (feed b₁ (called steps a)) between
+      is-a : (versionFor b₁ (f .awaited .operation) ≡ b₁ .next) × (b₁ .next < finish b₁ (f .awaited .operation) .next)
+      is-a = told-is b₁ (f .awaited .operation) (λ z. na (told-a ∙ z))
+
+      is-c : (versionFor b₂ (g .awaited .operation) ≡ b₂ .next) × (b₂ .next < finish b₂ (g .awaited .operation) .next)
+      is-c = told-is b₂ (g .awaited .operation) (λ z. nc (told-c ∙ z))
+
+      rises : feed b₁ (called steps l a) .next ≤ b₂ .next
+      rises = list-rises (feed b₁ (called steps l a)) between

@@ -20,11 +20,11 @@ use Rattle.history.specs.Book.{Kept, Book, finish, versionFor}
 use Rattle.history.proofs.Invariant.{bookEntry}
 
 -- nothing is pending once an operation is finished
-pub finish-calm : (b : Book) (o : Operation) → finish b o .pending ≡ none
+pub finish-idle : (b : Book) (o : Operation) → finish b o .pending ≡ none
 unfolding finish
-finish-calm b (write k value) = refl
-finish-calm b (delete k) = refl
-finish-calm b (clean victims) = refl
+finish-idle b (write k value) = refl
+finish-idle b (delete k) = refl
+finish-idle b (clean victims) = refl
 
 module _ (L : Layout) (before : List ℕ) (idle : Record) (b : Book) (same : idle .next .0 ≡ b .next) where
   -- the record's next version and the book's

@@ -19,6 +19,7 @@ use Rattle.model.specs.Recovery.{recovered, recordFrom, ifNone, areaCauses}
 use Rattle.model.specs.Operations.{logNow, storesFor}
 use Rattle.model.specs.Promises.{Genuine, Started}
 use Rattle.laws.specs.MapLaws.{valueAt}
+use Rattle.laws.specs.Operated.{Accepted}
 use Rattle.history.specs.Book.{Kept, Book}
 use Rattle.history.specs.Runs.{Held, World}
 
@@ -46,8 +47,8 @@ baseCells (some m) = m
 
 -- Nothing is pending, or a started operation with the book's stores left.
 pub data Phase (L : Layout) (area : List ℕ) (b : Book) (h : Held) : Type 0 where
-  calm : h .rec .pending ≡ Idle → b .pending ≡ none → Phase L area b h
-  busy :
+  idle : h .rec .pending ≡ Idle → b .pending ≡ none → Phase L area b h
+  pending :
       (t : Started L area (h .rec) (h .work)) →
       b .pending ≡
       some
@@ -61,6 +62,7 @@ pub record Holding (L : Layout) (n s : ℕ) (area : List ℕ) (m : Option ℕ) (
   pub slots-same : h .rec .slots ≡ n
   pub size-same : h .rec .size ≡ s
   pub cells-same : m ≡ some (h .rec .cells)
+  pub index-long : length (h .cells) ≡ h .rec .cells
   pub genuine : Genuine L area (h .rec) (h .cells)
   pub phase : Phase L area b h
 
@@ -97,8 +99,8 @@ pub log-of :
     logNow L area (recordFrom L n s 16 area) ≡ logNow L area r
 log-of L n s m area r e = ap (logNow L area) (sym (recovered-is L n s m area r e))
 
-pub calm-of : (L : Layout) (n s m : ℕ) (area : List ℕ) (r : Record) → recovered L n s m area ≡ some r → r .pending ≡ Idle
-calm-of L n s m area r e = ap (λ (x : Record). x .pending) (recovered-is L n s m area r e)
+pub idle-of : (L : Layout) (n s m : ℕ) (area : List ℕ) (r : Record) → recovered L n s m area ≡ some r → r .pending ≡ Idle
+idle-of L n s m area r e = ap (λ (x : Record). x .pending) (recovered-is L n s m area r e)
 
 pub slots-of : (L : Layout) (n s m : ℕ) (area : List ℕ) (r : Record) → recovered L n s m area ≡ some r → r .slots ≡ n
 slots-of L n s m area r e = ap (λ (x : Record). x .slots) (recovered-is L n s m area r e)
@@ -127,6 +129,17 @@ own-geometry L n s m area r e = moved ∙ e
 -- a record with nothing pending is itself, its pending operation aside
 pub idle-same : (r : Record) → r .pending ≡ Idle → withPending r Idle ≡ r
 idle-same r p = ap (withPending r) (sym p)
+
+-- what a started operation was started on
+pub started-accepted : (L : Layout) (area : List ℕ) (r : Record) (work : List ℕ) (st : Started L area r work) → Accepted L (st .before) (st .idle) (st .operation)
+started-accepted L area r work st =
+    record {
+      lengths = st .lengths;
+      area-bytes = st .area-bytes;
+      typed = st .typed;
+      recovers = st .recovers;
+      no-cause = st .accepted;
+    }
 
 -- The invariant from a recovered record that agrees with the book.
 pub rebuilt :

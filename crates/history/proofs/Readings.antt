@@ -1,36 +1,156 @@
--- A read keeps the invariant, and tells a version below the next.
-use Prim.Native.Nat.{ℕ, _<_, max}
+-- Reads answer what the book holds, also while an operation is pending; they keep the invariant, and tell a version below the next.
+use Prim.Native.Nat.{ℕ, _+_, _-_, _≤_, _<_, max}
 use native.Mathlib.Nat.{max-zero}
 use native.Mathlib.Omega.{arith}
-use mathlib.Core.Path.{_≡_, refl, sym, _∙_, subst⁻¹}
-use mathlib.Core.Bool.{Bool, true, false}
-use mathlib.Core.List.{List}
+use mathlib.Core.Path.{_≡_, refl, sym, ap, _∙_, subst⁻¹}
+use mathlib.Core.Bool.{Bool, true, false, not}
+use mathlib.Core.List.{List, [], _∷_}
 use mathlib.Core.Option.{Option, none, some}
-use Rattle.segment.specs.Choice.{pick}
+use lib.ListN.{length}
+use Rattle.word.specs.Number.{Bytes}
+use Rattle.segment.specs.Choice.{pick, isNone}
 use Rattle.segment.specs.Layout.{Layout}
+use Rattle.segment.specs.Entry.{Entry, kindOf, bytesIn}
 use Rattle.segment.specs.declared.Key.{Key}
-use Rattle.record.specs.Answers.{readSaid, withPending, refusal}
+use Rattle.record.specs.Answers.{readSaid, withPending, storesLeft}
+use Rattle.record.specs.Range.{fitsLent}
+use Rattle.record.specs.RangeLaws.{Lent, lent, fits-lent, lent-pending}
+use Rattle.record.specs.declared.Pending.{Pending}
 use Rattle.record.specs.declared.Pending.the-variants.{Idle}
 use Rattle.record.specs.declared.Reading.{Reading}
 use Rattle.record.specs.declared.ReadAnswer.{ReadAnswer}
+use Rattle.record.specs.declared.Record.{Record}
 use Rattle.record.specs.declared.Refusal.{Refusal}
+use Rattle.record.specs.declared.Refusal.the-variants.{BadRecord, Absent}
 use Rattle.model.specs.Log.{Placed, present}
-use Rattle.model.specs.Causes.{firstCause}
+use Rattle.model.specs.Causes.{when, firstCause}
 use Rattle.model.specs.Recovery.{recovered}
-use Rattle.model.specs.Operations.{logNow}
-use Rattle.model.specs.Refused.{readCauses}
-use Rattle.model.specs.Promises.{ReadPromise, readAnswer, presentAnswer, readLengths}
+use Rattle.model.specs.Operations.{Operation, write, delete, clean, logNow, writtenEntry, tombstoneEntry, fitsHead, laidAppend, laidHead, laid, storesFor}
+use Rattle.model.specs.Refused.{Lengths, recordBad, keyAbsent, readCauses}
+use Rattle.model.specs.Promises.{ReadPromise, ValuePromise, readAnswer, presentAnswer, readLengths, Part, partOf, valueAnswer, valuePart}
+use Rattle.laws.specs.CauseLaws.{cause-skip}
+use Rattle.laws.specs.MapLaws.{valueAt, entryIn}
 use Rattle.laws.specs.Operated.{OperationLaws}
-use Rattle.history.specs.Book.{reads, readsValue, called, accepted, Book, feed, feedCall, toldBy}
-use Rattle.history.specs.Runs.{Held}
-use Rattle.history.proofs.Invariant.{Inv, Holding, next-of, with-geometry}
+use Rattle.history.specs.Book.{Question, reads, readsValue, asks, Answer, saying, giving, called, accepted, Kept, Book, feed, feedCall, toldBy}
+use Rattle.history.specs.Runs.{Held, World, Asked, read, readValue}
+use Rattle.history.specs.Demand3.{bookAnswer, bookValue, QuestionAgrees, EventAgrees}
+use Rattle.history.proofs.Invariant.{Inv, Holding, HeldGood, Phase, idle, pending, bookEntry, started-accepted, next-of, log-of, with-geometry}
 
-pub pick-same : {A : Type 0} (t : Bool) (a : A) → pick t a a ≡ a
+-- ---- the record that is held passes the tests of range and length
+
+pick-same : {A : Type 0} (t : Bool) (a : A) → pick t a a ≡ a
 unfolding pick
 pick-same true a = refl
 pick-same false a = refl
 
+-- a question changes nothing in the book
+pub feed-asks : (b : Book) (q : Question) (l : Lengths) (a : Answer) → feed b (called (asks q) l a) ≡ b
+unfolding feed feedCall
+feed-asks b q l a = pick-same (accepted a) b
+
+-- an operation is laid down with any number of stores left
+laid-left : (L : Layout) (r : Record) (log : List Placed) (o : Operation) (k : ℕ) → storesLeft (laid L r log o .pending k) ≡ k
+unfolding laid pick
+laid-left L r log o k = go o
+  where
+    entry : (t : Bool) (e : Entry) → storesLeft (pick t (laidAppend L e) (laidHead L r e) .pending k) ≡ k
+    entry true e = refl
+    entry false e = refl
+
+    go : (o : Operation) → storesLeft (laid L r log o .pending k) ≡ k
+    go (write j value) = entry (fitsHead L r (writtenEntry r j value)) (writtenEntry r j value)
+    go (delete j) = entry (fitsHead L r (tombstoneEntry r j)) (tombstoneEntry r j)
+    go (clean victims) = refl
+
 module _ (L : Layout) (laws : OperationLaws L) (n s : ℕ) where
+  -- 1 to S + 1 stores are left of what is pending
+  pending-left :
+      (area : List ℕ) (b : Book) (h : Held) → Phase L area b h →
+      ((h .rec .pending ≡ Idle → ⊥) → 0 < storesLeft (h .rec .pending)) × (storesLeft (h .rec .pending) ≤ h .rec .size + 1)
+  pending-left area b h (idle e _) = (
+    λ some-pending. absurd (some-pending e),
+    subst⁻¹ (λ (p : Pending). storesLeft p ≤ h .rec .size + 1) e (omega arith),
+  )
+  pending-left area b h (pending st _) = (λ _. omega (arith, left, st .some-left), omega (arith, left, size, most))
+    where
+      stores : ℕ
+      stores = storesFor L (st .idle) (logNow L (st .before) (st .idle)) (st .operation)
+
+      left : storesLeft (h .rec .pending) ≡ stores - st .since
+      left =
+          ap (λ (x : Record). storesLeft (x .pending)) (st .record-now) ∙
+          laid-left L (st .idle) (logNow L (st .before) (st .idle)) (st .operation) (stores - st .since)
+
+      size : h .rec .size ≡ st .idle .size
+      size = ap (λ (x : Record). x .size) (st .record-now)
+
+      most : stores ≤ st .idle .size + 1
+      most = laws .few-stores (st .before) (st .idle) (st .operation) (started-accepted L area (h .rec) (h .work) st)
+
+  held-fits :
+      (area : List ℕ) (m : Option ℕ) (b : Book) (h : Held) → Bytes area → Holding L n s area m b h →
+      fitsLent L (h .rec) (length area) (length (h .cells)) ≡ true
+  held-fits area m b h ab good =
+      let left = pending-left area b h (good .phase) in
+      fits-lent L (h .rec) (length area) (length (h .cells)) (lent-pending (h .rec .pending) without (left .0) (left .1))
+    where
+      without : Lent L (withPending (h .rec) Idle) (length area) (length (h .cells))
+      without =
+          lent L (withPending (h .rec) Idle) (length area) (length (h .cells))
+          (ap (λ (c : ℕ). fitsLent L (withPending (h .rec) Idle) (length area) c) (good .index-long) ∙
+          laws .own-lengths (h .rec .slots) (h .rec .size) (h .rec .cells) area (withPending (h .rec) Idle) ab (good .genuine .recovers))
+
+  -- ---- what the log holds of a key is what the book holds of it
+
+  some-same : {u v : Entry} → _≡_ {A = Option Entry} (some u) (some v) → u ≡ v
+  some-same q = cc
+
+  present-answer :
+      (k : Key) (p : Option Placed) (x : Option Kept) → entryIn p ≡ bookEntry k x →
+      readAnswer L (firstCause (when (isNone p) Absent ∷ [])) p ≡ bookAnswer L x
+  unfolding entryIn bookEntry firstCause pick isNone readAnswer presentAnswer bookAnswer
+  present-answer k none none e = refl
+  present-answer k none (some y) e = cc
+  present-answer k (some p) none e = cc
+  present-answer k (some p) (some y) e = ap (λ (z : Entry). ReadAnswer.Present (record { 0 = z .version }) (kindOf L z)) (some-same e)
+
+  present-value :
+      (area : List ℕ) (size : ℕ) (k : Key) (p : Option Placed) (x : Option Kept) → entryIn p ≡ bookEntry k x →
+      ((y : Placed) → p ≡ some y → partOf area (valuePart L size (some y)) ≡ bytesIn (y .entry .value)) →
+      partOf area (valueAnswer L size (firstCause (when (isNone p) Absent ∷ [])) p) ≡ bookValue x
+  unfolding entryIn bookEntry firstCause pick isNone valueAnswer valuePart bookValue bytesIn
+  present-value area size k none none e part = refl
+  present-value area size k none (some y) e part = cc
+  present-value area size k (some p) none e part = cc
+  present-value area size k (some p) (some y) e part = part p refl ∙ ap (λ (z : Entry). bytesIn (z .value)) (some-same e)
+
+  -- A record that recovery of the area gives, its pending operation aside, and that fits what is lent.
+  module _ (area cells : List ℕ) (r : Record) (ab : Bytes area)
+      (recovers : recovered L (r .slots) (r .size) (r .cells) area ≡ some (withPending r Idle))
+      (fits : fitsLent L r (length area) (length cells) ≡ true) (k : Key) (x : Option Kept)
+      (same : valueAt (logNow L area r) k ≡ bookEntry k x)
+    where
+      only-absent :
+          firstCause (readCauses L r (logNow L area r) (readLengths area cells) k) ≡ firstCause (when (keyAbsent (logNow L area r) k) Absent ∷ [])
+      only-absent =
+          cause-skip (when (recordBad L r (readLengths area cells)) BadRecord) (when (keyAbsent (logNow L area r) k) Absent ∷ []) (ap not fits)
+
+      pub read-answer :
+          readAnswer L (firstCause (readCauses L r (logNow L area r) (readLengths area cells) k)) (present (logNow L area r) k) ≡ bookAnswer L x
+      read-answer =
+          ap (λ (c : Option Refusal). readAnswer L c (present (logNow L area r) k)) only-absent ∙
+          present-answer k (present (logNow L area r) k) x same
+
+      pub value-answer :
+          partOf area (valueAnswer L (r .size) (firstCause (readCauses L r (logNow L area r) (readLengths area cells) k)) (present (logNow L area r) k)) ≡
+          bookValue x
+      value-answer =
+          ap (λ (c : Option Refusal). partOf area (valueAnswer L (r .size) c (present (logNow L area r) k))) only-absent ∙
+          present-value area (r .size) k (present (logNow L area r) k) x same
+          (λ y q. laws .value-part area (withPending r Idle) ab recovers k y q)
+
+  -- ---- reads in a run
+
   module _ (area : List ℕ) (h : Held) (m : Option ℕ) (b : Book) (t : ℕ) (inv : Inv L n s (record { area = area; held = some h; cells = m }) b t)
       (good : Holding L n s area m b h) (k : Key)
     where
@@ -42,6 +162,14 @@ module _ (L : Layout) (laws : OperationLaws L) (n s : ℕ) where
       next-now : h .rec .next .0 ≡ b .next
       next-now = sym (next-of L n s (h .rec .cells) area (withPending (h .rec) Idle) idle-recovers) ∙ inv .agrees .next-same
 
+      map-now : valueAt (logNow L area (h .rec)) k ≡ bookEntry k (b .keys k)
+      map-now =
+          ap (λ (log : List Placed). valueAt log k) (sym (log-of L n s (h .rec .cells) area (withPending (h .rec) Idle) idle-recovers)) ∙
+          inv .agrees .map-same k
+
+      fits : fitsLent L (h .rec) (length area) (length (h .cells)) ≡ true
+      fits = held-fits area m b h (inv .bytes) good
+
       told-less :
           (c : Option Refusal) (x : Option Placed) → present (logNow L area (h .rec)) k ≡ x → readSaid (readAnswer L c x) .version < b .next
       unfolding readAnswer presentAnswer
@@ -50,22 +178,39 @@ module _ (L : Layout) (laws : OperationLaws L) (n s : ℕ) where
       told-less none (some x) e =
           omega (arith, next-now, laws .version-below area (withPending (h .rec) Idle) (good .genuine .recovers) k x e)
 
-      pub read-keeps :
-          (a : Reading) → ReadPromise L (h .rec) area (h .cells) k a →
-          Inv L n s (record { area = area; held = some h; cells = m }) (feed b (called (reads k) (readSaid (a .answer))))
-          (max t (toldBy (called (reads k) (readSaid (a .answer)))))
-      unfolding feed feedCall toldBy
-      read-keeps a p =
-          rw (pick-same (accepted (readSaid (a .answer))) b)
-          (record { bytes = inv .bytes; base = inv .base; agrees = inv .agrees; below = omega (arith, inv .below, less); held = inv .held })
+      -- what is to be shown of a question
+      abbrev QuestionGoal : Question → Lengths → Answer → Type 0
+      QuestionGoal q l a =
+          Inv L n s (record { area = area; held = some h; cells = m }) (feed b (called (asks q) l a)) (max t (toldBy (called (asks q) l a)))
+          × EventAgrees L b (called (asks q) l a)
+
+      read-keeps : (l : Lengths) (a : Reading) → ReadPromise L (h .rec) area (h .cells) k a → QuestionGoal (reads k) l (saying (readSaid (a .answer)))
+      unfolding feed feedCall toldBy EventAgrees QuestionAgrees
+      read-keeps l a p = (
+        rw (pick-same (accepted (saying (readSaid (a .answer)))) b)
+            (record { bytes = inv .bytes; base = inv .base; agrees = inv .agrees; below = omega (arith, inv .below, less); held = inv .held }),
+        ap (λ (x : ReadAnswer). saying (readSaid x))
+            (p .exact (good .genuine) ∙ read-answer area (h .cells) (h .rec) (inv .bytes) (good .genuine .recovers) fits k (b .keys k) map-now),
+      )
         where
           less : readSaid (a .answer) .version < b .next
           less =
               subst⁻¹ (λ (x : ReadAnswer). readSaid x .version < b .next) (p .exact (good .genuine))
               (told-less (firstCause (readCauses L (h .rec) (logNow L area (h .rec)) (readLengths area (h .cells)) k)) (present (logNow L area (h .rec)) k) refl)
 
-  pub value-keeps :
-      (area : List ℕ) (h : Held) (m : Option ℕ) (b : Book) (t : ℕ) (k : Key) → Inv L n s (record { area = area; held = some h; cells = m }) b t →
-      Inv L n s (record { area = area; held = some h; cells = m }) (feed b (called (readsValue k) (refusal 0))) (max t (toldBy (called (readsValue k) (refusal 0))))
-  unfolding feed feedCall toldBy pick
-  value-keeps area h m b t k inv = rw (max-zero t) inv
+      value-keeps : (l : Lengths) (p : Part) → ValuePromise L (h .rec) area (h .cells) k p → QuestionGoal (readsValue k) l (giving (partOf area p))
+      unfolding feed feedCall toldBy pick EventAgrees QuestionAgrees
+      value-keeps l p promise = (
+        rw (max-zero t) inv,
+        ap giving
+            (ap (partOf area) (promise .exact (good .genuine)) ∙ value-answer area (h .cells) (h .rec) (inv .bytes) (good .genuine .recovers) fits k (b .keys k) map-now),
+      )
+
+  -- A question keeps the invariant, and answers what the book says.
+  pub ask-keeps :
+      {w : World} {q : Question} {l : Lengths} {a : Answer} (b : Book) (t : ℕ) → Asked L w q l a → Inv L n s w b t →
+      Inv L n s w (feed b (called (asks q) l a)) (max t (toldBy (called (asks q) l a))) × EventAgrees L b (called (asks q) l a)
+  unfolding HeldGood
+  ask-keeps b t (read {area} {h} {m} {k} {a} ty p) inv = read-keeps area h m b t inv (inv .held) k (readLengths area (h .cells)) a p
+  ask-keeps b t (readValue {area} {h} {m} {k} {p} ty promise) inv =
+      value-keeps area h m b t inv (inv .held) k (readLengths area (h .cells)) p promise

@@ -19,12 +19,13 @@ use Rattle.model.specs.Causes.{firstCause}
 use Rattle.model.specs.Recovery.{recovered, recordFrom, recoverCauses, recovery, recoveryFor}
 use Rattle.model.specs.Index.{IndexRule}
 use Rattle.model.specs.Operations.{logNow}
+use Rattle.model.specs.Refused.{Lengths}
 use Rattle.model.specs.Promises.{RecoverPromise, IndexAfter}
 use Rattle.laws.specs.CauseLaws.{refusal-number}
 use Rattle.laws.specs.RecoverLaws.{recovery-recovered}
-use Rattle.history.specs.Book.{recovers, called, cut, Book, feed, feedCall, withoutPending, toldBy}
+use Rattle.history.specs.Book.{recovers, saying, Event, called, cut, Book, feed, feedCall, withoutPending, toldBy}
 use Rattle.history.specs.Runs.{Held, World, recoveredWorld}
-use Rattle.history.proofs.Invariant.{Inv, Holding, HeldGood, calm, rebuilt}
+use Rattle.history.proofs.Invariant.{Inv, Holding, HeldGood, idle, rebuilt}
 
 -- where recovery is accepted, the area recovers to its record
 pub accepted-recovers :
@@ -36,10 +37,12 @@ accepted-recovers L n s m order area e =
 
 module _ (L : Layout) (n s : ℕ) where
   -- what is to be shown of a recovery that answers r and leaves these cells
-  abbrev pub RecoverGoal : World → Book → ℕ → List ℕ → Recovery → Type 0
-  RecoverGoal w b t cells′ r =
-      Inv L n s (recoveredWorld w cells′ r) (feed b (called recovers (recoverSaid (r .answer))))
-      (max t (toldBy (called recovers (recoverSaid (r .answer)))))
+  abbrev pub recoverEvent : List ℕ → Lengths → Recovery → Event
+  recoverEvent order lent r = called (recovers n s order) lent (saying (recoverSaid (r .answer)))
+
+  abbrev pub RecoverGoal : World → Book → ℕ → List ℕ → Lengths → List ℕ → Recovery → Type 0
+  RecoverGoal w b t order lent cells′ r =
+      Inv L n s (recoveredWorld w cells′ r) (feed b (recoverEvent order lent r)) (max t (toldBy (recoverEvent order lent r)))
 
   -- without what is held, the invariant stays
   pub dropped : (w : World) (b : Book) (t : ℕ) → Inv L n s w b t → Inv L n s (record { area = w .area; held = none; cells = w .cells }) b t
@@ -47,22 +50,22 @@ module _ (L : Layout) (n s : ℕ) where
   dropped w b t inv = record { bytes = inv .bytes; base = inv .base; agrees = inv .agrees; below = inv .below; held = tt }
 
   refused :
-      (w : World) (b : Book) (t : ℕ) (cells′ : List ℕ) (c : Refusal) → Inv L n s w b t →
-      RecoverGoal w b t cells′ (record { answer = RecoverAnswer.Refused c; rec = blank })
+      (w : World) (b : Book) (t : ℕ) (order : List ℕ) (lent : Lengths) (cells′ : List ℕ) (c : Refusal) → Inv L n s w b t →
+      RecoverGoal w b t order lent cells′ (record { answer = RecoverAnswer.Refused c; rec = blank })
   unfolding feed toldBy pick
-  refused w b t cells′ c inv = rw (max-zero t, refusal-number c) (go (eqb (numberOfRefusal c) 20))
+  refused w b t order lent cells′ c inv = rw (max-zero t, refusal-number c) (go (eqb (numberOfRefusal c) 20))
     where
       go : (twenty : Bool) → Inv L n s (pick twenty (record { area = w .area; held = none; cells = w .cells }) w) b t
       go true = dropped w b t inv
       go false = inv
 
   accepts :
-      (w : World) (b : Book) (t : ℕ) (order cells cells′ : List ℕ) → Inv L n s w b t →
+      (w : World) (b : Book) (t : ℕ) (order : List ℕ) (lent : Lengths) (cells cells′ : List ℕ) → Inv L n s w b t →
       firstCause (recoverCauses L n s (length cells) order (w .area)) ≡ none → length cells′ ≡ length cells →
       IndexRule s (logNow L (w .area) (recordFrom L n s (length cells) (w .area))) cells′ →
-      RecoverGoal w b t cells′ (record { answer = RecoverAnswer.Recovered; rec = recordFrom L n s (length cells) (w .area) })
+      RecoverGoal w b t order lent cells′ (record { answer = RecoverAnswer.Recovered; rec = recordFrom L n s (length cells) (w .area) })
   unfolding feed feedCall toldBy HeldGood pick
-  accepts w b t order cells cells′ inv e same rule =
+  accepts w b t order lent cells cells′ inv e same rule =
       rw (max-zero t, same)
       (rebuilt L n s (length cells) (w .area) (recordFrom L n s (length cells) (w .area)) (some held′) (withoutPending b) t (inv .bytes)
       (accepted-recovers L n s (length cells) order (w .area) e) (inv .agrees .next-same) (inv .agrees .map-same) (inv .below) holding′)
@@ -76,17 +79,18 @@ module _ (L : Layout) (n s : ℕ) where
             slots-same = refl;
             size-same = refl;
             cells-same = refl;
+            index-long = same;
             genuine = record { recovers = accepted-recovers L n s (length cells) order (w .area) e; rule = rule };
-            phase = calm refl refl;
+            phase = idle refl refl;
           }
 
   -- A recovery keeps the invariant.
   pub recover-keeps :
-      (w : World) (b : Book) (t : ℕ) (order cells cells′ : List ℕ) (r : Recovery) → RecoverPromise L n s order (w .area) cells cells′ r →
-      Inv L n s w b t → RecoverGoal w b t cells′ r
+      (w : World) (b : Book) (t : ℕ) (order : List ℕ) (lent : Lengths) (cells cells′ : List ℕ) (r : Recovery) →
+      RecoverPromise L n s order (w .area) cells cells′ r → Inv L n s w b t → RecoverGoal w b t order lent cells′ r
   unfolding recovery recoveryFor IndexAfter
-  recover-keeps w b t order cells cells′ r p inv =
-      subst⁻¹ (λ (x : Recovery). RecoverGoal w b t cells′ x) (p .answers) (go cause refl index′)
+  recover-keeps w b t order lent cells cells′ r p inv =
+      subst⁻¹ (λ (x : Recovery). RecoverGoal w b t order lent cells′ x) (p .answers) (go cause refl index′)
     where
       rec : Record
       rec = recordFrom L n s (length cells) (w .area)
@@ -97,9 +101,9 @@ module _ (L : Layout) (n s : ℕ) where
       index′ : IndexAfter L (w .area) cells cells′ (recoveryFor cause rec) (recoveryFor cause rec .answer)
       index′ = subst (λ (x : Recovery). IndexAfter L (w .area) cells cells′ x (x .answer)) (p .answers) (p .index)
 
-      go : (c : Option Refusal) → cause ≡ c → IndexAfter L (w .area) cells cells′ (recoveryFor c rec) (recoveryFor c rec .answer) → RecoverGoal w b t cells′ (recoveryFor c rec)
-      go none e i = accepts w b t order cells cells′ inv e (p .same-length) i
-      go (some c) e i = refused w b t cells′ c inv
+      go : (c : Option Refusal) → cause ≡ c → IndexAfter L (w .area) cells cells′ (recoveryFor c rec) (recoveryFor c rec .answer) → RecoverGoal w b t order lent cells′ (recoveryFor c rec)
+      go none e i = accepts w b t order lent cells cells′ inv e (p .same-length) i
+      go (some c) e i = refused w b t order lent cells′ c inv
 
   -- A cut leaves what the stores so far say.
   pub cut-keeps :

@@ -13,7 +13,7 @@ use borrow.Author.Tests.{ltb-false}
 use Rattle.word.specs.Laws.{taken-sets}
 use Rattle.segment.specs.Choice.{pick, pick-false}
 use Rattle.segment.specs.Layout.{Layout}
-use Rattle.record.specs.Answers.{startSaid, refusal}
+use Rattle.record.specs.Answers.{startSaid}
 use Rattle.record.specs.Refusals.{numberOfRefusal}
 use Rattle.record.specs.declared.Pending.{Pending}
 use Rattle.record.specs.declared.Pending.the-variants.{Idle, Append, NewHead, Clean}
@@ -25,15 +25,15 @@ use Rattle.model.specs.Log.{Placed}
 use Rattle.model.specs.Causes.{firstCause}
 use Rattle.model.specs.Recovery.{recovered}
 use Rattle.model.specs.Operations.{Operation, write, delete, clean, Typed, logNow, laid, storesFor, startedRecord, stored}
-use Rattle.model.specs.Refused.{isPending, startCauses}
+use Rattle.model.specs.Refused.{Lengths, isPending, startCauses}
 use Rattle.model.specs.Promises.{Started, StartPromise, Begun, begun, lentLengths}
 use Rattle.laws.specs.CauseLaws.{refusal-number}
 use Rattle.laws.specs.Passed.{StartPassed, start-passed}
 use Rattle.laws.specs.Operated.{Accepted, OperationLaws}
-use Rattle.history.specs.Book.{starts, called, Book, feed, feedCall, toldBy}
+use Rattle.history.specs.Book.{starts, saying, Event, called, Book, feed, feedCall, toldBy}
 use Rattle.history.specs.Runs.{Held, heldAfter}
 use Rattle.history.specs.Demand3.{EventAgrees}
-use Rattle.history.proofs.Invariant.{idle-same, Inv, HeldGood, calm, busy}
+use Rattle.history.proofs.Invariant.{idle-same, Inv, HeldGood, pending}
 
 -- ---- what an accepted start has tested first
 
@@ -47,32 +47,39 @@ not-pending (Clean i v n k) e = cc
 -- ---- the two ways of a start
 
 module _ (L : Layout) (laws : OperationLaws L) (n s : ℕ) where
+  abbrev pub startEvent : Operation → Lengths → Start → Event
+  startEvent o lent a = called (starts o) lent (saying (startSaid (a .answer)))
+
   -- what is to be shown of a start that answers a and leaves the work buffer work′
-  abbrev pub StartGoal : List ℕ → Held → Option ℕ → Operation → Book → ℕ → Start → List ℕ → Type 0
-  StartGoal area h m o b t a work′ =
-      Inv L n s (record { area = area; held = some (heldAfter h work′ a); cells = m }) (feed b (called (starts o) (startSaid (a .answer))))
-      (max t (toldBy (called (starts o) (startSaid (a .answer)))))
-      × EventAgrees b (called (starts o) (startSaid (a .answer)))
+  abbrev pub StartGoal : List ℕ → Held → Option ℕ → Operation → Lengths → Book → ℕ → Start → List ℕ → Type 0
+  StartGoal area h m o lent b t a work′ =
+      Inv L n s (record { area = area; held = some (heldAfter h work′ a); cells = m }) (feed b (startEvent o lent a))
+      (max t (toldBy (startEvent o lent a)))
+      × EventAgrees L b (startEvent o lent a)
 
   refused :
-      (area : List ℕ) (h : Held) (m : Option ℕ) (o : Operation) (b : Book) (t : ℕ) (work′ : List ℕ) (c : Refusal) →
+      (area : List ℕ) (h : Held) (m : Option ℕ) (o : Operation) (lent : Lengths) (b : Book) (t : ℕ) (work′ : List ℕ) (c : Refusal) →
       Inv L n s (record { area = area; held = some h; cells = m }) b t →
-      StartGoal area h m o b t (record { answer = StartAnswer.Refused c; rec = h .rec }) work′
+      StartGoal area h m o lent b t (record { answer = StartAnswer.Refused c; rec = h .rec }) work′
   unfolding feed toldBy EventAgrees
-  refused area h m o b t work′ c inv = (rw (max-zero t, pick-false (eqb (numberOfRefusal c) 0) work′ (h .work), pick-false (eqb (numberOfRefusal c) 0) (feedCall b (starts o) (refusal (numberOfRefusal c))) b, refusal-number c) inv, tt)
+  refused area h m o lent b t work′ c inv = (
+    rw (max-zero t, pick-false (eqb (numberOfRefusal c) 0) work′ (h .work), pick-false (eqb (numberOfRefusal c) 0) (feedCall b (starts o) 0) b, refusal-number c)
+        inv,
+    tt,
+  )
 
-  accepted :
-      (area : List ℕ) (h : Held) (m : Option ℕ) (o : Operation) (b : Book) (t : ℕ) (work : List ℕ) → Typed o →
+  accepts :
+      (area : List ℕ) (h : Held) (m : Option ℕ) (o : Operation) (lent : Lengths) (b : Book) (t : ℕ) (work : List ℕ) → Typed o →
       Inv L n s (record { area = area; held = some h; cells = m }) b t →
       firstCause (startCauses L (h .rec) (logNow L area (h .rec)) (lentLengths area (h .cells) work) o) ≡ none →
-      StartGoal area h m o b t
+      StartGoal area h m o lent b t
       (record {
         answer = StartAnswer.Started (storesFor L (h .rec) (logNow L area (h .rec)) o);
         rec = startedRecord L (h .rec) (logNow L area (h .rec)) o;
       })
       (sets work 0 (laid L (h .rec) (logNow L area (h .rec)) o .bytes))
   unfolding feed feedCall toldBy EventAgrees pick HeldGood stored
-  accepted area h m o b t work ty inv e = (
+  accepts area h m o lent b t work ty inv e = (
     record {
       bytes = inv .bytes;
       base = inv .base;
@@ -83,8 +90,9 @@ module _ (L : Layout) (laws : OperationLaws L) (n s : ℕ) where
             slots-same = inv .held .slots-same;
             size-same = inv .held .size-same;
             cells-same = inv .held .cells-same;
+            index-long = inv .held .index-long;
             genuine = record { recovers = inv .held .genuine .recovers; rule = inv .held .genuine .rule };
-            phase = busy begun-now (rw sub-zero refl);
+            phase = pending begun-now (rw sub-zero refl);
           };
     },
     tt,
@@ -99,11 +107,11 @@ module _ (L : Layout) (laws : OperationLaws L) (n s : ℕ) where
       led : StartPassed L r (lentLengths area (h .cells) work)
       led = start-passed L r log (lentLengths area (h .cells) work) o e
 
-      idle : r .pending ≡ Idle
-      idle = not-pending (r .pending) (led .idle)
+      none-pending : r .pending ≡ Idle
+      none-pending = not-pending (r .pending) (led .idle)
 
       recovers : recovered L (r .slots) (r .size) (r .cells) area ≡ some r
-      recovers = inv .held .genuine .recovers ∙ ap some (idle-same r idle)
+      recovers = inv .held .genuine .recovers ∙ ap some (idle-same r none-pending)
 
       acc : Accepted L area r o
       acc = record { lengths = lentLengths area (h .cells) work; area-bytes = inv .bytes; typed = ty; recovers = recovers; no-cause = e }
@@ -133,7 +141,7 @@ module _ (L : Layout) (laws : OperationLaws L) (n s : ℕ) where
   pub start-keeps :
       (area work work′ : List ℕ) (h : Held) (m : Option ℕ) (o : Operation) (a : Start) (b : Book) (t : ℕ) → Typed o →
       StartPromise L o (h .rec) area (h .cells) work work′ a → Inv L n s (record { area = area; held = some h; cells = m }) b t →
-      StartGoal area h m o b t a work′
+      StartGoal area h m o (lentLengths area (h .cells) work) b t a work′
   unfolding HeldGood begun
   start-keeps area work work′ h m o a b t ty p inv = subst⁻¹ Goal (p .exact (inv .held .genuine)) (go cause refl)
     where
@@ -141,8 +149,8 @@ module _ (L : Layout) (laws : OperationLaws L) (n s : ℕ) where
       cause = firstCause (startCauses L (h .rec) (logNow L area (h .rec)) (lentLengths area (h .cells) work) o)
 
       Goal : Begun → Type 0
-      Goal x = StartGoal area h m o b t (x .start) (x .work)
+      Goal x = StartGoal area h m o (lentLengths area (h .cells) work) b t (x .start) (x .work)
 
       go : (c : Option Refusal) → cause ≡ c → Goal (begun L (h .rec) (logNow L area (h .rec)) o work c)
-      go none e = accepted area h m o b t work ty inv e
-      go (some c) e = refused area h m o b t work c inv
+      go none e = accepts area h m o (lentLengths area (h .cells) work) b t work ty inv e
+      go (some c) e = refused area h m o (lentLengths area (h .cells) work) b t work c inv

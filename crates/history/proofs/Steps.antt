@@ -14,7 +14,7 @@ use Rattle.word.specs.Number.{Bytes}
 use Rattle.segment.specs.Choice.{pick, pick-false}
 use Rattle.segment.specs.Layout.{Layout}
 use Rattle.segment.specs.declared.Key.{Key}
-use Rattle.record.specs.Answers.{stepSaid, withPending, refusal}
+use Rattle.record.specs.Answers.{stepSaid, withPending}
 use Rattle.record.specs.Refusals.{numberOfRefusal}
 use Rattle.record.specs.declared.Pending.the-variants.{Idle}
 use Rattle.record.specs.declared.Refusal.{Refusal}
@@ -26,34 +26,37 @@ use Rattle.model.specs.Causes.{firstCause}
 use Rattle.model.specs.Recovery.{recovered}
 use Rattle.model.specs.Index.{IndexRule}
 use Rattle.model.specs.Operations.{logNow, laid, storesFor, stored, finishedRecord, toldVersion}
-use Rattle.model.specs.Refused.{isPending, stepCauses}
+use Rattle.model.specs.Refused.{Lengths, isPending, stepCauses}
 use Rattle.model.specs.Promises.{Started, StepPromise, StepExact, stepped, IndexStepped, leftAfter, lentLengths}
 use Rattle.laws.specs.CauseLaws.{refusal-number}
 use Rattle.laws.specs.Passed.{step-passed}
 use Rattle.laws.specs.MapLaws.{valueAt}
 use Rattle.laws.specs.Operated.{Accepted, OperationLaws, planAt}
-use Rattle.history.specs.Book.{steps, called, Awaited, Book, feed, feedCall, takeOne, oneOff, finish, versionFor, toldBy}
+use Rattle.history.specs.Book.{steps, saying, Event, called, Awaited, Book, feed, feedCall, takeOne, oneOff, finish, versionFor, toldBy}
 use Rattle.history.specs.Runs.{Held}
 use Rattle.history.specs.Demand3.{EventAgrees, StepAgrees}
-use Rattle.history.proofs.Invariant.{Inv, Holding, HeldGood, Phase, calm, busy, next-of, log-of, calm-of, slots-of, size-of, cells-of, idle-same, with-geometry, own-geometry, rebuilt, bookEntry}
-use Rattle.history.proofs.Finished.{finish-calm, finished-next, told-same, told-below, next-grows, finished-map}
+use Rattle.history.proofs.Invariant.{Inv, Holding, HeldGood, Phase, idle, pending, next-of, log-of, idle-of, slots-of, size-of, cells-of, idle-same, with-geometry, own-geometry, started-accepted, rebuilt, bookEntry}
+use Rattle.history.proofs.Finished.{finish-idle, finished-next, told-same, told-below, next-grows, finished-map}
 
 module _ (L : Layout) (laws : OperationLaws L) (n s : ℕ) where
+  abbrev pub stepEvent : Lengths → StepAnswer → Event
+  stepEvent lent a = called steps lent (saying (stepSaid a))
+
   -- what is to be shown of a step that answers a and leaves this area and these cells
-  abbrev pub StepGoal : Held → Option ℕ → Book → ℕ → List ℕ → List ℕ → Stepped → Type 0
-  StepGoal h m b t area′ cells′ a =
+  abbrev pub StepGoal : Held → Option ℕ → Lengths → Book → ℕ → List ℕ → List ℕ → Stepped → Type 0
+  StepGoal h m lent b t area′ cells′ a =
       Inv L n s (record { area = area′; held = some (record { rec = a .rec; cells = cells′; work = h .work }); cells = m })
-      (feed b (called steps (stepSaid (a .answer)))) (max t (toldBy (called steps (stepSaid (a .answer)))))
-      × EventAgrees b (called steps (stepSaid (a .answer)))
+      (feed b (stepEvent lent (a .answer))) (max t (toldBy (stepEvent lent (a .answer))))
+      × EventAgrees L b (stepEvent lent (a .answer))
 
   -- ---- refused
 
   refused :
-      (area : List ℕ) (h : Held) (m : Option ℕ) (b : Book) (t : ℕ) (c : Refusal) → Inv L n s (record { area = area; held = some h; cells = m }) b t →
-      StepGoal h m b t area (h .cells) (record { answer = StepAnswer.Refused c; rec = h .rec })
+      (area : List ℕ) (h : Held) (m : Option ℕ) (lent : Lengths) (b : Book) (t : ℕ) (c : Refusal) → Inv L n s (record { area = area; held = some h; cells = m }) b t →
+      StepGoal h m lent b t area (h .cells) (record { answer = StepAnswer.Refused c; rec = h .rec })
   unfolding feed toldBy EventAgrees
-  refused area h m b t c inv = (
-    rw (max-zero t, pick-false (eqb (numberOfRefusal c) 0) (feedCall b steps (refusal (numberOfRefusal c))) b, refusal-number c) inv,
+  refused area h m lent b t c inv = (
+    rw (max-zero t, pick-false (eqb (numberOfRefusal c) 0) (feedCall b steps 0) b, refusal-number c) inv,
     λ p. absurd (never (sym p ∙ refusal-number c)),
   )
     where
@@ -62,21 +65,14 @@ module _ (L : Layout) (laws : OperationLaws L) (n s : ℕ) where
 
   -- ---- a step of a started operation
 
-  module _ (area : List ℕ) (h : Held) (m : Option ℕ) (b : Book) (t : ℕ) (inv : Inv L n s (record { area = area; held = some h; cells = m }) b t)
+  module _ (area : List ℕ) (h : Held) (m : Option ℕ) (lent : Lengths) (b : Book) (t : ℕ) (inv : Inv L n s (record { area = area; held = some h; cells = m }) b t)
       (good : Holding L n s area m b h) (st : Started L area (h .rec) (h .work))
       (awaited :
       b .pending ≡
       some (record { operation = st .operation; left = storesFor L (st .idle) (logNow L (st .before) (st .idle)) (st .operation) - st .since }))
     where
       acc : Accepted L (st .before) (st .idle) (st .operation)
-      acc =
-          record {
-            lengths = st .lengths;
-            area-bytes = st .area-bytes;
-            typed = st .typed;
-            recovers = st .recovers;
-            no-cause = st .accepted;
-          }
+      acc = started-accepted L area (h .rec) (h .work) st
 
       -- the geometry of the store is that of the run
       slots-idle : st .idle .slots ≡ n
@@ -123,17 +119,17 @@ module _ (L : Layout) (laws : OperationLaws L) (n s : ℕ) where
       -- one off the book's stores left
       book-left :
           (stores version : ℕ) →
-          feed b (called steps (record { refused = 0; stores = stores; version = version; kind = 0 })) ≡ oneOff b (st .operation) left
+          feed b (called steps lent (saying (record { refused = 0; stores = stores; version = version; kind = 0 }))) ≡ oneOff b (st .operation) left
       unfolding feed feedCall takeOne pick
       book-left stores version = ap (takeOne b) awaited ∙ ap (oneOff b (st .operation)) one-less
 
-      agrees-with : (a : StepAnswer) → stepSaid a .stores ≡ left → (left ≡ 0 → stepSaid a .version ≡ versionFor b (st .operation)) → EventAgrees b (called steps (stepSaid a))
+      agrees-with : (a : StepAnswer) → stepSaid a .stores ≡ left → (left ≡ 0 → stepSaid a .version ≡ versionFor b (st .operation)) → EventAgrees L b (stepEvent lent a)
       unfolding EventAgrees StepAgrees
       agrees-with a e v _ =
           subst⁻¹ (λ (x : Option Awaited). StepAgrees b (stepSaid a) x) awaited (e ∙ sym one-less, λ p. v (omega (arith, one-less, p)))
 
       -- not the last: the same record with one store less, the same log, the same index
-      goes-on : (k : ℕ) → left ≡ suc k → StepGoal h m b t after (h .cells) (record { answer = StepAnswer.Left (suc k); rec = withPending (st .idle) (laid L (st .idle) (logNow L (st .before) (st .idle)) (st .operation) .pending (suc k)) })
+      goes-on : (k : ℕ) → left ≡ suc k → StepGoal h m lent b t after (h .cells) (record { answer = StepAnswer.Left (suc k); rec = withPending (st .idle) (laid L (st .idle) (logNow L (st .before) (st .idle)) (st .operation) .pending (suc k)) })
       unfolding oneOff HeldGood toldBy
       goes-on k e = (
         rw
@@ -170,8 +166,8 @@ module _ (L : Layout) (laws : OperationLaws L) (n s : ℕ) where
           log′ : logNow L after (st .idle) ≡ logNow L (st .before) (st .idle)
           log′ = laws .prefix-log (st .before) (st .idle) (st .operation) acc (suc (st .since)) more
 
-          calm′ : st .idle .pending ≡ Idle
-          calm′ = calm-of L n s (st .idle .cells) area (st .idle) area-recovers
+          idle′ : st .idle .pending ≡ Idle
+          idle′ = idle-of L n s (st .idle .cells) area (st .idle) area-recovers
 
           rule-idle : IndexRule (st .idle .size) (logNow L area (st .idle)) (h .cells)
           rule-idle = subst (λ (x : Record). IndexRule (x .size) (logNow L area x) (h .cells)) (st .record-now) (good .genuine .rule)
@@ -200,18 +196,19 @@ module _ (L : Layout) (laws : OperationLaws L) (n s : ℕ) where
                 slots-same = slots-idle;
                 size-same = size-idle;
                 cells-same = refl;
+                index-long = good .index-long ∙ ap (λ (x : Record). x .cells) (st .record-now);
                 genuine =
                     record {
-                      recovers = own-recovers ∙ ap some (sym (idle-same (st .idle) calm′));
+                      recovers = own-recovers ∙ ap some (sym (idle-same (st .idle) idle′));
                       rule = subst (λ (x : List Placed). IndexRule (st .idle .size) x (h .cells)) (area-log ∙ sym log′) rule-idle;
                     };
-                phase = busy started′ (ap (λ (x : ℕ). some (record { operation = st .operation; left = x })) (sym e));
+                phase = pending started′ (ap (λ (x : ℕ). some (record { operation = st .operation; left = x })) (sym e));
               }
 
       -- the last: the record, the map and the index of the finished operation
-      ends : (cells′ : List ℕ) → left ≡ 0 → IndexRule (finishedRecord L (st .before) (st .idle) (st .operation) .size) (logNow L after (finishedRecord L (st .before) (st .idle) (st .operation))) cells′ → StepGoal h m b t after cells′ (record { answer = StepAnswer.Done (record { 0 = toldVersion (st .idle) (st .operation) }); rec = finishedRecord L (st .before) (st .idle) (st .operation) })
+      ends : (cells′ : List ℕ) → length cells′ ≡ length (h .cells) → left ≡ 0 → IndexRule (finishedRecord L (st .before) (st .idle) (st .operation) .size) (logNow L after (finishedRecord L (st .before) (st .idle) (st .operation))) cells′ → StepGoal h m lent b t after cells′ (record { answer = StepAnswer.Done (record { 0 = toldVersion (st .idle) (st .operation) }); rec = finishedRecord L (st .before) (st .idle) (st .operation) })
       unfolding oneOff HeldGood toldBy
-      ends cells′ e rule = (
+      ends cells′ long e rule = (
         rw
             (book-left 0 (toldVersion (st .idle) (st .operation)), e)
             (subst (λ (c : Option ℕ). Inv L n s (record { area = after; held = some held′; cells = c }) b′ t′) cells-idle
@@ -267,8 +264,8 @@ module _ (L : Layout) (laws : OperationLaws L) (n s : ℕ) where
           fin-cells : fin .cells ≡ st .idle .cells
           fin-cells = cells-of L n s (st .idle .cells) after fin recovers′
 
-          calm′ : fin .pending ≡ Idle
-          calm′ = calm-of L n s (st .idle .cells) after fin recovers′
+          idle′ : fin .pending ≡ Idle
+          idle′ = idle-of L n s (st .idle .cells) after fin recovers′
 
           holding′ : Holding L n s after (some (st .idle .cells)) b′ held′
           holding′ =
@@ -276,21 +273,22 @@ module _ (L : Layout) (laws : OperationLaws L) (n s : ℕ) where
                 slots-same = fin-slots;
                 size-same = fin-size;
                 cells-same = ap some (sym fin-cells);
+                index-long = long ∙ good .index-long ∙ ap (λ (x : Record). x .cells) (st .record-now) ∙ sym fin-cells;
                 genuine =
                     record {
-                      recovers = own-geometry L n s (st .idle .cells) after fin recovers′ ∙ ap some (sym (idle-same fin calm′));
+                      recovers = own-geometry L n s (st .idle .cells) after fin recovers′ ∙ ap some (sym (idle-same fin idle′));
                       rule = rule;
                     };
-                phase = calm calm′ (finish-calm b (st .operation));
+                phase = idle idle′ (finish-idle b (st .operation));
               }
 
       -- whichever store it is
       one-step :
-          (area′ cells′ : List ℕ) (a : Stepped) → StepExact L (h .rec) area area′ (h .cells) cells′ (h .work) a st → StepGoal h m b t area′ cells′ a
+          (area′ cells′ : List ℕ) (a : Stepped) → length cells′ ≡ length (h .cells) → StepExact L (h .rec) area area′ (h .cells) cells′ (h .work) a st → StepGoal h m lent b t area′ cells′ a
       unfolding stepped IndexStepped
-      one-step area′ cells′ a x =
-          subst⁻¹ (λ (y : Stepped). StepGoal h m b t area′ cells′ y) (x .answers)
-          (subst⁻¹ (λ (y : List ℕ). StepGoal h m b t y cells′ (at-left left)) (x .stores) (go left refl index′))
+      one-step area′ cells′ a long x =
+          subst⁻¹ (λ (y : Stepped). StepGoal h m lent b t area′ cells′ y) (x .answers)
+          (subst⁻¹ (λ (y : List ℕ). StepGoal h m lent b t y cells′ (at-left left)) (x .stores) (go left refl index′))
         where
           at-left : ℕ → Stepped
           at-left j = stepped L (st .before) (st .idle) (st .operation) j
@@ -300,43 +298,46 @@ module _ (L : Layout) (laws : OperationLaws L) (n s : ℕ) where
               subst (λ (y : List ℕ). IndexStepped L y (h .cells) cells′ (at-left left .rec) left) (x .stores)
               (subst (λ (y : Stepped). IndexStepped L area′ (h .cells) cells′ (y .rec) left) (x .answers) (x .index))
 
-          go : (j : ℕ) → left ≡ j → IndexStepped L after (h .cells) cells′ (at-left j .rec) j → StepGoal h m b t after cells′ (at-left j)
-          go zero e i = ends cells′ e i
-          go (suc k) e i = subst⁻¹ (λ (y : List ℕ). StepGoal h m b t after y (at-left (suc k))) i (goes-on k e)
+          go : (j : ℕ) → left ≡ j → IndexStepped L after (h .cells) cells′ (at-left j .rec) j → StepGoal h m lent b t after cells′ (at-left j)
+          go zero e i = ends cells′ long e i
+          go (suc k) e i = subst⁻¹ (λ (y : List ℕ). StepGoal h m lent b t after y (at-left (suc k))) i (goes-on k e)
 
   -- A step keeps the invariant.
   pub step-keeps :
       (area area′ cells′ work : List ℕ) (h : Held) (m : Option ℕ) (a : Stepped) (b : Book) (t : ℕ) →
       (isPending (h .rec .pending) ≡ true → work ≡ h .work) → StepPromise L (h .rec) area area′ (h .cells) cells′ work a →
-      Inv L n s (record { area = area; held = some h; cells = m }) b t → StepGoal h m b t area′ cells′ a
+      Inv L n s (record { area = area; held = some h; cells = m }) b t → StepGoal h m (lentLengths area (h .cells) work) b t area′ cells′ a
   unfolding HeldGood isPending
   step-keeps area area′ cells′ work h m a b t own-work p inv = go cause refl
     where
-      cause : Option Refusal
-      cause = firstCause (stepCauses L (h .rec) (lentLengths area (h .cells) work))
+      lent : Lengths
+      lent = lentLengths area (h .cells) work
 
-      go : (c : Option Refusal) → cause ≡ c → StepGoal h m b t area′ cells′ a
+      cause : Option Refusal
+      cause = firstCause (stepCauses L (h .rec) lent)
+
+      go : (c : Option Refusal) → cause ≡ c → StepGoal h m lent b t area′ cells′ a
       go (some c) e =
           let rf = p .refused c e in
-          subst⁻¹ (λ (x : Stepped). StepGoal h m b t area′ cells′ x) (rf .answers)
-          (subst⁻¹ (λ (x : List ℕ). StepGoal h m b t x cells′ (record { answer = StepAnswer.Refused c; rec = h .rec })) (rf .area-same)
-          (subst⁻¹ (λ (x : List ℕ). StepGoal h m b t area x (record { answer = StepAnswer.Refused c; rec = h .rec })) (rf .index-same)
-          (refused area h m b t c inv)))
+          subst⁻¹ (λ (x : Stepped). StepGoal h m lent b t area′ cells′ x) (rf .answers)
+          (subst⁻¹ (λ (x : List ℕ). StepGoal h m lent b t x cells′ (record { answer = StepAnswer.Refused c; rec = h .rec })) (rf .area-same)
+          (subst⁻¹ (λ (x : List ℕ). StepGoal h m lent b t area x (record { answer = StepAnswer.Refused c; rec = h .rec })) (rf .index-same)
+          (refused area h m lent b t c inv)))
       go none e = by-phase (inv .held .phase)
         where
-          pending : isPending (h .rec .pending) ≡ true
-          pending = not-false (isPending (h .rec .pending)) (step-passed L (h .rec) (lentLengths area (h .cells) work) e .some-pending)
+          some-pending : isPending (h .rec .pending) ≡ true
+          some-pending = not-false (isPending (h .rec .pending)) (step-passed L (h .rec) lent e .some-pending)
 
           same-work : work ≡ h .work
-          same-work = own-work pending
+          same-work = own-work some-pending
 
-          by-phase : Phase L area b h → StepGoal h m b t area′ cells′ a
-          by-phase (calm q _) = absurd (never (sym pending ∙ ap isPending q))
+          by-phase : Phase L area b h → StepGoal h m lent b t area′ cells′ a
+          by-phase (idle q _) = absurd (never (sym some-pending ∙ ap isPending q))
             where
               never : _≡_ {A = Bool} true false → ⊥
               never z = let y : _≡_ {A = ℕ} 0 1 = cc in absurd (omega arith)
-          by-phase (busy st awaited) =
-              one-step area h m b t inv (inv .held) st awaited area′ cells′ a
+          by-phase (pending st awaited) =
+              one-step area h m lent b t inv (inv .held) st awaited area′ cells′ a (p .same-length)
               (subst (λ (x : List ℕ). StepPromise L (h .rec) area area′ (h .cells) cells′ x a) same-work p .exact
               (subst (λ (x : List ℕ). firstCause (stepCauses L (h .rec) (lentLengths area (h .cells) x)) ≡ none) same-work e)
               (inv .held .genuine) st)

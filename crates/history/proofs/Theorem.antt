@@ -3,65 +3,61 @@ use Prim.Native.Nat.{ℕ, max}
 use native.Mathlib.Nat.{max-zero}
 use native.Mathlib.Omega.{arith}
 use mathlib.Core.Path.{_≡_, refl, ap, _∙_, subst, subst⁻¹}
-use mathlib.Core.Bool.{false, not}
+use mathlib.Core.Bool.{true, false}
 use mathlib.Core.List.{List, [], _∷_}
 use mathlib.Core.Option.{Option, none, some}
 use lib.Dec.{leb}
 use lib.ListN.{length}
 use borrow.Author.Tests.{leb-true}
 use Rattle.word.specs.Number.{Bytes}
-use Rattle.segment.specs.Choice.{pick, both, both-left, isNone}
+use Rattle.segment.specs.Choice.{pick, both, both-left}
 use Rattle.segment.specs.Layout.{Layout, edition1}
-use Rattle.segment.specs.Entry.{Entry, kindOf, bytesIn}
-use Rattle.segment.specs.declared.Key.{Key}
 use Rattle.record.specs.Range.{between, fitsLent}
 use Rattle.record.specs.declared.FormatAnswer.{FormatAnswer}
-use Rattle.record.specs.declared.ReadAnswer.{ReadAnswer}
 use Rattle.record.specs.declared.Recovery.{Recovery}
 use Rattle.record.specs.declared.Refusal.{Refusal}
-use Rattle.record.specs.declared.Refusal.the-variants.{BadRecord, Absent, Geometry}
+use Rattle.record.specs.declared.Refusal.the-variants.{Geometry}
 use Rattle.record.specs.declared.Record.{Record}
 use Rattle.model.specs.Log.{Placed, present, latest, objectOnly}
 use Rattle.model.specs.Causes.{when, firstCause}
 use Rattle.model.specs.Recovery.{recovered, recordFrom, orderBad, geometryBad, recovery, recoveryFor}
-use Rattle.model.specs.Operations.{logNow, formatted}
-use Rattle.model.specs.Refused.{recordBad, keyAbsent, readCauses, formatCauses}
-use Rattle.model.specs.Promises.{Genuine, FormatPromise, RecoverPromise, IndexAfter, formatAnswer, areaUnless, readAnswer, presentAnswer, readLengths, Part, partOf, valueAnswer, valuePart}
-use Rattle.laws.specs.CauseLaws.{cause-skip, cause-false}
+use Rattle.model.specs.Operations.{formatted}
+use Rattle.model.specs.Refused.{formatCauses}
+use Rattle.model.specs.Promises.{Genuine, FormatPromise, RecoverPromise, IndexAfter, formatAnswer, areaUnless, readLengths, partOf}
+use Rattle.laws.specs.CauseLaws.{cause-false}
 use Rattle.laws.specs.MapLaws.{valueAt, entryIn}
 use Rattle.laws.specs.Operated.{OperationLaws}
 use Rattle.laws.specs.RecoverLaws.{recovered-recovery}
 use Rattle.laws.specs.OperationsKept.{edition1-laws}
-use Rattle.history.specs.Book.{Event, Kept, Book, freshBook, feed, bookAfter, bookOf, toldBy, highestTold}
-use Rattle.history.specs.Runs.{World, freshWorld, Moves, start, step, read, readValue, recover, cuts, Run, stop, go}
-use Rattle.history.specs.Demand3.{LargeEnough, bookAnswer, bookValue, GivesBook, EventAgrees, StepsAgree, Holds, Demand3For, Demand3}
-use Rattle.history.proofs.Invariant.{Inv, HeldGood, baseCells, bookEntry, own-geometry}
+use Rattle.history.specs.Book.{Event, Book, freshBook, feed, bookAfter, bookOf, toldBy, highestTold}
+use Rattle.history.specs.Runs.{World, freshWorld, Moves, start, step, ask, recover, cuts, Run, stop, go}
+use Rattle.history.specs.Demand3.{LargeEnough, GivesBook, EventAgrees, EventsAgree, Demand3Of, Demand3For, Demand3}
+use Rattle.history.proofs.Invariant.{Inv, HeldGood, baseCells, bookEntry}
 use Rattle.history.proofs.Starts.{start-keeps}
 use Rattle.history.proofs.Steps.{step-keeps}
-use Rattle.history.proofs.Readings.{read-keeps, value-keeps}
+use Rattle.history.proofs.Readings.{read-answer, value-answer, ask-keeps}
 use Rattle.history.proofs.Recoveries.{recover-keeps, cut-keeps}
-
-some-same : {u v : Entry} → _≡_ {A = Option Entry} (some u) (some v) → u ≡ v
-some-same q = cc
 
 module _ (L : Layout) (laws : OperationLaws L) (n s : ℕ) where
   -- ---- one event
 
-  move-keeps : {w x : World} {e : Event} (b : Book) (t : ℕ) → Moves L n s w e x → Inv L n s w b t → Inv L n s x (feed b e) (max t (toldBy e)) × EventAgrees b e
-  unfolding EventAgrees HeldGood
+  move-keeps :
+      {w x : World} {e : Event} (b : Book) (t : ℕ) → Moves L n s w e x → Inv L n s w b t →
+      Inv L n s x (feed b e) (max t (toldBy e)) × EventAgrees L b e
+  unfolding EventAgrees
   move-keeps b t (start {area} {work} {work′} {h} {m} {o} {a} ty p) inv = start-keeps L laws n s area work work′ h m o a b t ty p inv
   move-keeps b t (step {area} {area′} {cells′} {work} {h} {m} {a} own p) inv = step-keeps L laws n s area area′ cells′ work h m a b t own p inv
-  move-keeps b t (read {area} {h} {m} {k} {a} ty p) inv = (read-keeps L laws n s area h m b t inv (inv .held) k a p, tt)
-  move-keeps b t (readValue {area} {h} {m} {k} ty p) inv = (value-keeps L laws n s area h m b t k inv, tt)
-  move-keeps b t (recover {w} {order} {cells} {cells′} {r} p) inv = (recover-keeps L n s w b t order cells cells′ r p inv, tt)
+  move-keeps b t (ask p) inv = ask-keeps L laws n s b t p inv
+  move-keeps b t (recover {w} {order} {cells} {cells′} {r} p) inv =
+      (recover-keeps L n s w b t order (readLengths (w .area) cells) cells cells′ r p inv, tt)
   move-keeps b t (cuts {w}) inv = (cut-keeps L n s w b t inv, tt)
 
   -- ---- a list of events
 
   run-keeps :
       {w x : World} {es : List Event} (b : Book) (t : ℕ) → Run L n s w es x → Inv L n s w b t →
-      Inv L n s x (bookAfter b es) (max t (highestTold es)) × StepsAgree b es
-  unfolding bookAfter highestTold StepsAgree
+      Inv L n s x (bookAfter b es) (max t (highestTold es)) × EventsAgree L b es
+  unfolding bookAfter highestTold EventsAgree
   run-keeps b t stop inv = (rw (max-zero t) inv, tt)
   run-keeps b t (go {w} {x} {y} {e} {es} m r) inv =
       let one = move-keeps b t m inv in
@@ -82,50 +78,6 @@ module _ (L : Layout) (laws : OperationLaws L) (n s : ℕ) where
           recovered L n s m (w .area) ≡ some (recordFrom L n s m (w .area))
       go′ none e h = laws .more-cells n s 16 m (w .area) e h (leb-true 16 m (both-left (leb 16 m) (leb m 4096) h))
       go′ (some c) e h = laws .more-cells n s c m (w .area) e (h .0) (h .1)
-
-  -- what a read answers of a key is what the book holds of it
-  present-answer :
-      (k : Key) (p : Option Placed) (x : Option Kept) → entryIn p ≡ bookEntry k x →
-      readAnswer L (firstCause (when (isNone p) Absent ∷ [])) p ≡ bookAnswer L x
-  unfolding entryIn bookEntry firstCause pick isNone readAnswer presentAnswer bookAnswer
-  present-answer k none none e = refl
-  present-answer k none (some y) e = cc
-  present-answer k (some p) none e = cc
-  present-answer k (some p) (some y) e = ap (λ (z : Entry). ReadAnswer.Present (record { 0 = z .version }) (kindOf L z)) (some-same e)
-
-  present-value :
-      (area : List ℕ) (size : ℕ) (k : Key) (p : Option Placed) (x : Option Kept) → entryIn p ≡ bookEntry k x →
-      ((y : Placed) → p ≡ some y → partOf area (valuePart L size (some y)) ≡ bytesIn (y .entry .value)) →
-      partOf area (valueAnswer L size (firstCause (when (isNone p) Absent ∷ [])) p) ≡ bookValue x
-  unfolding entryIn bookEntry firstCause pick isNone valueAnswer valuePart bookValue bytesIn
-  present-value area size k none none e part = refl
-  present-value area size k none (some y) e part = cc
-  present-value area size k (some p) none e part = cc
-  present-value area size k (some p) (some y) e part = part p refl ∙ ap (λ (z : Entry). bytesIn (z .value)) (some-same e)
-
-  module _ (area cells′ : List ℕ) (m : ℕ) (r : Record) (ab : Bytes area) (e : recovered L n s m area ≡ some r) (long : length cells′ ≡ m) (k : Key)
-      (x : Option Kept) (same : valueAt (logNow L area r) k ≡ bookEntry k x)
-    where
-      fits : recordBad L r (readLengths area cells′) ≡ false
-      fits = ap not (ap (λ (c : ℕ). fitsLent L r (length area) c) long ∙ laws .own-lengths n s m area r ab e)
-
-      only-absent :
-          firstCause (readCauses L r (logNow L area r) (readLengths area cells′) k) ≡ firstCause (when (keyAbsent (logNow L area r) k) Absent ∷ [])
-      only-absent = cause-skip (when (recordBad L r (readLengths area cells′)) BadRecord) (when (keyAbsent (logNow L area r) k) Absent ∷ []) fits
-
-      read-answer :
-          readAnswer L (firstCause (readCauses L r (logNow L area r) (readLengths area cells′) k)) (present (logNow L area r) k) ≡ bookAnswer L x
-      read-answer =
-          ap (λ (c : Option Refusal). readAnswer L c (present (logNow L area r) k)) only-absent ∙
-          present-answer k (present (logNow L area r) k) x same
-
-      value-answer :
-          partOf area (valueAnswer L (r .size) (firstCause (readCauses L r (logNow L area r) (readLengths area cells′) k)) (present (logNow L area r) k)) ≡
-          bookValue x
-      value-answer =
-          ap (λ (c : Option Refusal). partOf area (valueAnswer L (r .size) c (present (logNow L area r) k))) only-absent ∙
-          present-value area (r .size) k (present (logNow L area r) k) x same
-          (λ y q. laws .value-part area r ab (own-geometry L n s m area r e) k y q)
 
   gives-book :
       (w : World) (b : Book) (t : ℕ) → Inv L n s w b t → (order cells cells′ : List ℕ) (r : Recovery) → orderBad n order ≡ false →
@@ -148,13 +100,24 @@ module _ (L : Layout) (laws : OperationLaws L) (n s : ℕ) where
       genuine : Genuine L (w .area) rec cells′
       genuine = record { recovers = recovers; rule = rule }
 
+      fits : fitsLent L rec (length (w .area)) (length cells′) ≡ true
+      fits =
+          ap (λ (c : ℕ). fitsLent L rec (length (w .area)) c) (p .same-length) ∙
+          laws .own-lengths n s (length cells) (w .area) rec (inv .bytes) recovers
+
       book : GivesBook L (w .area) cells′ (recoveryFor none rec) b
       book =
           record {
             is-accepted = refl;
             next-version = inv .agrees .next-same;
-            answers = λ k ty a q. q .exact genuine ∙ read-answer (w .area) cells′ (length cells) rec (inv .bytes) recovers (p .same-length) k (b .keys k) (inv .agrees .map-same k);
-            values = λ k ty v q. ap (partOf (w .area)) (q .exact genuine) ∙ value-answer (w .area) cells′ (length cells) rec (inv .bytes) recovers (p .same-length) k (b .keys k) (inv .agrees .map-same k);
+            answers =
+                λ k ty a q.
+                q .exact genuine ∙
+                read-answer L laws n s (w .area) cells′ rec (inv .bytes) recovers fits k (b .keys k) (inv .agrees .map-same k);
+            values =
+                λ k ty v q.
+                ap (partOf (w .area)) (q .exact genuine) ∙
+                value-answer L laws n s (w .area) cells′ rec (inv .bytes) recovers fits k (b .keys k) (inv .agrees .map-same k);
           }
 
   -- ---- the fresh store
@@ -193,20 +156,20 @@ module _ (L : Layout) (laws : OperationLaws L) (n s : ℕ) where
             held = tt;
           }
 
-  pub holds :
+  pub run-holds :
       (area₀ area : List ℕ) → Bytes area₀ → FormatPromise L n s area₀ area FormatAnswer.Formatted → (es : List Event) (w : World) →
-      Run L n s (freshWorld area) es w → Holds L n s w es
-  holds area₀ area ab p es w r =
+      Run L n s (freshWorld area) es w → Demand3Of L n s w es
+  run-holds area₀ area ab p es w r =
       let kept = run-keeps freshBook 0 r (fresh area₀ area ab p) in
       record {
         recovery = gives-book w (bookOf es) (max 0 (highestTold es)) (kept .0);
         above-told = omega (arith, kept .0 .below);
-        steps-agree = kept .1;
+        agrees = kept .1;
       }
 
 -- Demand 3 for every layout whose store keeps the laws.
 pub demand-3-for : (L : Layout) → OperationLaws L → Demand3For L
-demand-3-for L laws n s area₀ area ab p es w r = holds L laws n s area₀ area ab p es w r
+demand-3-for L laws n s area₀ area ab p es w r = run-holds L laws n s area₀ area ab p es w r
 
 -- Demand 3.
 pub demand-3 : Demand3

@@ -6,27 +6,45 @@ use mathlib.Core.Option.{Option, none, some}
 use lib.Dec.{eqb}
 use Rattle.segment.specs.Choice.{pick}
 use Rattle.segment.specs.declared.Key.{Key}
-use Rattle.record.specs.Answers.{Said}
+use Rattle.record.specs.Answers.{Said, taken}
 use Rattle.model.specs.Log.{sameKeys}
 use Rattle.model.specs.Operations.{Operation, write, delete, clean}
+use Rattle.model.specs.Refused.{Lengths}
 
--- A call on the store with what the book is told of its arguments: a start (write, delete or clean), a step, a read, a read
--- of the value, a recovery.
+-- A call that changes nothing: a read, and a read of the value.
+pub data Question : Type 0 where
+  reads : Key → Question
+  readsValue : Key → Question
+
+-- A call on the store with its arguments: a start (write, delete or clean), a step, a question, a recovery with N, S and the order
+-- list.
 pub data Call : Type 0 where
   starts : Operation → Call
   steps : Call
-  reads : Key → Call
-  readsValue : Key → Call
-  recovers : Call
+  asks : Question → Call
+  recovers : ℕ → ℕ → List ℕ → Call
 
--- A call with what it answered, or a cut.
+-- What a call answers: its numbers, and the value bytes that it gives.
+pub record Answer : Type 0 where
+  pub said : Said
+  pub value : List ℕ
+
+-- an answer without a value, and a value alone
+abbrev pub saying : Said → Answer
+saying a = record { said = a; value = [] }
+
+abbrev pub giving : List ℕ → Answer
+giving v = record { said = taken; value = v }
+
+-- A call with the lengths of what it was lent and with what it answered, or a cut. Of a call's input only what the lent memory
+-- holds is not in its event.
 pub data Event : Type 0 where
-  called : Call → Said → Event
+  called : Call → Lengths → Answer → Event
   cut : Event
 
 -- a call was accepted: it answered no refusal's number
-abbrev pub accepted : Said → Bool
-accepted a = eqb (a .refused) 0
+abbrev pub accepted : Answer → Bool
+accepted a = eqb (a .said .refused) 0
 
 -- What the book holds of a key.
 pub record Kept : Type 0 where
@@ -78,18 +96,18 @@ unfoldable pub takeOne : Book → Option Awaited → Book
 takeOne b none = b
 takeOne b (some p) = oneOff b (p .operation) (p .left - 1)
 
--- What an accepted call does to the book: a start is pending with its stores, a step takes one off, a recovery drops what is
--- pending. Reads change nothing.
-unfoldable pub feedCall : Book → Call → Said → Book
-feedCall b (starts o) a = record { keys = b .keys; next = b .next; pending = some (record { operation = o; left = a .stores }) }
-feedCall b steps a = takeOne b (b .pending)
-feedCall b (reads k) a = b
-feedCall b (readsValue k) a = b
-feedCall b recovers a = withoutPending b
+-- What an accepted call does to the book, given a start's number of stores: a start is pending with its stores, a step takes one off,
+-- a recovery drops what is pending. Questions change nothing.
+unfoldable pub feedCall : Book → Call → ℕ → Book
+feedCall b (starts o) stores = record { keys = b .keys; next = b .next; pending = some (record { operation = o; left = stores }) }
+feedCall b steps stores = takeOne b (b .pending)
+feedCall b (asks q) stores = b
+feedCall b (recovers n s order) stores = withoutPending b
 
--- A cut drops what is pending; a refused call changes nothing.
+-- Of an event the book is told the call with its arguments, whether it was accepted and a start's number of stores, or that there
+-- was a cut. A cut drops what is pending; a refused call changes nothing.
 unfoldable pub feed : Book → Event → Book
-feed b (called c a) = pick (accepted a) (feedCall b c a) b
+feed b (called c lent a) = pick (accepted a) (feedCall b c (a .said .stores)) b
 feed b cut = withoutPending b
 
 unfoldable pub bookAfter : Book → List Event → Book
@@ -100,11 +118,12 @@ bookAfter b (e ∷ es) = bookAfter (feed b e) es
 abbrev pub bookOf : List Event → Book
 bookOf es = bookAfter freshBook es
 
--- the highest version that was told to a caller, by a step or a read
+-- the version that an event told the caller, by a step or a read; 0 where it told none
 unfoldable pub toldBy : Event → ℕ
-toldBy (called c a) = a .version
+toldBy (called c lent a) = a .said .version
 toldBy cut = 0
 
+-- the highest version told in a list
 unfoldable pub highestTold : List Event → ℕ
 highestTold [] = 0
 highestTold (e ∷ es) = max (toldBy e) (highestTold es)

@@ -9,7 +9,7 @@ use Rattle.word.specs.Number.{Bytes}
 use Rattle.segment.specs.Layout.{Layout, edition1}
 use Rattle.segment.specs.declared.Key.{Key}
 use Rattle.segment.specs.Entry.{kindFor}
-use Rattle.record.specs.Answers.{Said}
+use Rattle.record.specs.Answers.{Said, readSaid}
 use Rattle.record.specs.Range.{cellsGood}
 use Rattle.record.specs.declared.FormatAnswer.{FormatAnswer}
 use Rattle.record.specs.declared.Reading.{Reading}
@@ -20,7 +20,7 @@ use Rattle.record.specs.declared.Refusal.{Refusal}
 use Rattle.model.specs.Operations.{TypedKey}
 use Rattle.model.specs.Recovery.{orderBad}
 use Rattle.model.specs.Promises.{FormatPromise, RecoverPromise, ReadPromise, Part, partOf, ValuePromise}
-use Rattle.history.specs.Book.{starts, steps, reads, readsValue, recovers, Event, called, cut, accepted, Kept, Awaited, Book, freshBook, feed, bookOf, versionFor, highestTold}
+use Rattle.history.specs.Book.{Question, reads, readsValue, starts, steps, asks, recovers, Answer, saying, giving, Event, called, cut, accepted, Kept, Awaited, Book, freshBook, feed, bookOf, versionFor, highestTold}
 use Rattle.history.specs.Runs.{World, freshWorld, Run}
 
 -- "its index as large as at the last accepted one": within the limits, and no smaller; before the first, any within the limits
@@ -53,21 +53,26 @@ unfoldable pub StepAgrees : Book → Said → Option Awaited → Type 0
 StepAgrees b a none = ⊥
 StepAgrees b a (some p) = (a .stores ≡ p .left - 1) × (p .left ≡ 1 → a .version ≡ versionFor b (p .operation))
 
-unfoldable pub EventAgrees : Book → Event → Type 0
-EventAgrees b (called (starts o) a) = Unit
-EventAgrees b (called steps a) = accepted a ≡ true → StepAgrees b a (b .pending)
-EventAgrees b (called (reads k) a) = Unit
-EventAgrees b (called (readsValue k) a) = Unit
-EventAgrees b (called recovers a) = Unit
-EventAgrees b cut = Unit
+-- A read answers version and kind of what the book holds of its key, or 8, and a read of the value that value; also while an
+-- operation is pending.
+unfoldable pub QuestionAgrees : Layout → Book → Question → Answer → Type 0
+QuestionAgrees L b (reads k) a = a ≡ saying (readSaid (bookAnswer L (b .keys k)))
+QuestionAgrees L b (readsValue k) a = a ≡ giving (bookValue (b .keys k))
+
+unfoldable pub EventAgrees : Layout → Book → Event → Type 0
+EventAgrees L b (called (starts o) lent a) = Unit
+EventAgrees L b (called steps lent a) = accepted a ≡ true → StepAgrees b (a .said) (b .pending)
+EventAgrees L b (called (asks q) lent a) = QuestionAgrees L b q a
+EventAgrees L b (called (recovers n s order) lent a) = Unit
+EventAgrees L b cut = Unit
 
 -- for every event, the book being that of the list before it
-unfoldable pub StepsAgree : Book → List Event → Type 0
-StepsAgree b [] = Unit
-StepsAgree b (e ∷ es) = EventAgrees b e × StepsAgree (feed b e) es
+unfoldable pub EventsAgree : Layout → Book → List Event → Type 0
+EventsAgree L b [] = Unit
+EventsAgree L b (e ∷ es) = EventAgrees L b e × EventsAgree L (feed b e) es
 
 -- What demand 3 says of one list that leads to the world w.
-pub record Holds (L : Layout) (n s : ℕ) (w : World) (es : List Event) : Type 0 where
+pub record Demand3Of (L : Layout) (n s : ℕ) (w : World) (es : List Event) : Type 0 where
   -- "recovery by 01's rules of use, its index as large as at the last accepted one, is accepted, whichever order the segments are
   -- read in. It gives exactly what 01's book of that list holds"
   pub recovery :
@@ -75,13 +80,14 @@ pub record Holds (L : Layout) (n s : ℕ) (w : World) (es : List Event) : Type 0
       RecoverPromise L n s order (w .area) cells cells′ r → GivesBook L (w .area) cells′ r (bookOf es)
   -- "above every version told to a caller since that format"
   pub above-told : highestTold es < bookOf es .next
-  pub steps-agree : StepsAgree freshBook es
+  -- every step and every question answers what the book of the list before it says
+  pub agrees : EventsAgree L freshBook es
 
 -- "For every list of calls on one store ... and cuts, from an accepted format on"
 abbrev pub Demand3For : Layout → Type 0
 Demand3For L =
     (n s : ℕ) (area₀ area : List ℕ) → Bytes area₀ → FormatPromise L n s area₀ area FormatAnswer.Formatted → (es : List Event) (w : World) →
-    Run L n s (freshWorld area) es w → Holds L n s w es
+    Run L n s (freshWorld area) es w → Demand3Of L n s w es
 
 abbrev pub Demand3 : Type 0
 Demand3 = Demand3For edition1

@@ -2,4 +2,4 @@
 pub mod Book
 pub mod Runs
 pub mod Demand3
-pub mod Story
+pub mod Finishing

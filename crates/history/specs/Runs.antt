@@ -10,16 +10,16 @@ use lib.ListN.{length}
 use Rattle.segment.specs.Choice.{pick}
 use Rattle.segment.specs.Layout.{Layout}
 use Rattle.segment.specs.declared.Key.{Key}
-use Rattle.record.specs.Answers.{recoverSaid, readSaid, startSaid, stepSaid, taken}
+use Rattle.record.specs.Answers.{recoverSaid, readSaid, startSaid, stepSaid}
 use Rattle.record.specs.declared.Record.{Record}
 use Rattle.record.specs.declared.Recovery.{Recovery}
 use Rattle.record.specs.declared.Reading.{Reading}
 use Rattle.record.specs.declared.Start.{Start}
 use Rattle.record.specs.declared.Stepped.{Stepped}
 use Rattle.model.specs.Operations.{Operation, Typed, TypedKey}
-use Rattle.model.specs.Refused.{isPending}
-use Rattle.model.specs.Promises.{RecoverPromise, ReadPromise, Part, ValuePromise, StartPromise, StepPromise}
-use Rattle.history.specs.Book.{starts, steps, reads, readsValue, recovers, Event, called, cut, accepted}
+use Rattle.model.specs.Refused.{Lengths, isPending}
+use Rattle.model.specs.Promises.{RecoverPromise, readLengths, ReadPromise, Part, partOf, ValuePromise, lentLengths, StartPromise, StepPromise}
+use Rattle.history.specs.Book.{Question, reads, readsValue, starts, steps, asks, recovers, Answer, saying, giving, Event, called, cut, accepted}
 
 -- What the firmware holds from an accepted recovery to the next cut: the newest record, the index of that recovery, and the work
 -- buffer that the last accepted start filled.
@@ -40,15 +40,24 @@ freshWorld area = record { area = area; held = none; cells = none }
 
 -- A start hands back the record; where it is accepted, its work buffer is the one that the steps get.
 abbrev pub heldAfter : Held → List ℕ → Start → Held
-heldAfter h work′ a = record { rec = a .rec; cells = h .cells; work = pick (accepted (startSaid (a .answer))) work′ (h .work) }
+heldAfter h work′ a = record { rec = a .rec; cells = h .cells; work = pick (accepted (saying (startSaid (a .answer)))) work′ (h .work) }
 
 -- An accepted recovery gives the record and the index. One that is refused with 20 leaves no index, so no call with a record
 -- comes before the next accepted recovery; any other refusal leaves all as it was.
 abbrev pub recoveredWorld : World → List ℕ → Recovery → World
 recoveredWorld w cells′ r =
-    pick (accepted (recoverSaid (r .answer)))
+    pick (accepted (saying (recoverSaid (r .answer))))
     (record { area = w .area; held = some (record { rec = r .rec; cells = cells′; work = [] }); cells = some (length cells′) })
     (pick (eqb (recoverSaid (r .answer) .refused) 20) (record { area = w .area; held = none; cells = w .cells }) w)
+
+-- What a question answers in a world, by its promise. Reads need a record, and are allowed while an operation is pending.
+pub data Asked (L : Layout) : World → Question → Lengths → Answer → Type 0 where
+  read :
+      {area : List ℕ} {h : Held} {m : Option ℕ} {k : Key} {a : Reading} → TypedKey k → ReadPromise L (h .rec) area (h .cells) k a →
+      Asked L (record { area = area; held = some h; cells = m }) (reads k) (readLengths area (h .cells)) (saying (readSaid (a .answer)))
+  readValue :
+      {area : List ℕ} {h : Held} {m : Option ℕ} {k : Key} {p : Part} → TypedKey k → ValuePromise L (h .rec) area (h .cells) k p →
+      Asked L (record { area = area; held = some h; cells = m }) (readsValue k) (readLengths area (h .cells)) (giving (partOf area p))
 
 -- One event. A cut takes what is held and leaves the area with the stores made so far. The stores of an operation are made one by
 -- one, each by a step, and no other call stores anything; so a cut during a call is one before it, or one after it once its store
@@ -58,31 +67,24 @@ pub data Moves (L : Layout) (n s : ℕ) : World → Event → World → Type 0 w
   start :
       {area work work′ : List ℕ} {h : Held} {m : Option ℕ} {o : Operation} {a : Start} → Typed o →
       StartPromise L o (h .rec) area (h .cells) work work′ a →
-      Moves L n s (record { area = area; held = some h; cells = m }) (called (starts o) (startSaid (a .answer)))
+      Moves L n s (record { area = area; held = some h; cells = m })
+      (called (starts o) (lentLengths area (h .cells) work) (saying (startSaid (a .answer))))
       (record { area = area; held = some (heldAfter h work′ a); cells = m })
   -- a step; while an operation is pending it gets the work buffer that the start filled
   step :
       {area area′ cells′ work : List ℕ} {h : Held} {m : Option ℕ} {a : Stepped} →
       (isPending (h .rec .pending) ≡ true → work ≡ h .work) →
       StepPromise L (h .rec) area area′ (h .cells) cells′ work a →
-      Moves L n s (record { area = area; held = some h; cells = m }) (called steps (stepSaid (a .answer)))
+      Moves L n s (record { area = area; held = some h; cells = m })
+      (called steps (lentLengths area (h .cells) work) (saying (stepSaid (a .answer))))
       (record { area = area′; held = some (record { rec = a .rec; cells = cells′; work = h .work }); cells = m })
-  -- reads, also while an operation is pending
-  read :
-      {area : List ℕ} {h : Held} {m : Option ℕ} {k : Key} {a : Reading} → TypedKey k →
-      ReadPromise L (h .rec) area (h .cells) k a →
-      Moves L n s (record { area = area; held = some h; cells = m }) (called (reads k) (readSaid (a .answer)))
-      (record { area = area; held = some h; cells = m })
-  readValue :
-      {area : List ℕ} {h : Held} {m : Option ℕ} {k : Key} {p : Part} → TypedKey k →
-      ValuePromise L (h .rec) area (h .cells) k p →
-      Moves L n s (record { area = area; held = some h; cells = m }) (called (readsValue k) taken)
-      (record { area = area; held = some h; cells = m })
+  -- a question, which leaves all as it was
+  ask : {w : World} {q : Question} {lent : Lengths} {a : Answer} → Asked L w q lent a → Moves L n s w (called (asks q) lent a) w
   -- a recovery with the N and S of the format, any order list and any index, with or without a cut before it
   recover :
       {w : World} {order cells cells′ : List ℕ} {r : Recovery} →
       RecoverPromise L n s order (w .area) cells cells′ r →
-      Moves L n s w (called recovers (recoverSaid (r .answer))) (recoveredWorld w cells′ r)
+      Moves L n s w (called (recovers n s order) (readLengths (w .area) cells) (saying (recoverSaid (r .answer)))) (recoveredWorld w cells′ r)
   -- the power fails
   cuts : {w : World} → Moves L n s w cut (record { area = w .area; held = none; cells = w .cells })
 

@@ -1,43 +1,57 @@
--- Demand 2, three theorems. Once finished, a write, a delete and a cleaning leave bytes that the rule of versions reads as the old
--- map with that one key set, with it gone, or unchanged; in a cleaning for every set of victims within the map, the head included.
+-- Demand 2, three theorems at the layout of 01. Once finished, a write, a delete and a cleaning leave bytes that the rule of versions
+-- reads as the old map with that one key set, with it gone, or unchanged; in a cleaning for every set of victims within the map, the
+-- head included. For other layouts the same facts are `finish-recovers` and `finish-map` of their laws.
 use Prim.Native.Nat.{ℕ}
 use mathlib.Core.Path.{_≡_}
 use mathlib.Core.List.{List}
 use mathlib.Core.Option.{Option, none, some}
 use Rattle.segment.specs.Choice.{pick}
-use Rattle.segment.specs.Layout.{Layout}
+use Rattle.segment.specs.Layout.{edition1}
 use Rattle.segment.specs.Entry.{Entry}
 use Rattle.segment.specs.declared.Key.{Key}
 use Rattle.record.specs.declared.Record.{Record}
 use Rattle.model.specs.Log.{sameKey}
+use Rattle.model.specs.Recovery.{recovered}
 use Rattle.model.specs.Operations.{Operation, write, delete, clean, logNow, writtenEntry, tombstoneEntry, stored, finishedRecord}
 use Rattle.laws.specs.MapLaws.{valueAt}
 use Rattle.laws.specs.Operated.{Accepted, planAt, mapAfter}
-use Rattle.laws.specs.Entering.{Roomy}
-use Rattle.laws.specs.OperationsKept.{finishes}
+use Rattle.laws.specs.OperationsKept.{finishes, edition1-roomy}
 
-module _ (L : Layout) (roomy : Roomy L) (before : List ℕ) (idle : Record) where
-  -- the map that reading by the rule gives before an operation, and after its last store
+-- Bytes that read as a map: recovery of them gives this record, whose slot map is that of the newest digest, and in the segments
+-- that it names the highest version of each key decides what the map holds of it.
+pub record ReadsAs (n s m : ℕ) (area : List ℕ) (r : Record) (map : Key → Option Entry) : Type 0 where
+  pub recovers : recovered edition1 n s m area ≡ some r
+  pub decides : (j : Key) → valueAt (logNow edition1 area r) j ≡ map j
+
+module _ (before : List ℕ) (idle : Record) where
+  -- the map before an operation
   abbrev old : Key → Option Entry
-  old = valueAt (logNow L before idle)
+  old = valueAt (logNow edition1 before idle)
 
-  abbrev new : Operation → Key → Option Entry
-  new o = valueAt (logNow L (stored before (planAt L before idle o)) (finishedRecord L before idle o))
+  -- what is read after its last store
+  abbrev pub Finished : Operation → (Key → Option Entry) → Type 0
+  Finished o map =
+      ReadsAs (idle .slots) (idle .size) (idle .cells) (stored before (planAt edition1 before idle o)) (finishedRecord edition1 before idle o) map
+
+  read-after : (o : Operation) → Accepted edition1 before idle o → Finished o (mapAfter idle o old)
+  read-after o a = let f = finishes edition1 edition1-roomy before idle o a in record { recovers = f .0; decides = f .1 }
 
   -- a write sets its key to that value at the next version, and no other
   pub demand-2-write :
-      (k : Key) (value : List ℕ) → Accepted L before idle (write k value) → (j : Key) →
-      new (write k value) j ≡ pick (sameKey j (writtenEntry idle k value)) (some (writtenEntry idle k value)) (old j)
+      (k : Key) (value : List ℕ) → Accepted edition1 before idle (write k value) →
+      Finished (write k value)
+      (λ j. pick (sameKey j (writtenEntry idle k value)) (some (writtenEntry idle k value)) (old j))
   unfolding mapAfter
-  demand-2-write k value a = finishes L roomy before idle (write k value) a .1
+  demand-2-write k value a = read-after (write k value) a
 
   -- a delete drops its key, and no other
   pub demand-2-delete :
-      (k : Key) → Accepted L before idle (delete k) → (j : Key) → new (delete k) j ≡ pick (sameKey j (tombstoneEntry idle k)) none (old j)
+      (k : Key) → Accepted edition1 before idle (delete k) →
+      Finished (delete k) (λ j. pick (sameKey j (tombstoneEntry idle k)) none (old j))
   unfolding mapAfter
-  demand-2-delete k a = finishes L roomy before idle (delete k) a .1
+  demand-2-delete k a = read-after (delete k) a
 
   -- a cleaning changes no key
-  pub demand-2-clean : (victims : ℕ) → Accepted L before idle (clean victims) → (j : Key) → new (clean victims) j ≡ old j
+  pub demand-2-clean : (victims : ℕ) → Accepted edition1 before idle (clean victims) → Finished (clean victims) old
   unfolding mapAfter
-  demand-2-clean victims a = finishes L roomy before idle (clean victims) a .1
+  demand-2-clean victims a = read-after (clean victims) a

@@ -1,6 +1,6 @@
 -- What an accepted operation does to the store: the statements. Each is proved in a file of its own, and together they are all that
 -- the promise about cuts needs of the log.
-use Prim.Native.Nat.{ℕ, _-_, _≤_, _<_}
+use Prim.Native.Nat.{ℕ, _+_, _-_, _≤_, _<_}
 use mathlib.Core.Path.{_≡_}
 use mathlib.Core.Bool.{true, false}
 use mathlib.Core.List.{List, []}
@@ -60,8 +60,10 @@ pub record OperationLaws (L : Layout) : Type 0 where
       (before : List ℕ) (idle : Record) (o : Operation) → Accepted L before idle o → (j : Key) →
       valueAt (logNow L (stored before (planAt L before idle o)) (finishedRecord L before idle o)) j ≡
       mapAfter idle o (valueAt (logNow L before idle)) j
-  -- An operation has at least one store, and its bytes fit a segment.
+  -- An operation has from 1 to S + 1 stores, and its bytes fit a segment.
   pub some-stores : (before : List ℕ) (idle : Record) (o : Operation) → Accepted L before idle o → 0 < length (planAt L before idle o)
+  pub few-stores :
+      (before : List ℕ) (idle : Record) (o : Operation) → Accepted L before idle o → length (planAt L before idle o) ≤ idle .size + 1
   pub bytes-fit :
       (before : List ℕ) (idle : Record) (o : Operation) → Accepted L before idle o →
       length (laid L idle (logNow L before idle) o .bytes) ≤ idle .size

@@ -37,7 +37,7 @@ use Rattle.laws.specs.Headed.{Heads}
 use Rattle.laws.specs.Cleaned.{cleaned-cleaned, cleaned-recovered}
 use Rattle.laws.specs.Operated.{Accepted, planAt, mapAfter, OperationLaws}
 use Rattle.laws.specs.Entering.{Roomy, idle-lent, idle-number, write-enters, delete-enters}
-use Rattle.laws.specs.Planned.{log-formed, kept-in, planned, new-below, new-map-fits, new-next-fits, prefix-stays, prefix-bytes, plan-stores, plan-fits}
+use Rattle.laws.specs.Planned.{log-formed, kept-in, planned, new-below, new-map-fits, new-next-fits, prefix-stays, prefix-bytes, plan-stores, plan-most, plan-fits}
 use Rattle.laws.specs.EntryDone.{entry-done}
 use Rattle.laws.specs.Passed.{CleanPassed, clean-passed}
 
@@ -206,6 +206,7 @@ operation-laws L roomy =
       finish-recovers = λ before idle o a. finishes L roomy before idle o a .0;
       finish-map = λ before idle o a. finishes L roomy before idle o a .1;
       some-stores = λ before idle o a. plan-stores L before idle (a .recovers) _ _ (planned L roomy before idle o a);
+      few-stores = λ before idle o a. plan-most L before idle (a .recovers) _ _ (planned L roomy before idle o a);
       bytes-fit = λ before idle o a. plan-fits L before idle (a .recovers) _ _ (planned L roomy before idle o a);
       own-lengths = λ n s m area r ab e. recovered-fits L n s m area r e;
       more-cells = λ n s m k area e good l. recovered-more L n s m k area (recordFrom L n s m area) e good l;

@@ -186,6 +186,21 @@ module _ (L : Layout) (area : List ℕ) (r : Record) (e : recovered L (r .slots)
       go (no h) = omega (arith, length-commit-full (r .size) (r .head) (r .end) (encoded L x) (omega arith) (omega arith))
   plan-stores bytes plan (heads d es f fits) = omega arith
 
+  -- It has S + 1 stores at the most.
+  pub plan-most : (bytes : List ℕ) (plan : List (ℕ × ℕ)) → Planned L r bytes plan → length plan ≤ r .size + 1
+  plan-most bytes plan (appends x f fits) = go (decLt (r .end + length (encoded L x)) (r .size))
+    where
+      go : Dec (r .end + length (encoded L x) < r .size) → length (commit (r .size) (r .head) (r .end) (encoded L x)) ≤ r .size + 1
+      go (yes h) = omega (arith, length-commit-within (r .size) (r .head) (r .end) (encoded L x) (omega arith) h)
+      go (no h) =
+          omega (arith, length-encoded L x, length-commit-full (r .size) (r .head) (r .end) (encoded L x) (omega arith) (omega arith))
+  plan-most bytes plan (heads d es f fits) = go (decLt (length (headBytes L d es)) (r .size))
+    where
+      go : Dec (length (headBytes L d es) < r .size) → length (headPlan L (r .size) (newSlot r) d es) ≤ r .size + 1
+      go (yes h) = omega (arith, length-commit-within (r .size) (newSlot r) 0 (headBytes L d es) (omega arith) (omega arith))
+      go (no h) =
+          omega (arith, length-headBytes L d es, length-commit-full (r .size) (newSlot r) 0 (headBytes L d es) (omega arith) (omega arith))
+
   pub plan-fits : (bytes : List ℕ) (plan : List (ℕ × ℕ)) → Planned L r bytes plan → length bytes ≤ r .size
   plan-fits bytes plan (appends x f fits) = omega (arith, length-encoded L x, facts .end-low)
   plan-fits bytes plan (heads d es f fits) = omega (arith, length-headBytes L d es)

@@ -1,60 +1,96 @@
--- Demand 3 speaks about the computed run: what recovery gives at its end, whichever order the slots are read in.
-use Prim.Native.Nat.{ℕ}
-use mathlib.Core.Path.{_≡_, refl, _∙_, ap, subst⁻¹}
-use mathlib.Core.Bool.{false}
-use mathlib.Core.List.{List}
+-- Demand 3 speaks about the computed run: what recovery gives at its end, whichever order the slots are read in, and what its steps and
+-- reads answered.
+use Prim.Native.Nat.{ℕ, _-_, _<_}
+use mathlib.Core.Path.{_≡_, refl, _∙_, ap, subst, subst⁻¹}
+use mathlib.Core.Bool.{true, false}
+use mathlib.Core.List.{List, [], _∷_, _++_}
 use mathlib.Core.Option.{Option, some}
 use native.Mathlib.Omega.{arith}
 use lib.ListN.{length}
-use Rattle.segment.specs.Layout.{edition1}
-use Rattle.record.specs.Answers.{saidBy}
+use Rattle.segment.specs.Choice.{pick}
+use Rattle.segment.specs.Layout.{edition1, lookBack}
+use Rattle.segment.specs.declared.Key.{Key}
+use Rattle.record.specs.Answers.{Said, readSaid, refusal, saidBy}
 use Rattle.record.specs.declared.FormatAnswer.{FormatAnswer}
 use Rattle.record.specs.declared.Reading.{Reading}
 use Rattle.record.specs.declared.ReadAnswer.{ReadAnswer}
 use Rattle.record.specs.declared.Recovery.{Recovery}
 use Rattle.record.specs.declared.RecoverAnswer.{RecoverAnswer}
 use Rattle.record.specs.declared.Refusal.{Refusal}
+use Rattle.model.specs.Operations.{write}
 use Rattle.model.specs.Play.{opened}
 use Rattle.model.specs.Recovery.{orderBad, recovery}
-use Rattle.model.specs.Promises.{formatAnswer, areaUnless, FormatPromise, RecoverPromise, ReadPromise}
-use Rattle.history.specs.Book.{bookOf}
-use Rattle.history.specs.Demand3.{LargeEnough, bookAnswer, GivesBook, Holds}
+use Rattle.model.specs.Promises.{formatAnswer, areaUnless, FormatPromise, RecoverPromise, ReadPromise, Part, partOf, ValuePromise}
+use Rattle.history.specs.Book.{reads, readsValue, asks, Answer, saying, Event, cut, accepted, Kept, Book, freshBook, versionFor, feed, bookOf, highestTold, toldBy}
+use Rattle.history.specs.Demand3.{LargeEnough, bookAnswer, bookValue, GivesBook, StepAgrees, QuestionAgrees, EventAgrees, EventsAgree, Demand3Of}
+use Rattle.history.proofs.Readings.{feed-asks}
 use Rattle.history.proofs.Theorem.{demand-3}
+use Rattle.history.proofs.Corollaries.{agree-at, agree-behind, told-below-next}
 use Rattle.witness.specs.Answers.{recoveredCells, recover-made}
-use Rattle.witness.specs.Example.{computing, bytes-of, nine, nine-typed, before, area₀, events, all, run, cleaned}
+use Rattle.witness.specs.Example.{computing, booking, bytes-of, nine, nine-typed, ten, ten-typed, ones, threes, told, lent, started, stepped, recovered, readEvent, valueEvent, readsAs, leaving, begins, writes, idles, half, meanwhile, fails, others, deletes, cleans, ends, before, area₀, events, all, run, two, cleaned}
 
 formats : FormatPromise edition1 4 256 before area₀ FormatAnswer.Formatted
 unfolding opened formatAnswer areaUnless saidBy
 formats = record { answers = refl; says = refl; leaves = refl }
 
 -- Demand 3 for these events.
-pub holds : Holds edition1 4 256 (all .world) events
-holds = demand-3 4 256 before area₀ (bytes-of 1024 0xaa (omega arith)) formats events (all .world) run
+pub demanded : Demand3Of edition1 4 256 (all .world) events
+demanded = demand-3 4 256 before area₀ (bytes-of 1024 0xaa (omega arith)) formats events (all .world) run
+
+-- ---- what recovery gives
 
 -- the last accepted recovery had 16 cells
 sixteen : all .world .cells ≡ some 16
 unfolding computing
 sixteen = refl
 
--- What that gives a reader: recovery is accepted, the next version is 3, and the deleted key answers 8.
+-- What that gives a reader: recovery is accepted, the next version is 4, above the 3 that the delete and the 2 that the last read was
+-- told, the deleted key answers 8 with an empty value, and the other key its version, kind and value.
 pub record Left (cells′ : List ℕ) (r : Recovery) : Type 0 where
   pub is-accepted : r .answer ≡ RecoverAnswer.Recovered
-  pub next-version : r .rec .next .0 ≡ 3
+  pub next-version : r .rec .next .0 ≡ 4
+  pub above-steps : 3 < r .rec .next .0
+  pub above-reads : 2 < r .rec .next .0
   pub absent :
       (a : Reading) → ReadPromise edition1 (r .rec) (all .world .area) cells′ nine a → a .answer ≡ ReadAnswer.Refused Refusal.Absent
+  pub no-value : (p : Part) → ValuePromise edition1 (r .rec) (all .world .area) cells′ nine p → partOf (all .world .area) p ≡ []
+  pub present :
+      (a : Reading) → ReadPromise edition1 (r .rec) (all .world .area) cells′ ten a → a .answer ≡ ReadAnswer.Present (record { 0 = 2 }) 2
+  pub value : (p : Part) → ValuePromise edition1 (r .rec) (all .world .area) cells′ ten p → partOf (all .world .area) p ≡ threes
+
+-- what the book says of the other key
+ten-answer : bookAnswer edition1 two ≡ ReadAnswer.Present (record { 0 = 2 }) 2
+unfolding opened bookAnswer
+ten-answer = refl
+
+highest : highestTold events ≡ 3
+unfolding toldBy highestTold
+highest = refl
 
 pub left :
     (order cells cells′ : List ℕ) (r : Recovery) → orderBad 4 order ≡ false → LargeEnough (some 16) (length cells) →
     RecoverPromise edition1 4 256 order (all .world .area) cells cells′ r → Left cells′ r
-unfolding bookAnswer
+unfolding bookAnswer bookValue
 left order cells cells′ r good large p =
-    let given : GivesBook edition1 (all .world .area) cells′ r (bookOf events) =
-    holds .recovery order cells cells′ r good (subst⁻¹ (λ (m : Option ℕ). LargeEnough m (length cells)) sixteen large) p in
     record {
       is-accepted = given .is-accepted;
       next-version = given .next-version ∙ cleaned .next-version;
-      absent = λ a q. given .answers nine nine-typed a q ∙ ap (bookAnswer edition1) (cleaned .key);
+      above-steps = omega (arith, highest, demanded .above-told, given .next-version);
+      above-reads =
+          told-below-next 4 256 before area₀ (bytes-of 1024 0xaa (omega arith)) formats
+          (begins ++ (writes ++ (idles ++ (half ++ (meanwhile ++ (fails ++ (others ++ (deletes ++ (cleans ++ (cut ∷ recovered ∷ readsAs nine (refusal 8) []))))))))))
+          (valueEvent ten threes ∷ []) (asks (reads ten)) (lent 0) (saying (told 0 2 2)) (all .world) run order cells cells′ r good enough p;
+      absent = λ a q. given .answers nine nine-typed a q ∙ ap (bookAnswer edition1) (cleaned .first-key);
+      no-value = λ v q. given .values nine nine-typed v q ∙ ap bookValue (cleaned .first-key);
+      present = λ a q. given .answers ten ten-typed a q ∙ ap (bookAnswer edition1) (cleaned .second-key) ∙ ten-answer;
+      value = λ v q. given .values ten ten-typed v q ∙ ap bookValue (cleaned .second-key);
     }
+  where
+    enough : LargeEnough (all .world .cells) (length cells)
+    enough = subst⁻¹ (λ (m : Option ℕ). LargeEnough m (length cells)) sixteen large
+
+    given : GivesBook edition1 (all .world .area) cells′ r (bookOf events)
+    given = demanded .recovery order cells cells′ r good enough p
 
 -- and there is such a recovery, for every order and every index that is large enough
 pub left-by :
@@ -62,3 +98,57 @@ pub left-by :
     let r = recovery edition1 4 256 (length cells) order (all .world .area) in
     Left (recoveredCells edition1 256 order (all .world .area) cells r) r
 left-by order cells good large = left order cells _ _ good large (recover-made edition1 4 256 order (all .world .area) cells)
+
+-- ---- what steps answered
+
+-- the book before the last step of the first write
+abbrev atLast : Book
+atLast = bookOf (begins ++ started (write nine ones) 20 ∷ leaving 19 1)
+
+-- the events behind the first write
+abbrev rest : List Event
+rest = idles ++ (half ++ (meanwhile ++ (fails ++ (others ++ (deletes ++ (cleans ++ ends))))))
+
+-- that step leaves none, and tells the book's version
+pub last-step : (told 0 1 0 .stores ≡ 1 - 1) × (told 0 1 0 .version ≡ versionFor atLast (write nine ones))
+unfolding EventAgrees StepAgrees booking
+last-step =
+    let h = agree-at freshBook (begins ++ started (write nine ones) 20 ∷ leaving 19 1) (stepped (told 0 1 0)) rest (demanded .agrees) refl in
+    (h .0, h .1 refl)
+
+-- the one after it cannot have been accepted, since nothing is pending
+pub no-step : accepted (saying (refusal 6)) ≡ true → ⊥
+unfolding EventAgrees StepAgrees booking
+no-step =
+    agree-at freshBook (begins ++ writes) (stepped (refusal 6))
+    (readsAs nine (told 0 1 1) ones ++ (half ++ (meanwhile ++ (fails ++ (others ++ (deletes ++ (cleans ++ ends)))))))
+    (demanded .agrees)
+
+-- ---- what reads answered
+
+-- a read that was answered so and the value that was given are the book's of the list before them
+pub record ReadAgreed (b : Book) (k : Key) (a : Said) (value : List ℕ) : Type 0 where
+  pub said : a ≡ readSaid (bookAnswer edition1 (b .keys k))
+  pub gave : value ≡ bookValue (b .keys k)
+
+read-agreed :
+    (prior : List Event) (k : Key) (a : Said) (value : List ℕ) (after : List Event) →
+    EventsAgree edition1 freshBook (prior ++ (readsAs k a value ++ after)) → ReadAgreed (bookOf prior) k a value
+unfolding EventAgrees QuestionAgrees EventsAgree
+read-agreed prior k a value after h =
+    record {
+      said = ap (λ (x : Answer). x .said) (agree-at freshBook prior (readEvent k a) (valueEvent k value ∷ after) h);
+      gave =
+          ap (λ (x : Answer). x .value)
+          (subst (λ (b : Book). EventAgrees edition1 b (valueEvent k value)) (feed-asks (bookOf prior) (reads k) (lent 0) (saying a))
+          (agree-behind freshBook prior (readEvent k a) (valueEvent k value ∷ after) h .0));
+    }
+
+-- on the fresh store, while the second write is pending, and after the recovery in the end
+pub read-fresh : ReadAgreed (bookOf (recovered ∷ [])) nine (refusal 8) []
+read-fresh = read-agreed (recovered ∷ []) nine (refusal 8) [] (writes ++ rest) (demanded .agrees)
+
+pub read-meanwhile : ReadAgreed (bookOf (begins ++ (writes ++ (idles ++ half)))) nine (told 0 1 1) ones
+read-meanwhile =
+    read-agreed (begins ++ (writes ++ (idles ++ half))) nine (told 0 1 1) ones (fails ++ (others ++ (deletes ++ (cleans ++ ends))))
+    (demanded .agrees)

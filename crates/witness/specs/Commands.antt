@@ -7,22 +7,26 @@ use mathlib.Core.Option.{Option, none, some}
 use lib.ListN.{length}
 use Rattle.segment.specs.Layout.{Layout, edition1}
 use Rattle.segment.specs.declared.Key.{Key}
-use Rattle.record.specs.Answers.{recoverSaid, readSaid, startSaid, stepSaid, refusal}
+use Rattle.record.specs.Answers.{recoverSaid, readSaid, startSaid, stepSaid}
 use Rattle.record.specs.declared.Recovery.{Recovery}
 use Rattle.model.specs.Operations.{Operation, Typed, TypedKey}
 use Rattle.model.specs.Recovery.{recovery}
-use Rattle.model.specs.Promises.{Begun}
-use Rattle.history.specs.Book.{starts, steps, reads, readsValue, recovers, Event, called, cut}
-use Rattle.history.specs.Runs.{Held, World, heldAfter, recoveredWorld, Moves, start, step, read, readValue, recover, cuts, Run, stop, go}
-use Rattle.witness.specs.Answers.{readBy, read-made, value-made, startedBy, start-made, recoveredCells, recover-made}
+use Rattle.model.specs.Promises.{readLengths, partOf, Begun, lentLengths}
+use Rattle.history.specs.Book.{Question, reads, readsValue, starts, steps, asks, recovers, Answer, saying, giving, Event, called, cut}
+use Rattle.history.specs.Runs.{Held, World, heldAfter, recoveredWorld, Asked, read, readValue, Moves, start, step, ask, recover, cuts, Run, stop, go}
+use Rattle.witness.specs.Answers.{readBy, partBy, read-made, value-made, startedBy, start-made, recoveredCells, recover-made}
 use Rattle.witness.specs.Steps.{Moved, steppedBy, step-made}
+
+-- a question's key is of its types
+abbrev pub TypedQuestion : Question → Type 0
+TypedQuestion (reads k) = TypedKey k
+TypedQuestion (readsValue k) = TypedKey k
 
 -- Arguments are of their types. A start gets any work buffer, a recovery any order list and any index.
 pub data Command : Type 0 where
   operate : (o : Operation) → Typed o → List ℕ → Command
   advance : Command
-  look : (k : Key) → TypedKey k → Command
-  lookValue : (k : Key) → TypedKey k → Command
+  question : (q : Question) → TypedQuestion q → Command
   restart : List ℕ → List ℕ → Command
   powerCut : Command
 
@@ -33,17 +37,17 @@ pub record Played : Type 0 where
 
 -- ---- one command
 
-abbrev pub startedWorld : World → Held → Operation → Begun → Played
-startedWorld w h o b =
+abbrev pub startedWorld : World → Held → Operation → List ℕ → Begun → Played
+startedWorld w h o work b =
     record {
-      events = called (starts o) (startSaid (b .start .answer)) ∷ [];
+      events = called (starts o) (lentLengths (w .area) (h .cells) work) (saying (startSaid (b .start .answer))) ∷ [];
       world = record { area = w .area; held = some (heldAfter h (b .work) (b .start)); cells = w .cells };
     }
 
 abbrev pub steppedWorld : World → Held → Moved → Played
 steppedWorld w h x =
     record {
-      events = called steps (stepSaid (x .after .stepped .answer)) ∷ [];
+      events = called steps (lentLengths (w .area) (h .cells) (h .work)) (saying (stepSaid (x .after .stepped .answer))) ∷ [];
       world =
           record {
             area = x .area;
@@ -52,28 +56,31 @@ steppedWorld w h x =
           };
     }
 
--- a call that leaves all as it is
-abbrev pub onlyTold : World → Event → Played
-onlyTold w e = record { events = e ∷ []; world = w }
+-- what a question answers
+unfoldable pub answerBy : Layout → Held → List ℕ → Question → Answer
+answerBy L h area (reads k) = saying (readSaid (readBy L (h .rec) area (h .cells) k .answer))
+answerBy L h area (readsValue k) = giving (partOf area (partBy L (h .rec) area (h .cells) k))
 
-abbrev pub restarted : Layout → ℕ → World → List ℕ → List ℕ → Recovery → Played
-restarted L s w order cells r =
+abbrev pub askedWorld : Layout → World → Held → Question → Played
+askedWorld L w h q =
+    record { events = called (asks q) (readLengths (w .area) (h .cells)) (answerBy L h (w .area) q) ∷ []; world = w }
+
+abbrev pub restarted : Layout → ℕ → ℕ → World → List ℕ → List ℕ → Recovery → Played
+restarted L n s w order cells r =
     record {
-      events = called recovers (recoverSaid (r .answer)) ∷ [];
+      events = called (recovers n s order) (readLengths (w .area) cells) (saying (recoverSaid (r .answer))) ∷ [];
       world = recoveredWorld w (recoveredCells L s order (w .area) cells r) r;
     }
 
 -- Without a record only a recovery and a cut can happen: any other command does nothing. A step gets the work buffer of the start.
 unfoldable pub played : Layout → ℕ → ℕ → World → Option Held → Command → Played
-played L n s w (some h) (operate o t work) = startedWorld w h o (startedBy L o (h .rec) (w .area) (h .cells) work)
+played L n s w (some h) (operate o t work) = startedWorld w h o work (startedBy L o (h .rec) (w .area) (h .cells) work)
 played L n s w (some h) advance = steppedWorld w h (steppedBy L (h .rec) (w .area) (h .cells) (h .work))
-played L n s w (some h) (look k t) = onlyTold w (called (reads k) (readSaid (readBy L (h .rec) (w .area) (h .cells) k .answer)))
-played L n s w (some h) (lookValue k t) = onlyTold w (called (readsValue k) (refusal 0))
+played L n s w (some h) (question q t) = askedWorld L w h q
 played L n s w none (operate o t work) = record { events = []; world = w }
 played L n s w none advance = record { events = []; world = w }
-played L n s w none (look k t) = record { events = []; world = w }
-played L n s w none (lookValue k t) = record { events = []; world = w }
-played L n s w held (restart order cells) = restarted L s w order cells (recovery L n s (length cells) order (w .area))
+played L n s w none (question q t) = record { events = []; world = w }
+played L n s w held (restart order cells) = restarted L n s w order cells (recovery L n s (length cells) order (w .area))
 played L n s w held powerCut = record { events = cut ∷ []; world = record { area = w .area; held = none; cells = w .cells } }
 
 -- ---- a list of them
@@ -101,17 +108,21 @@ module _ (n s : ℕ) where
   abbrev From : World → Played → Type 0
   From w p = Run edition1 n s w (p .events) (p .world)
 
+  asked : (area : List ℕ) (m : Option ℕ) (h : Held) (q : Question) → TypedQuestion q →
+      Asked edition1 (record { area = area; held = some h; cells = m }) q (readLengths area (h .cells)) (answerBy edition1 h area q)
+  unfolding answerBy
+  asked area m h (reads k) t = read t (read-made edition1 (h .rec) area (h .cells) k)
+  asked area m h (readsValue k) t = readValue t (value-made edition1 (h .rec) area (h .cells) k)
+
   played-run : (area : List ℕ) (m : Option ℕ) (held : Option Held) (c : Command) →
       let w : World = record { area = area; held = held; cells = m } in From w (played edition1 n s w held c)
   unfolding played
   played-run area m (some h) (operate o t work) = one (start t (start-made edition1 o (h .rec) area (h .cells) work))
   played-run area m (some h) advance = one (step (λ e. refl) (step-made (h .rec) area (h .cells) (h .work)))
-  played-run area m (some h) (look k t) = one (read t (read-made edition1 (h .rec) area (h .cells) k))
-  played-run area m (some h) (lookValue k t) = one (readValue t (value-made edition1 (h .rec) area (h .cells) k))
+  played-run area m (some h) (question q t) = one (ask (asked area m h q t))
   played-run area m none (operate o t work) = stop
   played-run area m none advance = stop
-  played-run area m none (look k t) = stop
-  played-run area m none (lookValue k t) = stop
+  played-run area m none (question q t) = stop
   played-run area m (some h) (restart order cells) = one (recover (recover-made edition1 n s order area cells))
   played-run area m none (restart order cells) = one (recover (recover-made edition1 n s order area cells))
   played-run area m (some h) powerCut = one cuts

@@ -1,5 +1,5 @@
--- One run, computed: N 4, S 256, M 16; a write, a second write of the same key that is cut in its middle, a delete, a cleaning, and
--- recoveries.
+-- One run, computed: N 4, S 256, M 16; a write, a second write of the same key that is cut in its middle, a write of another key, a
+-- delete, a cleaning, recoveries, and reads before, during and after them.
 use Prim.Native.Nat.{ℕ, zero, suc, _+_, _<_}
 use mathlib.Core.Path.{_≡_, refl, subst}
 use mathlib.Core.List.{List, [], _∷_, _++_}
@@ -12,24 +12,26 @@ use Rattle.segment.specs.Choice.{pick, both}
 use Rattle.segment.specs.Layout.{edition1}
 use Rattle.segment.specs.declared.Key.{Key}
 use Rattle.slot_map.specs.Bit.{withBit, less}
-use Rattle.record.specs.Answers.{Said, refusal}
+use Rattle.record.specs.Answers.{Said, refusal, taken}
 use Rattle.model.specs.Log.{sameKeys}
 use Rattle.model.specs.Index.{around}
 use Rattle.model.specs.Operations.{Operation, write, delete, clean, Typed, TypedKey, formatted}
 use Rattle.model.specs.Play.{opened, keyed}
+use Rattle.model.specs.Refused.{Lengths}
 use Rattle.model.specs.Table.{failing}
-use Rattle.history.specs.Book.{starts, steps, reads, readsValue, recovers, Event, called, cut, Kept, Awaited, Book, finish, oneOff, takeOne, feedCall, feed, bookAfter, bookOf}
+use Rattle.history.specs.Book.{reads, readsValue, starts, steps, asks, recovers, saying, giving, Event, called, cut, Kept, Awaited, Book, finish, oneOff, takeOne, feedCall, feed, bookAfter, bookOf}
 use Rattle.history.specs.Runs.{freshWorld, Run}
-use Rattle.index.specs.Build.{entriesFrom, inLog, listed, finished}
+use Rattle.index.specs.Build as Build
+use Rattle.index.specs.Build.{entriesFrom, inLog, listed}
 use Rattle.index.specs.Insert.{insertedAt, tallied, insertNext, insertAll}
 use Rattle.index.specs.Search.{probe, hasKeyAt}
 use Rattle.starting.specs.Stores.{commitStores}
 use Rattle.stepping.specs.Finish.{keysAfter, toldBy, finishEntry, finishAppend, finishHead, upFrom, finishClean, oneLess, finishWith, advanced}
 use Rattle.stepping.specs.Next.{commitStore, fitsSlot, fitsLeft, slotStore, slotNext, pendingNext}
 use Rattle.witness.specs.Answers.{cellsBy}
-use Rattle.witness.specs.Compared.{callNumbers, eventNumbers, compared, events-equal}
+use Rattle.witness.specs.Compared.{callNumbers, eventNumbers, eventValue, compared, events-equal}
 use Rattle.witness.specs.Steps.{storedBy, steppedUnless}
-use Rattle.witness.specs.Commands.{Command, operate, advance, look, lookValue, restart, powerCut, Played, played, playOn, playAll, commands-run}
+use Rattle.witness.specs.Commands.{Command, operate, advance, question, restart, powerCut, answerBy, Played, played, playOn, playAll, commands-run}
 
 -- ---- the commands
 
@@ -41,8 +43,14 @@ bytes-of (suc n) b h (suc i) = bytes-of n b h i
 abbrev pub nine : Key
 nine = keyed 7 9
 
+abbrev pub ten : Key
+ten = keyed 7 10
+
 pub nine-typed : TypedKey nine
 nine-typed = (omega arith, omega arith)
+
+pub ten-typed : TypedKey ten
+ten-typed = (omega arith, omega arith)
 
 abbrev pub ones : List ℕ
 ones = replicate 8 0x11
@@ -50,75 +58,113 @@ ones = replicate 8 0x11
 abbrev pub twos : List ℕ
 twos = replicate 8 0x22
 
-abbrev starting : (o : Operation) → Typed o → Command
+abbrev pub threes : List ℕ
+threes = replicate 24 0x33
+
+abbrev pub starting : (o : Operation) → Typed o → Command
 starting o t = operate o t (replicate 256 0x55)
 
-abbrev recovering : Command
+abbrev pub recovering : Command
 recovering = restart (0 ∷ 1 ∷ 2 ∷ 3 ∷ []) (replicate 16 0)
+
+-- a read of the key, and one of its value
+abbrev pub looking : (k : Key) → TypedKey k → List Command → List Command
+looking k t rest = question (reads k) t ∷ question (readsValue k) t ∷ rest
 
 abbrev pub commands : List Command
 commands =
     recovering
-    ∷ starting (write nine ones) (nine-typed, bytes-of 8 0x11 (omega arith))
-    ∷ replicate 20 advance ++ look nine nine-typed
-    ∷ lookValue nine nine-typed
-    ∷ starting (write nine twos) (nine-typed, bytes-of 8 0x22 (omega arith))
-    ∷ replicate 7 advance ++ powerCut
+    ∷ looking nine nine-typed
+    (starting (write nine ones) (nine-typed, bytes-of 8 0x11 (omega arith))
+    ∷ replicate 20 advance ++ advance
+    ∷ looking nine nine-typed
+    (starting (write nine twos) (nine-typed, bytes-of 8 0x22 (omega arith))
+    ∷ replicate 7 advance ++ looking nine nine-typed
+    (powerCut
     ∷ recovering
-    ∷ look nine nine-typed
-    ∷ starting (delete nine) nine-typed
+    ∷ looking nine nine-typed
+    (starting (write ten threes) (ten-typed, bytes-of 24 0x33 (omega arith))
+    ∷ replicate 36 advance ++ starting (delete nine) nine-typed
     ∷ replicate 12 advance ++ starting (clean 1) (omega arith)
-    ∷ replicate 15 advance ++ powerCut
+    ∷ replicate 50 advance ++ powerCut
     ∷ recovering
-    ∷ look nine nine-typed
-    ∷ []
+    ∷ looking nine nine-typed (looking ten ten-typed [])))))
 
 -- ---- the events, with their answers as numbers
 
-abbrev told : (stores version kind : ℕ) → Said
+abbrev pub told : (stores version kind : ℕ) → Said
 told stores version kind = record { refused = 0; stores = stores; version = version; kind = kind }
 
+-- the lengths lent, by that of the work buffer
+abbrev pub lent : ℕ → Lengths
+lent work = record { area = 1024; index = 16; work = work }
+
+abbrev pub started : Operation → ℕ → Event
+started o stores = called (starts o) (lent 256) (saying (told stores 0 0))
+
+abbrev pub stepped : Said → Event
+stepped a = called steps (lent 256) (saying a)
+
+abbrev pub recovered : Event
+recovered = called (recovers 4 256 (0 ∷ 1 ∷ 2 ∷ 3 ∷ [])) (lent 0) (saying taken)
+
+abbrev pub readEvent : Key → Said → Event
+readEvent k a = called (asks (reads k)) (lent 0) (saying a)
+
+abbrev pub valueEvent : Key → List ℕ → Event
+valueEvent k value = called (asks (readsValue k)) (lent 0) (giving value)
+
+-- a read that is answered so, and the value
+abbrev pub readsAs : Key → Said → List ℕ → List Event
+readsAs k a value = readEvent k a ∷ valueEvent k value ∷ []
+
 -- f steps, one after the other, the last of which leaves k stores
-abbrev leaving : ℕ → ℕ → List Event
+abbrev pub leaving : ℕ → ℕ → List Event
 leaving zero k = []
-leaving (suc f) k = called steps (told (f + k) 0 0) ∷ leaving f k
+leaving (suc f) k = stepped (told (f + k) 0 0) ∷ leaving f k
 
--- the first write, to its last store: it is version 1, of kind 1
+-- an operation of n + 1 stores, to its last, which tells that version
+abbrev pub finished : Operation → ℕ → ℕ → List Event
+finished o n version = started o (n + 1) ∷ leaving n 1 ++ stepped (told 0 version 0) ∷ []
+
+-- The fresh store: a read answers 8, and the value is empty.
+abbrev pub begins : List Event
+begins = recovered ∷ readsAs nine (refusal 8) []
+
+-- The first write is version 1, of kind 1; a step too many is refused with 6.
 abbrev pub writes : List Event
-writes =
-    called recovers (refusal 0)
-    ∷ called (starts (write nine ones)) (told 20 0 0)
-    ∷ leaving 19 1 ++ called steps (told 0 1 0)
-    ∷ called (reads nine) (told 0 1 1)
-    ∷ called (readsValue nine) (refusal 0)
-    ∷ []
+writes = finished (write nine ones) 19 1
 
--- the second one, of which 7 of 20 stores are made
-abbrev pub tears : List Event
-tears = called (starts (write nine twos)) (told 20 0 0) ∷ leaving 7 13
+abbrev pub idles : List Event
+idles = stepped (refusal 6) ∷ readsAs nine (told 0 1 1) ones
 
--- the cut in it, and what is left
+-- Of the second one 7 of 20 stores are made; reads meanwhile show the first.
+abbrev pub half : List Event
+half = started (write nine twos) 20 ∷ leaving 7 13
+
+abbrev pub meanwhile : List Event
+meanwhile = readsAs nine (told 0 1 1) ones
+
+-- The cut in it, and what is left.
 abbrev pub fails : List Event
-fails = cut ∷ []
+fails = cut ∷ recovered ∷ readsAs nine (told 0 1 1) ones
 
-abbrev pub returns : List Event
-returns = called recovers (refusal 0) ∷ called (reads nine) (told 0 1 1) ∷ []
+-- The write of the other key takes the version that the cut write did not get, and the delete the one after.
+abbrev pub others : List Event
+others = finished (write ten threes) 35 2
 
--- the delete takes the version that the torn write did not get
 abbrev pub deletes : List Event
-deletes = called (starts (delete nine)) (told 12 0 0) ∷ leaving 11 1 ++ called steps (told 0 2 0) ∷ []
+deletes = finished (delete nine) 11 3
 
+-- The cleaning keeps the entry of the other key alone.
 abbrev pub cleans : List Event
-cleans =
-    called (starts (clean 1)) (told 15 0 0)
-    ∷ leaving 14 1 ++ called steps (told 0 0 0)
-    ∷ cut
-    ∷ called recovers (refusal 0)
-    ∷ called (reads nine) (refusal 8)
-    ∷ []
+cleans = finished (clean 1) 49 0
+
+abbrev pub ends : List Event
+ends = cut ∷ recovered ∷ readsAs nine (refusal 8) [] ++ readsAs ten (told 0 2 2) threes
 
 abbrev pub events : List Event
-events = writes ++ (tears ++ (fails ++ (returns ++ (deletes ++ cleans))))
+events = begins ++ (writes ++ (idles ++ (half ++ (meanwhile ++ (fails ++ (others ++ (deletes ++ (cleans ++ ends))))))))
 
 -- ---- the run
 
@@ -134,9 +180,9 @@ all = playAll edition1 4 256 (freshWorld area₀) commands
 
 -- What the run computes with, opened by one name.
 unfoldable pub computing : Unit {0}
-unfolding opened fnvStep fnvFrom withBit less around entriesFrom inLog listed finished insertedAt tallied insertNext insertAll probe hasKeyAt
+unfolding opened fnvStep fnvFrom withBit less around entriesFrom inLog listed Build.finished insertedAt tallied insertNext insertAll probe hasKeyAt
     keysAfter toldBy finishEntry finishAppend finishHead upFrom finishClean oneLess finishWith advanced
-    commitStores commitStore fitsSlot fitsLeft slotStore slotNext pendingNext cellsBy storedBy steppedUnless played playOn compared callNumbers eventNumbers
+    commitStores commitStore fitsSlot fitsLeft slotStore slotNext pendingNext cellsBy storedBy steppedUnless answerBy played playOn compared callNumbers eventNumbers eventValue
 computing = tt
 
 computed : failing (compared (all .events) events) ≡ []
@@ -150,36 +196,45 @@ run =
 
 -- ---- its book
 
--- what a book holds of the key, its next version, and what is pending
-pub record Page (b : Book) (kept : Option Kept) (next : ℕ) (pending : Option Awaited) : Type 0 where
-  pub key : b .keys nine ≡ kept
+-- what a book holds of the two keys, its next version, and what is pending
+pub record Page (b : Book) (first second : Option Kept) (next : ℕ) (pending : Option Awaited) : Type 0 where
+  pub first-key : b .keys nine ≡ first
+  pub second-key : b .keys ten ≡ second
   pub next-version : b .next ≡ next
   pub awaits : b .pending ≡ pending
 
 -- what a book computes with
-unfoldable booking : Unit {0}
+unfoldable pub booking : Unit {0}
 unfolding pick both sameKeys finish oneOff takeOne feedCall feed bookAfter
 booking = tt
 
-abbrev first : Option Kept
-first = some (record { version = 1; value = ones })
+abbrev pub one : Option Kept
+one = some (record { version = 1; value = ones })
 
-pub written : Page (bookOf writes) first 2 none
-unfolding booking
-written = record { key = refl; next-version = refl; awaits = refl }
+abbrev pub two : Option Kept
+two = some (record { version = 2; value = threes })
 
-pub torn : Page (bookOf (writes ++ tears)) first 2 (some (record { operation = write nine twos; left = 13 }))
+pub at-first : Page (bookOf begins) none none 1 none
 unfolding booking
-torn = record { key = refl; next-version = refl; awaits = refl }
+at-first = record { first-key = refl; second-key = refl; next-version = refl; awaits = refl }
 
-pub failed : Page (bookOf (writes ++ (tears ++ fails))) first 2 none
+pub written : Page (bookOf (begins ++ writes)) one none 2 none
 unfolding booking
-failed = record { key = refl; next-version = refl; awaits = refl }
+written = record { first-key = refl; second-key = refl; next-version = refl; awaits = refl }
 
-pub deleted : Page (bookOf (writes ++ (tears ++ (fails ++ (returns ++ deletes))))) none 3 none
+pub half-written :
+    Page (bookOf (begins ++ (writes ++ (idles ++ half)))) one none 2 (some (record { operation = write nine twos; left = 13 }))
 unfolding booking
-deleted = record { key = refl; next-version = refl; awaits = refl }
+half-written = record { first-key = refl; second-key = refl; next-version = refl; awaits = refl }
 
-pub cleaned : Page (bookOf events) none 3 none
+pub failed : Page (bookOf (begins ++ (writes ++ (idles ++ (half ++ (meanwhile ++ fails)))))) one none 2 none
 unfolding booking
-cleaned = record { key = refl; next-version = refl; awaits = refl }
+failed = record { first-key = refl; second-key = refl; next-version = refl; awaits = refl }
+
+pub deleted : Page (bookOf (begins ++ (writes ++ (idles ++ (half ++ (meanwhile ++ (fails ++ (others ++ deletes)))))))) none two 4 none
+unfolding booking
+deleted = record { first-key = refl; second-key = refl; next-version = refl; awaits = refl }
+
+pub cleaned : Page (bookOf events) none two 4 none
+unfolding booking
+cleaned = record { first-key = refl; second-key = refl; next-version = refl; awaits = refl }

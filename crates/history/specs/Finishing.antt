@@ -1,4 +1,4 @@
--- What two corollaries of demand 3 speak of: when an event finishes a write of a key, and what a finished operation was told.
+-- What corollaries of demand 3 speak of: when an event finishes a write of a key, and what a finished operation was told.
 use Prim.Native.Nat.{_-_}
 use mathlib.Core.Path.{_≡_}
 use mathlib.Core.Bool.{Bool, true, false, not}
@@ -7,10 +7,9 @@ use mathlib.Core.Option.{Option, none, some}
 use lib.Dec.{eqb}
 use Rattle.segment.specs.Choice.{both}
 use Rattle.segment.specs.declared.Key.{Key}
-use Rattle.record.specs.Answers.{Said}
 use Rattle.model.specs.Log.{sameKeys}
 use Rattle.model.specs.Operations.{Operation, write, delete, clean}
-use Rattle.history.specs.Book.{starts, steps, reads, readsValue, recovers, Event, called, cut, accepted, Awaited, Book, feed}
+use Rattle.history.specs.Book.{starts, steps, asks, recovers, Answer, Event, called, cut, accepted, Awaited, Book, feed}
 
 -- a write of that key
 unfoldable pub isWriteOf : Key → Operation → Bool
@@ -25,11 +24,10 @@ lastOfWrite k (some p) = both (eqb (p .left - 1) 0) (isWriteOf k (p .operation))
 
 -- an event at that book is the accepted last step of a write of that key
 unfoldable pub finishesWrite : Book → Event → Key → Bool
-finishesWrite b (called (starts o) a) k = false
-finishesWrite b (called steps a) k = both (accepted a) (lastOfWrite k (b .pending))
-finishesWrite b (called (reads j) a) k = false
-finishesWrite b (called (readsValue j) a) k = false
-finishesWrite b (called recovers a) k = false
+finishesWrite b (called (starts o) lent a) k = false
+finishesWrite b (called steps lent a) k = both (accepted a) (lastOfWrite k (b .pending))
+finishesWrite b (called (asks q) lent a) k = false
+finishesWrite b (called (recovers n s order) lent a) k = false
 finishesWrite b cut k = false
 
 -- no event of the list, from that book on, finishes a write of that key
@@ -38,7 +36,7 @@ noWrite b k [] = true
 noWrite b k (e ∷ es) = both (not (finishesWrite b e k)) (noWrite (feed b e) k es)
 
 -- a step, answered so, that was accepted as the last of a pending operation
-pub record Finishes (b : Book) (a : Said) : Type 0 where
+pub record Finishes (b : Book) (a : Answer) : Type 0 where
   pub awaited : Awaited
   pub pending : b .pending ≡ some awaited
   pub one-left : awaited .left ≡ 1
