@@ -12,9 +12,12 @@ use Rattle.segment.specs.Entry.{Entry, isTombstone, encoded, sizeOf, keyOf}
 use Rattle.segment.specs.Digest.{encodedDigest}
 use Rattle.segment.specs.declared.Digest.{Digest}
 use Rattle.segment.specs.declared.Key.{Key}
+use Rattle.segment.specs.declared.Version.{Version}
 use Rattle.slot_map.specs.Bit.{named}
 use Rattle.slot_map.specs.Next.{nextFree}
 use Rattle.record.specs.Answers.{withPending}
+use Rattle.record.specs.Committed.{committed}
+use Rattle.record.specs.declared.Commit.{Commit}
 use Rattle.record.specs.declared.Pending.{Pending}
 use Rattle.record.specs.declared.Pending.the-variants.{Idle, Append, NewHead, Clean}
 use Rattle.record.specs.declared.Record.{Record}
@@ -186,36 +189,23 @@ unfoldable pub placedFrom : Layout → ℕ → ℕ → List Entry → List Place
 placedFrom L i at [] = []
 placedFrom L i at (e ∷ es) = record { slot = i; offset = at; entry = e } ∷ placedFrom L i (at + sizeOf L e) es
 
--- the record once an entry of key k is in the head's end, or in a new head
+-- What the last store makes of the head and the counters: n more bytes in the head, and the next version is taken.
+abbrev pub appendCommit : Record → ℕ → Commit
+appendCommit r n =
+    record { head = r .head; end = r .end + n; digest = r .digest; map = r .map; next = record { 0 = r .next .0 + 1 } }
+
+-- A new head of n bytes in a slot, with this map and this next version; the digest number is one higher.
+abbrev pub headCommit : Record → ℕ → ℕ → ℕ → Version → Commit
+headCommit r slot n map next = record { head = slot; end = n; digest = record { 0 = r .digest .0 + 1 }; map = map; next = next }
+
+-- the record once an entry is at the head's end, or in a new head
 abbrev pub appendedRecord : Layout → Record → List Placed → Entry → Record
-appendedRecord L r log e =
-    record {
-      slots = r .slots;
-      size = r .size;
-      cells = r .cells;
-      head = r .head;
-      end = r .end + sizeOf L e;
-      digest = r .digest;
-      map = r .map;
-      next = record { 0 = r .next .0 + 1 };
-      keys = r .keys + countNew log (keyOf e);
-      pending = Idle;
-    }
+appendedRecord L r log e = committed r (appendCommit r (sizeOf L e)) (r .keys + countNew log (keyOf e))
 
 abbrev pub headedRecord : Layout → Record → List Placed → Entry → Record
 headedRecord L r log e =
-    record {
-      slots = r .slots;
-      size = r .size;
-      cells = r .cells;
-      head = newSlot r;
-      end = digestSize L + sizeOf L e;
-      digest = newDigest r 0 .number;
-      map = newDigest r 0 .map;
-      next = record { 0 = r .next .0 + 1 };
-      keys = r .keys + countNew log (keyOf e);
-      pending = Idle;
-    }
+    committed r (headCommit r (newSlot r) (digestSize L + sizeOf L e) (newDigest r 0 .map) (record { 0 = r .next .0 + 1 }))
+    (r .keys + countNew log (keyOf e))
 
 abbrev pub entryRecord : Layout → Record → List Placed → Entry → Record
 entryRecord L r log e = pick (fitsHead L r e) (appendedRecord L r log e) (headedRecord L r log e)
@@ -228,18 +218,9 @@ cleanedLog L area r victims =
 
 abbrev pub cleanedRecord : Layout → List ℕ → Record → ℕ → Record
 cleanedRecord L area r victims =
-    record {
-      slots = r .slots;
-      size = r .size;
-      cells = r .cells;
-      head = newSlot r;
-      end = digestSize L + length (allEncoded L (kept victims (logNow L area r)));
-      digest = newDigest r victims .number;
-      map = newDigest r victims .map;
-      next = r .next;
-      keys = length (keysOf (cleanedLog L area r victims));
-      pending = Idle;
-    }
+    committed r
+    (headCommit r (newSlot r) (digestSize L + length (allEncoded L (kept victims (logNow L area r)))) (newDigest r victims .map) (r .next))
+    (length (keysOf (cleanedLog L area r victims)))
 
 -- The record after the last step of an operation that was started on this area and record.
 unfoldable pub finishedRecord : Layout → List ℕ → Record → Operation → Record

@@ -30,12 +30,6 @@ pub struct Played {
     pub fails: u32,
 }
 
-// The record after a step, and whether all was as the book says.
-struct Turn {
-    rec: Record,
-    agrees: bool,
-}
-
 // What an operation is to do: its version, the book before it and after it, and how many of its stores the supply allows.
 struct Due {
     version: Version,
@@ -65,25 +59,20 @@ fn book_at(left: u32, due: Due) -> Book
     due.before
 }
 
-// One step, after which so many stores are left.
-fn one_step(
+// Whether a step after which so many stores are left said so, and the reads are then the book's.
+fn step_agrees(
+    answer: StepAnswer,
     rec: Record,
-    area: &mut [u8; 1024],
-    index: &mut [u32; 16],
-    work: &[u8; 256],
+    area: &[u8; 1024],
+    index: &[u32; 16],
     left: u32,
     due: Due,
-) -> Turn {
-    let stepped = step(rec, area, index, work);
-    let answer = stepped.answer;
-    let rec = stepped.rec;
+) -> bool {
     let version = due.version;
-    let said = told(answer, left, version);
-    let kept = reads::both_agree(rec, area, index, book_at(left, due));
-    Turn {
-        rec,
-        agrees: said && kept,
+    if !told(answer, left, version) {
+        return false;
     }
+    reads::both_agree(rec, area, index, book_at(left, due))
 }
 
 // The first store that differs: the one noted before, or this one.
@@ -114,10 +103,15 @@ fn steps(
     let mut bad = 0;
     while rest < left {
         left -= 1;
-        let t = one_step(rec, area, index, work, left, due);
-        let s = t.rec;
-        rec = s;
-        bad = noted(bad, stores - left, t.agrees);
+        let stepped = step(rec, area, index, work);
+        let answer = stepped.answer;
+        let after = stepped.rec;
+        rec = after;
+        bad = noted(
+            bad,
+            stores - left,
+            step_agrees(answer, after, area, index, left, due),
+        );
     }
     lines::cuts(stores - left, bad);
     rec

@@ -1,5 +1,6 @@
 -- The store record, the refusals and the answers of the seven calls.
 pub mod Refusals
 pub mod Answers
+pub mod Committed
 pub mod Range
 pub mod RangeLaws

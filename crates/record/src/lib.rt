@@ -3,6 +3,7 @@ use segment::DigestNumber;
 use segment::Version;
 ghost use mathlib.Core.Path.{_≡_};
 ghost use Rattle.record.specs.Answers.{blank, storesLeft, withPending};
+ghost use Rattle.record.specs.Committed.{committed};
 ghost use Rattle.record.specs.Refusals.{numberOfRefusal};
 
 pub mod range;
@@ -45,6 +46,15 @@ pub struct Record {
     pub next: Version,
     pub keys: u32,
     pub pending: Pending,
+}
+
+// What the last store of an operation makes of the head and the counters.
+pub struct Commit {
+    pub head: u32,
+    pub end: u32,
+    pub digest: DigestNumber,
+    pub map: u32,
+    pub next: Version,
 }
 
 // The causes of 01's table "Refused calls", in the order of their numbers.
@@ -186,6 +196,26 @@ pub fn with_pending(rec: Record, p: Pending) -> Record
         next: next,
         keys: rec.keys,
         pending: p,
+    }
+}
+
+// The record once the pending operation counts: nothing is pending, and what no operation changes stays.
+pub fn committed(rec: Record, done: Commit, keys: u32) -> Record
+    ensures { λ r. ⌜ r ≡ committed rec done keys ⌝ }
+{
+    let number = done.digest;
+    let next = done.next;
+    Record {
+        slots: rec.slots,
+        size: rec.size,
+        cells: rec.cells,
+        head: done.head,
+        end: done.end,
+        digest: number,
+        map: done.map,
+        next: next,
+        keys: keys,
+        pending: Pending::Idle,
     }
 }
 

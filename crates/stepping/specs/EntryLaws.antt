@@ -5,29 +5,32 @@ use mathlib.Core.Bool.{Bool, true, false}
 use mathlib.Core.List.{List, _∷_, List·Memᴰ·head}
 use mathlib.Core.Option.{some}
 use native.Mathlib.Omega.{arith}
-use lib.Dec.{ltb, leb}
+use lib.Dec.{ltb}
 use lib.ListN.{length}
-use borrow.Author.Tests.{lt-ltb, le-leb, ltb-true, ltb-false}
+use borrow.Author.Tests.{lt-ltb, ltb-true, ltb-false}
 use Rattle.segment.specs.Choice.{pick-true}
-use Rattle.segment.specs.Layout.{Layout, entrySize}
-use Rattle.segment.specs.Entry.{keyOf}
-use Rattle.segment.specs.declared.Key.{Key}
+use Rattle.segment.specs.Layout.{Layout}
+use Rattle.segment.specs.Entry.{entry, entryAt, keyOf}
 use Rattle.slot_map.specs.Bit.{named}
+use Rattle.record.specs.Committed.{committed}
+use Rattle.record.specs.declared.Commit.{Commit}
 use Rattle.record.specs.declared.StepAnswer.{StepAnswer}
 use Rattle.record.specs.declared.Record.{Record}
-use Rattle.model.specs.Log.{Placed, placeOf, viewsOf, logOf, keysOf}
+use Rattle.model.specs.Log.{Placed, placeOf, segmentOf, scan, viewsOf, logOf, keysOf}
 use Rattle.model.specs.Index.{IndexRule}
 use Rattle.model.specs.Recovery.{recovered}
-use Rattle.laws.specs.Members.{same-sym, Added, added-same}
+use Rattle.laws.specs.Members.{In, same-sym, Added, added-same}
+use Rattle.laws.specs.LogLaws.{AllScanned, log-in, scan-whole}
+use Rattle.laws.specs.Scans.{scan-scans, scans-found}
 use Rattle.laws.specs.Latest.{Apart, apart-same}
 use Rattle.laws.specs.RecoverLaws.{recovered-case}
-use Rattle.index.specs.Area.{InArea, AllIn}
+use Rattle.index.specs.Area.{AllIn}
 use Rattle.index.specs.Insert.{Insertion, inserted, counted, over, tallied}
 use Rattle.index.specs.InsertLaws.{Indexed, Tells, tells-next, tells-same, tally-new, tally-over, tally-newer, tally-older, tally-full, insert-next}
-use Rattle.index.specs.BuildLaws.{log-in-area}
+use Rattle.index.specs.BuildLaws.{found-in-area}
 use Rattle.index.specs.declared.Built.{Built}
 use Rattle.index.specs.declared.Inserted.{Inserted}
-use Rattle.stepping.specs.Finish.{After, withKeys, keyIn, keysAfter, toldBy, finishEntry}
+use Rattle.stepping.specs.Finish.{After, keysAfter, answeredWith, foundIn, finishEntry}
 
 -- ---- what a tally tells of one insertion
 
@@ -59,64 +62,68 @@ module _ (S m : ℕ) (log : List Placed) (few : length (keysOf log) < m) where
 
 -- ---- an entry more in a recovered log
 
-pub recovered-in-area :
+-- The reader finds every entry of a log at its place.
+abbrev pub AllFound : Layout → List ℕ → ℕ → List Placed → Type 0
+AllFound L area S log = (x : Placed) → In x log → entryAt L (segmentOf area S (x .slot)) (x .offset) ≡ entry (x .entry)
+
+pub recovered-found :
     (L : Layout) (n s m : ℕ) (area : List ℕ) (r : Record) → recovered L n s m area ≡ some r →
-    AllIn L area s (logOf (viewsOf L area s) (named (r .map)) n)
-recovered-in-area L n s m area r e =
-    recovered-case L n s m area (λ (k : Record). AllIn L area s (logOf (viewsOf L area s) (named (k .map)) n))
-    (λ h l f. log-in-area L area s (named (h .digest .map)) n (f .scans)) r e
+    AllFound L area s (logOf (viewsOf L area s) (named (r .map)) n)
+recovered-found L n s m area r e =
+    recovered-case L n s m area (λ (k : Record). AllFound L area s (logOf (viewsOf L area s) (named (k .map)) n))
+    (λ h l f. all (named (h .digest .map)) (f .scans)) r e
+  where
+    all : (p : ℕ → Bool) → AllScanned (viewsOf L area s) p n → AllFound L area s (logOf (viewsOf L area s) p n)
+    all p scans x m =
+        let w = log-in (viewsOf L area s) p n x m in
+        let seg : List ℕ = segmentOf area s (x .slot) in
+        scans-found (scan-scans L seg (scan-whole (scan L seg) (scans (x .slot) (w .below) (w .picked)))) (w .item)
 
 -- What the last step gives where the entry goes in: the version, the record with k keys, and cells that keep the rule.
-pub record Finished (S : ℕ) (log : List Placed) (done : Record) (version k : ℕ) (a : After) : Type 0 where
-  pub answers : a .stepped ≡ record { answer = StepAnswer.Done (record { 0 = version }); rec = withKeys done k }
+pub record Finished (S : ℕ) (log : List Placed) (r : Record) (done : Commit) (version k : ℕ) (a : After) : Type 0 where
+  pub answers : a .stepped ≡ record { answer = StepAnswer.Done (record { 0 = version }); rec = committed r done k }
   pub rule : IndexRule S log (a .cells)
 
-pub told-known : (r done : Record) (version k : ℕ) → k < r .cells
-    → toldBy r done version (Built.Keys k) ≡ record { answer = StepAnswer.Done (record { 0 = version }); rec = withKeys done k }
-unfolding toldBy
+pub told-known : (r : Record) (done : Commit) (version k : ℕ) → k < r .cells
+    → answeredWith r done version (Built.Keys k) ≡ record { answer = StepAnswer.Done (record { 0 = version }); rec = committed r done k }
+unfolding answeredWith
 told-known r done version k h = pick-true (ltb k (r .cells)) _ _ (lt-ltb k (r .cells) h)
 
-module _ (L : Layout) (S : ℕ) (log log′ : List Placed) (area′ cells : List ℕ) (x : Placed) (added : Added log x log′) (apart : Apart log′)
-    (there : AllIn L area′ S log′) (r done : Record) (version : x .entry .version ≡ r .next .0)
-    (ix : Indexed S (r .cells) log cells (r .keys)) (few : length (keysOf log′) < r .cells)
+module _ (L : Layout) (r : Record) (done : Commit) (log log′ : List Placed) (area′ cells : List ℕ) (x : Placed) (added : Added log x log′)
+    (apart : Apart log′) (found : AllFound L area′ (r .size) log′) (version : x .entry .version ≡ r .next .0)
+    (ix : Indexed (r .size) (r .cells) log cells (r .keys)) (few : length (keysOf log′) < r .cells)
   where
-    all-there : AllIn L area′ S (x ∷ log)
-    all-there y m = there y (added-same added .to y m)
-
-    own : InArea L area′ S x
-    own = all-there x (List·Memᴰ·head refl)
+    all-there : AllIn L area′ (r .size) (x ∷ log)
+    all-there y m =
+        found-in-area L area′ (r .size) (y .slot) (y .offset) (y .entry) (found y (added-same added .to y m))
 
     all-apart : Apart (x ∷ log)
     all-apart = apart-same (same-sym (added-same added)) apart
 
     abbrev put : Insertion
-    put = inserted L area′ cells (placeOf S x) (keyOf (x .entry)) (x .entry .version)
+    put = inserted L area′ cells (placeOf (r .size) x) (keyOf (x .entry)) (x .entry .version)
 
-    told : Tells S (r .cells) log′ (tallied (put .answer) (put .cells) (r .keys))
+    told : Tells (r .size) (r .cells) log′ (tallied (put .answer) (put .cells) (r .keys))
     unfolding Tells
     told =
-        tells-same S (r .cells) (x ∷ log) log′ (added-same added) all-apart (tallied (put .answer) (put .cells) (r .keys))
-        (subst (Tells S (r .cells) (x ∷ log)) (insert-next L area′ S x cells (r .keys) put refl)
-        (tells-next L area′ S (r .cells) log x all-there all-apart (counted cells (r .keys)) ix))
+        tells-same (r .size) (r .cells) (x ∷ log) log′ (added-same added) all-apart (tallied (put .answer) (put .cells) (r .keys))
+        (subst (Tells (r .size) (r .cells) (x ∷ log)) (insert-next L area′ (r .size) x cells (r .keys) put refl)
+        (tells-next L area′ (r .size) (r .cells) log x all-there all-apart (counted cells (r .keys)) ix))
 
-    -- the key and the version that the code goes by are the entry's
-    same-put : inserted L area′ cells (placeOf S x) (keyIn area′ (placeOf S x)) (r .next .0) ≡ put
-    same-put =
-        ap (λ (k : Key). inserted L area′ cells (placeOf S x) k (r .next .0)) same-key
-        ∙ ap (inserted L area′ cells (placeOf S x) (keyOf (x .entry))) (sym version)
-      where
-        same-key : keyIn area′ (placeOf S x) ≡ keyOf (x .entry)
-        same-key = λ i. record { table = own .table-there i; key = own .key-there i }
+    -- the version that the code goes by is the entry's
+    same-put : inserted L area′ cells (placeOf (r .size) x) (keyOf (x .entry)) (r .next .0) ≡ put
+    same-put = ap (inserted L area′ cells (placeOf (r .size) x) (keyOf (x .entry))) (sym version)
 
-    pub entry-finished : Finished S log′ done (r .next .0) (length (keysOf log′)) (finishEntry L r done area′ cells (placeOf S x))
-    unfolding finishEntry
+    pub entry-finished :
+        Finished (r .size) log′ r done (r .next .0) (length (keysOf log′)) (finishEntry L r done area′ cells (x .slot) (x .offset))
+    unfolding finishEntry foundIn
     entry-finished =
-        let c = tally-counted S (r .cells) log′ few (put .answer) (put .cells) (r .keys) told in
-        subst (Finished S log′ done (r .next .0) (length (keysOf log′)))
+        let c = tally-counted (r .size) (r .cells) log′ few (put .answer) (put .cells) (r .keys) told in
+        subst (Finished (r .size) log′ r done (r .next .0) (length (keysOf log′)))
         (sym
-        (pick-true (leb (placeOf S x + entrySize L 0) (length area′)) _ _ (le-leb (placeOf S x + entrySize L 0) (length area′) (own .fits))
-        ∙ ap (λ (i : Insertion). record { stepped = toldBy r done (r .next .0) (keysAfter (i .answer) (r .keys)); cells = i .cells }) same-put))
+        (ap (foundIn L r done area′ cells (placeOf (r .size) x)) (found x (added-same added .to x (List·Memᴰ·head refl)))
+        ∙ ap (λ (i : Insertion). record { stepped = answeredWith r done (r .next .0) (keysAfter (i .answer) (r .keys)); cells = i .cells }) same-put))
         (record {
-          answers = ap (toldBy r done (r .next .0)) (c .0) ∙ told-known r done (r .next .0) (length (keysOf log′)) few;
+          answers = ap (answeredWith r done (r .next .0)) (c .0) ∙ told-known r done (r .next .0) (length (keysOf log′)) few;
           rule = c .1;
         })

@@ -7,12 +7,11 @@ use mathlib.Core.List.{List, _∷_, _++_}
 use mathlib.Core.Option.{some}
 use native.Mathlib.Nat.{sub-zero}
 use native.Mathlib.Omega.{arith}
-use lib.Dec.{eqb, ltb}
 use lib.ListN.{length}
-use borrow.Author.Tests.{leb-true, ltb-true, eqb-false, ne-eqb, not-false}
+use borrow.Author.Tests.{leb-true}
 use Rattle.word.specs.Number.{Bytes}
-use Rattle.segment.specs.Choice.{pick, pick-false, both-right, either, either-false, either-false-right}
-use Rattle.segment.specs.Layout.{Layout, digestSize, goodVersion, versionLimit, numberLimit}
+use Rattle.segment.specs.Choice.{pick}
+use Rattle.segment.specs.Layout.{Layout, digestSize}
 use Rattle.segment.specs.Entry.{Entry, encoded, sizeOf}
 use Rattle.segment.specs.Digest.{encodedDigest}
 use Rattle.slot_map.specs.Bit.{withBit, less, within}
@@ -20,31 +19,32 @@ use Rattle.slot_map.specs.BitLaws.{with-clear}
 use Rattle.slot_map.specs.CountLaws.{with-less}
 use Rattle.slot_map.specs.NextLaws.{next-clear}
 use Rattle.record.specs.Answers.{withPending}
+use Rattle.record.specs.Committed.{committed}
+use Rattle.record.specs.declared.Commit.{Commit}
 use Rattle.record.specs.RangeLaws.{Lent, lent}
 use Rattle.record.specs.declared.Pending.the-variants.{Append, NewHead, Clean}
 use Rattle.record.specs.declared.StepAnswer.{StepAnswer}
 use Rattle.record.specs.declared.Record.{Record}
 use Rattle.model.specs.Log.{Placed, keysOf}
 use Rattle.model.specs.Index.{IndexRule}
-use Rattle.model.specs.Operations.{Operation, write, delete, clean, Laid, laid, laidAppend, laidHead, laidEntry, laidClean, logNow, newSlot, newDigest, fitsHead, kept, allEncoded, writtenEntry, tombstoneEntry, planOf, commit, stored, appendedRecord, headedRecord, entryRecord, cleanedRecord, finishedRecord, toldVersion}
+use Rattle.model.specs.Operations.{Operation, write, delete, clean, Laid, laid, laidAppend, laidHead, laidEntry, laidClean, logNow, newSlot, newDigest, fitsHead, kept, allEncoded, writtenEntry, tombstoneEntry, planOf, commit, stored, appendCommit, headCommit, appendedRecord, headedRecord, entryRecord, cleanedRecord, finishedRecord, toldVersion}
 use Rattle.model.specs.Recovery.{recovered}
-use Rattle.model.specs.Refused.{keptLength, startCauses}
 use Rattle.laws.specs.RecoverLaws.{recovered-apart, recovered-keys, recovered-fits}
 use Rattle.laws.specs.Operated.{Accepted, planAt}
-use Rattle.laws.specs.Entering.{Roomy, Entering, idle-lent, idle-number, write-enters, delete-enters}
+use Rattle.laws.specs.Entering.{Roomy, Entering, idle-lent, write-enters, delete-enters}
 use Rattle.laws.specs.EntryDone.{appended-added, headed-added}
 use Rattle.laws.specs.OperationsKept.{finishes}
-use Rattle.laws.specs.Passed.{CleanPassed, clean-passed}
 use Rattle.index.specs.InsertLaws.{Indexed}
 use Rattle.index.specs.Build.{built}
 use Rattle.index.specs.BuildLaws.{Holds}
-use Rattle.stepping.specs.Finish.{After, withKeys, appendDone, headDone, toldBy, finishAppend, finishHead, cleanMap, ascending, rebuilt, finishClean, finishWith}
-use Rattle.stepping.specs.EntryLaws.{entry-finished, recovered-in-area, told-known}
+use Rattle.stepping.specs.Finish.{After, answeredWith, finishAppend, finishHead, cleanMap, ascending, rebuilt, finishClean, finishWith}
+use Rattle.stepping.specs.AgreeLaws.{clean-tests}
+use Rattle.stepping.specs.EntryLaws.{entry-finished, recovered-found, told-known}
 use Rattle.stepping.specs.CleanLaws.{ascending-good, recovered-built}
 
 -- a record with the number of keys that it has
-pub keys-own : (done fin : Record) (k : ℕ) → fin .keys ≡ k → withKeys done (fin .keys) ≡ fin → withKeys done k ≡ fin
-keys-own done fin k e f = ap (withKeys done) (sym e) ∙ f
+pub keys-own : (r : Record) (done : Commit) (fin : Record) (k : ℕ) → fin .keys ≡ k → committed r done (fin .keys) ≡ fin → committed r done k ≡ fin
+keys-own r done fin k e f = ap (committed r done) (sym e) ∙ f
 
 -- What the last step is to give: this version, this record, and cells that keep the rule.
 pub record Ends (L : Layout) (area : List ℕ) (fin : Record) (version : ℕ) (a : After) : Type 0 where
@@ -67,15 +67,6 @@ module _ (L : Layout) (roomy : Roomy L) (before cells : List ℕ) (idle : Record
     -- ---- an entry
 
     module _ (e : Entry) (f : Entering L before idle e) (k : ℕ) where
-      version-left : idle .next .0 ≡ versionLimit L → ⊥
-      unfolding goodVersion
-      version-left q =
-          omega (
-            arith,
-            ltb-true (e .version) (versionLimit L) (both-right (ltb 0 (e .version)) (ltb (e .version) (versionLimit L)) (f .formed .version-good)),
-            f .takes .version,
-          )
-
       -- what is laid down, and the record in the end
       abbrev EntryEnds : Laid → Record → Type 0
       EntryEnds l fin =
@@ -97,19 +88,17 @@ module _ (L : Layout) (roomy : Roomy L) (before cells : List ℕ) (idle : Record
           let x : Placed = record { slot = idle .head; offset = idle .end; entry = e } in
           let keys = recovered-keys L (idle .slots) (idle .size) (idle .cells) after fin q in
           let few = few-keys after fin refl refl refl q in
-          let w = entry-finished L (idle .size) (logNow L before idle) (logNow L after fin) after cells x
+          let done : Commit = appendCommit r (sizeOf L e) in
+          let w = entry-finished L r done (logNow L before idle) (logNow L after fin) after cells x
           (appended-added L roomy before idle e recovers bytes f (leb-true (idle .end + sizeOf L e) (idle .size) t))
           (recovered-apart L (idle .slots) (idle .size) (idle .cells) after fin q)
-          (recovered-in-area L (idle .slots) (idle .size) (idle .cells) after fin q) r (appendDone r (sizeOf L e)) (f .takes .version) indexed
-          (omega arith) in
-          subst (Ends L after fin (idle .next .0))
-          (sym (pick-false (eqb (idle .next .0) (versionLimit L)) _ _ (ne-eqb (idle .next .0) (versionLimit L) version-left)))
-          (record {
+          (recovered-found L (idle .slots) (idle .size) (idle .cells) after fin q) (f .takes .version) indexed (omega arith) in
+          record {
             answers =
                 w .answers ∙ ap (λ (s : Record). record { answer = StepAnswer.Done (record { 0 = idle .next .0 }); rec = s })
-                (keys-own (appendDone r (sizeOf L e)) fin (length (keysOf (logNow L after fin))) keys refl);
+                (keys-own r done fin (length (keysOf (logNow L after fin))) keys refl);
             rule = w .rule;
-          })
+          }
 
       -- the record of a new head, whose slot was free
       slot-clear : (m : ℕ) → m ≡ withBit (idle .map) (newSlot idle) → m ≡ newDigest idle 0 .map
@@ -126,27 +115,20 @@ module _ (L : Layout) (roomy : Roomy L) (before cells : List ℕ) (idle : Record
           ((newSlot idle * idle .size, 0) ∷ commit (idle .size) (newSlot idle) 0 (encodedDigest L (newDigest idle 0) ++ encoded L e)) in
           let fin : Record = headedRecord L idle (logNow L before idle) e in
           let x : Placed = record { slot = newSlot idle; offset = digestSize L; entry = e } in
-          let done : Record = headDone r (newSlot idle) (digestSize L + sizeOf L e) (withBit (idle .map) (newSlot idle)) (idle .next .0 + 1) in
+          let done : ℕ → Commit = λ m. headCommit r (newSlot idle) (digestSize L + sizeOf L e) m (record { 0 = idle .next .0 + 1 }) in
           let keys = recovered-keys L (idle .slots) (idle .size) (idle .cells) after fin q in
           let few = few-keys after fin refl refl refl q in
-          let w = entry-finished L (idle .size) (logNow L before idle) (logNow L after fin) after cells x
+          let w = entry-finished L r (done (withBit (idle .map) (newSlot idle))) (logNow L before idle) (logNow L after fin) after cells x
           (headed-added L roomy before idle e recovers bytes f t)
           (recovered-apart L (idle .slots) (idle .size) (idle .cells) after fin q)
-          (recovered-in-area L (idle .slots) (idle .size) (idle .cells) after fin q) r done (f .takes .version) indexed (omega arith) in
-          subst (Ends L after fin (idle .next .0))
-          (sym
-          (pick-false (either (eqb (idle .next .0) (versionLimit L)) (eqb (idle .digest .0) numberLimit)) _ _
-          (either-false (eqb (idle .next .0) (versionLimit L)) (eqb (idle .digest .0) numberLimit)
-          (ne-eqb (idle .next .0) (versionLimit L) version-left)
-          (ne-eqb (idle .digest .0) numberLimit (λ z. omega (arith, f .number-left t))))))
-          (record {
+          (recovered-found L (idle .slots) (idle .size) (idle .cells) after fin q) (f .takes .version) indexed (omega arith) in
+          record {
             answers =
                 w .answers ∙ ap (λ (s : Record). record { answer = StepAnswer.Done (record { 0 = idle .next .0 }); rec = s })
-                (keys-own done fin (length (keysOf (logNow L after fin))) keys
-                (ap (λ (m : ℕ). withKeys (headDone r (newSlot idle) (digestSize L + sizeOf L e) m (idle .next .0 + 1)) (fin .keys))
-                (slot-clear (withBit (idle .map) (newSlot idle)) refl)));
+                (keys-own r (done (withBit (idle .map) (newSlot idle))) fin (length (keysOf (logNow L after fin))) keys
+                (ap (λ (m : ℕ). committed r (done m) (fin .keys)) (slot-clear (withBit (idle .map) (newSlot idle)) refl)));
             rule = w .rule;
-          })
+          }
 
       pub entry-ends : EntryEnds (laidEntry L idle e) (entryRecord L idle (logNow L before idle) e)
       unfolding pick
@@ -160,7 +142,7 @@ module _ (L : Layout) (roomy : Roomy L) (before cells : List ℕ) (idle : Record
 
     -- ---- a cleaning
 
-    module _ (victims : ℕ) (sub : within victims (idle .map) ≡ true) (number-left : idle .digest .0 < numberLimit) (k : ℕ) where
+    module _ (victims : ℕ) (sub : within victims (idle .map) ≡ true) (k : ℕ) where
       clean-map : (r : Record) → r .map ≡ idle .map → cleanMap r (newSlot idle) victims ≡ newDigest idle victims .map
       clean-map r q =
           ap (λ (m : ℕ). withBit (less m victims) (newSlot idle)) q
@@ -182,9 +164,7 @@ module _ (L : Layout) (roomy : Roomy L) (before cells : List ℕ) (idle : Record
           (laidClean L idle (logNow L before idle) victims .pending k))
       unfolding finishWith finishClean
       clean-ends q =
-          subst (Ends L after-clean fin 0)
-          (sym (pick-false (eqb (idle .digest .0) numberLimit) _ _ (ne-eqb (idle .digest .0) numberLimit (λ z. omega arith))))
-          (subst (λ (m : ℕ). Ends L after-clean fin 0 (by-map m)) (sym (clean-map r refl)) ends)
+          subst (λ (m : ℕ). Ends L after-clean fin 0 (by-map m)) (sym (clean-map r refl)) ends
         where
           r : Record
           r = withPending idle (Clean (newSlot idle) victims count k)
@@ -195,7 +175,7 @@ module _ (L : Layout) (roomy : Roomy L) (before cells : List ℕ) (idle : Record
           by-map : ℕ → After
           by-map m =
               record {
-                stepped = toldBy r (headDone r (newSlot idle) count m (idle .next .0)) 0 (rebuilt L r after-clean cells m .answer);
+                stepped = answeredWith r (headCommit r (newSlot idle) count m (idle .next)) 0 (rebuilt L r after-clean cells m .answer);
                 cells = rebuilt L r after-clean cells m .cells;
               }
 
@@ -219,11 +199,11 @@ module _ (L : Layout) (roomy : Roomy L) (before cells : List ℕ) (idle : Record
           ends =
               record {
                 answers =
-                    ap (toldBy r (headDone r (newSlot idle) count (newDigest idle victims .map) (idle .next .0)) 0) (holds .answers)
-                    ∙ told-known r (headDone r (newSlot idle) count (newDigest idle victims .map) (idle .next .0)) 0
+                    ap (answeredWith r (headCommit r (newSlot idle) count (newDigest idle victims .map) (idle .next)) 0) (holds .answers)
+                    ∙ told-known r (headCommit r (newSlot idle) count (newDigest idle victims .map) (idle .next)) 0
                     (length (keysOf (logNow L after-clean fin))) (omega (arith, few, keys))
                     ∙ ap (λ (s : Record). record { answer = StepAnswer.Done (record { 0 = 0 }); rec = s })
-                    (keys-own (headDone r (newSlot idle) count (newDigest idle victims .map) (idle .next .0)) fin
+                    (keys-own r (headCommit r (newSlot idle) count (newDigest idle victims .map) (idle .next)) fin
                     (length (keysOf (logNow L after-clean fin))) keys refl);
                 rule = holds .rule;
               }
@@ -231,21 +211,6 @@ module _ (L : Layout) (roomy : Roomy L) (before cells : List ℕ) (idle : Record
 -- ---- whichever operation it is
 
 module _ (L : Layout) (roomy : Roomy L) (before cells : List ℕ) (idle : Record) where
-  clean-tests :
-      (victims : ℕ) (a : Accepted L before idle (clean victims)) →
-      (within victims (idle .map) ≡ true) × (idle .digest .0 < numberLimit)
-  unfolding startCauses
-  clean-tests victims a =
-      let tests : CleanPassed L idle (a .lengths) (keptLength L (logNow L before idle) victims) victims =
-      clean-passed L idle (a .lengths) (keptLength L (logNow L before idle) victims) victims (a .no-cause) in (
-        not-false (within victims (idle .map)) (either-false-right _ _ (tests .victims-good)),
-        omega (
-          arith,
-          idle-number L before idle (clean victims) a,
-          eqb-false (idle .digest .0) numberLimit (tests .number-left),
-        ),
-      )
-
   pub operation-ends :
       (o : Operation) (a : Accepted L before idle o) → length cells ≡ idle .cells → IndexRule (idle .size) (logNow L before idle) cells → (k : ℕ) →
       Ends L (stored before (planAt L before idle o)) (finishedRecord L before idle o) (toldVersion idle o)
@@ -259,6 +224,6 @@ module _ (L : Layout) (roomy : Roomy L) (before cells : List ℕ) (idle : Record
       entry-ends L roomy before cells idle (a .recovers) (a .area-bytes) (idle-lent L before idle (delete key) a) long rule
       (tombstoneEntry idle key) (delete-enters L before idle key a) k (finishes L roomy before idle (delete key) a .0)
   operation-ends (clean victims) a long rule k =
-      let t = clean-tests victims a in
-      clean-ends L roomy before cells idle (a .recovers) (a .area-bytes) (idle-lent L before idle (clean victims) a) long rule victims (t .0) (t .1) k
+      clean-ends L roomy before cells idle (a .recovers) (a .area-bytes) (idle-lent L before idle (clean victims) a) long rule victims
+      (clean-tests L before idle victims a .0) k
       (finishes L roomy before idle (clean victims) a .0)

@@ -1,30 +1,37 @@
 -- The last step at each test of the code.
 use Prim.Native.Nat.{ℕ, _+_, _*_, _-_, _≤_, _<_}
-use mathlib.Core.Path.{_≡_, sym, _∙_, ap, subst}
+use mathlib.Core.Path.{_≡_, refl, sym, _∙_, ap, subst}
 use mathlib.Core.List.{List}
-use native.Mathlib.Nat.{mul-le-mul}
+use native.Mathlib.Nat.{mul-le-mul, mul-le-mul-right, suc-mul}
 use native.Mathlib.Omega.{arith}
-use lib.Dec.{eqb, ltb, leb}
-use lib.ListN.{length}
-use borrow.Author.Tests.{lt-ltb, le-ltb, le-leb, lt-leb, eq-eqb, ne-eqb}
-use Rattle.segment.specs.Choice.{pick-true, pick-false, either-false, either-true-left, either-true-right}
-use Rattle.segment.specs.Layout.{Layout, entrySize, digestSize, versionLimit, numberLimit}
+use lib.Dec.{ltb}
+use lib.ListN.{length, take, drop}
+use borrow.Author.Tests.{lt-ltb, le-ltb}
+use Rattle.segment.specs.Choice.{pick-true, pick-false}
+use Rattle.segment.specs.Layout.{Layout, digestSize}
+use Rattle.segment.specs.Entry.{Entry, Found, entry, end, damage, entryAt, answer, keyOf}
+use Rattle.segment.specs.AnswerLaws.{tells-object, tells-tombstone, tells-end, tells-damage}
+use Rattle.segment.specs.declared.Key.{Key}
+use Rattle.segment.specs.declared.Read.{Read}
 use Rattle.segment.specs.declared.Version.{Version}
 use Rattle.slot_map.specs.Bit.{withBit, less}
 use Rattle.record.specs.Answers.{withPending, storesLeft}
+use Rattle.record.specs.Committed.{committed}
+use Rattle.record.specs.declared.Commit.{Commit}
 use Rattle.record.specs.declared.Pending.{Pending}
 use Rattle.record.specs.declared.Pending.the-variants.{Idle, Append, NewHead, Clean}
 use Rattle.record.specs.declared.Refusal.{Refusal}
 use Rattle.record.specs.declared.Stepped.{Stepped}
 use Rattle.record.specs.declared.StepAnswer.{StepAnswer}
 use Rattle.record.specs.declared.Record.{Record}
-use Rattle.index.specs.Search.{tableAt, keyAt}
+use Rattle.model.specs.Log.{segmentOf}
+use Rattle.model.specs.Operations.{appendCommit, headCommit}
 use Rattle.index.specs.Insert.{Insertion, inserted}
 use Rattle.index.specs.Build.{Rebuilt}
 use Rattle.index.specs.declared.Built.{Built}
 use Rattle.index.specs.declared.Inserted.{Inserted}
 use Rattle.stepping.specs.Next.{PendingIn}
-use Rattle.stepping.specs.Finish.{After, refusedWith, withKeys, appendDone, headDone, keyIn, keysAfter, toldBy, finishEntry, finishAppend, finishHead, rebuilt, finishClean, oneLess, finishWith, advanced}
+use Rattle.stepping.specs.Finish.{After, refusedStep, unfit, keysAfter, answeredWith, entryIn, foundIn, finishEntry, finishAppend, finishHead, rebuilt, finishClean, oneLess, finishWith, advanced}
 
 -- ---- the keys after an insertion
 
@@ -47,51 +54,81 @@ module _ (n : ℕ) {a : Inserted} where
 
 -- ---- the answer
 
-module _ (r done : Record) (version : Version) {b : Built} where
+module _ (r : Record) (done : Commit) (version : Version) {b : Built} where
   pub told-keys :
-      {n : ℕ} → b ≡ Built.Keys n → n < r .cells → {s : Record} → s ≡ withKeys done n →
-      record { answer = StepAnswer.Done version; rec = s } ≡ toldBy r done (version .0) b
-  unfolding toldBy
+      {n : ℕ} → b ≡ Built.Keys n → n < r .cells → {s : Record} → s ≡ committed r done n →
+      record { answer = StepAnswer.Done version; rec = s } ≡ answeredWith r done (version .0) b
+  unfolding answeredWith
   told-keys {n} e h f =
       ap (λ (s : Record). record { answer = StepAnswer.Done version; rec = s }) f
       ∙ sym (pick-true (ltb n (r .cells)) _ _ (lt-ltb n (r .cells) h))
-      ∙ ap (toldBy r done (version .0)) (sym e)
+      ∙ ap (answeredWith r done (version .0)) (sym e)
 
-  pub told-over : {n : ℕ} → b ≡ Built.Keys n → r .cells ≤ n → {x : Stepped} → x ≡ refusedWith r Refusal.BadRecord → x ≡ toldBy r done (version .0) b
-  unfolding toldBy
+  pub told-over : {n : ℕ} → b ≡ Built.Keys n → r .cells ≤ n → {x : Stepped} → x ≡ refusedStep r Refusal.BadRecord → x ≡ answeredWith r done (version .0) b
+  unfolding answeredWith
   told-over {n} e h f =
-      f ∙ sym (pick-false (ltb n (r .cells)) _ _ (le-ltb n (r .cells) h)) ∙ ap (toldBy r done (version .0)) (sym e)
+      f ∙ sym (pick-false (ltb n (r .cells)) _ _ (le-ltb n (r .cells) h)) ∙ ap (answeredWith r done (version .0)) (sym e)
 
-  pub told-many : b ≡ Built.TooMany → {x : Stepped} → x ≡ refusedWith r Refusal.BadRecord → x ≡ toldBy r done (version .0) b
-  unfolding toldBy
-  told-many e f = f ∙ ap (toldBy r done (version .0)) (sym e)
+  pub told-many : b ≡ Built.TooMany → {x : Stepped} → x ≡ refusedStep r Refusal.BadRecord → x ≡ answeredWith r done (version .0) b
+  unfolding answeredWith
+  told-many e f = f ∙ ap (answeredWith r done (version .0)) (sym e)
 
 -- ---- an entry put into the index
 
-module _ (L : Layout) (r done : Record) (area cells : List ℕ) (place : ℕ) where
-  pub entry-outside :
-      length area < place + entrySize L 0 → {x : Stepped} → x ≡ refusedWith r Refusal.BadRecord →
-      record { stepped = x; cells = cells } ≡ finishEntry L r done area cells place
-  unfolding finishEntry
-  entry-outside h e =
-      ap (λ (s : Stepped). record { stepped = s; cells = cells }) e
-      ∙ sym (pick-false (leb (place + entrySize L 0) (length area)) _ _ (lt-leb (place + entrySize L 0) (length area) h))
+module _ (L : Layout) (r : Record) (done : Commit) (area cells : List ℕ) (place : ℕ) where
+  pub entry-put :
+      (k : Key) {a : Inserted} {cells′ : List ℕ} → record { answer = a; cells = cells′ } ≡ inserted L area cells place k (r .next .0) → {b : Built} →
+      b ≡ keysAfter a (r .keys) → {x : Stepped} → x ≡ answeredWith r done (r .next .0) b →
+      record { stepped = x; cells = cells′ } ≡ entryIn L r done area cells place k
+  entry-put k {a} {cells′} e eb ex =
+      ap (λ (s : Stepped). record { stepped = s; cells = cells′ }) (ex ∙ ap (answeredWith r done (r .next .0)) eb)
+      ∙ ap (λ (i : Insertion). record { stepped = answeredWith r done (r .next .0) (keysAfter (i .answer) (r .keys)); cells = i .cells }) e
 
-  pub entry-inside :
-      place + entrySize L 0 ≤ length area → {t k : ℕ} → t ≡ tableAt area place → k ≡ keyAt area place → {a : Inserted} {cells′ : List ℕ} →
-      record { answer = a; cells = cells′ } ≡ inserted L area cells place (record { table = t; key = k }) (r .next .0) → {b : Built} →
-      b ≡ keysAfter a (r .keys) → {x : Stepped} → x ≡ toldBy r done (r .next .0) b →
-      record { stepped = x; cells = cells′ } ≡ finishEntry L r done area cells place
+  found-entry : (f : Found) (e : Entry) → f ≡ entry e → {k : Key} → keyOf e ≡ k → {a : After} → a ≡ entryIn L r done area cells place k
+      → a ≡ foundIn L r done area cells place f
+  unfolding foundIn
+  found-entry f e is key h =
+      h ∙ sym (ap (entryIn L r done area cells place) key) ∙ sym (ap (foundIn L r done area cells place) is)
+
+-- the slot's segment as the code cuts it, with what the reader gives for it
+module _ (L : Layout) (r : Record) (done : Commit) (area cells : List ℕ) (slot offset : ℕ) {t : Read}
+    (read : t ≡ answer L (entryAt L (take (slot * r .size + r .size - slot * r .size) (drop (slot * r .size) area)) offset)) where
+  given : t ≡ answer L (entryAt L (segmentOf area (r .size) slot) offset)
+  given =
+      let whole : slot * r .size + r .size - slot * r .size ≡ r .size = omega arith in
+      read ∙ ap (λ (m : ℕ). answer L (entryAt L (take m (drop (slot * r .size) area)) offset)) whole
+
+  pub entry-object :
+      {k : Key} {v : Version} {kind n : ℕ} → t ≡ Read.Object k v kind n → {a : After} →
+      a ≡ entryIn L r done area cells (slot * r .size + offset) k → a ≡ finishEntry L r done area cells slot offset
   unfolding finishEntry
-  entry-inside h {t} {k} et ek {a} {cells′} e eb ex =
-      ap (λ (s : Stepped). record { stepped = s; cells = cells′ }) (ex ∙ ap (toldBy r done (r .next .0)) eb)
-      ∙ ap (λ (i : Insertion). record { stepped = toldBy r done (r .next .0) (keysAfter (i .answer) (r .keys)); cells = i .cells }) (e ∙ same)
-      ∙ sym (pick-true (leb (place + entrySize L 0) (length area)) _ _ (le-leb (place + entrySize L 0) (length area) h))
-    where
-      same : inserted L area cells place (record { table = t; key = k }) (r .next .0) ≡ inserted L area cells place (keyIn area place) (r .next .0)
-      same =
-          ap (λ (j : ℕ). inserted L area cells place (record { table = j; key = k }) (r .next .0)) et
-          ∙ ap (λ (j : ℕ). inserted L area cells place (record { table = tableAt area place; key = j }) (r .next .0)) ek
+  entry-object {k} {v} {kind} {n} e h =
+      let w = tells-object L (entryAt L (segmentOf area (r .size) slot) offset) k v kind n (sym given ∙ e) in
+      found-entry L r done area cells (slot * r .size + offset) (entryAt L (segmentOf area (r .size) slot) offset) (w .told) (w .is) (w .its-key) h
+
+  pub entry-tombstone :
+      {k : Key} {v : Version} {n : ℕ} → t ≡ Read.Tombstone k v n → {a : After} →
+      a ≡ entryIn L r done area cells (slot * r .size + offset) k → a ≡ finishEntry L r done area cells slot offset
+  unfolding finishEntry
+  entry-tombstone {k} {v} {n} e h =
+      let w = tells-tombstone L (entryAt L (segmentOf area (r .size) slot) offset) k v n (sym given ∙ e) in
+      found-entry L r done area cells (slot * r .size + offset) (entryAt L (segmentOf area (r .size) slot) offset) (w .told) (w .is) (w .its-key) h
+
+  module _ {x : Stepped} (ex : x ≡ refusedStep r Refusal.BadRecord) where
+    refuses : (f : Found) → entryAt L (segmentOf area (r .size) slot) offset ≡ f
+        → foundIn L r done area cells (slot * r .size + offset) f ≡ unfit r cells → record { stepped = x; cells = cells } ≡ finishEntry L r done area cells slot offset
+    unfolding finishEntry
+    refuses f is u =
+        ap (λ (s : Stepped). record { stepped = s; cells = cells }) ex
+        ∙ sym (ap (foundIn L r done area cells (slot * r .size + offset)) is ∙ u)
+
+    pub entry-end : t ≡ Read.End → record { stepped = x; cells = cells } ≡ finishEntry L r done area cells slot offset
+    unfolding foundIn
+    entry-end e = refuses end (tells-end L (entryAt L (segmentOf area (r .size) slot) offset) (sym given ∙ e)) refl
+
+    pub entry-damage : t ≡ Read.Damage → record { stepped = x; cells = cells } ≡ finishEntry L r done area cells slot offset
+    unfolding foundIn
+    entry-damage e = refuses damage (tells-damage L (entryAt L (segmentOf area (r .size) slot) offset) (sym given ∙ e)) refl
 
 -- ---- in the head, and in a new one
 
@@ -101,81 +138,43 @@ place-fits slot S o h l k =
     let a : slot ≤ 31 = omega arith in
     omega (arith, mul-le-mul a l)
 
+-- a slot of the store lies in its area
+pub segment-in : (slots S slot a : ℕ) → a ≡ slots * S → slot < slots → slot * S + S ≤ a
+segment-in slots S slot a e h = omega (arith, mul-le-mul-right S h, suc-mul slot S)
+
 module _ (L : Layout) (r : Record) (area cells : List ℕ) (n : ℕ) where
-  pub append-spent :
-      r .next .0 ≡ versionLimit L → {x : Stepped} → x ≡ refusedWith r Refusal.BadRecord →
-      record { stepped = x; cells = cells } ≡ finishAppend L r area cells n
-  unfolding finishAppend
-  append-spent h e =
-      ap (λ (s : Stepped). record { stepped = s; cells = cells }) e
-      ∙ sym (pick-true (eqb (r .next .0) (versionLimit L)) _ _ (eq-eqb (r .next .0) (versionLimit L) h))
-
   pub append-goes :
-      (r .next .0 ≡ versionLimit L → ⊥) → {d : Record} → d ≡ appendDone r n → {a : After} →
-      a ≡ finishEntry L r d area cells (r .head * r .size + r .end) → a ≡ finishAppend L r area cells n
+      {d : Commit} → d ≡ appendCommit r n → {a : After} → a ≡ finishEntry L r d area cells (r .head) (r .end) → a ≡ finishAppend L r area cells n
   unfolding finishAppend
-  append-goes h {d} ed e =
-      e ∙ ap (λ (s : Record). finishEntry L r s area cells (r .head * r .size + r .end)) ed
-      ∙ sym (pick-false (eqb (r .next .0) (versionLimit L)) _ _ (ne-eqb (r .next .0) (versionLimit L) h))
+  append-goes ed e = e ∙ ap (λ (c : Commit). finishEntry L r c area cells (r .head) (r .end)) ed
 
-  module _ (slot : ℕ) where
-    pub head-spent :
-        r .next .0 ≡ versionLimit L → {x : Stepped} → x ≡ refusedWith r Refusal.BadRecord →
-        record { stepped = x; cells = cells } ≡ finishHead L r area cells slot n
-    unfolding finishHead
-    head-spent h e =
-        ap (λ (s : Stepped). record { stepped = s; cells = cells }) e
-        ∙ sym (pick-true _ _ _ (either-true-left (eqb (r .next .0) (versionLimit L)) _ (eq-eqb (r .next .0) (versionLimit L) h)))
-
-    pub head-numbers-spent :
-        r .digest .0 ≡ numberLimit → {x : Stepped} → x ≡ refusedWith r Refusal.BadRecord →
-        record { stepped = x; cells = cells } ≡ finishHead L r area cells slot n
-    unfolding finishHead
-    head-numbers-spent h e =
-        ap (λ (s : Stepped). record { stepped = s; cells = cells }) e
-        ∙ sym (pick-true _ _ _ (either-true-right _ (eqb (r .digest .0) numberLimit) (eq-eqb (r .digest .0) numberLimit h)))
-
-    pub head-goes :
-        (r .next .0 ≡ versionLimit L → ⊥) → (r .digest .0 ≡ numberLimit → ⊥) → {m : ℕ} → m ≡ withBit (r .map) slot → {d : Record} →
-        d ≡ headDone r slot n m (r .next .0 + 1) → {a : After} → a ≡ finishEntry L r d area cells (slot * r .size + digestSize L) →
-        a ≡ finishHead L r area cells slot n
-    unfolding finishHead
-    head-goes h l em ed e =
-        e
-        ∙ ap (λ (s : Record). finishEntry L r s area cells (slot * r .size + digestSize L))
-        (ed ∙ ap (λ (j : ℕ). headDone r slot n j (r .next .0 + 1)) em)
-        ∙ sym
-        (pick-false _ _ _
-        (either-false (eqb (r .next .0) (versionLimit L)) (eqb (r .digest .0) numberLimit) (ne-eqb (r .next .0) (versionLimit L) h) (ne-eqb (r .digest .0) numberLimit l)))
+  pub head-goes :
+      (slot : ℕ) {m : ℕ} → m ≡ withBit (r .map) slot → {d : Commit} → d ≡ headCommit r slot n m (record { 0 = r .next .0 + 1 }) → {a : After} →
+      a ≡ finishEntry L r d area cells slot (digestSize L) → a ≡ finishHead L r area cells slot n
+  unfolding finishHead
+  head-goes slot em ed e =
+      e
+      ∙ ap (λ (c : Commit). finishEntry L r c area cells slot (digestSize L))
+      (ed ∙ ap (λ (j : ℕ). headCommit r slot n j (record { 0 = r .next .0 + 1 })) em)
 
 -- ---- a cleaning
 
 module _ (L : Layout) (r : Record) (area cells : List ℕ) (slot victims n : ℕ) where
-  pub clean-spent :
-      r .digest .0 ≡ numberLimit → {x : Stepped} → x ≡ refusedWith r Refusal.BadRecord →
-      record { stepped = x; cells = cells } ≡ finishClean L r area cells slot victims n
-  unfolding finishClean
-  clean-spent h e =
-      ap (λ (s : Stepped). record { stepped = s; cells = cells }) e
-      ∙ sym (pick-true (eqb (r .digest .0) numberLimit) _ _ (eq-eqb (r .digest .0) numberLimit h))
-
   pub clean-goes :
-      (r .digest .0 ≡ numberLimit → ⊥) → {w m : ℕ} → w ≡ less (r .map) victims → m ≡ withBit w slot → {d : Record} →
-      d ≡ headDone r slot n m (r .next .0) → {b : Built} {cells′ : List ℕ} →
-      _≡_ {A = Rebuilt} (record { answer = b; cells = cells′ }) (rebuilt L r area cells m) → {x : Stepped} → x ≡ toldBy r d 0 b →
+      {w m : ℕ} → w ≡ less (r .map) victims → m ≡ withBit w slot → {d : Commit} → d ≡ headCommit r slot n m (r .next) → {b : Built} {cells′ : List ℕ} →
+      _≡_ {A = Rebuilt} (record { answer = b; cells = cells′ }) (rebuilt L r area cells m) → {x : Stepped} → x ≡ answeredWith r d 0 b →
       record { stepped = x; cells = cells′ } ≡ finishClean L r area cells slot victims n
   unfolding finishClean
-  clean-goes h {w} {m} ew em {d} ed {b} {cells′} eb ex =
-      ap (λ (s : Stepped). record { stepped = s; cells = cells′ }) (ex ∙ ap (λ (s : Record). toldBy r s 0 b) ed)
-      ∙ ap (λ (a : Rebuilt). record { stepped = toldBy r (headDone r slot n m (r .next .0)) 0 (a .answer); cells = a .cells }) eb
+  clean-goes {w} {m} ew em {d} ed {b} {cells′} eb ex =
+      ap (λ (s : Stepped). record { stepped = s; cells = cells′ }) (ex ∙ ap (λ (c : Commit). answeredWith r c 0 b) ed)
+      ∙ ap (λ (a : Rebuilt). record { stepped = answeredWith r (headCommit r slot n m (r .next)) 0 (a .answer); cells = a .cells }) eb
       ∙ ap
       (λ (j : ℕ).
       record {
-        stepped = toldBy r (headDone r slot n j (r .next .0)) 0 (rebuilt L r area cells j .answer);
+        stepped = answeredWith r (headCommit r slot n j (r .next)) 0 (rebuilt L r area cells j .answer);
         cells = rebuilt L r area cells j .cells;
       })
       (em ∙ ap (λ (j : ℕ). withBit j slot) ew)
-      ∙ sym (pick-false (eqb (r .digest .0) numberLimit) _ _ (ne-eqb (r .digest .0) numberLimit h))
 
 -- ---- after the store
 
@@ -201,21 +200,21 @@ module _ {p : Pending} where
   less-clean e = rw e
 
 module _ (r : Record) where
-  pub in-append : {n k : ℕ} → r .pending ≡ Append n k → PendingIn r (r .pending) → (r .head < 32) × (r .end + n ≤ r .size)
+  pub in-append : {n k : ℕ} → r .pending ≡ Append n k → PendingIn r (r .pending) → (r .head < r .slots) × (r .end + n ≤ r .size)
   unfolding PendingIn
   in-append e h = subst (PendingIn r) e h
 
-  pub in-head : {i n k : ℕ} → r .pending ≡ NewHead i n k → PendingIn r (r .pending) → (i < 32) × (n ≤ r .size)
+  pub in-head : {i n k : ℕ} → r .pending ≡ NewHead i n k → PendingIn r (r .pending) → (i < r .slots) × (n ≤ r .size)
   unfolding PendingIn
   in-head e h = subst (PendingIn r) e h
 
-  pub in-clean : {i v n k : ℕ} → r .pending ≡ Clean i v n k → PendingIn r (r .pending) → (i < 32) × (n ≤ r .size)
+  pub in-clean : {i v n k : ℕ} → r .pending ≡ Clean i v n k → PendingIn r (r .pending) → (i < r .slots) × (n ≤ r .size)
   unfolding PendingIn
   in-clean e h = subst (PendingIn r) e h
 
 module _ (L : Layout) (r : Record) (area cells : List ℕ) where
   pub with-idle :
-      r .pending ≡ Idle → {x : Stepped} → x ≡ refusedWith r Refusal.BadRecord →
+      r .pending ≡ Idle → {x : Stepped} → x ≡ refusedStep r Refusal.BadRecord →
       record { stepped = x; cells = cells } ≡ finishWith L r area cells (r .pending)
   unfolding finishWith
   with-idle e h = ap (λ (s : Stepped). record { stepped = s; cells = cells }) h ∙ sym (ap (finishWith L r area cells) e)

@@ -2,6 +2,8 @@
 pub mod Next
 pub mod NextLaws
 pub mod PlanLaws
+pub mod Agree
+pub mod AgreeLaws
 pub mod Finish
 pub mod FinishLaws
 pub mod EntryLaws

@@ -47,9 +47,9 @@ pendingNext areaLength work r (Clean i v n k) = slotNext areaLength work (r .siz
 abbrev pub nextStore : ℕ → List ℕ → Record → NextStore
 nextStore areaLength work r = pendingNext areaLength work r (r .pending)
 
--- The pending operation's slot is one of 32, and its bytes fit the segment.
+-- The pending operation's slot is one of the store's, and its bytes fit the segment.
 unfoldable pub PendingIn : Record → Pending → Type 0
 PendingIn r Idle = 0 ≤ 0
-PendingIn r (Append n k) = (r .head < 32) × (r .end + n ≤ r .size)
-PendingIn r (NewHead i n k) = (i < 32) × (n ≤ r .size)
-PendingIn r (Clean i v n k) = (i < 32) × (n ≤ r .size)
+PendingIn r (Append n k) = (r .head < r .slots) × (r .end + n ≤ r .size)
+PendingIn r (NewHead i n k) = (i < r .slots) × (n ≤ r .size)
+PendingIn r (Clean i v n k) = (i < r .slots) × (n ≤ r .size)

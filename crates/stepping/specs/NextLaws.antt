@@ -233,19 +233,19 @@ slot-below slots S slot some h = go (decLt slot slots)
         let over : slots ≤ slot = omega arith in
         absurd (omega (arith, mul-le-mul-right S over))
 
-module _ (areaLength : ℕ) (work : List ℕ) (r : Record) (p b : ℕ) (slots : r .slots ≤ 32) (head : r .head < r .slots) (long : areaLength ≡ r .slots * r .size) where
-  small : (i o n : ℕ) → Fit areaLength (length work) (r .size) i o n → i < 32
-  small i o n f = omega (arith, slot-below (r .slots) (r .size) i (omega (arith, f .some, f .room)) (omega (arith, f .inside)))
+module _ (areaLength : ℕ) (work : List ℕ) (r : Record) (p b : ℕ) (head : r .head < r .slots) (long : areaLength ≡ r .slots * r .size) where
+  own-slot : (i o n : ℕ) → Fit areaLength (length work) (r .size) i o n → i < r .slots
+  own-slot i o n f = slot-below (r .slots) (r .size) i (omega (arith, f .some, f .room)) (omega (arith, f .inside))
 
   pub next-inside : (q : Pending) → pendingNext areaLength work r q ≡ At p b → PendingIn r q × (p < areaLength)
   unfolding pendingNext PendingIn
   next-inside Idle e = let z : _≡_ {A = ℕ} 0 1 = cc in absurd (omega arith)
   next-inside (Append n k) e =
       let f = slot-at areaLength work (r .size) (r .head) (r .end) n 0 k p b e in
-      ((omega arith, f .0 .room), f .1)
+      ((head, f .0 .room), f .1)
   next-inside (NewHead i n k) e =
       let f = slot-at areaLength work (r .size) i 0 n 1 k p b e in
-      ((small i 0 n (f .0), omega (arith, f .0 .room)), f .1)
+      ((own-slot i 0 n (f .0), omega (arith, f .0 .room)), f .1)
   next-inside (Clean i v n k) e =
       let f = slot-at areaLength work (r .size) i 0 n 1 k p b e in
-      ((small i 0 n (f .0), omega (arith, f .0 .room)), f .1)
+      ((own-slot i 0 n (f .0), omega (arith, f .0 .room)), f .1)

@@ -3,6 +3,7 @@ use Prim.Native.Nat.{ℕ, zero, suc, _-_, _≤_, _<_}
 use mathlib.Core.Path.{_≡_, refl, sym, _∙_, ap, subst}
 use mathlib.Core.Bool.{Bool, true, false, not}
 use mathlib.Core.List.{List, [], _∷_}
+use mathlib.Core.Logic.{inl, inr}
 use mathlib.Core.Option.{Option, none, some}
 use native.Mathlib.Omega.{arith}
 use lib.Dec.{ltb}
@@ -34,10 +35,12 @@ use Rattle.laws.specs.Stores.{stored-next, stored-all}
 use Rattle.laws.specs.Operated.{Accepted}
 use Rattle.laws.specs.Entering.{Roomy}
 use Rattle.laws.specs.OperationsKept.{operation-laws}
-use Rattle.stepping.specs.Next.{nextStore}
+use Rattle.stepping.specs.Agree.{agreesWith, testedStore, StepTested}
+use Rattle.stepping.specs.AgreeLaws.{laid-agrees}
 use Rattle.stepping.specs.PlanLaws.{atOf, accepted, next-started}
-use Rattle.stepping.specs.Finish.{After, refusedWith, oneLess, finishWith, advanced}
+use Rattle.stepping.specs.Finish.{After, refusedStep, oneLess, finishWith, advanced}
 use Rattle.stepping.specs.ExactLaws.{Ends, operation-ends}
+use Rattle.stepping.specs.declared.NextStore.{NextStore}
 use Rattle.stepping.specs.declared.NextStore.the-variants.{At, Bad}
 
 -- ---- the causes, at the tests of the code
@@ -96,28 +99,32 @@ same-byte [] = (0, 0, refl)
 same-byte (b ∷ s) = (0, b, refl)
 
 module _ (L : Layout) (r : Record) (area cells work : List ℕ) (c : Refusal) (first : firstCause (stepCauses L r (lentLengths area cells work)) ≡ some c) where
-  pub refused-promise : {x : Stepped} → x ≡ refusedWith r c → StepPromise L r area area cells cells work x
-  refused-promise {x} e =
-      record {
-        one-byte = same-byte area;
-        same-length = refl;
-        refused = λ d f. record {
-          answers = e ∙ ap (refusedWith r) (same d f);
-          says = ap (λ (y : Stepped). stepSaid (y .answer)) (e ∙ ap (refusedWith r) (same d f));
-          area-same = refl;
-          index-same = refl;
-        };
-        exact = λ f g s. absurd (never f);
-      }
-    where
-      same : (d : Refusal) → firstCause (stepCauses L r (lentLengths area cells work)) ≡ some d → c ≡ d
-      same d f = let q : _≡_ {A = Option Refusal} (some c) (some d) = sym first ∙ f in cc
+  same : (d : Refusal) → firstCause (stepCauses L r (lentLengths area cells work)) ≡ some d → c ≡ d
+  same d f = let q : _≡_ {A = Option Refusal} (some c) (some d) = sym first ∙ f in cc
 
-      never : firstCause (stepCauses L r (lentLengths area cells work)) ≡ none → ⊥
-      never f =
-          let q : _≡_ {A = Option Refusal} (some c) none = sym first ∙ f in
-          let z : _≡_ {A = ℕ} 0 1 = cc in
-          omega arith
+  never : firstCause (stepCauses L r (lentLengths area cells work)) ≡ none → ⊥
+  never f =
+      let q : _≡_ {A = Option Refusal} (some c) none = sym first ∙ f in
+      let z : _≡_ {A = ℕ} 0 1 = cc in
+      omega arith
+
+  module _ {x : Stepped} (e : x ≡ refusedStep r c) where
+    pub refused-promise : StepPromise L r area area cells cells work x
+    refused-promise =
+        record {
+          one-byte = same-byte area;
+          same-length = refl;
+          refused = λ d f. record {
+            answers = e ∙ ap (refusedStep r) (same d f);
+            says = ap (λ (y : Stepped). stepSaid (y .answer)) (e ∙ ap (refusedStep r) (same d f));
+            area-same = refl;
+            index-same = refl;
+          };
+          exact = λ f g s. absurd (never f);
+        }
+
+    pub refused-tested : StepTested L r area area cells cells work x
+    refused-tested = record { before-store = λ f t. absurd (never f); behind-store = λ d f. inl refl }
 
 -- ---- the stores left of what is laid down
 
@@ -148,6 +155,13 @@ module _ (L : Layout) (roomy : Roomy L) (r : Record) (area cells work : List ℕ
   work-long : r .size ≤ length work
   work-long = ltb-false (length work) (r .size) (step-passed L r (lentLengths area cells work) first .work-long)
 
+  pending-not-idle : r .pending ≡ Idle → ⊥
+  unfolding isPending
+  pending-not-idle q =
+      let t : isPending Idle ≡ true = ap isPending (sym q) ∙ not-false _ (step-passed L r (lentLengths area cells work) first .some-pending) in
+      let z : _≡_ {A = ℕ} 0 1 = cc in
+      omega arith
+
   no-refusal : (c : Refusal) → firstCause (stepCauses L r (lentLengths area cells work)) ≡ some c → ⊥
   no-refusal c f =
       let q : _≡_ {A = Option Refusal} (some c) none = sym f ∙ first in
@@ -173,16 +187,22 @@ module _ (L : Layout) (roomy : Roomy L) (r : Record) (area cells work : List ℕ
     long-enough : s .idle .size ≤ length work
     long-enough = subst (λ (x : Record). x .size ≤ length work) (s .record-now) work-long
 
-    pub turn : nextStore (length area) work r ≡ atOf (getD plan (s .since) (0, 0))
-    turn = next-started L (operation-laws L roomy) area r work s long-enough
+    started-agrees : agreesWith L r (r .pending) ≡ true
+    started-agrees =
+        ap (λ (x : Record). agreesWith L x (x .pending)) (s .record-now)
+        ∙ laid-agrees L (s .before) (s .idle) (s .operation) acc (length plan - s .since)
 
-    pub no-bad : nextStore (length area) work r ≡ Bad → ⊥
+    pub turn : testedStore L (length area) work r ≡ atOf (getD plan (s .since) (0, 0))
+    unfolding testedStore
+    turn = pick-true _ _ _ started-agrees ∙ next-started L (operation-laws L roomy) area r work s long-enough
+
+    pub no-bad : testedStore L (length area) work r ≡ Bad → ⊥
     no-bad e =
         let q : Bad ≡ atOf (getD plan (s .since) (0, 0)) = sym e ∙ turn in
         let z : _≡_ {A = ℕ} 0 1 = cc in
         omega arith
 
-    module _ (p b : ℕ) (at : nextStore (length area) work r ≡ At p b) where
+    module _ (p b : ℕ) (at : testedStore L (length area) work r ≡ At p b) where
       stores-next : set area p b ≡ stored before (take (suc (s .since)) plan)
       stores-next =
           let q : At p b ≡ atOf (getD plan (s .since) (0, 0)) = sym at ∙ turn in
@@ -288,23 +308,57 @@ module _ (L : Layout) (roomy : Roomy L) (r : Record) (area cells work : List ℕ
 
   -- ---- the promise, where there is no next store, and where it is made
 
-  pub bad-promise : nextStore (length area) work r ≡ Bad → {x : Stepped} → StepPromise L r area area cells cells work x
-  bad-promise e =
-      record {
-        one-byte = same-byte area;
-        same-length = refl;
-        refused = λ c f. absurd (no-refusal c f);
-        exact = λ f g s. absurd (no-bad s e);
-      }
+  module _ (bad : testedStore L (length area) work r ≡ Bad) {x : Stepped} where
+    pub bad-promise : StepPromise L r area area cells cells work x
+    bad-promise =
+        record {
+          one-byte = same-byte area;
+          same-length = refl;
+          refused = λ c f. absurd (no-refusal c f);
+          exact = λ f g s. absurd (no-bad s bad);
+        }
 
-  pub stored-promise :
-      (p b : ℕ) → nextStore (length area) work r ≡ At p b → {x : Stepped} {cells′ : List ℕ} →
-      record { stepped = x; cells = cells′ } ≡ advanced L r (set area p b) cells → length cells′ ≡ length cells →
-      StepPromise L r area (set area p b) cells cells′ work x
-  stored-promise p b at e same =
-      record {
-        one-byte = (p, b, refl);
-        same-length = same;
-        refused = λ c f. absurd (no-refusal c f);
-        exact = λ f g s. step-exact s p b at g e;
-      }
+    pub bad-tested : x ≡ refusedStep r BadRecord → StepTested L r area area cells cells work x
+    bad-tested e =
+        record {
+          before-store =
+              λ f t. record { answers = e; says = ap (λ (y : Stepped). stepSaid (y .answer)) e; area-same = refl; index-same = refl };
+          behind-store = λ c f. inl refl;
+        }
+
+  module _ (p b : ℕ) (at : testedStore L (length area) work r ≡ At p b) {x : Stepped} {cells′ : List ℕ}
+      (e : record { stepped = x; cells = cells′ } ≡ advanced L r (set area p b) cells) where
+    pub stored-promise : length cells′ ≡ length cells → StepPromise L r area (set area p b) cells cells′ work x
+    stored-promise same =
+        record {
+          one-byte = (p, b, refl);
+          same-length = same;
+          refused = λ c f. absurd (no-refusal c f);
+          exact = λ f g s. step-exact s p b at g e;
+        }
+
+    -- a step with more than one store left is not refused behind its store
+    last-only : (c : Refusal) → x .answer ≡ StepAnswer.Refused c → storesLeft (r .pending) ≡ 1
+    unfolding advanced
+    last-only c f = go (ltb 1 (storesLeft (r .pending))) refl
+      where
+        left : 0 < storesLeft (r .pending)
+        left = step-fits .left-some (λ q. pending-not-idle q)
+
+        go : (t : Bool) → ltb 1 (storesLeft (r .pending)) ≡ t → storesLeft (r .pending) ≡ 1
+        go true t =
+            let w : StepAnswer.Left (storesLeft (r .pending) - 1) ≡ StepAnswer.Refused c =
+            sym (ap (λ (a : After). a .stepped .answer) (e ∙ pick-true (ltb 1 (storesLeft (r .pending))) _ _ t)) ∙ f in
+            let z : _≡_ {A = ℕ} 0 1 = cc in
+            absurd (omega arith)
+        go false t = omega (arith, left, ltb-false 1 (storesLeft (r .pending)) t)
+
+    pub stored-tested : StepTested L r area (set area p b) cells cells′ work x
+    stored-tested =
+        record {
+          before-store = λ f t. absurd (never-bad (sym t ∙ at));
+          behind-store = λ c f. inr (last-only c f);
+        }
+      where
+        never-bad : _≡_ {A = NextStore} Bad (At p b) → ⊥
+        never-bad q = let z : _≡_ {A = ℕ} 0 1 = cc in omega arith

@@ -3,36 +3,38 @@ use index::Built;
 use index::Inserted;
 use index::build::build;
 use index::put::insert;
+use record::Commit;
 use record::Pending;
 use record::Record;
 use record::Refusal;
 use record::StepAnswer;
 use record::Stepped;
+use record::committed;
 use record::stores_left;
 use record::with_pending;
 use segment::DigestNumber;
 use segment::Key;
+use segment::Read;
 use segment::Version;
 use segment::layout::DIGEST_SIZE;
-use segment::layout::HEAD_SIZE;
-use segment::layout::NUMBER_LIMIT;
-use segment::layout::VERSION_LIMIT;
+use segment::reader::read;
 use slot_map::with_slot;
 use slot_map::without_slots;
-use word::number::read16;
-use word::number::read32;
 ghost use Prim.Native.Nat.{_+_, _*_, _≤_, _<_};
+ghost use mathlib.Core.Bool.{true};
 ghost use mathlib.Core.Path.{_≡_};
 ghost use lib.ListN.{length, take};
 ghost use Rattle.index.specs.Build.{Rebuilt, built};
 ghost use Rattle.segment.specs.Layout.{edition1};
-ghost use Rattle.stepping.specs.Finish.{refusedWith, withKeys, appendDone, headDone, keysAfter, toldBy, finishEntry, finishAppend, finishHead, finishClean, oneLess, finishWith, advanced};
+ghost use Rattle.model.specs.Operations.{appendCommit, headCommit};
+ghost use Rattle.stepping.specs.Finish.{refusedStep, keysAfter, answeredWith, entryIn, finishEntry, finishAppend, finishHead, finishClean, oneLess, finishWith, advanced};
 ghost use Rattle.record.specs.Answers.{storesLeft};
 ghost use Rattle.stepping.specs.Next.{PendingIn};
+ghost use Rattle.stepping.specs.Agree.{agreesWith};
 
 // The record goes back as it was.
 pub fn refused(rec: Record, cause: Refusal) -> Stepped
-    ensures { λ r. ⌜ r ≡ refusedWith rec cause ⌝ }
+    ensures { λ r. ⌜ r ≡ refusedStep rec cause ⌝ }
 {
     Stepped {
         answer: StepAnswer::Refused(cause),
@@ -40,65 +42,34 @@ pub fn refused(rec: Record, cause: Refusal) -> Stepped
     }
 }
 
-// The record with another number of keys.
-fn with_keys(rec: Record, keys: u32) -> Record
-    ensures { λ r. ⌜ r ≡ withKeys rec keys ⌝ }
-{
-    let number = rec.digest;
-    let next = rec.next;
-    let pending = rec.pending;
-    Record {
-        slots: rec.slots,
-        size: rec.size,
-        cells: rec.cells,
-        head: rec.head,
-        end: rec.end,
-        digest: number,
-        map: rec.map,
-        next: next,
-        keys: keys,
-        pending: pending,
-    }
-}
-
-// The record with `count` more bytes in the head and the next version taken, but for its keys.
-fn append_done(rec: Record, count: u32) -> Record
+// `count` more bytes in the head, and the next version taken.
+fn append_commit(rec: Record, count: u32) -> Commit
     requires { ⌜ (rec .end + count < 4294967296) × (rec .next .0 < 4294967295) ⌝ }
-    ensures { λ r. ⌜ r ≡ appendDone rec count ⌝ }
+    ensures { λ r. ⌜ r ≡ appendCommit rec count ⌝ }
 {
     let number = rec.digest;
     let next = rec.next;
-    Record {
-        slots: rec.slots,
-        size: rec.size,
-        cells: rec.cells,
+    Commit {
         head: rec.head,
         end: rec.end + count,
         digest: number,
         map: rec.map,
         next: Version(next.0 + 1),
-        keys: rec.keys,
-        pending: Pending::Idle,
     }
 }
 
-// The record with a new head of `count` bytes in a slot, with this map and this next version, but for its keys.
-fn head_done(rec: Record, slot: u32, count: u32, map: u32, next: u32) -> Record
+// A new head of `count` bytes in a slot, with this map and this next version.
+fn head_commit(rec: Record, slot: u32, count: u32, map: u32, next: Version) -> Commit
     requires { ⌜ rec .digest .0 < 4294967295 ⌝ }
-    ensures { λ r. ⌜ r ≡ headDone rec slot count map next ⌝ }
+    ensures { λ r. ⌜ r ≡ headCommit rec slot count map next ⌝ }
 {
     let number = rec.digest;
-    Record {
-        slots: rec.slots,
-        size: rec.size,
-        cells: rec.cells,
+    Commit {
         head: slot,
         end: count,
         digest: DigestNumber(number.0 + 1),
         map: map,
-        next: Version(next),
-        keys: rec.keys,
-        pending: Pending::Idle,
+        next: next,
     }
 }
 
@@ -115,15 +86,15 @@ fn keys_after(answer: Inserted, keys: u32) -> Built
 }
 
 // The version is told, and the new record gets its number of keys.
-fn told(rec: Record, done: Record, version: Version, keys: Built) -> Stepped
-    ensures { λ r. ⌜ r ≡ toldBy rec done (version .0) keys ⌝ }
+fn answered(rec: Record, done: Commit, version: Version, keys: Built) -> Stepped
+    ensures { λ r. ⌜ r ≡ answeredWith rec done (version .0) keys ⌝ }
 {
     match keys {
         Built::Keys(n) => {
             if n < rec.cells as usize {
                 return Stepped {
                     answer: StepAnswer::Done(version),
-                    rec: with_keys(done, n as u32),
+                    rec: committed(rec, done, n as u32),
                 };
             }
             refused(rec, Refusal::BadRecord)
@@ -132,64 +103,90 @@ fn told(rec: Record, done: Record, version: Version, keys: Built) -> Stepped
     }
 }
 
-// The entry at a place of the area goes into the index; `done` is the record then, but for its keys.
-fn finish_entry(rec: Record, done: Record, area: &[u8], index: &mut [u32], place: usize) -> Stepped
+// The entry of a key at a place of the area goes into the index.
+fn put_entry(
+    rec: Record,
+    done: Commit,
+    area: &[u8],
+    index: &mut [u32],
+    place: usize,
+    key: Key,
+) -> Stepped
     requires { ⌜ place < 4294967295 ⌝ }
-    ensures { λ r. ⌜ record { stepped = r; cells = now (index .exit) } ≡ finishEntry edition1 rec done (now (area .entry)) (now (index .entry)) place ⌝ }
+    ensures { λ r. ⌜ record { stepped = r; cells = now (index .exit) } ≡ entryIn edition1 rec done (now (area .entry)) (now (index .entry)) place key ⌝ }
 {
-    if area.len() < place + HEAD_SIZE {
-        return refused(rec, Refusal::BadRecord);
-    }
-    let key = Key {
-        table: read16(area, place + 1),
-        key: read32(area, place + 3),
-    };
     let version = rec.next;
     let answer = insert(area, index, place, key, version);
     let keys = keys_after(answer, rec.keys);
-    told(rec, done, version, keys)
+    answered(rec, done, version, keys)
+}
+
+// The entry at an offset of a slot goes into the index. The reader gets the slot's segment, which is cut from the area at
+// slot × size.
+fn finish_entry(
+    rec: Record,
+    done: Commit,
+    area: &[u8],
+    index: &mut [u32],
+    slot: u32,
+    offset: usize,
+) -> Stepped
+    requires { ⌜ (slot < 32) × (rec .size ≤ 2048) × (offset ≤ 2048) × (slot * rec .size + rec .size ≤ length (now area)) ⌝ }
+    ensures { λ r. ⌜ record { stepped = r; cells = now (index .exit) } ≡ finishEntry edition1 rec done (now (area .entry)) (now (index .entry)) slot offset ⌝ }
+{
+    let size = rec.size as usize;
+    let start = slot as usize * size;
+    let end = start + size;
+    let place = start + offset;
+    match read(&area[start..end], offset) {
+        Read::Object {
+            key,
+            version: _,
+            kind: _,
+            length: _,
+        } => put_entry(rec, done, area, index, place, key),
+        Read::Tombstone {
+            key,
+            version: _,
+            length: _,
+        } => put_entry(rec, done, area, index, place, key),
+        Read::End => refused(rec, Refusal::BadRecord),
+        Read::Damage => refused(rec, Refusal::BadRecord),
+    }
 }
 
 // The last step of a write or delete whose entry is in the head.
-pub fn finish_append(rec: Record, area: &[u8], index: &mut [u32], count: u32) -> Stepped
-    requires { ⌜ (rec .head < 32) × (rec .size ≤ 2048) × (rec .end + count ≤ rec .size) ⌝ }
+fn finish_append(rec: Record, area: &[u8], index: &mut [u32], count: u32) -> Stepped
+    requires { ⌜
+        (rec .slots ≤ 32)
+        × (rec .size ≤ 2048)
+        × (length (now area) ≡ rec .slots * rec .size)
+        × (rec .head < rec .slots)
+        × (rec .end + count ≤ rec .size)
+        × (rec .next .0 < 4294967295)
+        ⌝ }
     ensures { λ r. ⌜ record { stepped = r; cells = now (index .exit) } ≡ finishAppend edition1 rec (now (area .entry)) (now (index .entry)) count ⌝ }
 {
-    let next = rec.next;
-    if next.0 == VERSION_LIMIT {
-        return refused(rec, Refusal::BadRecord);
-    }
-    let done = append_done(rec, count);
-    finish_entry(
-        rec,
-        done,
-        area,
-        index,
-        rec.head as usize * rec.size as usize + rec.end as usize,
-    )
+    let done = append_commit(rec, count);
+    finish_entry(rec, done, area, index, rec.head, rec.end as usize)
 }
 
 // The last step of a write or delete whose entry is in a new head.
-pub fn finish_head(rec: Record, area: &[u8], index: &mut [u32], slot: u32, count: u32) -> Stepped
-    requires { ⌜ (slot < 32) × (rec .size ≤ 2048) ⌝ }
+fn finish_head(rec: Record, area: &[u8], index: &mut [u32], slot: u32, count: u32) -> Stepped
+    requires { ⌜
+        (rec .slots ≤ 32)
+        × (rec .size ≤ 2048)
+        × (length (now area) ≡ rec .slots * rec .size)
+        × (slot < rec .slots)
+        × (rec .next .0 < 4294967295)
+        × (rec .digest .0 < 4294967295)
+        ⌝ }
     ensures { λ r. ⌜ record { stepped = r; cells = now (index .exit) } ≡ finishHead edition1 rec (now (area .entry)) (now (index .entry)) slot count ⌝ }
 {
     let next = rec.next;
-    let number = rec.digest;
-    if next.0 == VERSION_LIMIT {
-        return refused(rec, Refusal::BadRecord);
-    }
-    if number.0 == NUMBER_LIMIT {
-        return refused(rec, Refusal::BadRecord);
-    }
-    let done = head_done(rec, slot, count, with_slot(rec.map, slot), next.0 + 1);
-    finish_entry(
-        rec,
-        done,
-        area,
-        index,
-        slot as usize * rec.size as usize + DIGEST_SIZE,
-    )
+    let map = with_slot(rec.map, slot);
+    let done = head_commit(rec, slot, count, map, Version(next.0 + 1));
+    finish_entry(rec, done, area, index, slot, DIGEST_SIZE)
 }
 
 // The slots, ascending.
@@ -250,18 +247,14 @@ fn finish_clean(
     victims: u32,
     count: u32,
 ) -> Stepped
-    requires { ⌜ (slot < 32) × (rec .size ≤ 2048) × (rec .slots ≤ 32) ⌝ }
+    requires { ⌜ (rec .slots ≤ 32) × (rec .size ≤ 2048) × (slot < rec .slots) × (rec .digest .0 < 4294967295) ⌝ }
     ensures { λ r. ⌜ record { stepped = r; cells = now (index .exit) } ≡ finishClean edition1 rec (now (area .entry)) (now (index .entry)) slot victims count ⌝ }
 {
-    let number = rec.digest;
     let next = rec.next;
-    if number.0 == NUMBER_LIMIT {
-        return refused(rec, Refusal::BadRecord);
-    }
     let map = with_slot(without_slots(rec.map, victims), slot);
-    let done = head_done(rec, slot, count, map, next.0);
+    let done = head_commit(rec, slot, count, map, next);
     let keys = rebuild(rec, area, index, &SLOTS, map);
-    told(rec, done, Version(0), keys)
+    answered(rec, done, Version(0), keys)
 }
 
 // The pending operation with one store less.
@@ -294,9 +287,15 @@ fn one_less(pending: Pending) -> Pending
     }
 }
 
-// The last step, by the kind of the operation.
+// The last step, by the kind of the operation, which agrees with the record.
 fn finish(rec: Record, area: &[u8], index: &mut [u32]) -> Stepped
-    requires { ⌜ (rec .size ≤ 2048) × (rec .slots ≤ 32) × PendingIn rec (rec .pending) ⌝ }
+    requires { ⌜
+        (rec .slots ≤ 32)
+        × (rec .size ≤ 2048)
+        × (length (now area) ≡ rec .slots * rec .size)
+        × PendingIn rec (rec .pending)
+        × (agreesWith edition1 rec (rec .pending) ≡ true)
+        ⌝ }
     ensures { λ r. ⌜ record { stepped = r; cells = now (index .exit) } ≡ finishWith edition1 rec (now (area .entry)) (now (index .entry)) (rec .pending) ⌝ }
 {
     let pending = rec.pending;
@@ -319,7 +318,14 @@ fn finish(rec: Record, area: &[u8], index: &mut [u32]) -> Stepped
 
 // What comes after a step's store: with stores left they are one less, else the operation is finished.
 pub fn advance(rec: Record, area: &[u8], index: &mut [u32]) -> Stepped
-    requires { ⌜ (0 < storesLeft (rec .pending)) × (rec .size ≤ 2048) × (rec .slots ≤ 32) × PendingIn rec (rec .pending) ⌝ }
+    requires { ⌜
+        (0 < storesLeft (rec .pending))
+        × (rec .slots ≤ 32)
+        × (rec .size ≤ 2048)
+        × (length (now area) ≡ rec .slots * rec .size)
+        × PendingIn rec (rec .pending)
+        × (agreesWith edition1 rec (rec .pending) ≡ true)
+        ⌝ }
     ensures { λ r. ⌜ record { stepped = r; cells = now (index .exit) } ≡ advanced edition1 rec (now (area .entry)) (now (index .entry)) ⌝ }
 {
     let pending = rec.pending;

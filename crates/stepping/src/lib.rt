@@ -1,4 +1,5 @@
 // The step: one store of the pending operation, and at the last one the record and the index brought up to date.
+use agree::agrees;
 use finish::advance;
 use finish::refused;
 use next::next_store;
@@ -9,7 +10,9 @@ use record::range::fits_lent;
 use record::stores_left;
 ghost use Rattle.segment.specs.Layout.{edition1};
 ghost use Rattle.model.specs.Promises.{StepPromise};
+ghost use Rattle.stepping.specs.Agree.{StepTested};
 
+mod agree;
 mod finish;
 pub mod next;
 
@@ -21,11 +24,14 @@ pub enum NextStore {
 
 // One step of the pending operation. It makes one store, by the one assignment below; for the rest the area is only read, and
 // the work buffer is left as it is. It answers the stores left, and at the last one the version, 0 for a cleaning. Refused
-// with 4, 3 or 6, in this order, it changes nothing.
+// with 4, 3 or 6, in this order, it changes nothing, but for one case that no genuine store meets: the last step may find
+// behind its store that the new entry cannot be read or that the index is full, and answers 4. All that the record, its pending
+// operation and the lent lengths tell is tested before the store.
 pub fn step(rec: Record, area: &mut [u8], index: &mut [u32], work: &[u8]) -> Stepped
     ensures { λ a.
         ⌜
         StepPromise edition1 rec (now (area .entry)) (now (area .exit)) (now (index .entry)) (now (index .exit)) (now (work .entry)) a
+        × StepTested edition1 rec (now (area .entry)) (now (area .exit)) (now (index .entry)) (now (index .exit)) (now (work .entry)) a
         ⌝ }
 {
     if !fits_lent(rec, area.len(), index.len()) {
@@ -37,6 +43,9 @@ pub fn step(rec: Record, area: &mut [u8], index: &mut [u32], work: &[u8]) -> Ste
     let pending = rec.pending;
     if stores_left(pending) == 0 {
         return refused(rec, Refusal::NonePending);
+    }
+    if !agrees(rec) {
+        return refused(rec, Refusal::BadRecord);
     }
     let NextStore::At { place, byte } = next_store(rec, area, work) else {
         return refused(rec, Refusal::BadRecord);

@@ -25,5 +25,6 @@ pub use writing::start::delete;
 pub use cleaning::clean::clean;
 
 // Makes the next store of the pending operation, one byte, and answers the stores left; the last one makes the operation count,
-// tells its version, and brings record and index up to date. Refused with 4, 3 or 6, it changes nothing.
+// tells its version, and brings record and index up to date. Refused with 4, 3 or 6, it changes nothing, but for one case that
+// no genuine store meets: the last step may find behind its store that the new entry cannot be read or that the index is full.
 pub use stepping::step;

@@ -1,20 +1,21 @@
 -- Every step can be made: what the code does for any record, area, index and work buffer, as a total function, keeps the promise.
-use Prim.Native.Nat.{ℕ, _+_, _-_}
+use Prim.Native.Nat.{ℕ, _+_, _*_, _-_}
 use mathlib.Core.Path.{_≡_, refl, _∙_}
 use mathlib.Core.Bool.{Bool, true, false}
 use mathlib.Core.List.{List, [], _∷_}
 use mathlib.Core.Option.{Option, none, some}
-use lib.Dec.{eqb, ltb, leb}
+use lib.Dec.{ltb}
 use lib.ListN.{length, getD, set, replicate, length-set, length-replicate}
-use Rattle.segment.specs.Choice.{pick, either}
-use Rattle.segment.specs.Layout.{Layout, edition1, entrySize, versionLimit, numberLimit}
-use Rattle.segment.specs.Entry.{keyOf}
+use Rattle.segment.specs.Choice.{pick}
+use Rattle.segment.specs.Layout.{Layout, edition1}
+use Rattle.segment.specs.Entry.{Found as Entered, entry, end, damage, entryAt, keyOf}
 use Rattle.record.specs.Answers.{storesLeft}
+use Rattle.record.specs.declared.Commit.{Commit}
 use Rattle.record.specs.declared.Pending.{Pending}
 use Rattle.record.specs.declared.Pending.the-variants.{Idle, Append, NewHead, Clean}
 use Rattle.record.specs.declared.Refusal.{Refusal}
 use Rattle.record.specs.declared.Record.{Record}
-use Rattle.model.specs.Log.{Placed, placeOf}
+use Rattle.model.specs.Log.{Placed, placeOf, segmentOf}
 use Rattle.model.specs.Causes.{firstCause}
 use Rattle.model.specs.Refused.{stepCauses}
 use Rattle.model.specs.Promises.{lentLengths, StepPromise}
@@ -24,8 +25,8 @@ use Rattle.index.specs.Search.{versionAt, searchFor}
 use Rattle.index.specs.Build.{finished, built}
 use Rattle.index.specs.declared.Found.{Found}
 use Rattle.index.specs.declared.Inserted.{Inserted}
-use Rattle.stepping.specs.Next.{nextStore}
-use Rattle.stepping.specs.Finish.{After, refusedWith, unfit, appendDone, keyIn, finishEntry, finishAppend, finishHead, cleanMap, finishClean, finishWith, advanced}
+use Rattle.stepping.specs.Agree.{testedStore}
+use Rattle.stepping.specs.Finish.{After, refusedStep, unfit, foundIn, finishEntry, finishAppend, finishHead, cleanMap, finishClean, finishWith, advanced}
 use Rattle.stepping.specs.StepLaws.{refused-promise, bad-promise, stored-promise}
 use Rattle.stepping.specs.declared.NextStore.{NextStore}
 use Rattle.stepping.specs.declared.NextStore.the-variants.{At, Bad}
@@ -40,8 +41,8 @@ storedBy L r area cells (At p b) = record { area = set area p b; after = advance
 storedBy L r area cells Bad = record { area = area; after = unfit r cells }
 
 unfoldable pub steppedUnless : Layout → Record → List ℕ → List ℕ → List ℕ → Option Refusal → Moved
-steppedUnless L r area cells work none = storedBy L r area cells (nextStore (length area) work r)
-steppedUnless L r area cells work (some c) = record { area = area; after = record { stepped = refusedWith r c; cells = cells } }
+steppedUnless L r area cells work none = storedBy L r area cells (testedStore L (length area) work r)
+steppedUnless L r area cells work (some c) = record { area = area; after = record { stepped = refusedStep r c; cells = cells } }
 
 abbrev pub steppedBy : Layout → Record → List ℕ → List ℕ → List ℕ → Moved
 steppedBy L r area cells work = steppedUnless L r area cells work (firstCause (stepCauses L r (lentLengths area cells work)))
@@ -111,20 +112,22 @@ module _ (L : Layout) (r : Record) (area cells : List ℕ) where
   either-long true a b p q = p
   either-long false a b p q = q
 
-  entry-long : (done : Record) (place : ℕ) → Long (finishEntry L r done area cells place)
+  found-long : (done : Commit) (place : ℕ) (f : Entered) → Long (foundIn L r done area cells place f)
+  unfolding foundIn
+  found-long done place (entry e) = length-inserted L area cells place (r .next .0) (searchFor L area cells (keyOf e))
+  found-long done place end = refl
+  found-long done place damage = refl
+
+  entry-long : (done : Commit) (slot offset : ℕ) → Long (finishEntry L r done area cells slot offset)
   unfolding finishEntry
-  entry-long done place =
-      either-long (leb (place + entrySize L 0) (length area)) _ (unfit r cells)
-      (length-inserted L area cells place (r .next .0) (searchFor L area cells (keyIn area place))) refl
+  entry-long done slot offset = found-long done (slot * r .size + offset) (entryAt L (segmentOf area (r .size) slot) offset)
 
   finish-long : (p : Pending) → Long (finishWith L r area cells p)
   unfolding finishWith finishAppend finishHead finishClean
   finish-long Idle = refl
-  finish-long (Append n k) = either-long (eqb (r .next .0) (versionLimit L)) (unfit r cells) _ refl (entry-long (appendDone r n) _)
-  finish-long (NewHead i n k) =
-      either-long (either (eqb (r .next .0) (versionLimit L)) (eqb (r .digest .0) numberLimit)) (unfit r cells) _ refl (entry-long _ _)
-  finish-long (Clean i v n k) =
-      either-long (eqb (r .digest .0) numberLimit) (unfit r cells) _ refl (length-built L area (r .size) (cleanMap r i v) _ (length cells))
+  finish-long (Append n k) = entry-long _ _ _
+  finish-long (NewHead i n k) = entry-long _ _ _
+  finish-long (Clean i v n k) = length-built L area (r .size) (cleanMap r i v) _ (length cells)
 
   advanced-long : Long (advanced L r area cells)
   unfolding advanced
@@ -139,7 +142,7 @@ module _ (r : Record) (area cells work : List ℕ) where
   abbrev cause : Option Refusal
   cause = firstCause (stepCauses edition1 r (lentLengths area cells work))
 
-  stored-made : cause ≡ none → (x : NextStore) → nextStore (length area) work r ≡ x → Keeps (storedBy edition1 r area cells x)
+  stored-made : cause ≡ none → (x : NextStore) → testedStore edition1 (length area) work r ≡ x → Keeps (storedBy edition1 r area cells x)
   unfolding storedBy
   stored-made first (At p b) e =
       stored-promise edition1 edition1-roomy r area cells work first p b e refl (advanced-long edition1 r (set area p b) cells)
@@ -147,7 +150,7 @@ module _ (r : Record) (area cells work : List ℕ) where
 
   unless-made : (c : Option Refusal) → cause ≡ c → Keeps (steppedUnless edition1 r area cells work c)
   unfolding steppedUnless
-  unless-made none e = stored-made e (nextStore (length area) work r) refl
+  unless-made none e = stored-made e (testedStore edition1 (length area) work r) refl
   unless-made (some c) e = refused-promise edition1 r area cells work c e refl
 
   pub step-made : Keeps (steppedBy edition1 r area cells work)

@@ -1,4 +1,6 @@
 -- `play::memory::fresh` meets its contract.
+use mathlib.Core.Path.{_∙_, ap}
+use Rattle.play.specs.Book.{poweredOn}
 use borrow.Author.Needs.{needs}
 use Rattle.play.proofs.memory.fresh.Statement.{statement}
 use Rattle.play.proofs.memory.fresh.Tie as tie
@@ -13,4 +15,4 @@ fresh-spec =
     (λ c κs. search needs)
     (λ c κs. search needs)
     (λ c κs. search needs)
-    (λ c. cc))
+    (λ c. c .power-on .ensures ∙ ap (poweredOn _) (c .before .empty .ensures)))

@@ -1,4 +1,6 @@
 -- `play::memory::spread` meets its contract.
+use mathlib.Core.Path.{_∙_, ap}
+use Rattle.play.specs.Book.{poweredOn}
 use borrow.Author.Needs.{needs}
 use Rattle.play.proofs.memory.spread.Statement.{statement}
 use Rattle.play.proofs.memory.spread.Tie as tie
@@ -14,4 +16,4 @@ spread-spec =
     (λ c κs. search needs)
     (λ c κs. search needs)
     (λ c κs. search needs)
-    (λ c. cc))
+    (λ c. c .power-on .ensures ∙ ap (poweredOn _) (c .before .empty .ensures)))

@@ -3,17 +3,31 @@ use borrow.Author.Needs.{needs}
 use native.Mathlib.Omega.{arith}
 use Rattle.segment.specs.Layout.{edition1}
 use Rattle.stepping.specs.FinishLaws.{in-append, in-head, in-clean, with-idle, with-append, with-head, with-clean}
+use Rattle.stepping.specs.AgreeLaws.{append-agrees, head-agrees, clean-agrees}
 use Rattle.stepping.proofs.finish.finish.Statement.{statement}
 use Rattle.stepping.proofs.finish.finish.Tie as tie
 
 finish-append-requires : tie.Need-finish-append-requires
-finish-append-requires c κs = omega (arith, in-append _ (c .before .before .pending .given .1) (c .before .before .before .before .before .before .pre .2))
+unfolding edition1
+finish-append-requires c κs =
+    let d = c .before .before .before .before .before .before in
+    let e = c .before .before .pending .given .1 in
+    let i = in-append (d .args .rec) e (d .pre .3) in
+    (d .pre .0, d .pre .1, d .pre .2, i .0, i .1, append-agrees edition1 (d .args .rec) (d .pre .4) e .version)
 
 finish-head-requires : tie.Need-finish-head-requires
-finish-head-requires c κs = omega (arith, in-head _ (c .before .before .pending2 .given .1) (c .before .before .before .before .before .before .pre .2))
+unfolding edition1
+finish-head-requires c κs =
+    let d = c .before .before .before .before .before .before in
+    let e = c .before .before .pending2 .given .1 in
+    let g = head-agrees edition1 (d .args .rec) (d .pre .4) e in
+    (d .pre .0, d .pre .1, d .pre .2, in-head (d .args .rec) e (d .pre .3) .0, g .1 .version, g .0 .number)
 
 finish-clean-requires : tie.Need-finish-clean-requires
-finish-clean-requires c κs = omega (arith, in-clean _ (c .before .before .pending3 .given .1) (c .before .before .before .before .before .before .pre .2))
+finish-clean-requires c κs =
+    let d = c .before .before .before .before .before .before in
+    let e = c .before .before .pending3 .given .1 in
+    (d .pre .0, d .pre .1, in-clean (d .args .rec) e (d .pre .3) .0, clean-agrees edition1 (d .args .rec) (d .pre .4) e .number)
 
 returns : tie.Need-returns
 returns c = with-idle edition1 _ _ _ (c .before .enum-told .given .1) (c .refused .ensures)

@@ -2,31 +2,25 @@
 use borrow.Author.Needs.{needs}
 use Rattle.segment.specs.Layout.{edition1}
 use Rattle.stepping.specs.Finish.{upFrom}
-use Rattle.stepping.specs.FinishLaws.{clean-spent, clean-goes}
+use Rattle.stepping.specs.FinishLaws.{clean-goes}
 use Rattle.stepping.proofs.finish.finish_clean.Statement.{statement}
 use Rattle.stepping.proofs.finish.finish_clean.Tie as tie
 
 returns : tie.Need-returns
-unfolding edition1
-returns c = clean-spent edition1 _ _ _ _ _ _ (c .before .if1 .taken) (c .refused .ensures)
-
-returns-2 : tie.Need-returns-2
 unfolding upFrom
-returns-2 c =
-    clean-goes edition1 _ _ _ _ _ _ (c .before .before .before .before .before .before .before .before .before .if1 .left) (c .before .before .before .before .before .before .before .before .without-slots .ensures) (c .before .before .before .before .before .before .before .with-slot .ensures) (c .before .before .before .before .before .before .head-done .ensures)
-    (c .before .before .before .rebuild .ensures) (c .told .ensures)
+returns c =
+    clean-goes edition1 _ _ _ _ _ _ (c .before .before .before .before .before .before .before .before .without-slots .ensures) (c .before .before .before .before .before .before .before .with-slot .ensures) (c .before .before .before .before .before .before .head-commit .ensures)
+    (c .before .before .before .rebuild .ensures) (c .answered .ensures)
 
 pub finish-clean-spec : {M : Type 1} → statement M
 finish-clean-spec =
     tie.close
     (tie.spec
     (λ c κs. search needs)
-    returns
-    (λ c κs. search needs)
     (λ c κs. search needs)
     (λ c κs. search needs)
     (λ c. search needs)
     (λ c κs. search needs)
     (λ c κs. search needs)
     (λ c. search needs)
-    returns-2)
+    returns)

@@ -1,33 +1,52 @@
 -- `stepping::finish::finish_entry` meets its contract.
 use borrow.Author.Needs.{needs}
+use native.Mathlib.Omega.{arith}
 use Rattle.segment.specs.Layout.{edition1}
-use Rattle.stepping.specs.FinishLaws.{entry-outside, entry-inside}
+use Rattle.stepping.specs.FinishLaws.{place-fits, entry-object, entry-tombstone, entry-end, entry-damage}
 use Rattle.stepping.proofs.finish.finish_entry.Statement.{statement}
 use Rattle.stepping.proofs.finish.finish_entry.Tie as tie
 
+put-entry-requires : tie.Need-put-entry-requires
+put-entry-requires c κs = let a = c .before .before .before .before .before .before .before .before .before .args in place-fits (a .slot) (a .rec .size) (a .offset) (omega arith) (omega arith) (omega arith)
+
+put-entry-requires-2 : tie.Need-put-entry-requires-2
+put-entry-requires-2 c κs = let a = c .before .before .before .before .before .before .before .before .before .args in place-fits (a .slot) (a .rec .size) (a .offset) (omega arith) (omega arith) (omega arith)
+
 returns : tie.Need-returns
-unfolding edition1
-returns c = entry-outside edition1 _ _ _ _ _ (c .before .if1 .taken) (c .refused .ensures)
+returns c = entry-object edition1 _ _ _ _ _ _ (c .before .before .before .before .before .before .before .read .ensures) (c .before .before .before .before .before .key .given .1) (c .before .before .put-entry .ensures)
 
 returns-2 : tie.Need-returns-2
-unfolding edition1
-returns-2 c =
-    entry-inside edition1 _ _ _ _ _ (c .before .before .before .before .before .before .before .before .before .if1 .left) (c .before .before .before .before .before .before .before .before .read16 .ensures) (c .before .before .before .before .before .before .before .read32 .ensures) (c .before .before .before .before .insert .ensures)
-    (c .before .keys-after .ensures) (c .told .ensures)
+returns-2 c = entry-tombstone edition1 _ _ _ _ _ _ (c .before .before .before .before .before .before .before .read .ensures) (c .before .before .before .before .before .key2 .given .1) (c .before .before .put-entry2 .ensures)
+
+returns-3 : tie.Need-returns-3
+returns-3 c = entry-end edition1 _ _ _ _ _ _ (c .before .before .before .read .ensures) (c .refused .ensures) (c .before .enum-told .given .1)
+
+returns-4 : tie.Need-returns-4
+returns-4 c = entry-damage edition1 _ _ _ _ _ _ (c .before .before .before .read .ensures) (c .refused2 .ensures) (c .before .enum-told2 .given .1)
 
 pub finish-entry-spec : {M : Type 1} → statement M
 finish-entry-spec =
     tie.close
     (tie.spec
     (λ c. search needs)
+    (λ c. search needs)
+    (λ c. search needs)
+    (λ c. search needs)
+    (λ c. search needs)
+    (λ c. search needs)
+    (λ c. search needs)
     (λ c κs. search needs)
+    (λ c. search needs)
+    put-entry-requires
+    (λ c. search needs)
+    put-entry-requires-2
+    (λ c. search needs)
+    (λ c κs. search needs)
+    (λ c. search needs)
+    (λ c κs. search needs)
+    (λ c. search needs)
     returns
     (λ c. search needs)
-    (λ c κs. search needs)
-    (λ c. search needs)
-    (λ c κs. search needs)
-    (λ c κs. search needs)
-    (λ c κs. search needs)
-    (λ c κs. search needs)
-    (λ c. search needs)
-    returns-2)
+    returns-2
+    returns-3
+    returns-4)

@@ -1,0 +1,56 @@
+-- `stepping::agree::agrees` meets its contract.
+use borrow.Author.Needs.{needs}
+use Rattle.segment.specs.Layout.{edition1}
+use Rattle.record.specs.RangeLaws.{ends, goes}
+use Rattle.stepping.specs.AgreeLaws.{agree-idle, agree-append, agree-head, agree-clean}
+use Rattle.stepping.proofs.agree.agrees.Statement.{statement}
+use Rattle.stepping.proofs.agree.agrees.Tie as tie
+
+returns : tie.Need-returns
+returns c = agree-idle edition1 _ (c .enum-told .given .1)
+
+returns-2 : tie.Need-returns-2
+returns-2 c = agree-append edition1 _ (c .before .before .pending .given .1) (c .entry-agrees .ensures)
+
+returns-3 : tie.Need-returns-3
+unfolding edition1
+returns-3 c =
+    agree-head edition1 _ (c .before .before .before .before .pending2 .given .1) (goes _ (c .before .before .slot-agrees .ensures) (c .before .if1 .taken) (c .entry-agrees2 .ensures))
+
+returns-4 : tie.Need-returns-4
+unfolding edition1
+returns-4 c =
+    agree-head edition1 _ (c .before .before .before .pending2 .given .1) (ends _ (c .before .slot-agrees .ensures) (c .if1 .left))
+
+returns-5 : tie.Need-returns-5
+unfolding edition1
+returns-5 c =
+    agree-clean edition1 _ (c .before .before .before .before .pending3 .given .1) (goes _ (c .before .before .slot-agrees2 .ensures) (c .before .if2 .taken) (c .victims-agree .ensures))
+
+returns-6 : tie.Need-returns-6
+unfolding edition1
+returns-6 c =
+    agree-clean edition1 _ (c .before .before .before .pending3 .given .1) (ends _ (c .before .slot-agrees2 .ensures) (c .if2 .left))
+
+pub agrees-spec : {M : Type 1} → statement M
+agrees-spec =
+    tie.close
+    (tie.spec
+    (λ c. search needs)
+    (λ c. search needs)
+    (λ c. search needs)
+    (λ c κs. search needs)
+    (λ c. search needs)
+    (λ c κs. search needs)
+    (λ c. search needs)
+    (λ c κs. search needs)
+    (λ c. search needs)
+    (λ c κs. search needs)
+    (λ c. search needs)
+    (λ c κs. search needs)
+    returns
+    returns-2
+    returns-3
+    returns-4
+    returns-5
+    returns-6)

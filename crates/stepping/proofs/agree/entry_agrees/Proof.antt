@@ -1,0 +1,17 @@
+-- `stepping::agree::entry_agrees` meets its contract.
+use borrow.Author.Needs.{needs}
+use Rattle.segment.specs.Layout.{edition1}
+use Rattle.stepping.specs.AgreeLaws.{entry-spent, entry-rest}
+use Rattle.stepping.proofs.agree.entry_agrees.Statement.{statement}
+use Rattle.stepping.proofs.agree.entry_agrees.Tie as tie
+
+returns : tie.Need-returns
+unfolding edition1
+returns c = entry-spent edition1 _ _ _ (c .if1 .taken)
+
+returns-2 : tie.Need-returns-2
+unfolding edition1
+returns-2 c = entry-rest edition1 _ _ _ (c .if1 .left)
+
+pub entry-agrees-spec : {M : Type 1} → statement M
+entry-agrees-spec = tie.close (tie.spec returns (λ c. search needs) returns-2)

@@ -1,0 +1,58 @@
+-- What a step tests before its store, and what it promises of it: the pending operation agrees with the record, and its next store
+-- has a place. A genuine record with a started operation always passes.
+use Prim.Native.Nat.{ℕ, _+_}
+use mathlib.Core.Path.{_≡_}
+use mathlib.Core.Bool.{Bool, true, false, not}
+use mathlib.Core.List.{List}
+use mathlib.Core.Logic.{_⊎_}
+use mathlib.Core.Option.{none}
+use lib.Dec.{ltb, leb}
+use lib.ListN.{length}
+use Rattle.segment.specs.Choice.{pick, both}
+use Rattle.segment.specs.Layout.{Layout, entrySize, digestSize, versionLimit, numberLimit}
+use Rattle.slot_map.specs.Bit.{named, within}
+use Rattle.record.specs.Answers.{storesLeft}
+use Rattle.record.specs.declared.Pending.{Pending}
+use Rattle.record.specs.declared.Pending.the-variants.{Idle, Append, NewHead, Clean}
+use Rattle.record.specs.declared.Refusal.{Refusal}
+use Rattle.record.specs.declared.Refusal.the-variants.{BadRecord}
+use Rattle.record.specs.declared.StepAnswer.{StepAnswer}
+use Rattle.record.specs.declared.Stepped.{Stepped}
+use Rattle.record.specs.declared.Record.{Record}
+use Rattle.model.specs.Causes.{firstCause}
+use Rattle.model.specs.Refused.{stepCauses}
+use Rattle.model.specs.Promises.{StepRefused, lentLengths}
+use Rattle.stepping.specs.Next.{nextStore}
+use Rattle.stepping.specs.declared.NextStore.{NextStore}
+use Rattle.stepping.specs.declared.NextStore.the-variants.{At, Bad}
+
+-- a version is left, and n bytes hold an entry behind the first `before`
+unfoldable pub entryAgrees : Layout → Record → ℕ → ℕ → Bool
+entryAgrees L r before n = both (ltb (r .next .0) (versionLimit L)) (leb (before + entrySize L 0) n)
+
+-- a new head's slot is below N and outside the map, and a digest number is left
+unfoldable pub slotAgrees : Record → ℕ → Bool
+slotAgrees r i = both (ltb i (r .slots)) (both (ltb (r .digest .0) numberLimit) (not (named (r .map) i)))
+
+-- victims are some and within the map, and n bytes hold a digest
+unfoldable pub victimsAgree : Layout → Record → ℕ → ℕ → Bool
+victimsAgree L r v n = both (leb (digestSize L) n) (both (ltb 0 v) (within v (r .map)))
+
+-- The pending operation agrees with the record, as far as these two tell.
+unfoldable pub agreesWith : Layout → Record → Pending → Bool
+agreesWith L r Idle = false
+agreesWith L r (Append n k) = entryAgrees L r 0 n
+agreesWith L r (NewHead i n k) = both (slotAgrees r i) (entryAgrees L r (digestSize L) n)
+agreesWith L r (Clean i v n k) = both (slotAgrees r i) (victimsAgree L r v n)
+
+-- the next store, where all the tests are passed
+unfoldable pub testedStore : Layout → ℕ → List ℕ → Record → NextStore
+testedStore L areaLength work r = pick (agreesWith L r (r .pending)) (nextStore areaLength work r) Bad
+
+-- Whatever the record: where one of these tests fails the step is refused with 4 and changes nothing. Behind its store a step is
+-- refused only if it is the last one, by what it finds in the log or in the index.
+pub record StepTested (L : Layout) (r : Record) (area area′ cells cells′ work : List ℕ) (a : Stepped) : Type 0 where
+  pub before-store :
+      firstCause (stepCauses L r (lentLengths area cells work)) ≡ none → testedStore L (length area) work r ≡ Bad →
+      StepRefused r area area′ cells cells′ a BadRecord
+  pub behind-store : (c : Refusal) → a .answer ≡ StepAnswer.Refused c → (area′ ≡ area) ⊎ (storesLeft (r .pending) ≡ 1)

@@ -1,0 +1,211 @@
+-- The tests before a step's store at each test of the code, what they say, and that a started operation passes them.
+use Prim.Native.Nat.{ℕ, _+_, _*_, _-_, _≤_, _<_}
+use mathlib.Core.Path.{_≡_, refl, sym, _∙_, ap, subst}
+use mathlib.Core.Bool.{Bool, true, false, not}
+use mathlib.Core.List.{List}
+use native.Mathlib.Omega.{arith}
+use lib.Dec.{eqb, ltb, leb}
+use lib.ListN.{length}
+use borrow.Author.Tests.{lt-ltb, le-ltb, le-leb, lt-leb, ltb-true, leb-true, eqb-false, not-false, not-true}
+use Rattle.segment.specs.Choice.{pick, pick-true, pick-false, both, both-left, both-right, both-true, both-false-left, both-false-right, either-false-left, either-false-right}
+use Rattle.segment.specs.Layout.{Layout, entrySize, digestSize, goodVersion, versionLimit, numberLimit}
+use Rattle.segment.specs.Entry.{Entry, sizeOf}
+use Rattle.slot_map.specs.Bit.{named, within}
+use Rattle.slot_map.specs.BitLaws.{clear-named}
+use Rattle.slot_map.specs.NextLaws.{next-below, next-clear}
+use Rattle.record.specs.Answers.{withPending}
+use Rattle.record.specs.RangeLaws.{Lent}
+use Rattle.record.specs.declared.Pending.{Pending}
+use Rattle.record.specs.declared.Pending.the-variants.{Idle, Append, NewHead, Clean}
+use Rattle.record.specs.declared.Record.{Record}
+use Rattle.model.specs.Operations.{Operation, write, delete, clean, Laid, laid, laidAppend, laidHead, laidEntry, laidClean, logNow, newSlot, fitsHead, kept, allEncoded, writtenEntry, tombstoneEntry}
+use Rattle.model.specs.Refused.{keptLength, startCauses}
+use Rattle.laws.specs.Operated.{Accepted}
+use Rattle.laws.specs.Entering.{Entering, idle-lent, idle-number, write-enters, delete-enters}
+use Rattle.laws.specs.Passed.{CleanPassed, clean-passed}
+use Rattle.stepping.specs.Next.{nextStore}
+use Rattle.stepping.specs.Agree.{entryAgrees, slotAgrees, victimsAgree, agreesWith, testedStore}
+use Rattle.stepping.specs.declared.NextStore.{NextStore}
+use Rattle.stepping.specs.declared.NextStore.the-variants.{At, Bad}
+
+-- ---- at each test of the code
+
+module _ (L : Layout) (r : Record) (before n : ℕ) where
+  pub entry-spent : versionLimit L ≤ r .next .0 → false ≡ entryAgrees L r before n
+  unfolding entryAgrees
+  entry-spent h = sym (both-false-left _ _ (le-ltb (r .next .0) (versionLimit L) h))
+
+  pub entry-rest : r .next .0 < versionLimit L → leb (before + entrySize L 0) n ≡ entryAgrees L r before n
+  unfolding entryAgrees both
+  entry-rest h = rw (lt-ltb (r .next .0) (versionLimit L) h)
+
+module _ (r : Record) (i : ℕ) where
+  pub slot-past : r .slots ≤ i → false ≡ slotAgrees r i
+  unfolding slotAgrees
+  slot-past h = sym (both-false-left _ _ (le-ltb i (r .slots) h))
+
+  pub slot-spent : numberLimit ≤ r .digest .0 → false ≡ slotAgrees r i
+  unfolding slotAgrees
+  slot-spent h = sym (both-false-right _ _ (both-false-left _ _ (le-ltb (r .digest .0) numberLimit h)))
+
+  pub slot-rest : i < r .slots → r .digest .0 < numberLimit → {t : Bool} → t ≡ named (r .map) i → not t ≡ slotAgrees r i
+  unfolding slotAgrees both
+  slot-rest h l e = rw (lt-ltb i (r .slots) h, lt-ltb (r .digest .0) numberLimit l, e)
+
+module _ (L : Layout) (r : Record) (v n : ℕ) where
+  pub victims-short : n < digestSize L → false ≡ victimsAgree L r v n
+  unfolding victimsAgree
+  victims-short h = sym (both-false-left _ _ (lt-leb (digestSize L) n h))
+
+  pub victims-none : v ≡ 0 → false ≡ victimsAgree L r v n
+  unfolding victimsAgree
+  victims-none e = sym (both-false-right _ _ (both-false-left _ _ (le-ltb 0 v (omega arith))))
+
+  pub victims-rest : digestSize L ≤ n → (v ≡ 0 → ⊥) → {t : Bool} → t ≡ within v (r .map) → t ≡ victimsAgree L r v n
+  unfolding victimsAgree both
+  victims-rest h l e = rw (le-leb (digestSize L) n h, lt-ltb 0 v (omega arith)) e
+
+module _ (L : Layout) (r : Record) where
+  pub agree-idle : r .pending ≡ Idle → false ≡ agreesWith L r (r .pending)
+  unfolding agreesWith
+  agree-idle e = sym (ap (agreesWith L r) e)
+
+  pub agree-append : {n k : ℕ} → r .pending ≡ Append n k → {t : Bool} → t ≡ entryAgrees L r 0 n → t ≡ agreesWith L r (r .pending)
+  unfolding agreesWith
+  agree-append e h = h ∙ sym (ap (agreesWith L r) e)
+
+  pub agree-head :
+      {i n k : ℕ} → r .pending ≡ NewHead i n k → {t : Bool} → t ≡ both (slotAgrees r i) (entryAgrees L r (digestSize L) n) →
+      t ≡ agreesWith L r (r .pending)
+  unfolding agreesWith
+  agree-head e h = h ∙ sym (ap (agreesWith L r) e)
+
+  pub agree-clean :
+      {i v n k : ℕ} → r .pending ≡ Clean i v n k → {t : Bool} → t ≡ both (slotAgrees r i) (victimsAgree L r v n) →
+      t ≡ agreesWith L r (r .pending)
+  unfolding agreesWith
+  agree-clean e h = h ∙ sym (ap (agreesWith L r) e)
+
+-- ---- the next store behind these tests; t is what the code finds for them
+
+module _ (L : Layout) (areaLength : ℕ) (work : List ℕ) (r : Record) {t : Bool} (found : t ≡ agreesWith L r (r .pending)) where
+  pub tested-unfit : not t ≡ true → testedStore L areaLength work r ≡ Bad
+  unfolding testedStore
+  tested-unfit e = pick-false _ _ _ (sym found ∙ not-true t e)
+
+  module _ (fits : not t ≡ false) where
+    pub agrees-found : agreesWith L r (r .pending) ≡ true
+    agrees-found = sym found ∙ not-false t fits
+
+    pub tested-next : {x : NextStore} → nextStore areaLength work r ≡ x → testedStore L areaLength work r ≡ x
+    unfolding testedStore
+    tested-next e = pick-true _ _ _ agrees-found ∙ e
+
+-- ---- what the tests say
+
+pub record EntryIn (L : Layout) (r : Record) (before n : ℕ) : Type 0 where
+  pub version : r .next .0 < versionLimit L
+  pub long : before + entrySize L 0 ≤ n
+
+pub record SlotIn (r : Record) (i : ℕ) : Type 0 where
+  pub below : i < r .slots
+  pub number : r .digest .0 < numberLimit
+
+pub entry-in : (L : Layout) (r : Record) (before n : ℕ) → entryAgrees L r before n ≡ true → EntryIn L r before n
+unfolding entryAgrees
+entry-in L r before n e =
+    record { version = ltb-true (r .next .0) (versionLimit L) (both-left _ _ e); long = leb-true (before + entrySize L 0) n (both-right _ _ e) }
+
+pub slot-in : (r : Record) (i : ℕ) → slotAgrees r i ≡ true → SlotIn r i
+unfolding slotAgrees
+slot-in r i e =
+    record { below = ltb-true i (r .slots) (both-left _ _ e); number = ltb-true (r .digest .0) numberLimit (both-left _ _ (both-right _ _ e)) }
+
+module _ (L : Layout) (r : Record) (e : agreesWith L r (r .pending) ≡ true) where
+  pub append-agrees : {n k : ℕ} → r .pending ≡ Append n k → EntryIn L r 0 n
+  unfolding agreesWith
+  append-agrees {n} q = entry-in L r 0 n (sym (ap (agreesWith L r) q) ∙ e)
+
+  pub head-agrees : {i n k : ℕ} → r .pending ≡ NewHead i n k → SlotIn r i × EntryIn L r (digestSize L) n
+  unfolding agreesWith
+  head-agrees {i} {n} q =
+      let w : both (slotAgrees r i) (entryAgrees L r (digestSize L) n) ≡ true = sym (ap (agreesWith L r) q) ∙ e in
+      (slot-in r i (both-left _ _ w), entry-in L r (digestSize L) n (both-right _ _ w))
+
+  pub clean-agrees : {i v n k : ℕ} → r .pending ≡ Clean i v n k → SlotIn r i
+  unfolding agreesWith
+  clean-agrees {i} {v} {n} q =
+      let w : both (slotAgrees r i) (victimsAgree L r v n) ≡ true = sym (ap (agreesWith L r) q) ∙ e in
+      slot-in r i (both-left _ _ w)
+
+-- ---- what is laid down by a start that is accepted agrees with the record
+
+module _ (L : Layout) (before : List ℕ) (idle : Record) where
+  -- what is laid down, with any number of stores left
+  abbrev Agrees : Laid → Type 0
+  Agrees l = (k : ℕ) → agreesWith L (withPending idle (l .pending k)) (l .pending k) ≡ true
+
+  new-slot-agrees : (p : Pending) → Lent L idle (length before) (idle .cells) → idle .digest .0 < numberLimit → slotAgrees (withPending idle p) (newSlot idle) ≡ true
+  unfolding slotAgrees
+  new-slot-agrees p f h =
+      both-true _ _ (lt-ltb (newSlot idle) (idle .slots) (next-below (idle .slots) (idle .map) (idle .head) (f .head-below) (f .some-free)))
+      (both-true _ _ (lt-ltb (idle .digest .0) numberLimit h)
+      (ap not (clear-named (idle .map) (newSlot idle) (next-clear (idle .slots) (idle .map) (idle .head) (f .head-below) (f .some-free)))))
+
+  module _ (facts : Lent L idle (length before) (idle .cells)) (e : Entry) (f : Entering L before idle e) where
+    pub version-left : idle .next .0 < versionLimit L
+    unfolding goodVersion
+    version-left =
+        omega (
+          arith,
+          ltb-true (e .version) (versionLimit L) (both-right (ltb 0 (e .version)) (ltb (e .version) (versionLimit L)) (f .formed .version-good)),
+          f .takes .version,
+        )
+
+    entry-laid : (p : Pending) (o n : ℕ) → o + sizeOf L e ≤ n → entryAgrees L (withPending idle p) o n ≡ true
+    unfolding entryAgrees
+    entry-laid p o n h =
+        both-true _ _ (lt-ltb (idle .next .0) (versionLimit L) version-left) (le-leb (o + entrySize L 0) n (omega arith))
+
+    entry-agrees : Agrees (laidEntry L idle e)
+    unfolding pick agreesWith
+    entry-agrees = go (fitsHead L idle e) refl
+      where
+        go : (t : Bool) → fitsHead L idle e ≡ t → Agrees (pick t (laidAppend L e) (laidHead L idle e))
+        go true p k = entry-laid (laidAppend L e .pending k) 0 (sizeOf L e) (omega arith)
+        go false p k =
+            both-true _ _ (new-slot-agrees (laidHead L idle e .pending k) facts (f .number-left p))
+            (entry-laid (laidHead L idle e .pending k) (digestSize L) (digestSize L + sizeOf L e) (omega arith))
+
+  pub clean-tests :
+      (victims : ℕ) (a : Accepted L before idle (clean victims)) →
+      (within victims (idle .map) ≡ true) × (idle .digest .0 < numberLimit) × (0 < victims)
+  unfolding startCauses
+  clean-tests victims a =
+      let tests : CleanPassed L idle (a .lengths) (keptLength L (logNow L before idle) victims) victims =
+      clean-passed L idle (a .lengths) (keptLength L (logNow L before idle) victims) victims (a .no-cause) in
+      let some : victims ≡ 0 → ⊥ = eqb-false victims 0 (either-false-left _ _ (tests .victims-good)) in (
+        not-false (within victims (idle .map)) (either-false-right _ _ (tests .victims-good)),
+        omega (
+          arith,
+          idle-number L before idle (clean victims) a,
+          eqb-false (idle .digest .0) numberLimit (tests .number-left),
+        ),
+        omega arith,
+      )
+
+  clean-laid : (victims : ℕ) → Accepted L before idle (clean victims) → Agrees (laidClean L idle (logNow L before idle) victims)
+  unfolding agreesWith victimsAgree
+  clean-laid victims a k =
+      let t = clean-tests victims a in
+      both-true _ _ (new-slot-agrees (laidClean L idle (logNow L before idle) victims .pending k) (idle-lent L before idle (clean victims) a) (t .1))
+      (both-true _ _ (le-leb (digestSize L) (digestSize L + length (allEncoded L (kept victims (logNow L before idle)))) (omega arith))
+      (both-true _ _ (lt-ltb 0 victims (t .2)) (t .0)))
+
+  pub laid-agrees : (o : Operation) → Accepted L before idle o → Agrees (laid L idle (logNow L before idle) o)
+  unfolding laid
+  laid-agrees (write key value) a =
+      entry-agrees (idle-lent L before idle (write key value) a) (writtenEntry idle key value) (write-enters L before idle key value a)
+  laid-agrees (delete key) a =
+      entry-agrees (idle-lent L before idle (delete key) a) (tombstoneEntry idle key) (delete-enters L before idle key a)
+  laid-agrees (clean victims) a = clean-laid victims a
