@@ -3,7 +3,7 @@ use Prim.Native.Nat.{ℕ, _+_, _*_, _-_, _≤_}
 use mathlib.Core.Path.{_≡_, refl, sym, _∙_, ap}
 use mathlib.Core.Bool.{Bool, true, false, not}
 use mathlib.Core.Option.{Option, none, some}
-use mathlib.Core.List.{List, [], _++_}
+use mathlib.Core.List.{List, [], _∷_, _++_}
 use native.Mathlib.Omega.{arith}
 use lib.Dec.{eqb}
 use lib.ListN.{length, length-append}
@@ -15,23 +15,26 @@ use Rattle.segment.specs.Layout.{Layout, digestSize}
 use Rattle.segment.specs.Digest.{encodedDigest}
 use Rattle.segment.specs.DigestLaws.{length-encodedDigest}
 use Rattle.slot_map.specs.Bit.{within}
-use Rattle.record.specs.RangeLaws.{Lent}
+use Rattle.record.specs.Range.{fitsLent}
+use Rattle.record.specs.RangeLaws.{Lent, lent}
 use Rattle.record.specs.declared.Pending.the-variants.{Clean}
 use Rattle.record.specs.declared.Refusal.{Refusal}
-use Rattle.record.specs.declared.Refusal.the-variants.{BadRecord, WorkShort, Busy, BadVictims}
+use Rattle.record.specs.declared.Refusal.the-variants.{BadRecord, WorkShort, Busy, BadVictims, KeptTooLong, NumbersSpent}
 use Rattle.record.specs.declared.Start.{Start}
 use Rattle.record.specs.declared.Record.{Record}
 use Rattle.model.specs.Log.{Placed}
-use Rattle.model.specs.Causes.{Cause, firstCause}
+use Rattle.model.specs.Causes.{Cause, when, firstCause}
 use Rattle.model.specs.Operations.{clean, logNow, newSlot, newDigest, kept, allEncoded, laid, planOf}
-use Rattle.model.specs.Refused.{Lengths, recordBad, workShort, isPending, victimsBad, cleanCauses, startCauses}
+use Rattle.model.specs.Refused.{Lengths, recordBad, workShort, isPending, victimsBad, keptTooLong, numbersSpent, cleanCauses, startCauses}
 use Rattle.model.specs.Promises.{Begun, begun, Genuine, lentLengths, StartPromise}
 use Rattle.laws.specs.CauseLaws.{cause-first}
 use Rattle.laws.specs.SaidLaws.{start-settled}
 use Rattle.starting.specs.Stores.{headStores, head-stores}
+use Rattle.starting.specs.Checks.{idleCauses}
 use Rattle.starting.specs.NewHead.{NumberLeft}
 use Rattle.starting.specs.Answer.{startedWith, refusedStart}
 use Rattle.cleaning.specs.Entries.{SplitFits}
+use Rattle.cleaning.specs.Marks.{marksOf}
 use Rattle.cleaning.specs.Kept.{keptBytes}
 use Rattle.cleaning.specs.KeptModel.{splitOf, bytes-kept}
 use Rattle.cleaning.specs.declared.Split.{Split}
@@ -46,10 +49,19 @@ pub record CleanReady (L : Layout) (r : Record) (victims : ℕ) : Type 0 where
   pub all-named : within victims (r .map) ≡ true
   pub number-left : NumberLeft r
 
+-- The same before the digest number is tested, with the slots parted, 128 words of marks and a work buffer of S bytes at least.
+pub record CleanFits (L : Layout) (r : Record) (victims : ℕ) (split : Split) (area marks work : List ℕ) : Type 0 where
+  pub areaLength : ℕ
+  pub indexLength : ℕ
+  pub lent : Lent L r areaLength indexLength
+  pub all-named : within victims (r .map) ≡ true
+  pub shape : SplitFits split area marks
+  pub long : r .size ≤ length work
+
 -- The new head's bytes fit a segment, and the work buffer.
-pub record Room (L : Layout) (r : Record) (split : Split) (area cells work : List ℕ) : Type 0 where
-  pub shape : SplitFits split area
-  pub fits : digestSize L + length (keptBytes L area cells split) ≤ r .size
+pub record Room (L : Layout) (r : Record) (split : Split) (area cells marks work : List ℕ) : Type 0 where
+  pub shape : SplitFits split area marks
+  pub fits : digestSize L + length (keptBytes L area cells marks split) ≤ r .size
   pub long : r .size ≤ length work
 
 -- ---- the answer
@@ -67,7 +79,17 @@ begunWith L r victims work bytes none =
     }
 begunWith L r victims work bytes (some c) = record { start = refusedStart r c; work = work }
 
--- the causes of a cleaning that keeps these bytes
+-- the causes that are tested before anything is measured, and those after it, for n bytes kept
+unfoldable pub frontCauses : Layout → Record → Lengths → ℕ → List Cause
+frontCauses L r l victims = when (recordBad L r l) BadRecord ∷ idleCauses r (l .work) ++ (when (victimsBad r victims) BadVictims ∷ [])
+
+unfoldable pub keptCauses : Layout → Record → ℕ → List Cause
+keptCauses L r n = when (keptTooLong L r n) KeptTooLong ∷ when (numbersSpent r) NumbersSpent ∷ []
+
+unfoldable pub markedWith : Layout → Record → ℕ → List ℕ → List ℕ → Begun
+markedWith L r victims work bytes = begunWith L r victims work bytes (firstCause (keptCauses L r (length bytes)))
+
+-- the causes of a cleaning that keeps these bytes: 01's, which are those two parts
 unfoldable pub causesWith : Layout → Record → Lengths → List ℕ → ℕ → List Cause
 causesWith L r l bytes victims = cleanCauses L r l (length bytes) victims
 
@@ -127,7 +149,25 @@ module _ (L : Layout) (area cells : List ℕ) (r : Record) (victims : ℕ) (work
   lengths = lentLengths area cells work
 
   abbrev code-bytes : List ℕ
-  code-bytes = keptBytes L area cells (splitOf r victims)
+  code-bytes = keptBytes L area cells (marksOf L area cells (splitOf r victims)) (splitOf r victims)
+
+  abbrev its-bytes : List ℕ
+  its-bytes = allEncoded L (kept victims (logNow L area r))
+
+  -- the bytes are the model's where the record is in range and the victims are good, and else they do not matter
+  same-bytes : Bytes area → Genuine L area r cells → cleanedWith L r victims lengths work code-bytes ≡ cleanedWith L r victims lengths work its-bytes
+  unfolding begunWith causesWith
+  same-bytes bytes g = go (recordBad L r lengths) refl (victimsBad r victims) refl
+    where
+      go : (t : Bool) → recordBad L r lengths ≡ t → (v : Bool) → victimsBad r victims ≡ v →
+          cleanedWith L r victims lengths work code-bytes ≡ cleanedWith L r victims lengths work its-bytes
+      go true bad v e = ap (begunWith L r victims work code-bytes) (cause-first _ _ bad) ∙ sym (ap (begunWith L r victims work its-bytes) (cause-first _ _ bad))
+      go false fit true bad = bad-alike L r victims lengths work code-bytes its-bytes bad
+      go false fit false good =
+          let f = lent L r (length area) (length cells) (not-false (fitsLent L r (length area) (length cells)) fit) in
+          ap (cleanedWith L r victims lengths work)
+          (bytes-kept L area cells r g victims (not-false _ (either-false-right (eqb victims 0) (not (within victims (r .map))) good))
+          (omega (arith, f .cells-high, f .index-own)) bytes)
 
   pub cleaned-promise : Bytes area → record { start = a; work = work′ } ≡ cleanedWith L r victims lengths work code-bytes →
       StartPromise L (clean victims) r area cells work work′ a
@@ -137,18 +177,14 @@ module _ (L : Layout) (area cells : List ℕ) (r : Record) (victims : ℕ) (work
         same-length =
             ap (λ (b : Begun). length (b .work)) e ∙ begun-long L r victims lengths work code-bytes (firstCause (causesWith L r lengths code-bytes victims));
         unfit = unfit;
-        exact = λ g. e ∙ exact g (victimsBad r victims) refl ∙ cleaned-same L r (logNow L area r) victims work lengths;
-        says =
-            start-settled L (clean victims) r area cells work work′ a unfit
-            (λ g. e ∙ exact g (victimsBad r victims) refl ∙ cleaned-same L r (logNow L area r) victims work lengths);
+        exact = exact;
+        says = start-settled L (clean victims) r area cells work work′ a unfit exact;
       }
     where
       unfit : recordBad L r lengths ≡ true → record { start = a; work = work′ } ≡ begun L r [] (clean victims) work (some BadRecord)
       unfit bad = e ∙ ap (begunWith L r victims work code-bytes) (cause-first _ _ bad)
 
-      exact : Genuine L area r cells → (t : Bool) → victimsBad r victims ≡ t →
-          cleanedWith L r victims lengths work code-bytes ≡ cleanedWith L r victims lengths work (allEncoded L (kept victims (logNow L area r)))
-      exact g true bad = bad-alike L r victims lengths work code-bytes (allEncoded L (kept victims (logNow L area r))) bad
-      exact g false good =
-          ap (cleanedWith L r victims lengths work)
-          (bytes-kept L area cells r g victims (not-false _ (either-false-right (eqb victims 0) (not (within victims (r .map))) good)) bytes)
+      exact :
+          Genuine L area r cells → record { start = a; work = work′ } ≡
+          begun L r (logNow L area r) (clean victims) work (firstCause (startCauses L r (logNow L area r) lengths (clean victims)))
+      exact g = e ∙ same-bytes bytes g ∙ cleaned-same L r (logNow L area r) victims work lengths

@@ -26,21 +26,23 @@ use Rattle.record.specs.declared.Refusal.{Refusal}
 use Rattle.record.specs.declared.Refusal.the-variants.{BadRecord, BadVictims, KeptTooLong, NumbersSpent}
 use Rattle.record.specs.declared.Start.{Start}
 use Rattle.record.specs.declared.Record.{Record}
-use Rattle.model.specs.Causes.{when, firstCause}
+use Rattle.model.specs.Causes.{Cause, firstCause}
 use Rattle.model.specs.Operations.{clean, newSlot, newDigest}
-use Rattle.model.specs.Refused.{Lengths, victimsBad, numbersSpent}
-use Rattle.model.specs.Promises.{lentLengths, StartPromise}
-use Rattle.laws.specs.Passed.{CleanPassed, clean-passed}
+use Rattle.model.specs.Refused.{Lengths, victimsBad}
+use Rattle.model.specs.Promises.{Begun, lentLengths, StartPromise}
+use Rattle.laws.specs.CauseLaws.{cause-false, cause-rest, no-cause, first-some, first-none}
 use Rattle.starting.specs.declared.Check.{Check}
 use Rattle.starting.specs.Stores.{headStores}
 use Rattle.starting.specs.Checks.{checked, idleCauses}
 use Rattle.starting.specs.CheckLaws.{refused, skipped, passed, checked-some, checked-none, record-bad, idle-refuses, idle-goes}
+use Rattle.starting.specs.NewHead.{NumberLeft}
 use Rattle.starting.specs.Answer.{startedWith, refusedStart}
 use Rattle.cleaning.specs.Entries.{SplitFits}
+use Rattle.cleaning.specs.Marks.{marksOf}
 use Rattle.cleaning.specs.Kept.{keptBytes}
 use Rattle.cleaning.specs.KeptModel.{splitOf}
 use Rattle.cleaning.specs.Copied.{Copied}
-use Rattle.cleaning.specs.Begun.{CleanReady, Room, cleaningWith, begunWith, causesWith, cleaned-promise}
+use Rattle.cleaning.specs.Begun.{CleanReady, CleanFits, Room, cleaningWith, frontCauses, keptCauses, begunWith, markedWith, causesWith, cleaned-promise}
 use Rattle.cleaning.specs.declared.Split.{Split}
 
 -- ---- single tests
@@ -55,105 +57,150 @@ module _ (r : Record) (victims : ℕ) where
 
 -- ---- the tests of a start, by what they told
 
--- t is what the code finds for the range and the lengths, v for the victims, and n for the length of what is kept
-module _ (L : Layout) (r : Record) (l : Lengths) (bytes : List ℕ) (victims : ℕ) {t : Bool} (e : t ≡ fitsLent L r (l .area) (l .index)) where
-  abbrev CleanIs : Check → Type 0
-  CleanIs a = a ≡ checked (firstCause (causesWith L r l bytes victims))
+-- t is what the code finds for the range and the lengths, and v for the victims
+module _ (L : Layout) (r : Record) (l : Lengths) (victims : ℕ) {t : Bool} (e : t ≡ fitsLent L r (l .area) (l .index)) where
+  abbrev FrontIs : Check → Type 0
+  FrontIs a = a ≡ checked (firstCause (frontCauses L r l victims))
 
-  pub clean-bad : not t ≡ true → CleanIs (Check.Refused BadRecord)
-  unfolding causesWith
-  clean-bad h = refused _ _ (record-bad L r l e h)
+  pub front-bad : not t ≡ true → FrontIs (Check.Refused BadRecord)
+  unfolding frontCauses
+  front-bad h = refused _ _ (record-bad L r l e h)
 
   module _ (fits : not t ≡ false) where
-    pub clean-idle : (c : Refusal) → Check.Refused c ≡ checked (firstCause (idleCauses r (l .work))) → CleanIs (Check.Refused c)
-    unfolding causesWith idleCauses
-    clean-idle c h = idle-refuses L r l e fits _ c h
+    pub front-idle : (c : Refusal) → Check.Refused c ≡ checked (firstCause (idleCauses r (l .work))) → FrontIs (Check.Refused c)
+    unfolding frontCauses
+    front-idle c h = idle-refuses L r l e fits _ c h
 
     module _ (idle : Check.Passed ≡ checked (firstCause (idleCauses r (l .work)))) (v : Bool) (d : v ≡ victimsBad r victims) where
-      pub clean-victims : v ≡ true → CleanIs (Check.Refused BadVictims)
-      unfolding causesWith idleCauses
-      clean-victims h = idle-goes L r l e fits _ idle (refused _ _ (sym d ∙ h))
+      pub front-victims : v ≡ true → FrontIs (Check.Refused BadVictims)
+      unfolding frontCauses
+      front-victims h = idle-goes L r l e fits _ idle (refused _ _ (sym d ∙ h))
 
-      module _ (good : v ≡ false) (n : ℕ) (m : n ≡ length bytes) where
-        pub clean-long : r .size < digestSize L + n → CleanIs (Check.Refused KeptTooLong)
-        unfolding causesWith idleCauses
-        clean-long h =
-            idle-goes L r l e fits _ idle
-            (skipped _ _ (sym d ∙ good) (refused _ _ (lt-ltb (r .size) (digestSize L + length bytes) (omega arith))))
+      pub front-passed : v ≡ false → FrontIs Check.Passed
+      unfolding frontCauses
+      front-passed h = idle-goes L r l e fits _ idle (skipped _ _ (sym d ∙ h) passed)
 
-        module _ (short : digestSize L + n ≤ r .size) where
-          own : {a : Check} → a ≡ checked (firstCause (when (numbersSpent r) NumbersSpent ∷ [])) → CleanIs a
-          unfolding causesWith idleCauses
-          own h =
-              idle-goes L r l e fits _ idle
-              (skipped _ _ (sym d ∙ good) (skipped _ _ (le-ltb (r .size) (digestSize L + length bytes) (omega arith)) h))
+-- n is the length of what is kept
+module _ (L : Layout) (r : Record) (n : ℕ) where
+  pub kept-long : r .size < digestSize L + n → Check.Refused KeptTooLong ≡ checked (firstCause (keptCauses L r n))
+  unfolding keptCauses
+  kept-long h = refused _ _ (lt-ltb (r .size) (digestSize L + n) h)
 
-          pub clean-spent : r .digest .0 ≡ numberLimit → CleanIs (Check.Refused NumbersSpent)
-          clean-spent h = own (refused _ _ (eq-eqb (r .digest .0) numberLimit h))
+  module _ (fits : digestSize L + n ≤ r .size) where
+    pub kept-spent : r .digest .0 ≡ numberLimit → Check.Refused NumbersSpent ≡ checked (firstCause (keptCauses L r n))
+    unfolding keptCauses
+    kept-spent h = skipped _ _ (le-ltb (r .size) (digestSize L + n) fits) (refused _ _ (eq-eqb (r .digest .0) numberLimit h))
 
-          pub clean-all : (r .digest .0 ≡ numberLimit → ⊥) → CleanIs Check.Passed
-          clean-all h = own (skipped _ _ (ne-eqb (r .digest .0) numberLimit h) passed)
+    pub kept-passed : (r .digest .0 ≡ numberLimit → ⊥) → Check.Passed ≡ checked (firstCause (keptCauses L r n))
+    unfolding keptCauses
+    kept-passed h = skipped _ _ (le-ltb (r .size) (digestSize L + n) fits) (skipped _ _ (ne-eqb (r .digest .0) numberLimit h) passed)
+
+  -- what is known once they are passed
+  pub record KeptPassed : Type 0 where
+    pub fits : digestSize L + n ≤ r .size
+    pub number-left : NumberLeft r
+
+  pub passed-kept : Check.Passed ≡ checked (firstCause (keptCauses L r n)) → KeptPassed
+  unfolding keptCauses
+  passed-kept e =
+      let c = checked-none (firstCause (keptCauses L r n)) e in
+      record {
+        fits = ltb-false (r .size) (digestSize L + n) (cause-false _ _ c);
+        number-left = eqb-false (r .digest .0) numberLimit (cause-false _ _ (cause-rest _ _ c));
+      }
+
+-- ---- a cleaning once the cells are marked: n is what the code measures
+
+module _ (L : Layout) (r : Record) (victims : ℕ) (work bytes : List ℕ) (n : ℕ) (m : n ≡ length bytes) where
+  here : (a : Check) → a ≡ checked (firstCause (keptCauses L r n)) → a ≡ checked (firstCause (keptCauses L r (length bytes)))
+  here a e = e ∙ ap (λ (k : ℕ). checked (firstCause (keptCauses L r k))) m
+
+  pub marked-refused : (c : Refusal) → Check.Refused c ≡ checked (firstCause (keptCauses L r n)) → (a : Start) → a ≡ refusedStart r c →
+      record { start = a; work = work } ≡ markedWith L r victims work bytes
+  unfolding begunWith markedWith
+  marked-refused c e a is =
+      ap (λ (s : Start). record { start = s; work = work }) is
+      ∙ ap (begunWith L r victims work bytes) (sym (checked-some _ c (here (Check.Refused c) e)))
+
+  pub marked-begun : {b : Begun} → Check.Passed ≡ checked (firstCause (keptCauses L r n)) → b ≡ begunWith L r victims work bytes none →
+      b ≡ markedWith L r victims work bytes
+  unfolding markedWith
+  marked-begun e h = h ∙ ap (begunWith L r victims work bytes) (sym (checked-none _ (here Check.Passed e)))
+
+-- what the code may rely on then
+module _ {L : Layout} {r : Record} {victims : ℕ} {split : Split} {area marks work : List ℕ} (f : CleanFits L r victims split area marks work)
+    (cells : List ℕ) (n : ℕ) (m : n ≡ length (keptBytes L area cells marks split)) (e : Check.Passed ≡ checked (firstCause (keptCauses L r n))) where
+  pub ready : CleanReady L r victims
+  ready =
+      record {
+        areaLength = f .areaLength;
+        indexLength = f .indexLength;
+        lent = f .lent;
+        all-named = f .all-named;
+        number-left = passed-kept L r n e .number-left;
+      }
+
+  pub room : Room L r split area cells marks work
+  room = record { shape = f .shape; fits = omega (arith, passed-kept L r n e .fits, m); long = f .long }
 
 -- ---- the promise at each answer
 
-module _ (L : Layout) (area cells : List ℕ) (r : Record) (victims : ℕ) (work : List ℕ) (bytes : Bytes area) where
-  -- the first cause of this start
-  abbrev pub causeHere : Option Refusal
-  causeHere = firstCause (causesWith L r (lentLengths area cells work) (keptBytes L area cells (splitOf r victims)) victims)
+pub split-shape : (L : Layout) (r : Record) (i victims : ℕ) (area marks : List ℕ) (split : Split) → Lent L r (length area) i → split ≡ splitOf r victims →
+    length marks ≡ 128 → SplitFits split area marks
+split-shape L r i victims area marks split f is long =
+    subst (λ (s : Split). SplitFits s area marks) (sym is)
+    (record { slots-high = f .slots-high; size-low = f .size-low; size-high = f .size-high; whole = f .area-own; marks-long = long })
 
-  pub refused-promise : (c : Refusal) → Check.Refused c ≡ checked causeHere → (a : Start) → a ≡ refusedStart r c → StartPromise L (clean victims) r area cells work work a
-  unfolding begunWith
-  refused-promise c e a is =
+module _ (L : Layout) (area cells : List ℕ) (r : Record) (victims : ℕ) (work : List ℕ) where
+  -- the whole answer, and what the first tests leave of it
+  abbrev front : List Cause
+  front = frontCauses L r (lentLengths area cells work) victims
+
+  pub front-refused : Bytes area → (c : Refusal) → Check.Refused c ≡ checked (firstCause front) → (a : Start) → a ≡ refusedStart r c →
+      StartPromise L (clean victims) r area cells work work a
+  unfolding begunWith causesWith frontCauses keptCauses idleCauses
+  front-refused bytes c e a is =
       cleaned-promise L area cells r victims work work a bytes
       (ap (λ (s : Start). record { start = s; work = work }) is
-      ∙ ap (begunWith L r victims work (keptBytes L area cells (splitOf r victims))) (sym (checked-some causeHere c e)))
+      ∙ ap (begunWith L r victims work (keptBytes L area cells (marksOf L area cells (splitOf r victims)) (splitOf r victims)))
+      (sym
+      (first-some front (keptCauses L r (length (keptBytes L area cells (marksOf L area cells (splitOf r victims)) (splitOf r victims)))) c
+      (checked-some (firstCause front) c e))))
 
-  pub begun-promise : (work′ : List ℕ) (a : Start) (split : Split) → Check.Passed ≡ checked causeHere → split ≡ splitOf r victims →
-      record { start = a; work = work′ } ≡ begunWith L r victims work (keptBytes L area cells split) none →
-      StartPromise L (clean victims) r area cells work work′ a
-  begun-promise work′ a split e is begun =
-      cleaned-promise L area cells r victims work work′ a bytes
-      (begun
-      ∙ ap (λ (s : Split). begunWith L r victims work (keptBytes L area cells s) none) is
-      ∙ ap (begunWith L r victims work (keptBytes L area cells (splitOf r victims))) (sym (checked-none causeHere e)))
-
--- ---- what the parts of a start ask
-
-pub split-shape : (L : Layout) (r : Record) (i victims : ℕ) (area : List ℕ) (split : Split) → Lent L r (length area) i → split ≡ splitOf r victims → SplitFits split area
-split-shape L r i victims area split f is =
-    subst (λ (s : Split). SplitFits s area) (sym is)
-    (record { slots-high = f .slots-high; size-low = f .size-low; size-high = f .size-high; whole = f .area-own })
-
--- all tests are passed
-module _ (L : Layout) (area cells : List ℕ) (r : Record) (victims : ℕ) (work : List ℕ) (split : Split) (is : split ≡ splitOf r victims)
-    (e : Check.Passed ≡ checked (firstCause (causesWith L r (lentLengths area cells work) (keptBytes L area cells (splitOf r victims)) victims)))
-  where
-    tests : CleanPassed L r (lentLengths area cells work) (length (keptBytes L area cells (splitOf r victims))) victims
-    unfolding causesWith
-    tests = clean-passed L r (lentLengths area cells work) (length (keptBytes L area cells (splitOf r victims))) victims (checked-none _ e)
-
+  module _ (e : Check.Passed ≡ checked (firstCause front)) where
     in-range : Lent L r (length area) (length cells)
-    in-range = lent L r (length area) (length cells) (not-false _ (tests .record-good))
+    unfolding frontCauses
+    in-range = lent L r (length area) (length cells) (not-false _ (cause-false _ _ (checked-none (firstCause front) e)))
 
-    pub ready : CleanReady L r victims
-    ready =
+    pub front-shape : (marks : List ℕ) (split : Split) → split ≡ splitOf r victims → length marks ≡ 128 → SplitFits split area marks
+    front-shape marks split is long = split-shape L r (length cells) victims area marks split in-range is long
+
+    pub front-fits : (marks : List ℕ) (split : Split) → split ≡ splitOf r victims → length marks ≡ 128 → CleanFits L r victims split area marks work
+    unfolding frontCauses idleCauses
+    front-fits marks split is long =
+        let t = no-cause front (checked-none (firstCause front) e) in
         record {
           areaLength = length area;
           indexLength = length cells;
           lent = in-range;
-          all-named = not-false _ (either-false-right (eqb victims 0) (not (within victims (r .map))) (tests .victims-good));
-          number-left = eqb-false (r .digest .0) numberLimit (tests .number-left);
+          all-named = not-false _ (either-false-right (eqb victims 0) (not (within victims (r .map))) (t .1 .1 .1 .0));
+          shape = front-shape marks split is long;
+          long = ltb-false (length work) (r .size) (t .1 .0);
         }
 
-    pub room : Room L r split area cells work
-    room =
-        record {
-          shape = split-shape L r (length cells) victims area split in-range is;
-          fits =
-              subst (λ (s : Split). digestSize L + length (keptBytes L area cells s) ≤ r .size) (sym is)
-              (ltb-false (r .size) (digestSize L + length (keptBytes L area cells (splitOf r victims))) (tests .kept-fits));
-          long = ltb-false (length work) (r .size) (tests .work-long);
-        }
+    pub marked-promise : Bytes area → (marks : List ℕ) (split : Split) → split ≡ splitOf r victims → marks ≡ marksOf L area cells split →
+        (work′ : List ℕ) (a : Start) → record { start = a; work = work′ } ≡ markedWith L r victims work (keptBytes L area cells marks split) →
+        StartPromise L (clean victims) r area cells work work′ a
+    unfolding causesWith frontCauses keptCauses idleCauses markedWith
+    marked-promise bytes marks split is its work′ a h =
+        cleaned-promise L area cells r victims work work′ a bytes
+        (h
+        ∙ ap (λ (l : List ℕ). markedWith L r victims work (keptBytes L area cells l split)) its
+        ∙ ap (λ (s : Split). markedWith L r victims work (keptBytes L area cells (marksOf L area cells s) s)) is
+        ∙ ap (begunWith L r victims work (keptBytes L area cells (marksOf L area cells (splitOf r victims)) (splitOf r victims)))
+        (sym
+        (first-none front (keptCauses L r (length (keptBytes L area cells (marksOf L area cells (splitOf r victims)) (splitOf r victims))))
+        (checked-none (firstCause front) e))))
 
 -- ---- the work buffer filled and the answer
 

@@ -20,12 +20,13 @@ use Rattle.cleaning.specs.declared.Next.the-variants as N
 
 -- ---- the slots of an area
 
--- N and S within their limits, and the area N × S bytes long, as the range test has found them.
-pub record SplitFits (split : Split) (area : List ℕ) : Type 0 where
+-- N and S within their limits, and the area N × S bytes long, as the range test has found them; and 128 words of marks.
+pub record SplitFits (split : Split) (area marks : List ℕ) : Type 0 where
   pub slots-high : split .slots ≤ 32
   pub size-low : 256 ≤ split .size
   pub size-high : split .size ≤ 2048
   pub whole : length area ≡ split .slots * split .size
+  pub marks-long : length marks ≡ 128
 
 -- the entries of a slot
 abbrev pub slotItems : Layout → List ℕ → ℕ → ℕ → List Item
@@ -43,9 +44,12 @@ nextOf L damage = N.Stop
 
 -- ---- an object of a key
 
+abbrev pub isKeyOf : Key → Header → Bool
+isKeyOf k h = both (eqb (k .table) (h .key .table)) (eqb (k .key) (h .key .key))
+
 -- an entry that is an object of the key
 unfoldable pub isObject : Key → Header → Bool
-isObject k h = both (not (h .tombstone)) (both (eqb (k .table) (h .key .table)) (eqb (k .key) (h .key .key)))
+isObject k h = both (not (h .tombstone)) (isKeyOf k h)
 
 -- whether one of a segment's entries is
 unfoldable pub objectIn : Layout → Key → List Item → Bool

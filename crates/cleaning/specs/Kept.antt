@@ -12,52 +12,49 @@ use Rattle.slot_map.specs.Bit.{named}
 use Rattle.model.specs.Log.{Placed, placeOf, placedIn}
 use Rattle.index.specs.Search.{searchFor}
 use Rattle.index.specs.declared.Found.{Found}
-use Rattle.cleaning.specs.Entries.{headerOf, slotItems, objectBelow}
+use Rattle.cleaning.specs.Entries.{headerOf, slotItems}
+use Rattle.cleaning.specs.Marks.{isMarked}
 use Rattle.cleaning.specs.declared.Split.{Split}
 use Rattle.cleaning.specs.declared.Header.{Header}
 
 -- ---- which entries
 
--- the cell that a search found holds this place
-unfoldable pub cellIs : List ℕ → ℕ → Found → Bool
-cellIs cells place (Found.At i) = eqb (getD cells i 0) (place + 1)
-cellIs cells place (Found.Free i) = false
-cellIs cells place Found.Full = false
+-- The cell that a search found has this place, and for a tombstone it is marked besides.
+unfoldable pub cellKept : List ℕ → List ℕ → Bool → ℕ → Found → Bool
+cellKept cells marks tombstone place (Found.At i) = both (eqb (getD cells i 0) (place + 1)) (either (not tombstone) (isMarked marks i))
+cellKept cells marks tombstone place (Found.Free i) = false
+cellKept cells marks tombstone place Found.Full = false
 
-abbrev pub latestAt : Layout → List ℕ → List ℕ → Key → ℕ → Bool
-latestAt L area cells k place = cellIs cells place (searchFor L area cells k)
+-- An entry of the victims is kept if the index has it for its key, and a tombstone if besides the key's cell is marked: an
+-- object of the key stands outside the victims.
+unfoldable pub keptAt : Layout → List ℕ → List ℕ → List ℕ → Key → Bool → ℕ → Bool
+keptAt L area cells marks k tombstone place = cellKept cells marks tombstone place (searchFor L area cells k)
 
--- An entry of the victims is kept if the index has it for its key, and a tombstone if besides an object of the key stands
--- outside the victims.
-unfoldable pub keptAt : Layout → List ℕ → List ℕ → Split → Key → Bool → ℕ → Bool
-keptAt L area cells split k tombstone place =
-    both (latestAt L area cells k place) (either (not tombstone) (objectBelow L area split k))
-
-abbrev pub keptTest : Layout → List ℕ → List ℕ → Split → Header → ℕ → Bool
-keptTest L area cells split h place = keptAt L area cells split (h .key) (h .tombstone) place
+abbrev pub keptTest : Layout → List ℕ → List ℕ → List ℕ → Header → ℕ → Bool
+keptTest L area cells marks h place = keptAt L area cells marks (h .key) (h .tombstone) place
 
 -- ---- and their bytes
 
 -- the bytes of an entry where the test picks it
-abbrev pub keptEntry : Layout → List ℕ → List ℕ → Split → Header → ℕ → List ℕ
-keptEntry L area cells split h place = pick (keptTest L area cells split h place) (take (h .length) (drop place area)) []
+abbrev pub keptEntry : Layout → List ℕ → List ℕ → List ℕ → Header → ℕ → List ℕ
+keptEntry L area cells marks h place = pick (keptTest L area cells marks h place) (take (h .length) (drop place area)) []
 
 -- those of a list of entries, one after the other
-unfoldable pub gathered : Layout → List ℕ → List ℕ → Split → List Placed → List ℕ
-gathered L area cells split [] = []
-gathered L area cells split (x ∷ xs) =
-    keptEntry L area cells split (headerOf L (x .entry)) (placeOf (split .size) x) ++ gathered L area cells split xs
+unfoldable pub gathered : Layout → List ℕ → List ℕ → List ℕ → ℕ → List Placed → List ℕ
+gathered L area cells marks S [] = []
+gathered L area cells marks S (x ∷ xs) =
+    keptEntry L area cells marks (headerOf L (x .entry)) (placeOf S x) ++ gathered L area cells marks S xs
 
 -- those of a slot; nothing where it is no victim; and those of the slots below n
-abbrev pub keptSlot : Layout → List ℕ → List ℕ → Split → ℕ → List ℕ
-keptSlot L area cells split i = gathered L area cells split (placedIn i (slotItems L area (split .size) i))
+abbrev pub keptSlot : Layout → List ℕ → List ℕ → List ℕ → ℕ → ℕ → List ℕ
+keptSlot L area cells marks S i = gathered L area cells marks S (placedIn i (slotItems L area S i))
 
-unfoldable pub keptPart : Layout → List ℕ → List ℕ → Split → ℕ → List ℕ
-keptPart L area cells split i = pick (named (split .victims) i) (keptSlot L area cells split i) []
+unfoldable pub keptPart : Layout → List ℕ → List ℕ → List ℕ → Split → ℕ → List ℕ
+keptPart L area cells marks split i = pick (named (split .victims) i) (keptSlot L area cells marks (split .size) i) []
 
-unfoldable pub keptBelow : Layout → List ℕ → List ℕ → Split → ℕ → List ℕ
-keptBelow L area cells split zero = []
-keptBelow L area cells split (suc n) = keptBelow L area cells split n ++ keptPart L area cells split n
+unfoldable pub keptBelow : Layout → List ℕ → List ℕ → List ℕ → Split → ℕ → List ℕ
+keptBelow L area cells marks split zero = []
+keptBelow L area cells marks split (suc n) = keptBelow L area cells marks split n ++ keptPart L area cells marks split n
 
-abbrev pub keptBytes : Layout → List ℕ → List ℕ → Split → List ℕ
-keptBytes L area cells split = keptBelow L area cells split (split .slots)
+abbrev pub keptBytes : Layout → List ℕ → List ℕ → List ℕ → Split → List ℕ
+keptBytes L area cells marks split = keptBelow L area cells marks split (split .slots)

@@ -8,6 +8,7 @@ use native.Mathlib.Numerals.{add-one}
 use native.Mathlib.Omega.{arith}
 use lib.Dec.{eqb}
 use lib.ListN.{length, getD, take, drop, length-append, length-take}
+use borrow.Author.Tests.{eq-eqb, ne-eqb}
 use Rattle.segment.specs.Choice.{pick-true, pick-false, both, both-false-left, either}
 use Rattle.segment.specs.Layout.{Layout, digestSize}
 use Rattle.segment.specs.Packed.{length-part}
@@ -17,139 +18,136 @@ use Rattle.model.specs.Log.{Item, segmentOf, placedIn}
 use Rattle.index.specs.Build.{entriesAt}
 use Rattle.index.specs.Search.{searchFor}
 use Rattle.index.specs.declared.Found.{Found}
-use Rattle.cleaning.specs.Entries.{objectBelow}
+use Rattle.cleaning.specs.Marks.{isMarked}
 use Rattle.cleaning.specs.EntriesLaws.{Meets, entries-meets}
-use Rattle.cleaning.specs.Kept.{cellIs, latestAt, keptAt, keptTest, keptEntry, gathered, keptSlot, keptPart, keptBelow}
+use Rattle.cleaning.specs.Kept.{cellKept, keptAt, keptTest, keptEntry, gathered, keptSlot, keptPart, keptBelow}
 use Rattle.cleaning.specs.declared.Split.{Split}
 use Rattle.cleaning.specs.declared.Header.{Header}
 
--- ---- the place that the index has for a key
-
-module _ (L : Layout) (area cells : List ℕ) (k : Key) (place : ℕ) where
-  pub latest-cell : (i : ℕ) → searchFor L area cells k ≡ Found.At i → eqb (getD cells i 0) (place + 1) ≡ latestAt L area cells k place
-  unfolding cellIs
-  latest-cell i e = sym (ap (cellIs cells place) e)
-
-  pub latest-free : (i : ℕ) → searchFor L area cells k ≡ Found.Free i → false ≡ latestAt L area cells k place
-  unfolding cellIs
-  latest-free i e = sym (ap (cellIs cells place) e)
-
-  pub latest-full : searchFor L area cells k ≡ Found.Full → false ≡ latestAt L area cells k place
-  unfolding cellIs
-  latest-full e = sym (ap (cellIs cells place) e)
-
-module _ (L : Layout) (area cells : List ℕ) (split : Split) where
+module _ (L : Layout) (area cells marks : List ℕ) where
   -- ---- one entry
 
+  module _ (k : Key) (tombstone : Bool) (place i : ℕ) (e : searchFor L area cells k ≡ Found.At i) where
+    pub kept-older : (getD cells i 0 ≡ place + 1 → ⊥) → false ≡ keptAt L area cells marks k tombstone place
+    unfolding keptAt cellKept
+    kept-older n = sym (ap (cellKept cells marks tombstone place) e ∙ both-false-left (eqb (getD cells i 0) (place + 1)) _ (ne-eqb (getD cells i 0) (place + 1) n))
+
+    module _ (own : getD cells i 0 ≡ place + 1) where
+      pub kept-object : tombstone ≡ false → true ≡ keptAt L area cells marks k tombstone place
+      unfolding keptAt cellKept both either
+      kept-object t = rw (e, eq-eqb (getD cells i 0) (place + 1) own, t)
+
+      pub kept-tombstone : {b : Bool} → tombstone ≡ true → b ≡ isMarked marks i → b ≡ keptAt L area cells marks k tombstone place
+      unfolding keptAt cellKept both either
+      kept-tombstone t m = rw (e, eq-eqb (getD cells i 0) (place + 1) own, t) m
+
   module _ (k : Key) (tombstone : Bool) (place : ℕ) where
-    pub kept-older : latestAt L area cells k place ≡ false → false ≡ keptAt L area cells split k tombstone place
-    unfolding keptAt
-    kept-older e = sym (both-false-left (latestAt L area cells k place) _ e)
+    pub kept-free : (i : ℕ) → searchFor L area cells k ≡ Found.Free i → false ≡ keptAt L area cells marks k tombstone place
+    unfolding keptAt cellKept
+    kept-free i e = sym (ap (cellKept cells marks tombstone place) e)
 
-    pub kept-object : latestAt L area cells k place ≡ true → tombstone ≡ false → true ≡ keptAt L area cells split k tombstone place
-    unfolding keptAt both either
-    kept-object e t = rw (e, t)
-
-    pub kept-tombstone : latestAt L area cells k place ≡ true → tombstone ≡ true → objectBelow L area split k ≡ keptAt L area cells split k tombstone place
-    unfolding keptAt both either
-    kept-tombstone e t = rw (e, t)
+    pub kept-full : searchFor L area cells k ≡ Found.Full → false ≡ keptAt L area cells marks k tombstone place
+    unfolding keptAt cellKept
+    kept-full e = sym (ap (cellKept cells marks tombstone place) e)
 
   module _ (h : Header) (place : ℕ) where
-    pub entry-dropped : keptTest L area cells split h place ≡ false → keptEntry L area cells split h place ≡ []
-    entry-dropped e = pick-false (keptTest L area cells split h place) (take (h .length) (drop place area)) [] e
+    pub entry-dropped : keptTest L area cells marks h place ≡ false → keptEntry L area cells marks h place ≡ []
+    entry-dropped e = pick-false (keptTest L area cells marks h place) (take (h .length) (drop place area)) [] e
 
-    pub entry-kept : keptTest L area cells split h place ≡ true → keptEntry L area cells split h place ≡ take (h .length) (drop place area)
-    entry-kept e = pick-true (keptTest L area cells split h place) (take (h .length) (drop place area)) [] e
+    pub entry-kept : keptTest L area cells marks h place ≡ true → keptEntry L area cells marks h place ≡ take (h .length) (drop place area)
+    entry-kept e = pick-true (keptTest L area cells marks h place) (take (h .length) (drop place area)) [] e
 
-    pub length-dropped : keptTest L area cells split h place ≡ false → 0 ≡ length (keptEntry L area cells split h place)
+    pub length-dropped : keptTest L area cells marks h place ≡ false → 0 ≡ length (keptEntry L area cells marks h place)
     length-dropped e = sym (ap length (entry-dropped e))
 
-    pub length-kept : place + h .length ≤ length area → keptTest L area cells split h place ≡ true →
-        h .length ≡ length (keptEntry L area cells split h place)
+    pub length-kept : place + h .length ≤ length area → keptTest L area cells marks h place ≡ true →
+        h .length ≡ length (keptEntry L area cells marks h place)
     length-kept fits e = sym (ap length (entry-kept e) ∙ length-part (h .length) place area fits)
 
-    pub entry-short : length (keptEntry L area cells split h place) ≤ h .length
-    entry-short = go (keptTest L area cells split h place) refl
+    pub entry-short : length (keptEntry L area cells marks h place) ≤ h .length
+    entry-short = go (keptTest L area cells marks h place) refl
       where
-        go : (t : Bool) → keptTest L area cells split h place ≡ t → length (keptEntry L area cells split h place) ≤ h .length
+        go : (t : Bool) → keptTest L area cells marks h place ≡ t → length (keptEntry L area cells marks h place) ≤ h .length
         go true e = rw (entry-kept e) (simp length-take (omega arith))
         go false e = rw (entry-dropped e) (omega arith)
 
+module _ (L : Layout) (area cells marks : List ℕ) (S : ℕ) where
   -- ---- a turn of the loop over a segment
 
   -- what is kept of slot i, of the bytes s, from an offset on
   abbrev pub keptFrom : ℕ → List ℕ → ℕ → List ℕ
-  keptFrom i s at = gathered L area cells split (placedIn i (entriesAt L s at))
+  keptFrom i s at = gathered L area cells marks S (placedIn i (entriesAt L s at))
 
   module _ (i : ℕ) (s : List ℕ) where
-    pub from-whole : s ≡ segmentOf area (split .size) i → keptFrom i s (digestSize L) ≡ keptSlot L area cells split i
+    pub from-whole : s ≡ segmentOf area S i → keptFrom i s (digestSize L) ≡ keptSlot L area cells marks S i
     from-whole e = ap (λ (t : List ℕ). keptFrom i t (digestSize L)) e
 
-    pub measured-whole : s ≡ segmentOf area (split .size) i → 0 + length (keptFrom i s (digestSize L)) ≡ length (keptSlot L area cells split i)
+    pub measured-whole : s ≡ segmentOf area S i → 0 + length (keptFrom i s (digestSize L)) ≡ length (keptSlot L area cells marks S i)
     measured-whole e = omega (arith, ap length (from-whole e))
 
     module _ (at : ℕ) where
       pub from-stop : entriesAt L s at ≡ [] → keptFrom i s at ≡ []
       unfolding gathered placedIn
-      from-stop e = ap (λ (is : List Item). gathered L area cells split (placedIn i is)) e
+      from-stop e = ap (λ (is : List Item). gathered L area cells marks S (placedIn i is)) e
 
       pub from-entry : {h : Header} → Meets L s at h →
-          keptFrom i s at ≡ keptEntry L area cells split h (i * split .size + at) ++ keptFrom i s (at + h .length)
+          keptFrom i s at ≡ keptEntry L area cells marks h (i * S + at) ++ keptFrom i s (at + h .length)
       unfolding gathered placedIn
       from-entry {h} m =
-          ap (λ (is : List Item). gathered L area cells split (placedIn i is)) (entries-meets L s at m)
-          ∙ ap (λ (g : Header). keptEntry L area cells split g (i * split .size + at) ++ keptFrom i s (at + h .length)) (m .its)
+          ap (λ (is : List Item). gathered L area cells marks S (placedIn i is)) (entries-meets L s at m)
+          ∙ ap (λ (g : Header). keptEntry L area cells marks g (i * S + at) ++ keptFrom i s (at + h .length)) (m .its)
 
       -- the lengths: total is that of what came before
       module _ (total whole : ℕ) (so-far : total + length (keptFrom i s at) ≡ whole) where
         pub measured-stop : entriesAt L s at ≡ [] → total ≡ whole
         measured-stop e = omega (arith, so-far, ap length (from-stop e))
 
-        pub measured-entry : {h : Header} → Meets L s at h → (n : ℕ) → n ≡ length (keptEntry L area cells split h (i * split .size + at)) →
+        pub measured-entry : {h : Header} → Meets L s at h → (n : ℕ) → n ≡ length (keptEntry L area cells marks h (i * S + at)) →
             total + n + length (keptFrom i s (at + h .length)) ≡ whole
         measured-entry {h} m n e =
             omega (
               arith,
               so-far,
               ap length (from-entry m),
-              length-append (keptEntry L area cells split h (i * split .size + at)) (keptFrom i s (at + h .length)),
+              length-append (keptEntry L area cells marks h (i * S + at)) (keptFrom i s (at + h .length)),
             )
 
+module _ (L : Layout) (area cells marks : List ℕ) (split : Split) where
   -- ---- the slots
 
   module _ (i : ℕ) where
-    pub part-victim : named (split .victims) i ≡ true → keptSlot L area cells split i ≡ keptPart L area cells split i
+    pub part-victim : named (split .victims) i ≡ true → keptSlot L area cells marks (split .size) i ≡ keptPart L area cells marks split i
     unfolding keptPart
-    part-victim e = sym (pick-true (named (split .victims) i) (keptSlot L area cells split i) [] e)
+    part-victim e = sym (pick-true (named (split .victims) i) (keptSlot L area cells marks (split .size) i) [] e)
 
-    pub part-other : named (split .victims) i ≡ false → keptPart L area cells split i ≡ []
+    pub part-other : named (split .victims) i ≡ false → keptPart L area cells marks split i ≡ []
     unfolding keptPart
-    part-other e = pick-false (named (split .victims) i) (keptSlot L area cells split i) [] e
+    part-other e = pick-false (named (split .victims) i) (keptSlot L area cells marks (split .size) i) [] e
 
-    pub below-more : keptBelow L area cells split (i + 1) ≡ keptBelow L area cells split i ++ keptPart L area cells split i
+    pub below-more : keptBelow L area cells marks split (i + 1) ≡ keptBelow L area cells marks split i ++ keptPart L area cells marks split i
     unfolding keptBelow
-    below-more = ap (keptBelow L area cells split) (add-one i)
+    below-more = ap (keptBelow L area cells marks split) (add-one i)
 
-    pub below-length : length (keptBelow L area cells split (i + 1)) ≡ length (keptBelow L area cells split i) + length (keptPart L area cells split i)
-    below-length = ap length below-more ∙ length-append (keptBelow L area cells split i) (keptPart L area cells split i)
+    pub below-length : length (keptBelow L area cells marks split (i + 1)) ≡ length (keptBelow L area cells marks split i) + length (keptPart L area cells marks split i)
+    below-length = ap length below-more ∙ length-append (keptBelow L area cells marks split i) (keptPart L area cells marks split i)
 
-  pub below-none : keptBelow L area cells split 0 ≡ []
+  pub below-none : keptBelow L area cells marks split 0 ≡ []
   unfolding keptBelow
   below-none = refl
 
   -- more slots, more bytes
-  pub below-longer : (i n : ℕ) → i ≤ n → length (keptBelow L area cells split i) ≤ length (keptBelow L area cells split n)
+  pub below-longer : (i n : ℕ) → i ≤ n → length (keptBelow L area cells marks split i) ≤ length (keptBelow L area cells marks split n)
   unfolding keptBelow
   below-longer i zero h = let e : i ≡ 0 = omega arith in rw e (omega arith)
   below-longer i (suc n) h = go (ℕ-discrete i (suc n)) (λ l. below-longer i n l)
     where
-      go : Dec (i ≡ suc n) → (i ≤ n → length (keptBelow L area cells split i) ≤ length (keptBelow L area cells split n)) →
-          length (keptBelow L area cells split i) ≤ length (keptBelow L area cells split n ++ keptPart L area cells split n)
+      go : Dec (i ≡ suc n) → (i ≤ n → length (keptBelow L area cells marks split i) ≤ length (keptBelow L area cells marks split n)) →
+          length (keptBelow L area cells marks split i) ≤ length (keptBelow L area cells marks split n ++ keptPart L area cells marks split n)
       go (yes e) ih = rw e (omega arith)
       go (no ne) ih =
-          omega (arith, ih (omega arith), length-append (keptBelow L area cells split n) (keptPart L area cells split n))
+          omega (arith, ih (omega arith), length-append (keptBelow L area cells marks split n) (keptPart L area cells marks split n))
 
   -- there is room for one slot more
-  pub below-room : (from room i n : ℕ) → i < n → from + length (keptBelow L area cells split n) ≤ room →
-      from + length (keptBelow L area cells split i) + length (keptPart L area cells split i) ≤ room
+  pub below-room : (from room i n : ℕ) → i < n → from + length (keptBelow L area cells marks split n) ≤ room →
+      from + length (keptBelow L area cells marks split i) + length (keptPart L area cells marks split i) ≤ room
   below-room from room i n h fits = omega (arith, below-length i, below-longer (i + 1) n (omega arith))

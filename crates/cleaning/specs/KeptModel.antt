@@ -1,43 +1,48 @@
 -- On a genuine store the bytes that the code gathers are those of the entries that the model keeps.
 use Prim.Native.Nat.{ℕ, zero, suc, _+_, _*_, _≤_, _<_}
 use mathlib.Core.Path.{_≡_, refl, sym, _∙_, ap, subst}
-use mathlib.Core.Bool.{Bool, true, false}
+use mathlib.Core.Bool.{Bool, true, false, not}
 use mathlib.Core.Option.{Option, none, some}
 use mathlib.Core.List.{List, [], _∷_, _++_, append-assoc, List·Memᴰ·tail, List·Memᴰ·not-nil}
 use native.Mathlib.Decide.{ℕ-discrete}
 use native.Mathlib.Omega.{arith}
 use lib.Dec.{eqb, ltb}
-use lib.ListN.{length, take, drop}
+use lib.ListN.{length, getD, take, drop, replicate, length-replicate}
 use borrow.Author.Tests.{eq-eqb, ne-eqb, eqb-true, eqb-false, ltb-true, ltb-false}
 use Rattle.word.specs.Number.{Bytes}
 use Rattle.word.specs.Laws.{bytes-take, bytes-drop}
-use Rattle.segment.specs.Choice.{pick-true, pick-false, both}
+use Rattle.segment.specs.Choice.{pick-true, pick-false, both, both-left, either}
 use Rattle.segment.specs.Layout.{Layout}
 use Rattle.segment.specs.Packed.{field-at}
-use Rattle.segment.specs.Entry.{Entry, entry, entryAt, encoded, sizeOf, keyOf}
+use Rattle.segment.specs.Entry.{Entry, entry, entryAt, encoded, sizeOf, keyOf, isTombstone}
 use Rattle.segment.specs.EntryLaws.{found-fits, found-stands}
+use Rattle.segment.specs.declared.Key.{Key}
 use Rattle.slot_map.specs.Bit.{named, within, less}
 use Rattle.slot_map.specs.BitLaws.{bit-le, within-le, named-true, set-named}
 use Rattle.record.specs.Answers.{withPending}
 use Rattle.record.specs.declared.Pending.the-variants.{Idle}
 use Rattle.record.specs.declared.Record.{Record}
-use Rattle.model.specs.Log.{View, Placed, placeOf, segmentOf, viewsOf, scan, itemsOf, placedIn, logOf, latest}
-use Rattle.model.specs.Operations.{logNow, isVersion, isHighest, isKept, keptOf, kept, allEncoded}
+use Rattle.model.specs.Log.{View, Item, Placed, placeOf, segmentOf, viewsOf, scan, itemsOf, placedIn, logOf, sameKeys, sameKey, latest}
+use Rattle.model.specs.Index.{HasCell}
+use Rattle.model.specs.Operations.{logNow, isVersion, isHighest, objectOutside, isKept, keptOf, kept, allEncoded}
 use Rattle.model.specs.Promises.{Genuine}
 use Rattle.laws.specs.Members.{clash, In, first, Within}
-use Rattle.laws.specs.Latest.{Apart, own-key, latest-some, latest-none}
-use Rattle.laws.specs.LogLaws.{AllScanned, partOf, part-picked, part-passed, itemOf, mem-placed, in-log, log-in, scan-whole}
+use Rattle.laws.specs.Latest.{Apart, own-key, same-key, latest-some, latest-none}
+use Rattle.laws.specs.LogLaws.{AllScanned, partOf, part-picked, part-passed, itemOf, placedAt, mem-placed, in-log, log-in, scan-whole}
 use Rattle.laws.specs.Scans.{scan-scans, scans-found}
 use Rattle.laws.specs.Stores.{slots-apart, slot-inside, length-segment}
 use Rattle.laws.specs.RecoverLaws.{recovered-case, recovered-apart, recovered-lent}
-use Rattle.index.specs.Search.{cellHas}
+use Rattle.index.specs.Search.{cellHas, searchFor}
 use Rattle.index.specs.Finds.{search-known}
 use Rattle.index.specs.Area.{AllIn, area-picks}
 use Rattle.index.specs.BuildLaws.{log-in-area}
+use Rattle.index.specs.declared.Found.{Found}
 use Rattle.cleaning.specs.Entries.{headerOf, slotItems}
-use Rattle.cleaning.specs.Kept.{cellIs, latestAt, keptAt, keptTest, keptEntry, gathered, keptPart, keptBelow, keptBytes}
+use Rattle.cleaning.specs.Kept.{cellKept, keptAt, keptTest, keptEntry, gathered, keptPart, keptBelow, keptBytes}
 use Rattle.cleaning.specs.KeptLaws.{part-victim, part-other}
-use Rattle.cleaning.specs.Outside.{slot-items, object-same}
+use Rattle.cleaning.specs.Marks.{isMarked, marksOf, clear-marks}
+use Rattle.cleaning.specs.MarksLaws.{Tells, below-mark}
+use Rattle.cleaning.specs.Outside.{outside-named, slot-items, object-same}
 use Rattle.cleaning.specs.declared.Split.{Split}
 
 -- the log's slots parted by the victims
@@ -153,64 +158,128 @@ module _ (L : Layout) (area cells : List ℕ) (r : Record) (g : Genuine L area r
           apart-slots true p = low (ltb-true (x .slot) (y .slot) p)
           apart-slots false p = high (omega (arith, ltb-false (x .slot) (y .slot) p))
 
-  -- ---- the index has the place of an entry exactly if it is its key's highest version
+  -- ---- the cell of a key
 
-  module _ (x : Placed) (m : In x log) where
-    pub latest-highest : latestAt L area cells (keyOf (x .entry)) (placeOf (r .size) x) ≡ isHighest log (x .entry)
-    unfolding isVersion cellIs
-    latest-highest = go (latest log (keyOf (x .entry))) refl
-      where
-        tests : (y : Placed) → In y log → (t : Bool) → eqb (y .entry .version) (x .entry .version) ≡ t →
-            eqb (placeOf (r .size) y + 1) (placeOf (r .size) x + 1) ≡ t
-        tests y n true e =
-            let same : y ≡ x = apart y x n m (eqb-true (y .entry .version) (x .entry .version) e) in
-            eq-eqb (placeOf (r .size) y + 1) (placeOf (r .size) x + 1) (ap (λ (z : Placed). placeOf (r .size) z + 1) same)
-        tests y n false e =
-            ne-eqb (placeOf (r .size) y + 1) (placeOf (r .size) x + 1)
-            (λ p.
-            let same : y ≡ x = place-one y x n m (omega arith) in
-            eqb-false (y .entry .version) (x .entry .version) e (ap (λ (z : Placed). z .entry .version) same))
+  -- The latest entry of a key, and the cell in which the search for the key ends.
+  record KeyCell (k : Key) : Type 0 where
+    top : Placed
+    is : latest log k ≡ some top
+    cell : HasCell (r .size) cells top
+    finds : searchFor L area cells k ≡ Found.At (cell .cell)
 
-        go : (o : Option Placed) → latest log (keyOf (x .entry)) ≡ o →
-            latestAt L area cells (keyOf (x .entry)) (placeOf (r .size) x) ≡ isVersion o (x .entry .version)
-        go none e = absurd (clash _ (own-key (x .entry)) (latest-none log (keyOf (x .entry)) e x m))
-        go (some y) e =
-            let (c, s) =
-            search-known (r .size) log cells (g .rule) (cellHas L area (keyOf (x .entry))) (keyOf (x .entry)) (area-picks L area (r .size) log (keyOf (x .entry)) all-in) y e in
-            ap (cellIs cells (placeOf (r .size) x)) s
-            ∙ ap (λ (k : ℕ). eqb k (placeOf (r .size) x + 1)) (c .holds)
-            ∙ tests y (latest-some log (keyOf (x .entry)) y e .member) (eqb (y .entry .version) (x .entry .version)) refl
+  key-cell : (x : Placed) → In x log → KeyCell (keyOf (x .entry))
+  key-cell x m = go (latest log (keyOf (x .entry))) refl
+    where
+      go : (o : Option Placed) → latest log (keyOf (x .entry)) ≡ o → KeyCell (keyOf (x .entry))
+      go none e = absurd (clash _ (own-key (x .entry)) (latest-none log (keyOf (x .entry)) e x m))
+      go (some y) e =
+          let (c, s) =
+          search-known (r .size) log cells (g .rule) (cellHas L area (keyOf (x .entry))) (keyOf (x .entry)) (area-picks L area (r .size) log (keyOf (x .entry)) all-in) y e in
+          record { top = y; is = e; cell = c; finds = s }
+
+  -- keys with one cell are one
+  one-cell : (j k : Key) (a : KeyCell j) (b : KeyCell k) → a .cell .cell ≡ b .cell .cell → j ≡ k
+  one-cell j k a b e =
+      let p = latest-some log j (a .top) (a .is) in
+      let q = latest-some log k (b .top) (b .is) in
+      let place : placeOf (r .size) (a .top) ≡ placeOf (r .size) (b .top) =
+      omega (arith, a .cell .holds, b .cell .holds, ap (λ (i : ℕ). getD cells i 0) e) in
+      let same : a .top ≡ b .top = place-one (a .top) (b .top) (p .member) (q .member) place in
+      same-key j (a .top .entry) (p .of-key) ∙ ap (λ (x : Placed). keyOf (x .entry)) same ∙ sym (same-key k (b .top .entry) (q .of-key))
+
+  -- the cell has the place of an entry exactly if it is its key's highest version
+  cell-highest : (x : Placed) → In x log → (c : KeyCell (keyOf (x .entry))) →
+      eqb (getD cells (c .cell .cell) 0) (placeOf (r .size) x + 1) ≡ isHighest log (x .entry)
+  unfolding isVersion
+  cell-highest x m c =
+      ap (λ (k : ℕ). eqb k (placeOf (r .size) x + 1)) (c .cell .holds)
+      ∙ tests (c .top) (latest-some log (keyOf (x .entry)) (c .top) (c .is) .member) (eqb (c .top .entry .version) (x .entry .version)) refl
+      ∙ sym (ap (λ (o : Option Placed). isVersion o (x .entry .version)) (c .is))
+    where
+      tests : (y : Placed) → In y log → (t : Bool) → eqb (y .entry .version) (x .entry .version) ≡ t →
+          eqb (placeOf (r .size) y + 1) (placeOf (r .size) x + 1) ≡ t
+      tests y n true e =
+          let same : y ≡ x = apart y x n m (eqb-true (y .entry .version) (x .entry .version) e) in
+          eq-eqb (placeOf (r .size) y + 1) (placeOf (r .size) x + 1) (ap (λ (z : Placed). placeOf (r .size) z + 1) same)
+      tests y n false e =
+          ne-eqb (placeOf (r .size) y + 1) (placeOf (r .size) x + 1)
+          (λ p.
+          let same : y ≡ x = place-one y x n m (omega arith) in
+          eqb-false (y .entry .version) (x .entry .version) e (ap (λ (z : Placed). z .entry .version) same))
 
   -- ---- a cleaning
 
-  module _ (victims : ℕ) (sub : within victims (r .map) ≡ true) where
+  module _ (victims : ℕ) (sub : within victims (r .map) ≡ true) (few : length cells ≤ 4096) where
+    abbrev marks : List ℕ
+    marks = marksOf L area cells (splitOf r victims)
+
+    -- the search for the key of an entry of a slot outside the victims tells it from another key
+    tells : (k : Key) (c : KeyCell k) (i : ℕ) → i < r .slots → named (less (r .map) victims) i ≡ true → (y : Item) →
+        In y (slotItems L area (r .size) i) → Tells L area cells k (c .cell .cell) (headerOf L (y .entry))
+    unfolding sameKey sameKeys
+    tells k c i h out y m =
+        record {
+          own = λ e. sym (ap (searchFor L area cells) (same-key k (y .entry) e)) ∙ c .finds;
+          other =
+              λ e. (
+                own .cell .cell,
+                omega (arith, own .cell .below),
+                λ q. clash (sameKey k (y .entry)) (ap (λ (j : Key). sameKey j (y .entry)) (sym (one-cell (keyOf (y .entry)) k own c q)) ∙ own-key (y .entry)) e,
+                own .finds,
+              );
+        }
+      where
+        in-map : named (r .map) i ≡ true
+        in-map = both-left (named (r .map) i) (not (named victims i)) (sym (outside-named (r .map) victims i) ∙ out)
+
+        own : KeyCell (keyOf (y .entry))
+        own =
+            key-cell (placedAt i y)
+            (in-log v (named (r .map)) (r .slots) (placedAt i y)
+            (record {
+              below = h;
+              picked = in-map;
+              item = subst (λ (is : List Item). In y is) (slot-items L area (r .size) (r .map) (r .slots) scans i h in-map) m;
+            }))
+
+    -- a key's cell is marked exactly if an object of the key stands outside the victims
+    marked-outside : (k : Key) (c : KeyCell k) → isMarked marks (c .cell .cell) ≡ objectOutside victims log k
+    marked-outside k c =
+        below-mark L area cells k (c .cell .cell) (omega (arith, c .cell .below)) (splitOf r victims) (replicate 128 0) (length-replicate {A = ℕ} 128 0)
+        (clear-marks (c .cell .cell)) (tells k c) (r .slots) (omega arith)
+        ∙ object-same L area (r .size) (r .map) victims (r .slots) scans k
+
     kept-same : (x : Placed) → In x log → named victims (x .slot) ≡ true →
-        keptTest L area cells (splitOf r victims) (headerOf L (x .entry)) (placeOf (r .size) x) ≡ isKept victims log x
-    unfolding keptAt both
+        keptTest L area cells marks (headerOf L (x .entry)) (placeOf (r .size) x) ≡ isKept victims log x
+    unfolding keptAt cellKept both
     kept-same x m e =
-        rw (e, latest-highest x m, object-same L area (r .size) (r .map) victims (r .slots) scans (keyOf (x .entry)))
+        let c = key-cell x m in
+        ap (cellKept cells marks (isTombstone (x .entry)) (placeOf (r .size) x)) (c .finds)
+        ∙ ap (λ (b : Bool). both b (either (not (isTombstone (x .entry))) (isMarked marks (c .cell .cell)))) (cell-highest x m c)
+        ∙ ap (λ (b : Bool). both (isHighest log (x .entry)) (either (not (isTombstone (x .entry))) b)) (marked-outside (keyOf (x .entry)) c)
+        ∙ sym (ap (λ (b : Bool). both b (both (isHighest log (x .entry)) (either (not (isTombstone (x .entry))) (objectOutside victims log (keyOf (x .entry)))))) e)
 
     module _ (bytes : Bytes area) where
       gathered-kept : (xs : List Placed) → Within xs log → ((x : Placed) → In x xs → named victims (x .slot) ≡ true) →
-          gathered L area cells (splitOf r victims) xs ≡ allEncoded L (keptOf victims log xs)
+          gathered L area cells marks (r .size) xs ≡ allEncoded L (keptOf victims log xs)
       unfolding gathered allEncoded keptOf
       gathered-kept [] w f = refl
       gathered-kept (x ∷ xs) w f = go (isKept victims log x) refl (gathered-kept xs (λ y m. w y (List·Memᴰ·tail m)) (λ y m. f y (List·Memᴰ·tail m)))
         where
           entry-part : List ℕ
-          entry-part = keptEntry L area cells (splitOf r victims) (headerOf L (x .entry)) (placeOf (r .size) x)
+          entry-part = keptEntry L area cells marks (headerOf L (x .entry)) (placeOf (r .size) x)
 
-          same : (t : Bool) → isKept victims log x ≡ t → keptTest L area cells (splitOf r victims) (headerOf L (x .entry)) (placeOf (r .size) x) ≡ t
+          same : (t : Bool) → isKept victims log x ≡ t → keptTest L area cells marks (headerOf L (x .entry)) (placeOf (r .size) x) ≡ t
           same t e = kept-same x (w x first) (f x first) ∙ e
 
-          go : (t : Bool) → isKept victims log x ≡ t → gathered L area cells (splitOf r victims) xs ≡ allEncoded L (keptOf victims log xs) →
-              entry-part ++ gathered L area cells (splitOf r victims) xs ≡ allEncoded L (keptOf victims log (x ∷ xs))
+          go : (t : Bool) → isKept victims log x ≡ t → gathered L area cells marks (r .size) xs ≡ allEncoded L (keptOf victims log xs) →
+              entry-part ++ gathered L area cells marks (r .size) xs ≡ allEncoded L (keptOf victims log (x ∷ xs))
           go true e ih =
-              ap (λ (l : List ℕ). l ++ gathered L area cells (splitOf r victims) xs) (pick-true _ _ _ (same true e) ∙ own-part x (w x first) bytes)
+              ap (λ (l : List ℕ). l ++ gathered L area cells marks (r .size) xs) (pick-true _ _ _ (same true e) ∙ own-part x (w x first) bytes)
               ∙ ap (λ (l : List ℕ). encoded L (x .entry) ++ l) ih
               ∙ ap (allEncoded L) (sym (kept-front L victims log x xs e))
           go false e ih =
-              ap (λ (l : List ℕ). l ++ gathered L area cells (splitOf r victims) xs) (pick-false _ _ _ (same false e))
+              ap (λ (l : List ℕ). l ++ gathered L area cells marks (r .size) xs) (pick-false _ _ _ (same false e))
               ∙ ih
               ∙ ap (allEncoded L) (sym (kept-behind L victims log x xs e))
 
@@ -237,27 +306,27 @@ module _ (L : Layout) (area cells : List ℕ) (r : Record) (g : Genuine L area r
           go false e = absurd (List·Memᴰ·not-nil (rw (part-passed v (named (r .map)) i e) at m))
 
       part-kept : (i : ℕ) → i < r .slots →
-          keptPart L area cells (splitOf r victims) i ≡ allEncoded L (keptOf victims log (partOf v (named (r .map)) i))
+          keptPart L area cells marks (splitOf r victims) i ≡ allEncoded L (keptOf victims log (partOf v (named (r .map)) i))
       unfolding allEncoded
       part-kept i h = go (named victims i) refl
         where
           go : (t : Bool) → named victims i ≡ t →
-              keptPart L area cells (splitOf r victims) i ≡ allEncoded L (keptOf victims log (partOf v (named (r .map)) i))
+              keptPart L area cells marks (splitOf r victims) i ≡ allEncoded L (keptOf victims log (partOf v (named (r .map)) i))
           go true e =
               let in-map : named (r .map) i ≡ true =
               set-named (r .map) i (omega (arith, within-le victims (r .map) sub i, named-true victims i e, bit-le (r .map) i)) in
               let whole : placedIn i (slotItems L area (r .size) i) ≡ partOf v (named (r .map)) i =
               ap (placedIn i) (slot-items L area (r .size) (r .map) (r .slots) scans i h in-map)
               ∙ sym (part-picked v (named (r .map)) i in-map) in
-              sym (part-victim L area cells (splitOf r victims) i e)
-              ∙ ap (gathered L area cells (splitOf r victims)) whole
+              sym (part-victim L area cells marks (splitOf r victims) i e)
+              ∙ ap (gathered L area cells marks (r .size)) whole
               ∙ gathered-kept (partOf v (named (r .map)) i) (part-in i h) (λ x m. ap (named victims) (part-slot i x m) ∙ e)
           go false e =
-              part-other L area cells (splitOf r victims) i e
+              part-other L area cells marks (splitOf r victims) i e
               ∙ sym (ap (allEncoded L) (kept-none L victims log (partOf v (named (r .map)) i) (λ x m. ap (named victims) (part-slot i x m) ∙ e)))
 
       below-kept : (n : ℕ) → n ≤ r .slots →
-          keptBelow L area cells (splitOf r victims) n ≡ allEncoded L (keptOf victims log (logOf v (named (r .map)) n))
+          keptBelow L area cells marks (splitOf r victims) n ≡ allEncoded L (keptOf victims log (logOf v (named (r .map)) n))
       unfolding keptBelow logOf keptOf allEncoded
       below-kept zero h = refl
       below-kept (suc n) h =
@@ -265,5 +334,5 @@ module _ (L : Layout) (area cells : List ℕ) (r : Record) (g : Genuine L area r
           ∙ sym (encoded-append L (keptOf victims log (logOf v (named (r .map)) n)) (keptOf victims log (partOf v (named (r .map)) n)))
           ∙ ap (allEncoded L) (sym (kept-append L victims log (logOf v (named (r .map)) n) (partOf v (named (r .map)) n)))
 
-      pub bytes-kept : keptBytes L area cells (splitOf r victims) ≡ allEncoded L (kept victims log)
+      pub bytes-kept : keptBytes L area cells marks (splitOf r victims) ≡ allEncoded L (kept victims log)
       bytes-kept = below-kept (r .slots) (omega arith)

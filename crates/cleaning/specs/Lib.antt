@@ -1,5 +1,7 @@
 pub mod Entries
 pub mod EntriesLaws
+pub mod Marks
+pub mod MarksLaws
 pub mod Kept
 pub mod KeptLaws
 pub mod Outside

@@ -2,6 +2,7 @@
 use crate::Split;
 use crate::copy::copy_kept;
 use crate::kept::measure;
+use crate::outside::mark_outside;
 use record::Pending;
 use record::Record;
 use record::Refusal;
@@ -19,9 +20,9 @@ use starting::answer::started;
 use starting::checks::check_idle;
 use starting::digest::new_digest;
 use starting::stores::head_stores;
+ghost use Prim.Native.Nat.{_≤_};
 ghost use mathlib.Core.Path.{_≡_};
 ghost use mathlib.Core.Option.{none};
-ghost use lib.ListN.{length};
 ghost use Rattle.segment.specs.Layout.{edition1};
 ghost use Rattle.model.specs.Causes.{firstCause};
 ghost use Rattle.model.specs.Operations.{Operation, clean};
@@ -30,7 +31,7 @@ ghost use Rattle.model.specs.Promises.{StartPromise};
 ghost use Rattle.starting.specs.Checks.{checked};
 ghost use Rattle.cleaning.specs.Kept.{keptBytes};
 ghost use Rattle.cleaning.specs.KeptModel.{splitOf};
-ghost use Rattle.cleaning.specs.Begun.{CleanReady, Room, causesWith, begunWith};
+ghost use Rattle.cleaning.specs.Begun.{CleanReady, CleanFits, Room, frontCauses, keptCauses, begunWith, markedWith};
 
 // Whether the victims are none, or not all of them slots of the log.
 fn victims_bad(rec: Record, victims: u32) -> bool
@@ -54,17 +55,11 @@ fn split_of(rec: Record, victims: u32) -> Split
     }
 }
 
-// Clean: 4, 3, 5, 13, 14, 10. What is kept is measured before a byte of the work buffer changes.
-fn check_clean(rec: Record, area: &[u8], index: &[u32], work: usize, victims: u32) -> Check
-    ensures { λ r.
-        ⌜
-        r ≡ checked
-        (firstCause
-        (causesWith edition1 rec (record { area = length (now (area .entry)); index = length (now (index .entry)); work = work })
-        (keptBytes edition1 (now (area .entry)) (now (index .entry)) (splitOf rec victims)) victims))
-        ⌝ }
+// The first tests of a cleaning: 4, 3, 5, 13.
+fn check_victims(rec: Record, area: usize, index: usize, work: usize, victims: u32) -> Check
+    ensures { λ r. ⌜ r ≡ checked (firstCause (frontCauses edition1 rec (record { area = area; index = index; work = work }) victims)) ⌝ }
 {
-    if !fits_lent(rec, area.len(), index.len()) {
+    if !fits_lent(rec, area, index) {
         return Check::Refused(Refusal::BadRecord);
     }
     match check_idle(rec, work) {
@@ -73,17 +68,25 @@ fn check_clean(rec: Record, area: &[u8], index: &[u32], work: usize, victims: u3
             if victims_bad(rec, victims) {
                 return Check::Refused(Refusal::BadVictims);
             }
-            let length = DIGEST_SIZE + measure(area, index, split_of(rec, victims));
-            if (rec.size as usize) < length {
-                return Check::Refused(Refusal::KeptTooLong);
-            }
-            let number = rec.digest;
-            if number.0 == NUMBER_LIMIT {
-                return Check::Refused(Refusal::NumbersSpent);
-            }
             Check::Passed
         }
     }
+}
+
+// The last tests, for so many bytes kept: 14, 10.
+fn check_kept(rec: Record, count: usize) -> Check
+    requires { ⌜ count ≤ 65536 ⌝ }
+    ensures { λ r. ⌜ r ≡ checked (firstCause (keptCauses edition1 rec count)) ⌝ }
+{
+    let length = DIGEST_SIZE + count;
+    if (rec.size as usize) < length {
+        return Check::Refused(Refusal::KeptTooLong);
+    }
+    let number = rec.digest;
+    if number.0 == NUMBER_LIMIT {
+        return Check::Refused(Refusal::NumbersSpent);
+    }
+    Check::Passed
 }
 
 // The new head's bytes go to the work buffer, and the cleaning is pending.
@@ -91,21 +94,23 @@ fn begin(
     rec: Record,
     area: &[u8],
     index: &[u32],
+    marks: &[u32],
     work: &mut [u8],
     victims: u32,
     split: Split,
 ) -> Start
     requires { ⌜ CleanReady edition1 rec victims ⌝ }
-    requires { ⌜ Room edition1 rec split (now area) (now index) (now work) ⌝ }
+    requires { ⌜ Room edition1 rec split (now area) (now index) (now marks) (now work) ⌝ }
     ensures { λ r.
         ⌜
         record { start = r; work = now (work .exit) }
-        ≡ begunWith edition1 rec victims (now (work .entry)) (keptBytes edition1 (now (area .entry)) (now (index .entry)) split) none
+        ≡ begunWith edition1 rec victims (now (work .entry))
+        (keptBytes edition1 (now (area .entry)) (now (index .entry)) (now (marks .entry)) split) none
         ⌝ }
 {
     let slot = next_free(rec.slots, rec.map, rec.head);
     write_digest(work, 0, new_digest(rec, victims, slot));
-    let count = copy_kept(area, index, split, work, DIGEST_SIZE);
+    let count = copy_kept(area, index, marks, split, work, DIGEST_SIZE);
     let left = head_stores(rec.size as usize, count) as u32;
     let length = count as u32;
     let pending = Pending::Clean {
@@ -117,6 +122,30 @@ fn begin(
     started(rec, pending, left)
 }
 
+// A cleaning once the cells are marked. What is kept is measured before a byte of the work buffer changes.
+fn clean_marked(
+    rec: Record,
+    area: &[u8],
+    index: &[u32],
+    marks: &[u32],
+    work: &mut [u8],
+    victims: u32,
+    split: Split,
+) -> Start
+    requires { ⌜ CleanFits edition1 rec victims split (now area) (now marks) (now work) ⌝ }
+    ensures { λ r.
+        ⌜
+        record { start = r; work = now (work .exit) }
+        ≡ markedWith edition1 rec victims (now (work .entry))
+        (keptBytes edition1 (now (area .entry)) (now (index .entry)) (now (marks .entry)) split)
+        ⌝ }
+{
+    match check_kept(rec, measure(area, index, marks, split)) {
+        Check::Refused(c) => refused(rec, c),
+        Check::Passed => begin(rec, area, index, marks, work, victims, split),
+    }
+}
+
 // A cleaning of the victims is started.
 pub fn clean(rec: Record, area: &[u8], index: &[u32], work: &mut [u8], victims: u32) -> Start
     ensures { λ r.
@@ -124,11 +153,13 @@ pub fn clean(rec: Record, area: &[u8], index: &[u32], work: &mut [u8], victims: 
         StartPromise edition1 (Operation.clean victims) rec (now (area .entry)) (now (index .entry)) (now (work .entry)) (now (work .exit)) r
         ⌝ }
 {
-    match check_clean(rec, area, index, work.len(), victims) {
+    match check_victims(rec, area.len(), index.len(), work.len(), victims) {
         Check::Refused(c) => refused(rec, c),
         Check::Passed => {
             let split = split_of(rec, victims);
-            begin(rec, area, index, work, victims, split)
+            let mut marks = [0u32; 128];
+            mark_outside(area, index, &mut marks, split);
+            clean_marked(rec, area, index, &marks, work, victims, split)
         }
     }
 }

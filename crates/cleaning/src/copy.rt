@@ -4,11 +4,12 @@ use crate::Next;
 use crate::Split;
 use crate::entries::next;
 use crate::kept::is_kept;
-use log::slots::cut;
 use log::slots::is_named;
+use segment::area::cut;
 use segment::layout::DIGEST_SIZE;
 use segment::writer::copy_into;
 ghost use Prim.Native.Nat.{_+_, _≤_, _<_};
+ghost use mathlib.Core.Path.{_≡_};
 ghost use lib.ListN.{length};
 ghost use Rattle.segment.specs.Layout.{edition1};
 ghost use Rattle.cleaning.specs.Entries.{SplitFits};
@@ -20,22 +21,22 @@ ghost use Rattle.cleaning.specs.Copied.{Copied};
 fn copy_entry(
     area: &[u8],
     cells: &[u32],
-    split: Split,
+    marks: &[u32],
     header: Header,
     place: usize,
     work: &mut [u8],
     to: usize,
 ) -> usize
-    requires { ⌜ SplitFits split (now area) ⌝ }
+    requires { ⌜ length (now marks) ≡ 128 ⌝ }
     requires { ⌜ place + header .length ≤ length (now area) ⌝ }
     requires { ⌜ place < 65536 ⌝ }
-    requires { ⌜ to + length (keptEntry edition1 (now area) (now cells) split header place) ≤ length (now work) ⌝ }
+    requires { ⌜ to + length (keptEntry edition1 (now area) (now cells) (now marks) header place) ≤ length (now work) ⌝ }
     ensures { λ r.
         ⌜
-        Copied (keptEntry edition1 (now (area .entry)) (now (cells .entry)) split header place) (now (work .entry)) to (now (work .exit)) r
+        Copied (keptEntry edition1 (now (area .entry)) (now (cells .entry)) (now (marks .entry)) header place) (now (work .entry)) to (now (work .exit)) r
         ⌝ }
 {
-    if !is_kept(area, cells, split, header, place) {
+    if !is_kept(area, cells, marks, header, place) {
         return to;
     }
     let end = place + header.length;
@@ -47,16 +48,17 @@ fn copy_entry(
 fn copy_slot(
     area: &[u8],
     cells: &[u32],
+    marks: &[u32],
     split: Split,
     slot: usize,
     work: &mut [u8],
     from: usize,
 ) -> usize
-    requires { ⌜ SplitFits split (now area) ⌝ }
+    requires { ⌜ SplitFits split (now area) (now marks) ⌝ }
     requires { ⌜ slot < split .slots ⌝ }
-    requires { ⌜ from + length (keptSlot edition1 (now area) (now cells) split slot) ≤ length (now work) ⌝ }
+    requires { ⌜ from + length (keptSlot edition1 (now area) (now cells) (now marks) (split .size) slot) ≤ length (now work) ⌝ }
     ensures { λ r.
-        ⌜ Copied (keptSlot edition1 (now (area .entry)) (now (cells .entry)) split slot) (now (work .entry)) from (now (work .exit)) r ⌝ }
+        ⌜ Copied (keptSlot edition1 (now (area .entry)) (now (cells .entry)) (now (marks .entry)) (split .size) slot) (now (work .entry)) from (now (work .exit)) r ⌝ }
 {
     let size = split.size;
     let s = cut(size, area, slot);
@@ -65,7 +67,7 @@ fn copy_slot(
     loop {
         match next(s, at) {
             Next::Entry(header) => {
-                to = copy_entry(area, cells, split, header, slot * size + at, work, to);
+                to = copy_entry(area, cells, marks, header, slot * size + at, work, to);
                 at += header.length;
             }
             Next::Stop => {
@@ -79,34 +81,42 @@ fn copy_slot(
 fn copy_victim(
     area: &[u8],
     cells: &[u32],
+    marks: &[u32],
     split: Split,
     slot: usize,
     work: &mut [u8],
     to: usize,
 ) -> usize
-    requires { ⌜ SplitFits split (now area) ⌝ }
+    requires { ⌜ SplitFits split (now area) (now marks) ⌝ }
     requires { ⌜ slot < split .slots ⌝ }
-    requires { ⌜ to + length (keptPart edition1 (now area) (now cells) split slot) ≤ length (now work) ⌝ }
+    requires { ⌜ to + length (keptPart edition1 (now area) (now cells) (now marks) split slot) ≤ length (now work) ⌝ }
     ensures { λ r.
-        ⌜ Copied (keptPart edition1 (now (area .entry)) (now (cells .entry)) split slot) (now (work .entry)) to (now (work .exit)) r ⌝ }
+        ⌜ Copied (keptPart edition1 (now (area .entry)) (now (cells .entry)) (now (marks .entry)) split slot) (now (work .entry)) to (now (work .exit)) r ⌝ }
 {
     if !is_named(split.victims, slot) {
         return to;
     }
-    copy_slot(area, cells, split, slot, work, to)
+    copy_slot(area, cells, marks, split, slot, work, to)
 }
 
 // All that is kept, by ascending slot and then offset.
-pub fn copy_kept(area: &[u8], cells: &[u32], split: Split, work: &mut [u8], from: usize) -> usize
-    requires { ⌜ SplitFits split (now area) ⌝ }
-    requires { ⌜ from + length (keptBytes edition1 (now area) (now cells) split) ≤ length (now work) ⌝ }
+pub fn copy_kept(
+    area: &[u8],
+    cells: &[u32],
+    marks: &[u32],
+    split: Split,
+    work: &mut [u8],
+    from: usize,
+) -> usize
+    requires { ⌜ SplitFits split (now area) (now marks) ⌝ }
+    requires { ⌜ from + length (keptBytes edition1 (now area) (now cells) (now marks) split) ≤ length (now work) ⌝ }
     ensures { λ r.
-        ⌜ Copied (keptBytes edition1 (now (area .entry)) (now (cells .entry)) split) (now (work .entry)) from (now (work .exit)) r ⌝ }
+        ⌜ Copied (keptBytes edition1 (now (area .entry)) (now (cells .entry)) (now (marks .entry)) split) (now (work .entry)) from (now (work .exit)) r ⌝ }
 {
     let mut to = from;
     let mut i = 0;
     while i < split.slots {
-        to = copy_victim(area, cells, split, i, work, to);
+        to = copy_victim(area, cells, marks, split, i, work, to);
         i += 1;
     }
     to

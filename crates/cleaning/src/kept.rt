@@ -3,67 +3,60 @@ use crate::Header;
 use crate::Next;
 use crate::Split;
 use crate::entries::next;
-use crate::outside::object_outside;
+use crate::marks::is_marked;
 use index::Found;
 use index::search::search;
-use log::slots::cut;
 use log::slots::is_named;
-use segment::Key;
+use segment::area::cut;
 use segment::layout::DIGEST_SIZE;
 ghost use Prim.Native.Nat.{_+_, _*_, _≤_, _<_};
 ghost use mathlib.Core.Path.{_≡_};
 ghost use lib.ListN.{length};
 ghost use Rattle.segment.specs.Layout.{edition1};
 ghost use Rattle.cleaning.specs.Entries.{SplitFits};
-ghost use Rattle.cleaning.specs.Kept.{latestAt, keptTest, keptEntry, keptSlot, keptPart, keptBytes};
+ghost use Rattle.cleaning.specs.Kept.{keptTest, keptEntry, keptSlot, keptPart, keptBytes};
 
-// Whether the index has this place for the key.
-fn is_latest(area: &[u8], cells: &[u32], key: Key, place: usize) -> bool
+// Whether a victim's entry at a place is kept: it is its key's highest version, and a tombstone only where the key's cell is
+// marked, as an object of the key stands outside the victims.
+pub fn is_kept(area: &[u8], cells: &[u32], marks: &[u32], header: Header, place: usize) -> bool
+    requires { ⌜ length (now marks) ≡ 128 ⌝ }
     requires { ⌜ place < 65536 ⌝ }
-    ensures { λ r. ⌜ r ≡ latestAt edition1 (now (area .entry)) (now (cells .entry)) key place ⌝ }
+    ensures { λ r. ⌜ r ≡ keptTest edition1 (now (area .entry)) (now (cells .entry)) (now (marks .entry)) header place ⌝ }
 {
+    let key = header.key;
     match search(area, cells, key) {
-        Found::At(i) => cells[i] as usize == place + 1,
+        Found::At(i) => {
+            if cells[i] as usize != place + 1 {
+                return false;
+            }
+            if !header.tombstone {
+                return true;
+            }
+            is_marked(marks, i)
+        }
         Found::Free(_) => false,
         Found::Full => false,
     }
 }
 
-// Whether a victim's entry at a place is kept: it is its key's highest version, and a tombstone only where an object of the
-// key stands outside the victims.
-pub fn is_kept(area: &[u8], cells: &[u32], split: Split, header: Header, place: usize) -> bool
-    requires { ⌜ SplitFits split (now area) ⌝ }
-    requires { ⌜ place < 65536 ⌝ }
-    ensures { λ r. ⌜ r ≡ keptTest edition1 (now (area .entry)) (now (cells .entry)) split header place ⌝ }
-{
-    let key = header.key;
-    if !is_latest(area, cells, key, place) {
-        return false;
-    }
-    if !header.tombstone {
-        return true;
-    }
-    object_outside(area, split, key)
-}
-
 // The length of an entry that is kept, 0 of one that is not.
-fn kept_length(area: &[u8], cells: &[u32], split: Split, header: Header, place: usize) -> usize
-    requires { ⌜ SplitFits split (now area) ⌝ }
+fn kept_length(area: &[u8], cells: &[u32], marks: &[u32], header: Header, place: usize) -> usize
+    requires { ⌜ length (now marks) ≡ 128 ⌝ }
     requires { ⌜ place + header .length ≤ length (now area) ⌝ }
     requires { ⌜ place < 65536 ⌝ }
-    ensures { λ r. ⌜ r ≡ length (keptEntry edition1 (now (area .entry)) (now (cells .entry)) split header place) ⌝ }
+    ensures { λ r. ⌜ r ≡ length (keptEntry edition1 (now (area .entry)) (now (cells .entry)) (now (marks .entry)) header place) ⌝ }
 {
-    if is_kept(area, cells, split, header, place) {
+    if is_kept(area, cells, marks, header, place) {
         return header.length;
     }
     0
 }
 
 // How long what is kept of a slot is.
-fn measure_slot(area: &[u8], cells: &[u32], split: Split, slot: usize) -> usize
-    requires { ⌜ SplitFits split (now area) ⌝ }
+fn measure_slot(area: &[u8], cells: &[u32], marks: &[u32], split: Split, slot: usize) -> usize
+    requires { ⌜ SplitFits split (now area) (now marks) ⌝ }
     requires { ⌜ slot < split .slots ⌝ }
-    ensures { λ r. ⌜ (r ≡ length (keptSlot edition1 (now (area .entry)) (now (cells .entry)) split slot)) × (r ≤ 2048) ⌝ }
+    ensures { λ r. ⌜ (r ≡ length (keptSlot edition1 (now (area .entry)) (now (cells .entry)) (now (marks .entry)) (split .size) slot)) × (r ≤ 2048) ⌝ }
 {
     let size = split.size;
     let s = cut(size, area, slot);
@@ -72,7 +65,7 @@ fn measure_slot(area: &[u8], cells: &[u32], split: Split, slot: usize) -> usize
     loop {
         match next(s, at) {
             Next::Entry(header) => {
-                total += kept_length(area, cells, split, header, slot * size + at);
+                total += kept_length(area, cells, marks, header, slot * size + at);
                 at += header.length;
             }
             Next::Stop => {
@@ -83,29 +76,29 @@ fn measure_slot(area: &[u8], cells: &[u32], split: Split, slot: usize) -> usize
 }
 
 // The same, 0 where the slot is no victim.
-fn measure_victim(area: &[u8], cells: &[u32], split: Split, slot: usize) -> usize
-    requires { ⌜ SplitFits split (now area) ⌝ }
+fn measure_victim(area: &[u8], cells: &[u32], marks: &[u32], split: Split, slot: usize) -> usize
+    requires { ⌜ SplitFits split (now area) (now marks) ⌝ }
     requires { ⌜ slot < split .slots ⌝ }
-    ensures { λ r. ⌜ (r ≡ length (keptPart edition1 (now (area .entry)) (now (cells .entry)) split slot)) × (r ≤ 2048) ⌝ }
+    ensures { λ r. ⌜ (r ≡ length (keptPart edition1 (now (area .entry)) (now (cells .entry)) (now (marks .entry)) split slot)) × (r ≤ 2048) ⌝ }
 {
     if !is_named(split.victims, slot) {
         return 0;
     }
-    measure_slot(area, cells, split, slot)
+    measure_slot(area, cells, marks, split, slot)
 }
 
 // How long all that is kept is.
-pub fn measure(area: &[u8], cells: &[u32], split: Split) -> usize
-    requires { ⌜ SplitFits split (now area) ⌝ }
+pub fn measure(area: &[u8], cells: &[u32], marks: &[u32], split: Split) -> usize
+    requires { ⌜ SplitFits split (now area) (now marks) ⌝ }
     ensures { λ r.
         ⌜
-        (r ≡ length (keptBytes edition1 (now (area .entry)) (now (cells .entry)) split)) × (r ≤ 65536)
+        (r ≡ length (keptBytes edition1 (now (area .entry)) (now (cells .entry)) (now (marks .entry)) split)) × (r ≤ 65536)
         ⌝ }
 {
     let mut total = 0;
     let mut i = 0;
     while i < split.slots {
-        total += measure_victim(area, cells, split, i);
+        total += measure_victim(area, cells, marks, split, i);
         i += 1;
     }
     total

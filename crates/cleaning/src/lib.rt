@@ -6,6 +6,7 @@ pub mod clean;
 pub mod copy;
 pub mod entries;
 pub mod kept;
+pub mod marks;
 pub mod outside;
 
 // N and S, and the log's slots in two parts: the victims and those outside of them.

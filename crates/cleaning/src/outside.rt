@@ -1,77 +1,91 @@
-// Whether an object of a key stands outside the victims.
+// One walk over the log outside the victims: the cells of the keys of its objects are marked. A tombstone among the victims is
+// kept if the cell of its key is.
 use crate::Header;
 use crate::Next;
 use crate::Split;
 use crate::entries::next;
-use log::slots::cut;
+use crate::marks::mark;
+use index::Found;
+use index::search::search;
 use log::slots::is_named;
 use segment::Key;
+use segment::area::cut;
 use segment::layout::DIGEST_SIZE;
 ghost use Prim.Native.Nat.{_<_};
 ghost use mathlib.Core.Path.{_≡_};
-ghost use Rattle.segment.specs.Layout.{edition1, digestSize};
-ghost use Rattle.segment.specs.Choice.{both};
-ghost use Rattle.slot_map.specs.Bit.{named};
-ghost use Rattle.index.specs.Build.{entriesAt};
-ghost use Rattle.cleaning.specs.Entries.{SplitFits, isObject, objectIn, slotItems, objectBelow};
+ghost use lib.ListN.{length};
+ghost use Rattle.segment.specs.Layout.{edition1};
+ghost use Rattle.index.specs.Search.{searchFor};
+ghost use Rattle.cleaning.specs.Entries.{SplitFits};
+ghost use Rattle.cleaning.specs.Marks.{markFound, markEntry, markSlot, markPart, markOutside};
 
-// Whether an entry is an object of the key.
-fn is_object(header: Header, key: Key) -> bool
-    ensures { λ r. ⌜ r ≡ isObject key header ⌝ }
+// Marks the cell of a key.
+fn mark_key(area: &[u8], cells: &[u32], marks: &mut [u32], key: Key)
+    requires { ⌜ length (now marks) ≡ 128 ⌝ }
+    ensures { λ _.
+        ⌜
+        now (marks .exit) ≡ markFound (now (marks .entry)) (searchFor edition1 (now (area .entry)) (now (cells .entry)) key)
+        ⌝ }
 {
-    let own = header.key;
-    if header.tombstone {
-        return false;
+    match search(area, cells, key) {
+        Found::At(i) => mark(marks, i),
+        Found::Free(_) => {}
+        Found::Full => {}
     }
-    if key.table != own.table {
-        return false;
-    }
-    key.key == own.key
 }
 
-// Whether an object of the key stands in a segment.
-fn holds_object(s: &[u8], key: Key) -> bool
-    ensures { λ r. ⌜ r ≡ objectIn edition1 key (entriesAt edition1 (now (s .entry)) (digestSize edition1)) ⌝ }
+// Marks the cell of an object's key.
+fn mark_entry(area: &[u8], cells: &[u32], marks: &mut [u32], header: Header)
+    requires { ⌜ length (now marks) ≡ 128 ⌝ }
+    ensures { λ _. ⌜ now (marks .exit) ≡ markEntry edition1 (now (area .entry)) (now (cells .entry)) (now (marks .entry)) header ⌝ }
 {
+    if header.tombstone {
+        return;
+    }
+    mark_key(area, cells, marks, header.key);
+}
+
+// Marks the cells of the keys of a slot's objects.
+fn mark_slot(area: &[u8], cells: &[u32], marks: &mut [u32], split: Split, slot: usize)
+    requires { ⌜ SplitFits split (now area) (now marks) ⌝ }
+    requires { ⌜ slot < split .slots ⌝ }
+    ensures { λ _. ⌜ now (marks .exit) ≡ markSlot edition1 (now (area .entry)) (now (cells .entry)) split (now (marks .entry)) slot ⌝ }
+{
+    let s = cut(split.size, area, slot);
     let mut at = DIGEST_SIZE;
     loop {
         match next(s, at) {
             Next::Entry(header) => {
-                if is_object(header, key) {
-                    return true;
-                }
+                mark_entry(area, cells, marks, header);
                 at += header.length;
             }
             Next::Stop => {
-                return false;
+                return;
             }
         }
     }
 }
 
-// Whether a slot is one outside the victims and holds an object of the key.
-fn slot_holds(area: &[u8], split: Split, key: Key, slot: usize) -> bool
-    requires { ⌜ SplitFits split (now area) ⌝ }
+// The same, nothing where the slot is not outside the victims.
+fn mark_part(area: &[u8], cells: &[u32], marks: &mut [u32], split: Split, slot: usize)
+    requires { ⌜ SplitFits split (now area) (now marks) ⌝ }
     requires { ⌜ slot < split .slots ⌝ }
-    ensures { λ r. ⌜ r ≡ both (named (split .outside) slot) (objectIn edition1 key (slotItems edition1 (now (area .entry)) (split .size) slot)) ⌝ }
+    ensures { λ _. ⌜ now (marks .exit) ≡ markPart edition1 (now (area .entry)) (now (cells .entry)) split (now (marks .entry)) slot ⌝ }
 {
     if !is_named(split.outside, slot) {
-        return false;
+        return;
     }
-    holds_object(cut(split.size, area, slot), key)
+    mark_slot(area, cells, marks, split, slot);
 }
 
-// Whether a log slot outside the victims holds an object of the key.
-pub fn object_outside(area: &[u8], split: Split, key: Key) -> bool
-    requires { ⌜ SplitFits split (now area) ⌝ }
-    ensures { λ r. ⌜ r ≡ objectBelow edition1 (now (area .entry)) split key ⌝ }
+// Marks the cells of the keys of all objects outside the victims.
+pub fn mark_outside(area: &[u8], cells: &[u32], marks: &mut [u32], split: Split)
+    requires { ⌜ SplitFits split (now area) (now marks) ⌝ }
+    ensures { λ _. ⌜ now (marks .exit) ≡ markOutside edition1 (now (area .entry)) (now (cells .entry)) split (now (marks .entry)) ⌝ }
 {
     let mut i = 0;
     while i < split.slots {
-        if slot_holds(area, split, key, i) {
-            return true;
-        }
+        mark_part(area, cells, marks, split, i);
         i += 1;
     }
-    false
 }

@@ -29,7 +29,7 @@ use Rattle.model.specs.Operations.{Operation, write, delete, clean, logNow, wri
 use Rattle.model.specs.Refused.{Lengths, recordBad, keyAbsent, readCauses}
 use Rattle.model.specs.Promises.{ReadPromise, ValuePromise, readAnswer, presentAnswer, readLengths, Part, partOf, valueAnswer, valuePart}
 use Rattle.laws.specs.CauseLaws.{cause-skip}
-use Rattle.laws.specs.MapLaws.{valueAt, entryIn}
+use Rattle.laws.specs.MapLaws.{valueAt, unplaced}
 use Rattle.laws.specs.Operated.{OperationLaws}
 use Rattle.history.specs.Book.{Question, reads, readsValue, asks, Answer, saying, giving, called, accepted, Kept, Book, feed, feedCall, toldBy}
 use Rattle.history.specs.Runs.{Held, World, Asked, read, readValue}
@@ -106,19 +106,19 @@ module _ (L : Layout) (laws : OperationLaws L) (n s : ℕ) where
   some-same q = cc
 
   present-answer :
-      (k : Key) (p : Option Placed) (x : Option Kept) → entryIn p ≡ bookEntry k x →
+      (k : Key) (p : Option Placed) (x : Option Kept) → unplaced p ≡ bookEntry k x →
       readAnswer L (firstCause (when (isNone p) Absent ∷ [])) p ≡ bookAnswer L x
-  unfolding entryIn bookEntry firstCause pick isNone readAnswer presentAnswer bookAnswer
+  unfolding unplaced bookEntry firstCause pick isNone readAnswer presentAnswer bookAnswer
   present-answer k none none e = refl
   present-answer k none (some y) e = cc
   present-answer k (some p) none e = cc
   present-answer k (some p) (some y) e = ap (λ (z : Entry). ReadAnswer.Present (record { 0 = z .version }) (kindOf L z)) (some-same e)
 
   present-value :
-      (area : List ℕ) (size : ℕ) (k : Key) (p : Option Placed) (x : Option Kept) → entryIn p ≡ bookEntry k x →
+      (area : List ℕ) (size : ℕ) (k : Key) (p : Option Placed) (x : Option Kept) → unplaced p ≡ bookEntry k x →
       ((y : Placed) → p ≡ some y → partOf area (valuePart L size (some y)) ≡ bytesIn (y .entry .value)) →
       partOf area (valueAnswer L size (firstCause (when (isNone p) Absent ∷ [])) p) ≡ bookValue x
-  unfolding entryIn bookEntry firstCause pick isNone valueAnswer valuePart bookValue bytesIn
+  unfolding unplaced bookEntry firstCause pick isNone valueAnswer valuePart bookValue bytesIn
   present-value area size k none none e part = refl
   present-value area size k none (some y) e part = cc
   present-value area size k (some p) none e part = cc

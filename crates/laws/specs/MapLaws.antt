@@ -25,28 +25,29 @@ use Rattle.laws.specs.Keys.{KeysWithin, keys-within}
 
 -- ---- what a key has
 
-unfoldable pub entryIn : Option Placed → Option Entry
-entryIn none = none
-entryIn (some x) = some (x .entry)
+-- an entry without its place
+unfoldable pub unplaced : Option Placed → Option Entry
+unplaced none = none
+unplaced (some x) = some (x .entry)
 
 -- the object of a key, wherever it stands
 abbrev pub valueAt : List Placed → Key → Option Entry
-valueAt log k = entryIn (present log k)
+valueAt log k = unplaced (present log k)
 
 -- what an entry gives its key if it is the latest: a tombstone gives nothing
 unfoldable pub gives : Entry → Option Entry
 gives e = pick (isTombstone e) none (some e)
 
 pub value-some : (log : List Placed) (k : Key) (x : Placed) → latest log k ≡ some x → valueAt log k ≡ gives (x .entry)
-unfolding present objectOnly entryIn gives pick
+unfolding present objectOnly unplaced gives pick
 value-some log k x e = rw e (go (isTombstone (x .entry)))
   where
-    go : (t : Bool) → entryIn (pick t none (some x)) ≡ pick t none (some (x .entry))
+    go : (t : Bool) → unplaced (pick t none (some x)) ≡ pick t none (some (x .entry))
     go true = refl
     go false = refl
 
 pub value-none : (log : List Placed) (k : Key) → latest log k ≡ none → valueAt log k ≡ none
-unfolding present objectOnly entryIn
+unfolding present objectOnly unplaced
 value-none log k e = rw e
 
 -- ---- one entry more, with a version above all others
@@ -102,7 +103,7 @@ module _ (log : List Placed) (x : Placed) (after : List Placed) (w : Added log x
     where
       go : (t : Bool) → latest after k ≡ pick t (some x) (latest log k) → valueAt after k ≡ pick t (gives (x .entry)) (valueAt log k)
       go true e = value-some after k x e
-      go false e = unfold present in ap (λ (o : Option Placed). entryIn (objectOnly o)) e
+      go false e = unfold present in ap (λ (o : Option Placed). unplaced (objectOnly o)) e
 
 -- ---- what a cleaning keeps
 

@@ -1,19 +1,22 @@
 -- `cleaning::clean::clean` meets its contract.
-use mathlib.Core.Path.{sym, _∙_}
+use Prim.Native.Nat.{ℕ}
+use mathlib.Core.Path.{sym, _∙_, ap}
 use native.Mathlib.Omega.{arith}
+use lib.ListN.{length, length-replicate}
 use denote.Ref.{now}
 use borrow.Author.Needs.{needs}
 use Rattle.word.specs.Number.{Bytes}
 use Rattle.segment.specs.Layout.{edition1}
-use Rattle.cleaning.specs.CleanLaws.{refused-promise, begun-promise, ready, room}
+use Rattle.cleaning.specs.MarksLaws.{length-below}
+use Rattle.cleaning.specs.CleanLaws.{front-refused, front-shape, front-fits, marked-promise}
 use Rattle.cleaning.proofs.clean.clean.Statement.{statement}
 use Rattle.cleaning.proofs.clean.clean.Tie as tie
 
 bytes : (c : tie.After-shared-slice-known) → Bytes (now (c .before .args .area))
 bytes c i = omega (arith, c .shared-slice-known .given i)
 
-check-clean-requires : tie.Need-check-clean-requires
-check-clean-requires c κs = search needs
+check-victims-requires : tie.Need-check-victims-requires
+check-victims-requires c κs = search needs
 
 enum-known-c : tie.Need-enum-known-c
 enum-known-c c = search needs
@@ -27,40 +30,61 @@ enum-told c = search needs
 split-of-requires : tie.Need-split-of-requires
 split-of-requires c κs = search needs
 
-begin-requires : tie.Need-begin-requires
-begin-requires c κs =
+slice-aggregate-mark-outside : tie.Need-slice-aggregate-mark-outside
+slice-aggregate-mark-outside c = search needs
+
+mark-outside-requires : tie.Need-mark-outside-requires
+mark-outside-requires c κs =
     let t = c .before .before in
-    let a = c .before .before .before .before .before .before .before .before .args in
-    let passed = sym (t .enum-told .given .1) ∙ t .before .before .check-clean .ensures in (
-      ready edition1 (now (a .area)) (now (a .index)) (a .rec) (a .victims) (now (a .work)) _ (c .before .split-of .ensures) passed,
-      room edition1 (now (a .area)) (now (a .index)) (a .rec) (a .victims) (now (a .work)) _ (c .before .split-of .ensures) passed,
-    )
+    let k = t .before .before in
+    let a = k .before .before .before .before .args in
+    front-shape edition1 (now (a .area)) (now (a .index)) (a .rec) (a .victims) (now (a .work)) (sym (t .enum-told .given .1) ∙ k .check-victims .ensures)
+    _ _ (c .before .split-of .ensures) (length-replicate {A = ℕ} 128 0)
+
+slice-aggregate-clean-marked : tie.Need-slice-aggregate-clean-marked
+slice-aggregate-clean-marked c = search needs
+
+clean-marked-requires : tie.Need-clean-marked-requires
+clean-marked-requires c κs =
+    let m = c .before .before .before in
+    let s = m .before .before in
+    let t = s .before in
+    let k = t .before .before in
+    let a = k .before .before .before .before .args in
+    front-fits edition1 (now (a .area)) (now (a .index)) (a .rec) (a .victims) (now (a .work)) (sym (t .enum-told .given .1) ∙ k .check-victims .ensures)
+    _ _ (s .split-of .ensures) (ap length (m .mark-outside .ensures) ∙ length-below edition1 _ _ _ _ _ ∙ length-replicate {A = ℕ} 128 0)
 
 returns : tie.Need-returns
 returns c =
     let k = c .before .before .before .before in
-    refused-promise edition1 _ _ _ _ _ (bytes (k .before .before .before)) _ (sym (c .before .before .c .given .1) ∙ k .check-clean .ensures) _ (c .refused .ensures)
+    front-refused edition1 _ _ _ _ _ (bytes (k .before .before .before)) _ (sym (c .before .before .c .given .1) ∙ k .check-victims .ensures) _ (c .refused .ensures)
 
 same-length : tie.Need-same-length
 same-length c = search needs
 
 returns-2 : tie.Need-returns-2
 returns-2 c =
-    let t = c .before .before .before .before .before in
+    let m = c .before .before .before .before .before .before in
+    let s = m .before .before in
+    let t = s .before in
     let k = t .before .before in
-    begun-promise edition1 _ _ _ _ _ (bytes (k .before .before .before)) _ _ _ (sym (t .enum-told .given .1) ∙ k .check-clean .ensures)
-    (c .before .before .before .before .split-of .ensures) (c .before .before .begin .ensures)
+    let a = k .before .before .before .before .args in
+    marked-promise edition1 (now (a .area)) (now (a .index)) (a .rec) (a .victims) (now (a .work)) (sym (t .enum-told .given .1) ∙ k .check-victims .ensures)
+    (bytes (k .before .before .before)) _ _ (s .split-of .ensures) (m .mark-outside .ensures) _ _ (c .before .before .clean-marked .ensures)
 
 pub clean-spec : {M : Type 1} → statement M
 clean-spec =
     tie.close
     (tie.spec
-    check-clean-requires
+    check-victims-requires
     enum-known-c
     refused-requires
     enum-told
     split-of-requires
-    begin-requires
+    slice-aggregate-mark-outside
+    mark-outside-requires
+    slice-aggregate-clean-marked
+    clean-marked-requires
     returns
     same-length
     returns-2)

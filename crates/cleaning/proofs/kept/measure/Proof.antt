@@ -12,13 +12,13 @@ use Rattle.cleaning.proofs.kept.measure.Statement.{statement}
 use Rattle.cleaning.proofs.kept.measure.Tie as tie
 
 abbrev Inv-loop : tie.InvT-loop
-Inv-loop area cells split total₀ i₀ total i = (i ≤ split .slots) × (total ≡ length (keptBelow edition1 area cells split i)) × (total ≤ 2048 * i)
+Inv-loop area cells marks split total₀ i₀ total i = (i ≤ split .slots) × (total ≡ length (keptBelow edition1 area cells marks split i)) × (total ≤ 2048 * i)
 
 abbrev μ-loop : tie.MeasureT-loop
-μ-loop area cells split total₀ i₀ total i = split .slots - i
+μ-loop area cells marks split total₀ i₀ total i = split .slots - i
 
 loop-holds : tie.Need-loop-holds Inv-loop μ-loop
-loop-holds c = (omega arith, sym (ap length (below-none edition1 _ _ _)), omega arith)
+loop-holds c = (omega arith, sym (ap length (below-none edition1 _ _ _ _)), omega arith)
 
 measure-victim-requires : tie.Need-measure-victim-requires Inv-loop μ-loop
 measure-victim-requires c κs = search needs
@@ -34,17 +34,17 @@ loop-less c = omega arith
 
 loop-again : tie.Need-loop-again Inv-loop μ-loop
 loop-again c =
-    let a = c .before .before .before .before .before .before .args in (
+    let a = c .before .before .before .before .before .before .before .args in (
       omega arith,
-      omega (arith, c .before .before .before .loop .inv .1, c .measure-victim .ensures .0, below-length edition1 (now (a .area)) (now (a .cells)) (a .split) (c .before .before .before .loop .i)),
+      omega (arith, c .before .before .before .loop .inv .1, c .measure-victim .ensures .0, below-length edition1 (now (a .area)) (now (a .cells)) (now (a .marks)) (a .split) (c .before .before .before .loop .i)),
       omega (arith, c .before .before .before .loop .inv .2, c .measure-victim .ensures .1),
     )
 
 returns : tie.Need-returns Inv-loop μ-loop
 returns c =
-    let s = c .before .before .before .before .before in
+    let s = c .before .before .before .before .before .before in
     let e : c .before .before .loop .i ≡ s .args .split .slots = omega arith in (
-      c .before .before .loop .inv .1 ∙ ap (λ (k : ℕ). length (keptBelow edition1 (now (s .args .area)) (now (s .args .cells)) (s .args .split) k)) e,
+      c .before .before .loop .inv .1 ∙ ap (λ (k : ℕ). length (keptBelow edition1 (now (s .args .area)) (now (s .args .cells)) (now (s .args .marks)) (s .args .split) k)) e,
       omega (arith, c .before .before .loop .inv .2, s .pre .slots-high),
     )
 

@@ -13,17 +13,17 @@ use Rattle.cleaning.proofs.kept.measure_slot.Statement.{statement}
 use Rattle.cleaning.proofs.kept.measure_slot.Tie as tie
 
 abbrev Inv-loop : tie.InvT-loop
-Inv-loop area cells split slot size s at₀ total₀ at total =
-    (total + length (keptFrom edition1 area cells split slot s at) ≡ length (keptSlot edition1 area cells split slot))
+Inv-loop area cells marks slot size s at₀ total₀ at total =
+    (total + length (keptFrom edition1 area cells marks size slot s at) ≡ length (keptSlot edition1 area cells marks size slot))
     × (total ≤ at)
     × (at ≤ length s)
 
 abbrev μ-loop : tie.MeasureT-loop
-μ-loop area cells split slot size s at₀ total₀ at total = length s - at
+μ-loop area cells marks slot size s at₀ total₀ at total = length s - at
 
 -- the slot's part of the area is S bytes long
-long : (c : tie.After-cut Inv-loop μ-loop) → length (now (c .cut .result)) ≡ c .before .before .before .args .split .size
-long c = let s = c .before .before .before in slot-long (s .pre .0) _ (s .pre .1) _ (c .cut .ensures)
+long : (c : tie.After-cut Inv-loop μ-loop) → length (now (c .cut .result)) ≡ c .before .before .before .before .args .split .size
+long c = let s = c .before .before .before .before in slot-long (s .pre .0) _ (s .pre .1) _ (c .cut .ensures)
 
 -- the entry that the turn meets, and its place
 met : (c : tie.After-known-told Inv-loop μ-loop)
@@ -31,23 +31,23 @@ met : (c : tie.After-known-told Inv-loop μ-loop)
 met c = meets edition1 _ _ _ (c .before .before .before .next .ensures) _ (c .before .header .given .1)
 
 place : (c : tie.After-known-told Inv-loop μ-loop)
-    → let a = c .before .before .before .before .before .before .before .before .args in
+    → let a = c .before .before .before .before .before .before .before .before .before .args in
     a .slot * a .split .size + c .before .before .before .before .loop .at < 65536
 place c =
-    let s = c .before .before .before .before .before .before .before .before in
+    let s = c .before .before .before .before .before .before .before .before .before in
     place-short (s .pre .0) _ (s .pre .1) _ (c .before .before .before .before .before .cut .ensures) _ _ (met c .fits) (met c .some-byte)
 
 short : (c : tie.After-kept-length Inv-loop μ-loop) → c .kept-length .result ≤ c .before .before .header .given .0 .0 .length
 short c =
-    let a = c .before .before .before .before .before .before .before .before .before .args in
-    omega (arith, c .kept-length .ensures, entry-short edition1 (now (a .area)) (now (a .cells)) (a .split) (c .before .before .header .given .0 .0) (a .slot * a .split .size + c .before .before .before .before .before .loop .at))
+    let a = c .before .before .before .before .before .before .before .before .before .before .args in
+    omega (arith, c .kept-length .ensures, entry-short edition1 (now (a .area)) (now (a .cells)) (now (a .marks)) (c .before .before .header .given .0 .0) (a .slot * a .split .size + c .before .before .before .before .before .loop .at))
 
 cut-requires : tie.Need-cut-requires Inv-loop μ-loop
-cut-requires c κs = let s = c .before .before in slot-lies (s .pre .0) (s .args .slot) (s .pre .1)
+cut-requires c κs = let s = c .before .before .before in slot-lies (s .pre .0) (s .args .slot) (s .pre .1)
 
 loop-holds : tie.Need-loop-holds Inv-loop μ-loop
 unfolding edition1
-loop-holds c = (measured-whole edition1 _ _ _ _ _ (c .cut .ensures), omega arith, omega (arith, long c))
+loop-holds c = (measured-whole edition1 _ _ _ _ _ _ (c .cut .ensures), omega arith, omega (arith, long c))
 
 next-requires : tie.Need-next-requires Inv-loop μ-loop
 next-requires c κs = search needs
@@ -63,8 +63,8 @@ add-kept-length c = omega (arith, place c)
 
 kept-length-requires : tie.Need-kept-length-requires Inv-loop μ-loop
 kept-length-requires c κs =
-    let s = c .before .before .before .before .before .before .before .before in
-    (s .pre .0, (entry-lies (s .pre .0) _ (s .pre .1) _ (c .before .before .before .before .before .cut .ensures) _ _ (met c .fits), place c))
+    let s = c .before .before .before .before .before .before .before .before .before in
+    (s .pre .0 .marks-long, (entry-lies (s .pre .0) _ (s .pre .1) _ (c .before .before .before .before .before .cut .ensures) _ _ (met c .fits), place c))
 
 add-total : tie.Need-add-total Inv-loop μ-loop
 add-total c = omega (arith, short c, met (c .before), long (c .before .before .before .before .before .before))
@@ -77,7 +77,7 @@ loop-less c = omega (arith, met (c .before .before))
 
 loop-again : tie.Need-loop-again Inv-loop μ-loop
 loop-again c = (
-  measured-entry edition1 _ _ _ _ _ _ _ _ (c .before .before .before .before .before .before .loop .inv .0) (met (c .before .before)) _ (c .before .kept-length .ensures),
+  measured-entry edition1 _ _ _ _ _ _ _ _ _ (c .before .before .before .before .before .before .loop .inv .0) (met (c .before .before)) _ (c .before .kept-length .ensures),
   omega (arith, short (c .before), c .before .before .before .before .before .before .loop .inv .1),
   omega (arith, met (c .before .before)),
 )
@@ -87,8 +87,8 @@ enum-told c = search needs
 
 returns : tie.Need-returns Inv-loop μ-loop
 returns c = (
-  measured-stop edition1 _ _ _ _ _ _ _ _ (c .before .before .before .loop .inv .0) (stops edition1 _ _ _ (c .before .before .next .ensures) (c .enum-told .given .1)),
-  omega (arith, c .before .before .before .loop .inv .1, c .before .before .before .loop .inv .2, long (c .before .before .before .before), c .before .before .before .before .before .before .before .pre .0 .size-high),
+  measured-stop edition1 _ _ _ _ _ _ _ _ _ (c .before .before .before .loop .inv .0) (stops edition1 _ _ _ (c .before .before .next .ensures) (c .enum-told .given .1)),
+  omega (arith, c .before .before .before .loop .inv .1, c .before .before .before .loop .inv .2, long (c .before .before .before .before), c .before .before .before .before .before .before .before .before .pre .0 .size-high),
 )
 
 pub measure-slot-spec : {M : Type 1} → statement M

@@ -13,14 +13,14 @@ is-named-requires : tie.Need-is-named-requires
 is-named-requires c κs = search needs
 
 returns : tie.Need-returns
-returns c = (sym (ap length (part-other edition1 _ _ _ _ (sym (c .before .is-named .ensures) ∙ not-true _ (c .if1 .taken)))), omega arith)
+returns c = (sym (ap length (part-other edition1 _ _ _ _ _ (sym (c .before .is-named .ensures) ∙ not-true _ (c .if1 .taken)))), omega arith)
 
 measure-slot-requires : tie.Need-measure-slot-requires
 measure-slot-requires c κs = search needs
 
 returns-2 : tie.Need-returns-2
 returns-2 c = (
-  c .measure-slot .ensures .0 ∙ ap length (part-victim edition1 _ _ _ _ (sym (c .before .before .is-named .ensures) ∙ not-false _ (c .before .if1 .left))),
+  c .measure-slot .ensures .0 ∙ ap length (part-victim edition1 _ _ _ _ _ (sym (c .before .before .is-named .ensures) ∙ not-false _ (c .before .if1 .left))),
   c .measure-slot .ensures .1,
 )
 

@@ -1,0 +1,191 @@
+-- The walk outside the victims at each test of the code, and what a mark means.
+use Prim.Native.Nat.{ℕ, zero, suc, _+_, _≤_, _<_}
+use mathlib.Core.Path.{_≡_, refl, sym, _∙_, ap}
+use mathlib.Core.Bool.{Bool, true, false, not}
+use mathlib.Core.List.{List, [], _∷_, List·Memᴰ·tail}
+use native.Mathlib.Numerals.{add-one}
+use native.Mathlib.Omega.{arith}
+use lib.ListN.{length}
+use Rattle.segment.specs.Choice.{pick, pick-true, pick-false, both, either}
+use Rattle.segment.specs.Layout.{Layout, digestSize}
+use Rattle.segment.specs.declared.Key.{Key}
+use Rattle.slot_map.specs.Bit.{named}
+use Rattle.model.specs.Log.{Item, segmentOf}
+use Rattle.laws.specs.Members.{In, first}
+use Rattle.laws.specs.LogLaws.{anyBelow}
+use Rattle.index.specs.Build.{entriesAt}
+use Rattle.index.specs.Search.{searchFor}
+use Rattle.index.specs.declared.Found.{Found}
+use Rattle.cleaning.specs.Entries.{headerOf, slotItems, isKeyOf, isObject, objectIn, slotHolds}
+use Rattle.cleaning.specs.EntriesLaws.{Meets, entries-meets}
+use Rattle.cleaning.specs.Marks.{isMarked, markedWith, length-marked, mark-own, mark-other, markFound, markEntry, markItems, markSlot, markPart, markBelow}
+use Rattle.cleaning.specs.declared.Split.{Split}
+use Rattle.cleaning.specs.declared.Header.{Header}
+
+-- ---- at each test of the code
+
+module _ (L : Layout) (area cells marks : List ℕ) where
+  module _ (k : Key) where
+    pub found-marks : (i : ℕ) (marks′ : List ℕ) → searchFor L area cells k ≡ Found.At i → marks′ ≡ markedWith marks i → marks′ ≡ markFound marks (searchFor L area cells k)
+    unfolding markFound
+    found-marks i marks′ e h = h ∙ sym (ap (markFound marks) e)
+
+    pub free-keeps : (i : ℕ) → searchFor L area cells k ≡ Found.Free i → marks ≡ markFound marks (searchFor L area cells k)
+    unfolding markFound
+    free-keeps i e = sym (ap (markFound marks) e)
+
+    pub full-keeps : searchFor L area cells k ≡ Found.Full → marks ≡ markFound marks (searchFor L area cells k)
+    unfolding markFound
+    full-keeps e = sym (ap (markFound marks) e)
+
+  module _ (h : Header) where
+    pub tombstone-keeps : h .tombstone ≡ true → marks ≡ markEntry L area cells marks h
+    unfolding markEntry
+    tombstone-keeps e = sym (pick-true (h .tombstone) marks _ e)
+
+    pub object-marks : {marks′ : List ℕ} → h .tombstone ≡ false → marks′ ≡ markFound marks (searchFor L area cells (h .key)) → marks′ ≡ markEntry L area cells marks h
+    unfolding markEntry
+    object-marks e m = m ∙ sym (pick-false (h .tombstone) marks _ e)
+
+  -- a turn of the loop over a segment: the whole is what comes from here on
+  module _ (s : List ℕ) (at : ℕ) (whole : List ℕ) (from : markItems L area cells marks (entriesAt L s at) ≡ whole) where
+    pub marks-stop : entriesAt L s at ≡ [] → marks ≡ whole
+    unfolding markItems
+    marks-stop e = sym (ap (markItems L area cells marks) e) ∙ from
+
+    pub marks-entry : {h : Header} → Meets L s at h → (marks′ : List ℕ) → marks′ ≡ markEntry L area cells marks h →
+        markItems L area cells marks′ (entriesAt L s (at + h .length)) ≡ whole
+    unfolding markItems
+    marks-entry {h} m marks′ e =
+        ap (λ (l : List ℕ). markItems L area cells l (entriesAt L s (at + h .length))) (e ∙ ap (markEntry L area cells marks) (sym (m .its)))
+        ∙ sym (ap (markItems L area cells marks) (entries-meets L s at m))
+        ∙ from
+
+  module _ (split : Split) (i : ℕ) where
+    pub slot-whole : (s : List ℕ) → s ≡ segmentOf area (split .size) i → markItems L area cells marks (entriesAt L s (digestSize L)) ≡ markSlot L area cells split marks i
+    slot-whole s e = ap (λ (t : List ℕ). markItems L area cells marks (entriesAt L t (digestSize L))) e
+
+    pub part-outside : {marks′ : List ℕ} → named (split .outside) i ≡ true → marks′ ≡ markSlot L area cells split marks i → marks′ ≡ markPart L area cells split marks i
+    unfolding markPart
+    part-outside e h = h ∙ sym (pick-true (named (split .outside) i) _ marks e)
+
+    pub part-keeps : named (split .outside) i ≡ false → marks ≡ markPart L area cells split marks i
+    unfolding markPart
+    part-keeps e = sym (pick-false (named (split .outside) i) _ marks e)
+
+    pub marks-more : {now marks′ : List ℕ} → now ≡ markBelow L area cells split marks i → marks′ ≡ markPart L area cells split now i →
+        marks′ ≡ markBelow L area cells split marks (i + 1)
+    unfolding markBelow
+    marks-more n e =
+        e ∙ ap (λ (l : List ℕ). markPart L area cells split l i) n ∙ sym (ap (markBelow L area cells split marks) (add-one i))
+
+  pub marks-none : (split : Split) → marks ≡ markBelow L area cells split marks 0
+  unfolding markBelow
+  marks-none split = refl
+
+-- ---- the lengths
+
+module _ (L : Layout) (area cells : List ℕ) where
+  length-found : (marks : List ℕ) (f : Found) → length (markFound marks f) ≡ length marks
+  unfolding markFound
+  length-found marks (Found.At i) = length-marked marks i
+  length-found marks (Found.Free i) = refl
+  length-found marks Found.Full = refl
+
+  pub length-entry : (marks : List ℕ) (h : Header) → length (markEntry L area cells marks h) ≡ length marks
+  unfolding markEntry pick
+  length-entry marks h = go (h .tombstone)
+    where
+      go : (t : Bool) → length (pick t marks (markFound marks (searchFor L area cells (h .key)))) ≡ length marks
+      go true = refl
+      go false = length-found marks (searchFor L area cells (h .key))
+
+  pub length-items : (is : List Item) (marks : List ℕ) → length (markItems L area cells marks is) ≡ length marks
+  unfolding markItems
+  length-items [] marks = refl
+  length-items (x ∷ xs) marks = length-items xs (markEntry L area cells marks (headerOf L (x .entry))) ∙ length-entry marks (headerOf L (x .entry))
+
+  module _ (split : Split) (marks : List ℕ) where
+    pub length-part : (i : ℕ) (now : List ℕ) → length (markPart L area cells split now i) ≡ length now
+    unfolding markPart pick
+    length-part i now = go (named (split .outside) i)
+      where
+        go : (t : Bool) → length (pick t (markSlot L area cells split now i) now) ≡ length now
+        go true = length-items (slotItems L area (split .size) i) now
+        go false = refl
+
+    pub length-below : (n : ℕ) → length (markBelow L area cells split marks n) ≡ length marks
+    unfolding markBelow
+    length-below zero = refl
+    length-below (suc n) = length-part n (markBelow L area cells split marks n) ∙ length-below n
+
+-- ---- what a mark means
+
+-- The search for the key of an entry finds the cell c if the key is k, and else another cell.
+pub record Tells (L : Layout) (area cells : List ℕ) (k : Key) (c : ℕ) (h : Header) : Type 0 where
+  pub own : isKeyOf k h ≡ true → searchFor L area cells (h .key) ≡ Found.At c
+  pub other : isKeyOf k h ≡ false → (d : ℕ) × (d < 4096) × (d ≡ c → ⊥) × (searchFor L area cells (h .key) ≡ Found.At d)
+
+either-false′ : (t : Bool) → t ≡ either t false
+unfolding either
+either-false′ true = refl
+either-false′ false = refl
+
+either-true′ : (t : Bool) → true ≡ either t true
+unfolding either
+either-true′ true = refl
+either-true′ false = refl
+
+either-joins : (a b c : Bool) → either (either a b) c ≡ either a (either b c)
+unfolding either
+either-joins true b c = refl
+either-joins false b c = refl
+
+module _ (L : Layout) (area cells : List ℕ) (k : Key) (c : ℕ) (low : c < 4096) where
+  entry-mark : (marks : List ℕ) (h : Header) → length marks ≡ 128 → Tells L area cells k c h →
+      isMarked (markEntry L area cells marks h) c ≡ either (isMarked marks c) (isObject k h)
+  unfolding isObject markEntry markFound pick both
+  entry-mark marks h long t = go (h .tombstone) (isKeyOf k h) refl
+    where
+      go : (b e : Bool) → isKeyOf k h ≡ e →
+          isMarked (pick b marks (markFound marks (searchFor L area cells (h .key)))) c ≡ either (isMarked marks c) (both (not b) e)
+      go true e p = either-false′ (isMarked marks c)
+      go false true p =
+          ap (λ (f : Found). isMarked (markFound marks f) c) (t .own p) ∙ mark-own marks long c ∙ either-true′ (isMarked marks c)
+      go false false p =
+          let w = t .other p in
+          ap (λ (f : Found). isMarked (markFound marks f) c) (w .3)
+          ∙ mark-other marks long (w .0) c (w .1) low (w .2)
+          ∙ either-false′ (isMarked marks c)
+
+  items-mark : (is : List Item) (marks : List ℕ) → length marks ≡ 128 → ((y : Item) → In y is → Tells L area cells k c (headerOf L (y .entry))) →
+      isMarked (markItems L area cells marks is) c ≡ either (isMarked marks c) (objectIn L k is)
+  unfolding markItems objectIn
+  items-mark [] marks long f = either-false′ (isMarked marks c)
+  items-mark (x ∷ xs) marks long f =
+      items-mark xs (markEntry L area cells marks (headerOf L (x .entry))) (length-entry L area cells marks (headerOf L (x .entry)) ∙ long)
+      (λ y m. f y (List·Memᴰ·tail m))
+      ∙ ap (λ (b : Bool). either b (objectIn L k xs)) (entry-mark marks (headerOf L (x .entry)) long (f x first))
+      ∙ either-joins (isMarked marks c) (isObject k (headerOf L (x .entry))) (objectIn L k xs)
+
+  part-mark : (split : Split) (n : ℕ) (now : List ℕ) → length now ≡ 128 →
+      (named (split .outside) n ≡ true → (y : Item) → In y (slotItems L area (split .size) n) → Tells L area cells k c (headerOf L (y .entry))) →
+      isMarked (markPart L area cells split now n) c ≡ either (isMarked now c) (slotHolds L area split k n)
+  unfolding markPart pick both
+  part-mark split n now long f = go (named (split .outside) n) refl
+    where
+      go : (t : Bool) → named (split .outside) n ≡ t →
+          isMarked (pick t (markSlot L area cells split now n) now) c ≡ either (isMarked now c) (both t (objectIn L k (slotItems L area (split .size) n)))
+      go true e = items-mark (slotItems L area (split .size) n) now long (f e)
+      go false e = either-false′ (isMarked now c)
+
+  module _ (split : Split) (marks : List ℕ) (long : length marks ≡ 128) (clear : isMarked marks c ≡ false)
+      (f : (i : ℕ) → i < split .slots → named (split .outside) i ≡ true → (y : Item) → In y (slotItems L area (split .size) i) →
+      Tells L area cells k c (headerOf L (y .entry))) where
+    -- the cell c is marked exactly if an object of k stands in a slot outside the victims
+    pub below-mark : (n : ℕ) → n ≤ split .slots → isMarked (markBelow L area cells split marks n) c ≡ anyBelow (slotHolds L area split k) n
+    unfolding markBelow anyBelow
+    below-mark zero h = clear
+    below-mark (suc n) h =
+        part-mark split n (markBelow L area cells split marks n) (length-below L area cells split marks n ∙ long) (f n h)
+        ∙ ap (λ (b : Bool). either b (slotHolds L area split k n)) (below-mark n (omega arith))
