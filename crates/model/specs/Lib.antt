@@ -9,7 +9,7 @@ pub mod Operations
 pub mod Arguments
 pub mod Refused
 pub mod Promises
-pub mod Fixed
+pub mod PromiseLaws
 pub mod Table
 pub mod Expected
 pub mod Play

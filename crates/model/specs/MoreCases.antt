@@ -311,8 +311,9 @@ cutRows =
     ∷ row 22 (map (λ s. stores (freshOver s) (write a (replicate 8 1))) (0 ∷ 1 ∷ 4 ∷ 5 ∷ [])) (20 ∷ 20 ∷ 20 ∷ 20 ∷ [])
     ∷ row 22 (recovers (played (freshOver 4) (write a (replicate 8 1)))) (gives (record { head = 0; end = 32; digest = 1; map = 1; next = 2; keys = 1; left = 0 }))
     ∷ row 22 (recovers (played (freshOver 5) (write a (replicate 8 1)))) (gives (record { head = 0; end = 32; digest = 1; map = 1; next = 2; keys = 1; left = 0 }))
-    -- a new head over an old digest, cut after each store but the last; all of them done
+    -- a new head over an old digest, cut after each store but the last, for a write and for a cleaning; all of the write's done
     ∷ row 23 (cutsBelow 34 (crowded 3 3 1) (oldKey 8)) (times 34 (gives (record { head = 0; end = 245; digest = 3; map = 3; next = 17; keys = 15; left = 0 })))
+    ∷ row 23 (cutsBelow 15 (crowded 3 3 1) (clean 2)) (times 15 (gives (record { head = 0; end = 245; digest = 3; map = 3; next = 17; keys = 15; left = 0 })))
     ∷ row 23 (starts (crowded 3 3 1) (oldKey 8)) (toCome 34 ++ holds (record { head = 0; end = 245; digest = 3; map = 3; next = 17; keys = 15; left = 34 }))
     ∷ row 23 (ends (crowded 3 3 1) (oldKey 8)) (done 17 ++ holds (record { head = 2; end = 32; digest = 4; map = 7; next = 18; keys = 15; left = 0 }))
     ∷ row 23 (recovers (played (crowded 3 3 1) (oldKey 8))) (gives (record { head = 2; end = 32; digest = 4; map = 7; next = 18; keys = 15; left = 0 }))

@@ -50,9 +50,11 @@ unfoldable pub testedStore : Layout → ℕ → List ℕ → Record → NextStor
 testedStore L areaLength work r = pick (agreesWith L r (r .pending)) (nextStore areaLength work r) Bad
 
 -- Whatever the record: where one of these tests fails the step is refused with 4 and changes nothing. Behind its store a step is
--- refused only if it is the last one, by what it finds in the log or in the index.
+-- refused only if it is the last one, with 4, by what it finds in the log or in the index, and hands the record back.
 pub record StepTested (L : Layout) (r : Record) (area area′ cells cells′ work : List ℕ) (a : Stepped) : Type 0 where
   pub before-store :
       firstCause (stepCauses L r (lentLengths area cells work)) ≡ none → testedStore L (length area) work r ≡ Bad →
       StepRefused r area area′ cells cells′ a BadRecord
-  pub behind-store : (c : Refusal) → a .answer ≡ StepAnswer.Refused c → (area′ ≡ area) ⊎ (storesLeft (r .pending) ≡ 1)
+  pub behind-store :
+      (c : Refusal) → a .answer ≡ StepAnswer.Refused c →
+      (area′ ≡ area) ⊎ ((storesLeft (r .pending) ≡ 1) × (a ≡ record { answer = StepAnswer.Refused BadRecord; rec = r }))

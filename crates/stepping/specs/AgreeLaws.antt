@@ -3,6 +3,7 @@ use Prim.Native.Nat.{ℕ, _+_, _*_, _-_, _≤_, _<_}
 use mathlib.Core.Path.{_≡_, refl, sym, _∙_, ap, subst}
 use mathlib.Core.Bool.{Bool, true, false, not}
 use mathlib.Core.List.{List}
+use mathlib.Core.Option.{none}
 use native.Mathlib.Omega.{arith}
 use lib.Dec.{eqb, ltb, leb}
 use lib.ListN.{length}
@@ -17,14 +18,18 @@ use Rattle.record.specs.Answers.{withPending}
 use Rattle.record.specs.RangeLaws.{Lent}
 use Rattle.record.specs.declared.Pending.{Pending}
 use Rattle.record.specs.declared.Pending.the-variants.{Idle, Append, NewHead, Clean}
+use Rattle.record.specs.declared.Refusal.the-variants.{BadRecord}
+use Rattle.record.specs.declared.Stepped.{Stepped}
 use Rattle.record.specs.declared.Record.{Record}
 use Rattle.model.specs.Operations.{Operation, write, delete, clean, Laid, laid, laidAppend, laidHead, laidEntry, laidClean, logNow, newSlot, fitsHead, kept, allEncoded, writtenEntry, tombstoneEntry}
-use Rattle.model.specs.Refused.{keptLength, startCauses}
+use Rattle.model.specs.Causes.{firstCause}
+use Rattle.model.specs.Refused.{keptLength, startCauses, stepCauses}
+use Rattle.model.specs.Promises.{StepRefused, lentLengths}
 use Rattle.laws.specs.Operated.{Accepted}
 use Rattle.laws.specs.Entering.{Entering, idle-lent, idle-number, write-enters, delete-enters}
 use Rattle.laws.specs.Passed.{CleanPassed, clean-passed}
 use Rattle.stepping.specs.Next.{nextStore}
-use Rattle.stepping.specs.Agree.{entryAgrees, slotAgrees, victimsAgree, agreesWith, testedStore}
+use Rattle.stepping.specs.Agree.{entryAgrees, slotAgrees, victimsAgree, agreesWith, testedStore, StepTested}
 use Rattle.stepping.specs.declared.NextStore.{NextStore}
 use Rattle.stepping.specs.declared.NextStore.the-variants.{At, Bad}
 
@@ -137,6 +142,49 @@ module _ (L : Layout) (r : Record) (e : agreesWith L r (r .pending) ≡ true) wh
   clean-agrees {i} {v} {n} q =
       let w : both (slotAgrees r i) (victimsAgree L r v n) ≡ true = sym (ap (agreesWith L r) q) ∙ e in
       slot-in r i (both-left _ _ w)
+
+-- ---- so a spent counter is found out before the store
+
+-- a write or delete takes a version, a new head a digest number
+unfoldable pub takesVersion : Pending → Bool
+takesVersion Idle = false
+takesVersion (Append n k) = true
+takesVersion (NewHead i n k) = true
+takesVersion (Clean i v n k) = false
+
+unfoldable pub takesNumber : Pending → Bool
+takesNumber Idle = false
+takesNumber (Append n k) = false
+takesNumber (NewHead i n k) = true
+takesNumber (Clean i v n k) = true
+
+module _ (L : Layout) (r : Record) where
+  version-disagrees : (p : Pending) → takesVersion p ≡ true → versionLimit L ≤ r .next .0 → agreesWith L r p ≡ false
+  unfolding takesVersion agreesWith
+  version-disagrees Idle t h = refl
+  version-disagrees (Append n k) t h = sym (entry-spent L r 0 n h)
+  version-disagrees (NewHead i n k) t h = both-false-right _ _ (sym (entry-spent L r (digestSize L) n h))
+  version-disagrees (Clean i v n k) t h = let z : _≡_ {A = ℕ} 0 1 = cc in absurd (omega arith)
+
+  number-disagrees : (p : Pending) → takesNumber p ≡ true → numberLimit ≤ r .digest .0 → agreesWith L r p ≡ false
+  unfolding takesNumber agreesWith
+  number-disagrees Idle t h = refl
+  number-disagrees (Append n k) t h = let z : _≡_ {A = ℕ} 0 1 = cc in absurd (omega arith)
+  number-disagrees (NewHead i n k) t h = both-false-left _ _ (sym (slot-spent r i h))
+  number-disagrees (Clean i v n k) t h = both-false-left _ _ (sym (slot-spent r i h))
+
+-- Whatever record a step gets: with no version or no digest number left for its operation it is refused, and nothing changes.
+module _ (L : Layout) (r : Record) (area area′ cells cells′ work : List ℕ) (a : Stepped) (tested : StepTested L r area area′ cells cells′ work a)
+    (first : firstCause (stepCauses L r (lentLengths area cells work)) ≡ none) where
+  disagrees-refused : agreesWith L r (r .pending) ≡ false → StepRefused r area area′ cells cells′ a BadRecord
+  unfolding testedStore
+  disagrees-refused e = tested .before-store first (pick-false _ _ _ e)
+
+  pub versions-refused : takesVersion (r .pending) ≡ true → versionLimit L ≤ r .next .0 → StepRefused r area area′ cells cells′ a BadRecord
+  versions-refused t h = disagrees-refused (version-disagrees L r (r .pending) t h)
+
+  pub numbers-refused : takesNumber (r .pending) ≡ true → numberLimit ≤ r .digest .0 → StepRefused r area area′ cells cells′ a BadRecord
+  numbers-refused t h = disagrees-refused (number-disagrees L r (r .pending) t h)
 
 -- ---- what is laid down by a start that is accepted agrees with the record
 

@@ -11,10 +11,12 @@ use lib.ListN.{length, getD, take, set}
 use borrow.Author.Tests.{lt-ltb, le-ltb, ltb-false, not-false}
 use Rattle.segment.specs.Choice.{pick, pick-true, pick-false}
 use Rattle.segment.specs.Layout.{Layout}
-use Rattle.segment.specs.Entry.{Entry}
+use Rattle.segment.specs.Entry.{Entry, Found, entry, end, damage}
 use Rattle.record.specs.Answers.{stepSaid, storesLeft, withPending}
+use Rattle.record.specs.Committed.{committed}
 use Rattle.record.specs.Range.{fitsLent}
 use Rattle.record.specs.RangeLaws.{Lent, lent}
+use Rattle.record.specs.declared.Commit.{Commit}
 use Rattle.record.specs.declared.Pending.{Pending}
 use Rattle.record.specs.declared.Pending.the-variants.{Idle, Append, NewHead, Clean}
 use Rattle.record.specs.declared.Refusal.{Refusal}
@@ -27,7 +29,7 @@ use Rattle.model.specs.Index.{IndexRule}
 use Rattle.model.specs.Operations.{Operation, write, delete, clean, Laid, laid, laidAppend, laidHead, fitsHead, writtenEntry, tombstoneEntry, logNow, planFor, stored, finishedRecord, toldVersion}
 use Rattle.model.specs.Causes.{firstCause}
 use Rattle.model.specs.Refused.{recordBad, isPending, stepCauses}
-use Rattle.model.specs.Promises.{Genuine, Started, OneByte, StepPromise, StepExact, stepped, IndexStepped, lentLengths}
+use Rattle.model.specs.Promises.{Genuine, Started, OneByte, StepRefused, StepPromise, StepExact, stepped, IndexStepped, lentLengths}
 use Rattle.laws.specs.CauseLaws.{cause-none, cause-first, cause-skip}
 use Rattle.laws.specs.Passed.{step-passed}
 use Rattle.laws.specs.SaidLaws.{step-says}
@@ -35,10 +37,11 @@ use Rattle.laws.specs.Stores.{stored-next, stored-all}
 use Rattle.laws.specs.Operated.{Accepted}
 use Rattle.laws.specs.Entering.{Roomy}
 use Rattle.laws.specs.OperationsKept.{operation-laws}
+use Rattle.index.specs.declared.Built.{Built}
 use Rattle.stepping.specs.Agree.{agreesWith, testedStore, StepTested}
 use Rattle.stepping.specs.AgreeLaws.{laid-agrees}
 use Rattle.stepping.specs.PlanLaws.{atOf, accepted, next-started}
-use Rattle.stepping.specs.Finish.{After, refusedStep, oneLess, finishWith, advanced}
+use Rattle.stepping.specs.Finish.{After, refusedStep, answeredWith, foundIn, finishEntry, finishAppend, finishHead, finishClean, oneLess, finishWith, advanced}
 use Rattle.stepping.specs.ExactLaws.{Ends, operation-ends}
 use Rattle.stepping.specs.declared.NextStore.{NextStore}
 use Rattle.stepping.specs.declared.NextStore.the-variants.{At, Bad}
@@ -98,6 +101,10 @@ same-byte : (area : List ℕ) → OneByte area area
 same-byte [] = (0, 0, refl)
 same-byte (b ∷ s) = (0, b, refl)
 
+refused-same : (r : Record) (area cells : List ℕ) (c : Refusal) {x : Stepped} → x ≡ refusedStep r c → StepRefused r area area cells cells x c
+refused-same r area cells c e =
+    record { answers = e; says = ap (λ (y : Stepped). stepSaid (y .answer)) e; area-same = refl; index-same = refl }
+
 module _ (L : Layout) (r : Record) (area cells work : List ℕ) (c : Refusal) (first : firstCause (stepCauses L r (lentLengths area cells work)) ≡ some c) where
   same : (d : Refusal) → firstCause (stepCauses L r (lentLengths area cells work)) ≡ some d → c ≡ d
   same d f = let q : _≡_ {A = Option Refusal} (some c) (some d) = sym first ∙ f in cc
@@ -114,12 +121,7 @@ module _ (L : Layout) (r : Record) (area cells work : List ℕ) (c : Refusal) (f
         record {
           one-byte = same-byte area;
           same-length = refl;
-          refused = λ d f. record {
-            answers = e ∙ ap (refusedStep r) (same d f);
-            says = ap (λ (y : Stepped). stepSaid (y .answer)) (e ∙ ap (refusedStep r) (same d f));
-            area-same = refl;
-            index-same = refl;
-          };
+          refused = λ d f. refused-same r area cells d (e ∙ ap (refusedStep r) (same d f));
           exact = λ f g s. absurd (never f);
         }
 
@@ -144,6 +146,49 @@ module _ (L : Layout) (idle : Record) (log : List Placed) where
       entry-counts (fitsHead L idle (writtenEntry idle key value)) (writtenEntry idle key value)
   counts-down (delete key) = entry-counts (fitsHead L idle (tombstoneEntry idle key)) (tombstoneEntry idle key)
   counts-down (clean victims) = λ k. (refl, refl)
+
+-- ---- behind the store a step is refused with 4 alone, and hands the record back
+
+module _ (r : Record) where
+  abbrev Late : Stepped → Type 0
+  Late x = (c : Refusal) → x .answer ≡ StepAnswer.Refused c → x ≡ refusedStep r BadRecord
+
+  answered-late : (done : Commit) (version : ℕ) (b : Built) → Late (answeredWith r done version b)
+  unfolding answeredWith pick
+  answered-late done version (Built.Keys n) = go (ltb n (r .cells))
+    where
+      go : (t : Bool) → Late (pick t (record { answer = StepAnswer.Done (record { 0 = version }); rec = committed r done n }) (refusedStep r BadRecord))
+      go true c f = let z : _≡_ {A = ℕ} 0 1 = cc in absurd (omega arith)
+      go false c f = refl
+  answered-late done version Built.TooMany = λ c f. refl
+
+module _ (L : Layout) (r : Record) (area cells : List ℕ) where
+  found-late : (done : Commit) (place : ℕ) (f : Found) → Late r (foundIn L r done area cells place f .stepped)
+  unfolding foundIn
+  found-late done place (entry e) = answered-late r done (r .next .0) _
+  found-late done place end = λ c f. refl
+  found-late done place damage = λ c f. refl
+
+  finish-late : (p : Pending) → Late r (finishWith L r area cells p .stepped)
+  unfolding finishWith finishAppend finishHead finishClean finishEntry
+  finish-late Idle = λ c f. refl
+  finish-late (Append n k) = found-late _ _ _
+  finish-late (NewHead i n k) = found-late _ _ _
+  finish-late (Clean i v n k) = answered-late r _ 0 _
+
+  advanced-late : Late r (advanced L r area cells .stepped)
+  unfolding advanced pick
+  advanced-late = go (ltb 1 (storesLeft (r .pending)))
+    where
+      go : (t : Bool) → Late r
+          (pick t
+          (record {
+            stepped = record { answer = StepAnswer.Left (storesLeft (r .pending) - 1); rec = withPending r (oneLess (r .pending)) };
+            cells = cells;
+          })
+          (finishWith L r area cells (r .pending)) .stepped)
+      go true = λ c f. let z : _≡_ {A = ℕ} 0 1 = cc in absurd (omega arith)
+      go false = finish-late (r .pending)
 
 -- ---- a step of a started operation
 
@@ -321,8 +366,7 @@ module _ (L : Layout) (roomy : Roomy L) (r : Record) (area cells work : List ℕ
     pub bad-tested : x ≡ refusedStep r BadRecord → StepTested L r area area cells cells work x
     bad-tested e =
         record {
-          before-store =
-              λ f t. record { answers = e; says = ap (λ (y : Stepped). stepSaid (y .answer)) e; area-same = refl; index-same = refl };
+          before-store = λ f t. refused-same r area cells BadRecord e;
           behind-store = λ c f. inl refl;
         }
 
@@ -353,11 +397,14 @@ module _ (L : Layout) (roomy : Roomy L) (r : Record) (area cells work : List ℕ
             absurd (omega arith)
         go false t = omega (arith, left, ltb-false 1 (storesLeft (r .pending)) t)
 
+    late-bad : Late r x
+    late-bad = subst (λ (a : After). Late r (a .stepped)) (sym e) (advanced-late L r (set area p b) cells)
+
     pub stored-tested : StepTested L r area (set area p b) cells cells′ work x
     stored-tested =
         record {
           before-store = λ f t. absurd (never-bad (sym t ∙ at));
-          behind-store = λ c f. inr (last-only c f);
+          behind-store = λ c f. inr (last-only c f, late-bad c f);
         }
       where
         never-bad : _≡_ {A = NextStore} Bad (At p b) → ⊥

@@ -105,8 +105,7 @@ advance-requires : tie.Need-advance-requires
 advance-requires c κs =
     let d = c .before .before .before .before .before .before .before .before .before in
     let l = in-range d in
-    let n = c .before .before .before .place .given .0 in
-    (omega (arith, d .before .stores-left .ensures, d .if3 .left), l .slots-high, l .size-high, length-set (now (c .before .before .before .before .before .before .before .before .before .before .before .before .before .before .before .before .before .before .args .area)) (n .0) (n .1 .0) ∙ l .area-own, inside (c .before .before .before) .0, agreed (c .before .before .before .before .before .before .before))
+    (omega (arith, d .before .stores-left .ensures, d .if3 .left), l .slots-high, l .size-high, simp length-set (l .area-own), inside (c .before .before .before) .0, agreed (c .before .before .before .before .before .before .before))
 
 returns-6 : tie.Need-returns-6
 returns-6 c =

@@ -1,5 +1,6 @@
 -- `stepping::agree::entry_agrees` meets its contract.
 use borrow.Author.Needs.{needs}
+use native.Mathlib.Omega.{arith}
 use Rattle.segment.specs.Layout.{edition1}
 use Rattle.stepping.specs.AgreeLaws.{entry-spent, entry-rest}
 use Rattle.stepping.proofs.agree.entry_agrees.Statement.{statement}
@@ -7,7 +8,7 @@ use Rattle.stepping.proofs.agree.entry_agrees.Tie as tie
 
 returns : tie.Need-returns
 unfolding edition1
-returns c = entry-spent edition1 _ _ _ (c .if1 .taken)
+returns c = entry-spent edition1 _ _ _ (omega (arith, c .if1 .taken))
 
 returns-2 : tie.Need-returns-2
 unfolding edition1
