@@ -25,8 +25,10 @@
  *   Every call answers 0 if it is accepted and otherwise the number of the first cause that refuses it, in the order
  *   given with each function. A refused call leaves the memory that is lent as it was, with two exceptions:
  *   - recovery refused with 20 leaves the index all 0;
- *   - a step that is given a record, index or work buffer that the rules of use below exclude may find that out, and
- *     answer 4, only after it has stored its byte and begun to change the index.
+ *   - the last step of an operation that is given a record, index or work buffer that the rules of use below exclude may
+ *     find only after it has stored its byte, and begun to change the index, that the new entry cannot be read or that
+ *     the index is full, and answers 4. All that the record, its pending operation and the lengths tell is tested before
+ *     the store.
  *   What a refused call does to the numbers that it would tell:
  *   - kurdavel_read sets *version and *kind to 0, and kurdavel_read_value *place and *bytes;
  *   - every other call leaves them as they were: *stores of a start, *left and *version of a step. Look at the answer

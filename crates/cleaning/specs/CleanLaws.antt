@@ -149,7 +149,10 @@ pub split-shape : (L : Layout) (r : Record) (i victims : ℕ) (area marks : List
     length marks ≡ 128 → SplitFits split area marks
 split-shape L r i victims area marks split f is long =
     subst (λ (s : Split). SplitFits s area marks) (sym is)
-    (record { slots-high = f .slots-high; size-low = f .size-low; size-high = f .size-high; whole = f .area-own; marks-long = long })
+    (record {
+      slots = record { slots-high = f .slots-high; size-low = f .size-low; size-high = f .size-high; whole = f .area-own };
+      marks-long = long;
+    })
 
 module _ (L : Layout) (area cells : List ℕ) (r : Record) (victims : ℕ) (work : List ℕ) where
   -- the whole answer, and what the first tests leave of it

@@ -20,12 +20,16 @@ use Rattle.cleaning.specs.declared.Next.the-variants as N
 
 -- ---- the slots of an area
 
--- N and S within their limits, and the area N × S bytes long, as the range test has found them; and 128 words of marks.
-pub record SplitFits (split : Split) (area marks : List ℕ) : Type 0 where
+-- N and S within their limits, and the area N × S bytes long, as the range test has found them.
+pub record SlotsFit (split : Split) (area : List ℕ) : Type 0 where
   pub slots-high : split .slots ≤ 32
   pub size-low : 256 ≤ split .size
   pub size-high : split .size ≤ 2048
   pub whole : length area ≡ split .slots * split .size
+
+-- The same with 128 words of marks.
+pub record SplitFits (split : Split) (area marks : List ℕ) : Type 0 where
+  pub slots : SlotsFit split area
   pub marks-long : length marks ≡ 128
 
 -- the entries of a slot

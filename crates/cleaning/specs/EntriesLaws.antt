@@ -18,7 +18,7 @@ use Rattle.laws.specs.Scans.{itemAt}
 use Rattle.laws.specs.Stores.{slot-inside, length-segment}
 use Rattle.index.specs.Build.{entriesAt}
 use Rattle.index.specs.Entries.{entries-entry, entries-end, entries-damage}
-use Rattle.cleaning.specs.Entries.{SplitFits, headerOf, nextOf}
+use Rattle.cleaning.specs.Entries.{SlotsFit, SplitFits, headerOf, nextOf}
 use Rattle.cleaning.specs.declared.Split.{Split}
 use Rattle.cleaning.specs.declared.Header.{Header}
 use Rattle.cleaning.specs.declared.Next.{Next}
@@ -26,7 +26,7 @@ use Rattle.cleaning.specs.declared.Next.the-variants as N
 
 -- ---- where slots and entries lie
 
-module _ {split : Split} {area marks : List ℕ} (shape : SplitFits split area marks) where
+module _ {split : Split} {area : List ℕ} (shape : SlotsFit split area) where
   area-short : length area ≤ 65536
   area-short = omega (arith, shape .whole, mul-le-mul (shape .slots-high) (shape .size-high))
 
@@ -48,8 +48,7 @@ module _ {split : Split} {area marks : List ℕ} (shape : SplitFits split area m
 -- the same with other marks
 pub fits-again : {split : Split} {area marks : List ℕ} (marks′ : List ℕ) → SplitFits split area marks → length marks′ ≡ length marks →
     SplitFits split area marks′
-fits-again marks′ f e =
-    record { slots-high = f .slots-high; size-low = f .size-low; size-high = f .size-high; whole = f .whole; marks-long = e ∙ f .marks-long }
+fits-again marks′ f e = record { slots = f .slots; marks-long = e ∙ f .marks-long }
 
 -- ---- what stands at an offset
 

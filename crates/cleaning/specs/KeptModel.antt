@@ -11,7 +11,7 @@ use lib.ListN.{length, getD, take, drop, replicate, length-replicate}
 use borrow.Author.Tests.{eq-eqb, ne-eqb, eqb-true, eqb-false, ltb-true, ltb-false}
 use Rattle.word.specs.Number.{Bytes}
 use Rattle.word.specs.Laws.{bytes-take, bytes-drop}
-use Rattle.segment.specs.Choice.{pick-true, pick-false, both, both-left, either}
+use Rattle.segment.specs.Choice.{pick, pick-true, pick-false, both, both-left, either}
 use Rattle.segment.specs.Layout.{Layout}
 use Rattle.segment.specs.Packed.{field-at}
 use Rattle.segment.specs.Entry.{Entry, entry, entryAt, encoded, sizeOf, keyOf, isTombstone}
@@ -40,7 +40,8 @@ use Rattle.index.specs.declared.Found.{Found}
 use Rattle.cleaning.specs.Entries.{headerOf, slotItems}
 use Rattle.cleaning.specs.Kept.{cellKept, keptAt, keptTest, keptEntry, gathered, keptPart, keptBelow, keptBytes}
 use Rattle.cleaning.specs.KeptLaws.{part-victim, part-other}
-use Rattle.cleaning.specs.Marks.{isMarked, marksOf, clear-marks}
+use Rattle.cleaning.specs.Tombstones.{anyTombstone, no-tombstone}
+use Rattle.cleaning.specs.Marks.{isMarked, markOutside, markNeeded, marksOf, clear-marks}
 use Rattle.cleaning.specs.MarksLaws.{Tells, below-mark}
 use Rattle.cleaning.specs.Outside.{outside-named, slot-items, object-same}
 use Rattle.cleaning.specs.declared.Split.{Split}
@@ -242,12 +243,34 @@ module _ (L : Layout) (area cells : List ℕ) (r : Record) (g : Genuine L area r
               item = subst (λ (is : List Item). In y is) (slot-items L area (r .size) (r .map) (r .slots) scans i h in-map) m;
             }))
 
-    -- a key's cell is marked exactly if an object of the key stands outside the victims
-    marked-outside : (k : Key) (c : KeyCell k) → isMarked marks (c .cell .cell) ≡ objectOutside victims log k
+    -- a key's cell is marked exactly if an object of the key stands outside the victims, once the walk is made
+    abbrev walked : List ℕ
+    walked = markOutside L area cells (splitOf r victims) (replicate 128 0)
+
+    marked-outside : (k : Key) (c : KeyCell k) → isMarked walked (c .cell .cell) ≡ objectOutside victims log k
     marked-outside k c =
         below-mark L area cells k (c .cell .cell) (omega (arith, c .cell .below)) (splitOf r victims) (replicate 128 0) (length-replicate {A = ℕ} 128 0)
         (clear-marks (c .cell .cell)) (tells k c) (r .slots) (omega arith)
         ∙ object-same L area (r .size) (r .map) victims (r .slots) scans k
+
+    -- where it is not made, no victim's entry is a tombstone
+    no-dead : anyTombstone L area (splitOf r victims) ≡ false → (x : Placed) → In x log → named victims (x .slot) ≡ true → isTombstone (x .entry) ≡ false
+    no-dead e x m n =
+        let w = log-in v (named (r .map)) (r .slots) x m in
+        no-tombstone L area (splitOf r victims) e (x .slot) (w .below) n (itemOf x)
+        (subst (λ (is : List Item). In (itemOf x) is) (sym (slot-items L area (r .size) (r .map) (r .slots) scans (x .slot) (w .below) (w .picked))) (w .item))
+
+    needed-same : (x : Placed) → In x log → named victims (x .slot) ≡ true → (c : KeyCell (keyOf (x .entry))) →
+        either (not (isTombstone (x .entry))) (isMarked marks (c .cell .cell)) ≡
+        either (not (isTombstone (x .entry))) (objectOutside victims log (keyOf (x .entry)))
+    unfolding markNeeded pick either
+    needed-same x m n c = go (anyTombstone L area (splitOf r victims)) refl
+      where
+        go : (t : Bool) → anyTombstone L area (splitOf r victims) ≡ t →
+            either (not (isTombstone (x .entry))) (isMarked (pick t walked (replicate 128 0)) (c .cell .cell)) ≡
+            either (not (isTombstone (x .entry))) (objectOutside victims log (keyOf (x .entry)))
+        go true e = ap (either (not (isTombstone (x .entry)))) (marked-outside (keyOf (x .entry)) c)
+        go false e = rw (no-dead e x m n)
 
     kept-same : (x : Placed) → In x log → named victims (x .slot) ≡ true →
         keptTest L area cells marks (headerOf L (x .entry)) (placeOf (r .size) x) ≡ isKept victims log x
@@ -256,7 +279,7 @@ module _ (L : Layout) (area cells : List ℕ) (r : Record) (g : Genuine L area r
         let c = key-cell x m in
         ap (cellKept cells marks (isTombstone (x .entry)) (placeOf (r .size) x)) (c .finds)
         ∙ ap (λ (b : Bool). both b (either (not (isTombstone (x .entry))) (isMarked marks (c .cell .cell)))) (cell-highest x m c)
-        ∙ ap (λ (b : Bool). both (isHighest log (x .entry)) (either (not (isTombstone (x .entry))) b)) (marked-outside (keyOf (x .entry)) c)
+        ∙ ap (both (isHighest log (x .entry))) (needed-same x m e c)
         ∙ sym (ap (λ (b : Bool). both b (both (isHighest log (x .entry)) (either (not (isTombstone (x .entry))) (objectOutside victims log (keyOf (x .entry)))))) e)
 
     module _ (bytes : Bytes area) where

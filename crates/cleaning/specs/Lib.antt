@@ -1,5 +1,6 @@
 pub mod Entries
 pub mod EntriesLaws
+pub mod Tombstones
 pub mod Marks
 pub mod MarksLaws
 pub mod Kept

@@ -16,6 +16,7 @@ use Rattle.model.specs.Log.{Item}
 use Rattle.index.specs.Search.{searchFor}
 use Rattle.index.specs.declared.Found.{Found}
 use Rattle.cleaning.specs.Entries.{headerOf, slotItems}
+use Rattle.cleaning.specs.Tombstones.{anyTombstone}
 use Rattle.cleaning.specs.declared.Split.{Split}
 use Rattle.cleaning.specs.declared.Header.{Header}
 
@@ -96,9 +97,13 @@ markBelow L area cells split marks (suc n) = markPart L area cells split (markBe
 abbrev pub markOutside : Layout → List ℕ → List ℕ → Split → List ℕ → List ℕ
 markOutside L area cells split marks = markBelow L area cells split marks (split .slots)
 
--- the walk from no marks
+-- The walk is made only where a victim holds a tombstone.
+unfoldable pub markNeeded : Layout → List ℕ → List ℕ → Split → List ℕ → List ℕ
+markNeeded L area cells split marks = pick (anyTombstone L area split) (markOutside L area cells split marks) marks
+
+-- from no marks
 abbrev pub marksOf : Layout → List ℕ → List ℕ → Split → List ℕ
-marksOf L area cells split = markOutside L area cells split (replicate 128 0)
+marksOf L area cells split = markNeeded L area cells split (replicate 128 0)
 
 pub clear-marks : (c : ℕ) → isMarked (replicate 128 0) c ≡ false
 unfolding isMarked

@@ -18,7 +18,8 @@ use Rattle.index.specs.Search.{searchFor}
 use Rattle.index.specs.declared.Found.{Found}
 use Rattle.cleaning.specs.Entries.{headerOf, slotItems, isKeyOf, isObject, objectIn, slotHolds}
 use Rattle.cleaning.specs.EntriesLaws.{Meets, entries-meets}
-use Rattle.cleaning.specs.Marks.{isMarked, markedWith, length-marked, mark-own, mark-other, markFound, markEntry, markItems, markSlot, markPart, markBelow}
+use Rattle.cleaning.specs.Marks.{isMarked, markedWith, length-marked, mark-own, mark-other, markFound, markEntry, markItems, markSlot, markPart, markBelow, markOutside, markNeeded}
+use Rattle.cleaning.specs.Tombstones.{anyTombstone}
 use Rattle.cleaning.specs.declared.Split.{Split}
 use Rattle.cleaning.specs.declared.Header.{Header}
 
@@ -83,6 +84,16 @@ module _ (L : Layout) (area cells marks : List ℕ) where
   unfolding markBelow
   marks-none split = refl
 
+-- the walk, where a victim holds a tombstone
+module _ (L : Layout) (area cells : List ℕ) (split : Split) (marks : List ℕ) where
+  pub not-needed : anyTombstone L area split ≡ false → marks ≡ markNeeded L area cells split marks
+  unfolding markNeeded
+  not-needed e = sym (pick-false (anyTombstone L area split) _ marks e)
+
+  pub is-needed : {marks′ : List ℕ} → anyTombstone L area split ≡ true → marks′ ≡ markOutside L area cells split marks → marks′ ≡ markNeeded L area cells split marks
+  unfolding markNeeded
+  is-needed e h = h ∙ sym (pick-true (anyTombstone L area split) _ marks e)
+
 -- ---- the lengths
 
 module _ (L : Layout) (area cells : List ℕ) where
@@ -118,6 +129,14 @@ module _ (L : Layout) (area cells : List ℕ) where
     unfolding markBelow
     length-below zero = refl
     length-below (suc n) = length-part n (markBelow L area cells split marks n) ∙ length-below n
+
+pub length-needed : (L : Layout) (area cells : List ℕ) (split : Split) (marks : List ℕ) → length (markNeeded L area cells split marks) ≡ length marks
+unfolding markNeeded pick
+length-needed L area cells split marks = go (anyTombstone L area split)
+  where
+    go : (t : Bool) → length (pick t (markOutside L area cells split marks) marks) ≡ length marks
+    go true = length-below L area cells split marks (split .slots)
+    go false = refl
 
 -- ---- what a mark means
 

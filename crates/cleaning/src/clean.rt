@@ -2,7 +2,7 @@
 use crate::Split;
 use crate::copy::copy_kept;
 use crate::kept::measure;
-use crate::outside::mark_outside;
+use crate::outside::mark_needed;
 use record::Pending;
 use record::Record;
 use record::Refusal;
@@ -158,7 +158,7 @@ pub fn clean(rec: Record, area: &[u8], index: &[u32], work: &mut [u8], victims: 
         Check::Passed => {
             let split = split_of(rec, victims);
             let mut marks = [0u32; 128];
-            mark_outside(area, index, &mut marks, split);
+            mark_needed(area, index, &mut marks, split);
             clean_marked(rec, area, index, &marks, work, victims, split)
         }
     }

@@ -8,6 +8,7 @@ pub mod entries;
 pub mod kept;
 pub mod marks;
 pub mod outside;
+pub mod tombstones;
 
 // N and S, and the log's slots in two parts: the victims and those outside of them.
 pub struct Split {

@@ -5,6 +5,7 @@ use crate::Next;
 use crate::Split;
 use crate::entries::next;
 use crate::marks::mark;
+use crate::tombstones::any_tombstone;
 use index::Found;
 use index::search::search;
 use log::slots::is_named;
@@ -17,7 +18,7 @@ ghost use lib.ListN.{length};
 ghost use Rattle.segment.specs.Layout.{edition1};
 ghost use Rattle.index.specs.Search.{searchFor};
 ghost use Rattle.cleaning.specs.Entries.{SplitFits};
-ghost use Rattle.cleaning.specs.Marks.{markFound, markEntry, markSlot, markPart, markOutside};
+ghost use Rattle.cleaning.specs.Marks.{markFound, markEntry, markSlot, markPart, markOutside, markNeeded};
 
 // Marks the cell of a key.
 fn mark_key(area: &[u8], cells: &[u32], marks: &mut [u32], key: Key)
@@ -79,7 +80,7 @@ fn mark_part(area: &[u8], cells: &[u32], marks: &mut [u32], split: Split, slot: 
 }
 
 // Marks the cells of the keys of all objects outside the victims.
-pub fn mark_outside(area: &[u8], cells: &[u32], marks: &mut [u32], split: Split)
+fn mark_outside(area: &[u8], cells: &[u32], marks: &mut [u32], split: Split)
     requires { ⌜ SplitFits split (now area) (now marks) ⌝ }
     ensures { λ _. ⌜ now (marks .exit) ≡ markOutside edition1 (now (area .entry)) (now (cells .entry)) split (now (marks .entry)) ⌝ }
 {
@@ -88,4 +89,15 @@ pub fn mark_outside(area: &[u8], cells: &[u32], marks: &mut [u32], split: Split)
         mark_part(area, cells, marks, split, i);
         i += 1;
     }
+}
+
+// The same, nothing where no victim holds a tombstone, as no mark is looked at then.
+pub fn mark_needed(area: &[u8], cells: &[u32], marks: &mut [u32], split: Split)
+    requires { ⌜ SplitFits split (now area) (now marks) ⌝ }
+    ensures { λ _. ⌜ now (marks .exit) ≡ markNeeded edition1 (now (area .entry)) (now (cells .entry)) split (now (marks .entry)) ⌝ }
+{
+    if !any_tombstone(area, split) {
+        return;
+    }
+    mark_outside(area, cells, marks, split);
 }

@@ -3,7 +3,7 @@
 -- too, is below the next version that a later recovery gives. A step is accepted only where the book has an operation pending.
 use Prim.Native.Nat.{ℕ, zero, suc, _+_, _-_, _≤_, _<_}
 use native.Mathlib.Omega.{arith}
-use mathlib.Core.Path.{_≡_, refl, sym, ap, _∙_, subst}
+use mathlib.Core.Path.{_≡_, refl, ap, _∙_, subst}
 use mathlib.Core.Bool.{Bool, true, false, not}
 use mathlib.Core.List.{List, [], _∷_, _++_}
 use mathlib.Core.Option.{Option, none, some}
@@ -25,7 +25,7 @@ use Rattle.model.specs.Operations.{Operation, write, delete, clean, TypedKey}
 use Rattle.model.specs.Recovery.{orderBad}
 use Rattle.model.specs.Refused.{Lengths}
 use Rattle.model.specs.Promises.{FormatPromise, RecoverPromise, ReadPromise, Part, partOf, ValuePromise}
-use Rattle.history.specs.Book.{Question, reads, readsValue, Call, starts, steps, asks, recovers, Answer, saying, giving, Event, called, cut, accepted, Kept, Awaited, Book, freshBook, finish, versionFor, oneOff, takeOne, feedCall, feed, bookAfter, bookOf, toldBy, highestTold}
+use Rattle.history.specs.Book.{Question, reads, readsValue, Call, starts, steps, asks, recovers, Answer, saying, giving, Event, called, cut, accepted, Kept, Awaited, Book, freshBook, finish, versionFor, oneOff, takeOne, feedCall, feed, bookAfter, bookOf, versionTold, highestTold}
 use Rattle.history.specs.Runs.{World, freshWorld, Run}
 use Rattle.history.specs.Demand3.{LargeEnough, bookAnswer, bookValue, GivesBook, StepAgrees, QuestionAgrees, EventAgrees, EventsAgree, Demand3Of}
 use Rattle.history.specs.Finishing.{isWriteOf, lastOfWrite, finishesWrite, noWrite, Finishes}
@@ -252,7 +252,7 @@ book-at b l a f =
     pick-true (accepted a) (takeOne b (b .pending)) b (f .is-accepted) ∙ ap (takeOne b) (f .pending) ∙
     ap (λ (m : ℕ). oneOff b (f .awaited .operation) (m - 1)) (f .one-left)
 
-told-in : (before : List Event) (e : Event) (after : List Event) → toldBy e ≤ highestTold (before ++ e ∷ after)
+told-in : (before : List Event) (e : Event) (after : List Event) → versionTold e ≤ highestTold (before ++ e ∷ after)
 unfolding highestTold
 told-in [] e after = omega arith
 told-in (x ∷ xs) e after = omega (arith, told-in xs e after)
@@ -264,7 +264,7 @@ module _ (n s : ℕ) (area₀ area : List ℕ) (ab : Bytes area₀) (format : Fo
       Leads n s area₀ area ab format (before ++ called c l a ∷ after) w → (order cells cells′ : List ℕ) (r : Recovery) →
       orderBad n order ≡ false → LargeEnough (w .cells) (length cells) → RecoverPromise edition1 n s order (w .area) cells cells′ r →
       a .said .version < r .rec .next .0
-  unfolding toldBy
+  unfolding versionTold
   told-below-next before after c l a w run order cells cells′ r good large promise =
       let all = demanded n s area₀ area ab format (before ++ called c l a ∷ after) w run in
       omega (arith, told-in before (called c l a) after, all .above-told, all .recovery order cells cells′ r good large promise .next-version)

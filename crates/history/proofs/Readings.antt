@@ -31,7 +31,7 @@ use Rattle.model.specs.Promises.{ReadPromise, ValuePromise, readAnswer, present
 use Rattle.laws.specs.CauseLaws.{cause-skip}
 use Rattle.laws.specs.MapLaws.{valueAt, unplaced}
 use Rattle.laws.specs.Operated.{OperationLaws}
-use Rattle.history.specs.Book.{Question, reads, readsValue, asks, Answer, saying, giving, called, accepted, Kept, Book, feed, feedCall, toldBy}
+use Rattle.history.specs.Book.{Question, reads, readsValue, asks, Answer, saying, giving, called, accepted, Kept, Book, feed, feedCall, versionTold}
 use Rattle.history.specs.Runs.{Held, World, Asked, read, readValue}
 use Rattle.history.specs.Demand3.{bookAnswer, bookValue, QuestionAgrees, EventAgrees}
 use Rattle.history.proofs.Invariant.{Inv, Holding, HeldGood, Phase, idle, pending, bookEntry, started-accepted, next-of, log-of, with-geometry}
@@ -181,11 +181,11 @@ module _ (L : Layout) (laws : OperationLaws L) (n s : ℕ) where
       -- what is to be shown of a question
       abbrev QuestionGoal : Question → Lengths → Answer → Type 0
       QuestionGoal q l a =
-          Inv L n s (record { area = area; held = some h; cells = m }) (feed b (called (asks q) l a)) (max t (toldBy (called (asks q) l a)))
+          Inv L n s (record { area = area; held = some h; cells = m }) (feed b (called (asks q) l a)) (max t (versionTold (called (asks q) l a)))
           × EventAgrees L b (called (asks q) l a)
 
       read-keeps : (l : Lengths) (a : Reading) → ReadPromise L (h .rec) area (h .cells) k a → QuestionGoal (reads k) l (saying (readSaid (a .answer)))
-      unfolding feed feedCall toldBy EventAgrees QuestionAgrees
+      unfolding feed feedCall versionTold EventAgrees QuestionAgrees
       read-keeps l a p = (
         rw (pick-same (accepted (saying (readSaid (a .answer)))) b)
             (record { bytes = inv .bytes; base = inv .base; agrees = inv .agrees; below = omega (arith, inv .below, less); held = inv .held }),
@@ -199,7 +199,7 @@ module _ (L : Layout) (laws : OperationLaws L) (n s : ℕ) where
               (told-less (firstCause (readCauses L (h .rec) (logNow L area (h .rec)) (readLengths area (h .cells)) k)) (present (logNow L area (h .rec)) k) refl)
 
       value-keeps : (l : Lengths) (p : Part) → ValuePromise L (h .rec) area (h .cells) k p → QuestionGoal (readsValue k) l (giving (partOf area p))
-      unfolding feed feedCall toldBy pick EventAgrees QuestionAgrees
+      unfolding feed feedCall versionTold pick EventAgrees QuestionAgrees
       value-keeps l p promise = (
         rw (max-zero t) inv,
         ap giving
@@ -209,7 +209,7 @@ module _ (L : Layout) (laws : OperationLaws L) (n s : ℕ) where
   -- A question keeps the invariant, and answers what the book says.
   pub ask-keeps :
       {w : World} {q : Question} {l : Lengths} {a : Answer} (b : Book) (t : ℕ) → Asked L w q l a → Inv L n s w b t →
-      Inv L n s w (feed b (called (asks q) l a)) (max t (toldBy (called (asks q) l a))) × EventAgrees L b (called (asks q) l a)
+      Inv L n s w (feed b (called (asks q) l a)) (max t (versionTold (called (asks q) l a))) × EventAgrees L b (called (asks q) l a)
   unfolding HeldGood
   ask-keeps b t (read {area} {h} {m} {k} {a} ty p) inv = read-keeps area h m b t inv (inv .held) k (readLengths area (h .cells)) a p
   ask-keeps b t (readValue {area} {h} {m} {k} {p} ty promise) inv =

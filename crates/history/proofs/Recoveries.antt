@@ -23,7 +23,7 @@ use Rattle.model.specs.Refused.{Lengths}
 use Rattle.model.specs.Promises.{RecoverPromise, IndexAfter}
 use Rattle.laws.specs.CauseLaws.{refusal-number}
 use Rattle.laws.specs.RecoverLaws.{recovery-recovered}
-use Rattle.history.specs.Book.{recovers, saying, Event, called, cut, Book, feed, feedCall, withoutPending, toldBy}
+use Rattle.history.specs.Book.{recovers, saying, Event, called, cut, Book, feed, feedCall, withoutPending, versionTold}
 use Rattle.history.specs.Runs.{Held, World, recoveredWorld}
 use Rattle.history.proofs.Invariant.{Inv, Holding, HeldGood, idle, rebuilt}
 
@@ -42,7 +42,7 @@ module _ (L : Layout) (n s : ℕ) where
 
   abbrev pub RecoverGoal : World → Book → ℕ → List ℕ → Lengths → List ℕ → Recovery → Type 0
   RecoverGoal w b t order lent cells′ r =
-      Inv L n s (recoveredWorld w cells′ r) (feed b (recoverEvent order lent r)) (max t (toldBy (recoverEvent order lent r)))
+      Inv L n s (recoveredWorld w cells′ r) (feed b (recoverEvent order lent r)) (max t (versionTold (recoverEvent order lent r)))
 
   -- without what is held, the invariant stays
   pub dropped : (w : World) (b : Book) (t : ℕ) → Inv L n s w b t → Inv L n s (record { area = w .area; held = none; cells = w .cells }) b t
@@ -52,7 +52,7 @@ module _ (L : Layout) (n s : ℕ) where
   refused :
       (w : World) (b : Book) (t : ℕ) (order : List ℕ) (lent : Lengths) (cells′ : List ℕ) (c : Refusal) → Inv L n s w b t →
       RecoverGoal w b t order lent cells′ (record { answer = RecoverAnswer.Refused c; rec = blank })
-  unfolding feed toldBy pick
+  unfolding feed versionTold pick
   refused w b t order lent cells′ c inv = rw (max-zero t, refusal-number c) (go (eqb (numberOfRefusal c) 20))
     where
       go : (twenty : Bool) → Inv L n s (pick twenty (record { area = w .area; held = none; cells = w .cells }) w) b t
@@ -64,7 +64,7 @@ module _ (L : Layout) (n s : ℕ) where
       firstCause (recoverCauses L n s (length cells) order (w .area)) ≡ none → length cells′ ≡ length cells →
       IndexRule s (logNow L (w .area) (recordFrom L n s (length cells) (w .area))) cells′ →
       RecoverGoal w b t order lent cells′ (record { answer = RecoverAnswer.Recovered; rec = recordFrom L n s (length cells) (w .area) })
-  unfolding feed feedCall toldBy HeldGood pick
+  unfolding feed feedCall versionTold HeldGood pick
   accepts w b t order lent cells cells′ inv e same rule =
       rw (max-zero t, same)
       (rebuilt L n s (length cells) (w .area) (recordFrom L n s (length cells) (w .area)) (some held′) (withoutPending b) t (inv .bytes)
@@ -108,8 +108,8 @@ module _ (L : Layout) (n s : ℕ) where
   -- A cut leaves what the stores so far say.
   pub cut-keeps :
       (w : World) (b : Book) (t : ℕ) → Inv L n s w b t →
-      Inv L n s (record { area = w .area; held = none; cells = w .cells }) (feed b cut) (max t (toldBy cut))
-  unfolding feed toldBy HeldGood
+      Inv L n s (record { area = w .area; held = none; cells = w .cells }) (feed b cut) (max t (versionTold cut))
+  unfolding feed versionTold HeldGood
   cut-keeps w b t inv =
       rw (max-zero t)
       (record {

@@ -4,7 +4,7 @@ use native.Mathlib.Nat.{sub-zero, max-zero}
 use native.Mathlib.Omega.{arith}
 use mathlib.Core.Path.{_≡_, refl, ap, _∙_, subst⁻¹}
 use mathlib.Core.Bool.{false}
-use mathlib.Core.List.{List, _∷_}
+use mathlib.Core.List.{List}
 use mathlib.Core.Option.{Option, none, some}
 use lib.Dec.{eqb}
 use lib.ListN.{length}
@@ -24,13 +24,13 @@ use Rattle.record.specs.declared.Record.{Record}
 use Rattle.model.specs.Log.{Placed}
 use Rattle.model.specs.Causes.{firstCause}
 use Rattle.model.specs.Recovery.{recovered}
-use Rattle.model.specs.Operations.{Operation, write, delete, clean, Typed, logNow, laid, storesFor, startedRecord, stored}
+use Rattle.model.specs.Operations.{Operation, Typed, logNow, laid, storesFor, startedRecord, stored}
 use Rattle.model.specs.Refused.{Lengths, isPending, startCauses}
 use Rattle.model.specs.Promises.{Started, StartPromise, Begun, begun, lentLengths}
 use Rattle.laws.specs.CauseLaws.{refusal-number}
 use Rattle.laws.specs.Passed.{StartPassed, start-passed}
 use Rattle.laws.specs.Operated.{Accepted, OperationLaws}
-use Rattle.history.specs.Book.{starts, saying, Event, called, Book, feed, feedCall, toldBy}
+use Rattle.history.specs.Book.{starts, saying, Event, called, Book, feed, feedCall, versionTold}
 use Rattle.history.specs.Runs.{Held, heldAfter}
 use Rattle.history.specs.Demand3.{EventAgrees}
 use Rattle.history.proofs.Invariant.{idle-same, Inv, HeldGood, pending}
@@ -54,14 +54,14 @@ module _ (L : Layout) (laws : OperationLaws L) (n s : ℕ) where
   abbrev pub StartGoal : List ℕ → Held → Option ℕ → Operation → Lengths → Book → ℕ → Start → List ℕ → Type 0
   StartGoal area h m o lent b t a work′ =
       Inv L n s (record { area = area; held = some (heldAfter h work′ a); cells = m }) (feed b (startEvent o lent a))
-      (max t (toldBy (startEvent o lent a)))
+      (max t (versionTold (startEvent o lent a)))
       × EventAgrees L b (startEvent o lent a)
 
   refused :
       (area : List ℕ) (h : Held) (m : Option ℕ) (o : Operation) (lent : Lengths) (b : Book) (t : ℕ) (work′ : List ℕ) (c : Refusal) →
       Inv L n s (record { area = area; held = some h; cells = m }) b t →
       StartGoal area h m o lent b t (record { answer = StartAnswer.Refused c; rec = h .rec }) work′
-  unfolding feed toldBy EventAgrees
+  unfolding feed versionTold EventAgrees
   refused area h m o lent b t work′ c inv = (
     rw (max-zero t, pick-false (eqb (numberOfRefusal c) 0) work′ (h .work), pick-false (eqb (numberOfRefusal c) 0) (feedCall b (starts o) 0) b, refusal-number c)
         inv,
@@ -78,7 +78,7 @@ module _ (L : Layout) (laws : OperationLaws L) (n s : ℕ) where
         rec = startedRecord L (h .rec) (logNow L area (h .rec)) o;
       })
       (sets work 0 (laid L (h .rec) (logNow L area (h .rec)) o .bytes))
-  unfolding feed feedCall toldBy EventAgrees pick HeldGood stored
+  unfolding feed feedCall versionTold EventAgrees pick HeldGood stored
   accepts area h m o lent b t work ty inv e = (
     record {
       bytes = inv .bytes;

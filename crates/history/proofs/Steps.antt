@@ -32,7 +32,7 @@ use Rattle.laws.specs.CauseLaws.{refusal-number}
 use Rattle.laws.specs.Passed.{step-passed}
 use Rattle.laws.specs.MapLaws.{valueAt}
 use Rattle.laws.specs.Operated.{Accepted, OperationLaws, planAt}
-use Rattle.history.specs.Book.{steps, saying, Event, called, Awaited, Book, feed, feedCall, takeOne, oneOff, finish, versionFor, toldBy}
+use Rattle.history.specs.Book.{steps, saying, Event, called, Awaited, Book, feed, feedCall, takeOne, oneOff, finish, versionFor, versionTold}
 use Rattle.history.specs.Runs.{Held}
 use Rattle.history.specs.Demand3.{EventAgrees, StepAgrees}
 use Rattle.history.proofs.Invariant.{Inv, Holding, HeldGood, Phase, idle, pending, next-of, log-of, idle-of, slots-of, size-of, cells-of, idle-same, with-geometry, own-geometry, started-accepted, rebuilt, bookEntry}
@@ -46,7 +46,7 @@ module _ (L : Layout) (laws : OperationLaws L) (n s : ℕ) where
   abbrev pub StepGoal : Held → Option ℕ → Lengths → Book → ℕ → List ℕ → List ℕ → Stepped → Type 0
   StepGoal h m lent b t area′ cells′ a =
       Inv L n s (record { area = area′; held = some (record { rec = a .rec; cells = cells′; work = h .work }); cells = m })
-      (feed b (stepEvent lent (a .answer))) (max t (toldBy (stepEvent lent (a .answer))))
+      (feed b (stepEvent lent (a .answer))) (max t (versionTold (stepEvent lent (a .answer))))
       × EventAgrees L b (stepEvent lent (a .answer))
 
   -- ---- refused
@@ -54,7 +54,7 @@ module _ (L : Layout) (laws : OperationLaws L) (n s : ℕ) where
   refused :
       (area : List ℕ) (h : Held) (m : Option ℕ) (lent : Lengths) (b : Book) (t : ℕ) (c : Refusal) → Inv L n s (record { area = area; held = some h; cells = m }) b t →
       StepGoal h m lent b t area (h .cells) (record { answer = StepAnswer.Refused c; rec = h .rec })
-  unfolding feed toldBy EventAgrees
+  unfolding feed versionTold EventAgrees
   refused area h m lent b t c inv = (
     rw (max-zero t, pick-false (eqb (numberOfRefusal c) 0) (feedCall b steps 0) b, refusal-number c) inv,
     λ p. absurd (never (sym p ∙ refusal-number c)),
@@ -130,7 +130,7 @@ module _ (L : Layout) (laws : OperationLaws L) (n s : ℕ) where
 
       -- not the last: the same record with one store less, the same log, the same index
       goes-on : (k : ℕ) → left ≡ suc k → StepGoal h m lent b t after (h .cells) (record { answer = StepAnswer.Left (suc k); rec = withPending (st .idle) (laid L (st .idle) (logNow L (st .before) (st .idle)) (st .operation) .pending (suc k)) })
-      unfolding oneOff HeldGood toldBy
+      unfolding oneOff HeldGood versionTold
       goes-on k e = (
         rw
             (book-left (suc k) 0, max-zero t, e)
@@ -207,7 +207,7 @@ module _ (L : Layout) (laws : OperationLaws L) (n s : ℕ) where
 
       -- the last: the record, the map and the index of the finished operation
       ends : (cells′ : List ℕ) → length cells′ ≡ length (h .cells) → left ≡ 0 → IndexRule (finishedRecord L (st .before) (st .idle) (st .operation) .size) (logNow L after (finishedRecord L (st .before) (st .idle) (st .operation))) cells′ → StepGoal h m lent b t after cells′ (record { answer = StepAnswer.Done (record { 0 = toldVersion (st .idle) (st .operation) }); rec = finishedRecord L (st .before) (st .idle) (st .operation) })
-      unfolding oneOff HeldGood toldBy
+      unfolding oneOff HeldGood versionTold
       ends cells′ long e rule = (
         rw
             (book-left 0 (toldVersion (st .idle) (st .operation)), e)

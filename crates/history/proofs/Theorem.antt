@@ -4,13 +4,13 @@ use native.Mathlib.Nat.{max-zero}
 use native.Mathlib.Omega.{arith}
 use mathlib.Core.Path.{_≡_, refl, ap, _∙_, subst, subst⁻¹}
 use mathlib.Core.Bool.{true, false}
-use mathlib.Core.List.{List, [], _∷_}
+use mathlib.Core.List.{List, []}
 use mathlib.Core.Option.{Option, none, some}
 use lib.Dec.{leb}
 use lib.ListN.{length}
 use borrow.Author.Tests.{leb-true}
 use Rattle.word.specs.Number.{Bytes}
-use Rattle.segment.specs.Choice.{pick, both, both-left}
+use Rattle.segment.specs.Choice.{both, both-left}
 use Rattle.segment.specs.Layout.{Layout, edition1}
 use Rattle.record.specs.Range.{between, fitsLent}
 use Rattle.record.specs.declared.FormatAnswer.{FormatAnswer}
@@ -29,7 +29,7 @@ use Rattle.laws.specs.MapLaws.{valueAt, unplaced}
 use Rattle.laws.specs.Operated.{OperationLaws}
 use Rattle.laws.specs.RecoverLaws.{recovered-recovery}
 use Rattle.laws.specs.OperationsKept.{edition1-laws}
-use Rattle.history.specs.Book.{Event, Book, freshBook, feed, bookAfter, bookOf, toldBy, highestTold}
+use Rattle.history.specs.Book.{Event, Book, freshBook, feed, bookAfter, bookOf, versionTold, highestTold}
 use Rattle.history.specs.Runs.{World, freshWorld, Moves, start, step, ask, recover, cuts, Run, stop, go}
 use Rattle.history.specs.Demand3.{LargeEnough, GivesBook, EventAgrees, EventsAgree, Demand3Of, Demand3For, Demand3}
 use Rattle.history.proofs.Invariant.{Inv, HeldGood, baseCells, bookEntry}
@@ -43,7 +43,7 @@ module _ (L : Layout) (laws : OperationLaws L) (n s : ℕ) where
 
   move-keeps :
       {w x : World} {e : Event} (b : Book) (t : ℕ) → Moves L n s w e x → Inv L n s w b t →
-      Inv L n s x (feed b e) (max t (toldBy e)) × EventAgrees L b e
+      Inv L n s x (feed b e) (max t (versionTold e)) × EventAgrees L b e
   unfolding EventAgrees
   move-keeps b t (start {area} {work} {work′} {h} {m} {o} {a} ty p) inv = start-keeps L laws n s area work work′ h m o a b t ty p inv
   move-keeps b t (step {area} {area′} {cells′} {work} {h} {m} {a} own p) inv = step-keeps L laws n s area area′ cells′ work h m a b t own p inv
@@ -61,7 +61,7 @@ module _ (L : Layout) (laws : OperationLaws L) (n s : ℕ) where
   run-keeps b t stop inv = (rw (max-zero t) inv, tt)
   run-keeps b t (go {w} {x} {y} {e} {es} m r) inv =
       let one = move-keeps b t m inv in
-      let rest = run-keeps (feed b e) (max t (toldBy e)) r (one .0) in
+      let rest = run-keeps (feed b e) (max t (versionTold e)) r (one .0) in
       (subst (λ (k : ℕ). Inv L n s y (bookAfter (feed b e) es) k) (omega arith) (rest .0), (one .1, rest .1))
 
   -- ---- what recovery then gives

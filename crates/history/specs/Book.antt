@@ -119,11 +119,11 @@ abbrev pub bookOf : List Event → Book
 bookOf es = bookAfter freshBook es
 
 -- the version that an event told the caller, by a step or a read; 0 where it told none
-unfoldable pub toldBy : Event → ℕ
-toldBy (called c lent a) = a .said .version
-toldBy cut = 0
+unfoldable pub versionTold : Event → ℕ
+versionTold (called c lent a) = a .said .version
+versionTold cut = 0
 
 -- the highest version told in a list
 unfoldable pub highestTold : List Event → ℕ
 highestTold [] = 0
-highestTold (e ∷ es) = max (toldBy e) (highestTold es)
+highestTold (e ∷ es) = max (versionTold e) (highestTold es)

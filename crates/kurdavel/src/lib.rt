@@ -111,7 +111,8 @@ pub extern "C" fn kurdavel_read(
     }
 }
 
-// Made of the parts of `find`, and not by a call of it: the read alone calls it, and so has its search in line.
+// Made of the parts of `find` and not by a call of it. In the library `kurdavel_read` is then its only caller, and the compiler
+// puts the search in line in both.
 #[no_mangle]
 pub extern "C" fn kurdavel_read_value(
     words: &[u32],

@@ -7,8 +7,7 @@ use mathlib.Core.List.{List, [], _∷_, _++_}
 use mathlib.Core.Option.{Option, some}
 use native.Mathlib.Omega.{arith}
 use lib.ListN.{length}
-use Rattle.segment.specs.Choice.{pick}
-use Rattle.segment.specs.Layout.{edition1, lookBack}
+use Rattle.segment.specs.Layout.{edition1}
 use Rattle.segment.specs.declared.Key.{Key}
 use Rattle.record.specs.Answers.{Said, readSaid, refusal, saidBy}
 use Rattle.record.specs.declared.FormatAnswer.{FormatAnswer}
@@ -21,7 +20,7 @@ use Rattle.model.specs.Operations.{write}
 use Rattle.model.specs.Play.{opened}
 use Rattle.model.specs.Recovery.{orderBad, recovery}
 use Rattle.model.specs.Promises.{formatAnswer, areaUnless, FormatPromise, RecoverPromise, ReadPromise, Part, partOf, ValuePromise}
-use Rattle.history.specs.Book.{reads, readsValue, asks, Answer, saying, Event, cut, accepted, Kept, Book, freshBook, versionFor, feed, bookOf, highestTold, toldBy}
+use Rattle.history.specs.Book.{reads, asks, Answer, saying, Event, cut, accepted, Book, freshBook, versionFor, bookOf, highestTold, versionTold}
 use Rattle.history.specs.Demand3.{LargeEnough, bookAnswer, bookValue, GivesBook, StepAgrees, QuestionAgrees, EventAgrees, EventsAgree, Demand3Of}
 use Rattle.history.proofs.Readings.{feed-asks}
 use Rattle.history.proofs.Theorem.{demand-3}
@@ -64,7 +63,7 @@ unfolding opened bookAnswer
 ten-answer = refl
 
 highest : highestTold events ≡ 3
-unfolding toldBy highestTold
+unfolding versionTold highestTold
 highest = refl
 
 pub left :

@@ -6,7 +6,6 @@ use mathlib.Core.List.{List, [], _∷_, _++_}
 use mathlib.Core.Option.{Option, none, some}
 use lib.ListN.{length}
 use Rattle.segment.specs.Layout.{Layout, edition1}
-use Rattle.segment.specs.declared.Key.{Key}
 use Rattle.record.specs.Answers.{recoverSaid, readSaid, startSaid, stepSaid}
 use Rattle.record.specs.declared.Recovery.{Recovery}
 use Rattle.model.specs.Operations.{Operation, Typed, TypedKey}

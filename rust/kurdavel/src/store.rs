@@ -207,7 +207,7 @@ impl Record {
     /// Makes one store of the pending operation.
     ///
     /// The record is kept in place: the call updates it, and a refused call leaves it as it was. Where record, index or
-    /// work buffer are not those of the rules of use, it may be refused with 4 after its store is made.
+    /// work buffer are not those of the rules of use, the last step may be refused with 4 after its store is made.
     ///
     /// ```
     /// # let mut area = [0; 1024];

@@ -7,7 +7,7 @@ use denote.Ref.{now}
 use borrow.Author.Needs.{needs}
 use Rattle.word.specs.Number.{Bytes}
 use Rattle.segment.specs.Layout.{edition1}
-use Rattle.cleaning.specs.MarksLaws.{length-below}
+use Rattle.cleaning.specs.MarksLaws.{length-needed}
 use Rattle.cleaning.specs.CleanLaws.{front-refused, front-shape, front-fits, marked-promise}
 use Rattle.cleaning.proofs.clean.clean.Statement.{statement}
 use Rattle.cleaning.proofs.clean.clean.Tie as tie
@@ -30,11 +30,11 @@ enum-told c = search needs
 split-of-requires : tie.Need-split-of-requires
 split-of-requires c κs = search needs
 
-slice-aggregate-mark-outside : tie.Need-slice-aggregate-mark-outside
-slice-aggregate-mark-outside c = search needs
+slice-aggregate-mark-needed : tie.Need-slice-aggregate-mark-needed
+slice-aggregate-mark-needed c = search needs
 
-mark-outside-requires : tie.Need-mark-outside-requires
-mark-outside-requires c κs =
+mark-needed-requires : tie.Need-mark-needed-requires
+mark-needed-requires c κs =
     let t = c .before .before in
     let k = t .before .before in
     let a = k .before .before .before .before .args in
@@ -52,7 +52,7 @@ clean-marked-requires c κs =
     let k = t .before .before in
     let a = k .before .before .before .before .args in
     front-fits edition1 (now (a .area)) (now (a .index)) (a .rec) (a .victims) (now (a .work)) (sym (t .enum-told .given .1) ∙ k .check-victims .ensures)
-    _ _ (s .split-of .ensures) (ap length (m .mark-outside .ensures) ∙ length-below edition1 _ _ _ _ _ ∙ length-replicate {A = ℕ} 128 0)
+    _ _ (s .split-of .ensures) (ap length (m .mark-needed .ensures) ∙ length-needed edition1 _ _ _ _ ∙ length-replicate {A = ℕ} 128 0)
 
 returns : tie.Need-returns
 returns c =
@@ -70,7 +70,7 @@ returns-2 c =
     let k = t .before .before in
     let a = k .before .before .before .before .args in
     marked-promise edition1 (now (a .area)) (now (a .index)) (a .rec) (a .victims) (now (a .work)) (sym (t .enum-told .given .1) ∙ k .check-victims .ensures)
-    (bytes (k .before .before .before)) _ _ (s .split-of .ensures) (m .mark-outside .ensures) _ _ (c .before .before .clean-marked .ensures)
+    (bytes (k .before .before .before)) _ _ (s .split-of .ensures) (m .mark-needed .ensures) _ _ (c .before .before .clean-marked .ensures)
 
 pub clean-spec : {M : Type 1} → statement M
 clean-spec =
@@ -81,8 +81,8 @@ clean-spec =
     refused-requires
     enum-told
     split-of-requires
-    slice-aggregate-mark-outside
-    mark-outside-requires
+    slice-aggregate-mark-needed
+    mark-needed-requires
     slice-aggregate-clean-marked
     clean-marked-requires
     returns

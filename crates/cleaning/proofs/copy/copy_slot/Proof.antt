@@ -21,7 +21,7 @@ abbrev μ-loop : tie.MeasureT-loop
 
 -- the slot's part of the area is S bytes long
 long : (c : tie.After-cut Inv-loop μ-loop) → length (now (c .cut .result)) ≡ c .before .before .before .before .before .args .split .size
-long c = let s = c .before .before .before .before .before in slot-long (s .pre .0) _ (s .pre .1 .0) _ (c .cut .ensures)
+long c = let s = c .before .before .before .before .before in slot-long (s .pre .0 .slots) _ (s .pre .1 .0) _ (c .cut .ensures)
 
 -- the entry that the turn meets, and its place
 met : (c : tie.After-known-told Inv-loop μ-loop)
@@ -33,10 +33,10 @@ place : (c : tie.After-known-told Inv-loop μ-loop)
     a .slot * a .split .size + c .before .before .before .before .loop .at < 65536
 place c =
     let s = c .before .before .before .before .before .before .before .before .before .before in
-    place-short (s .pre .0) _ (s .pre .1 .0) _ (c .before .before .before .before .before .cut .ensures) _ _ (met c .fits) (met c .some-byte)
+    place-short (s .pre .0 .slots) _ (s .pre .1 .0) _ (c .before .before .before .before .before .cut .ensures) _ _ (met c .fits) (met c .some-byte)
 
 cut-requires : tie.Need-cut-requires Inv-loop μ-loop
-cut-requires c κs = let s = c .before .before .before .before in slot-lies (s .pre .0) (s .args .slot) (s .pre .1 .0)
+cut-requires c κs = let s = c .before .before .before .before in slot-lies (s .pre .0 .slots) (s .args .slot) (s .pre .1 .0)
 
 loop-holds : tie.Need-loop-holds Inv-loop μ-loop
 unfolding edition1
@@ -62,7 +62,7 @@ copy-entry-requires c κs =
     let h = c .before .before .header .given .0 .0 in (
       s .pre .0 .marks-long,
       (
-        entry-lies (s .pre .0) _ (s .pre .1 .0) _ (c .before .before .before .before .before .before .cut .ensures) _ _ (met (c .before) .fits),
+        entry-lies (s .pre .0 .slots) _ (s .pre .1 .0) _ (c .before .before .before .before .before .before .cut .ensures) _ _ (met (c .before) .fits),
         (
           place (c .before),
           copying-room (c .before .before .before .before .before .loop .inv) (s .pre .1 .1)
@@ -74,7 +74,7 @@ copy-entry-requires c κs =
     )
 
 add-at : tie.Need-add-at Inv-loop μ-loop
-add-at c = omega (arith, met (c .before .before .before .before .before), long (c .before .before .before .before .before .before .before .before .before .before), c .before .before .before .before .before .before .before .before .before .before .before .before .before .before .before .pre .0 .size-high)
+add-at c = omega (arith, met (c .before .before .before .before .before), long (c .before .before .before .before .before .before .before .before .before .before), c .before .before .before .before .before .before .before .before .before .before .before .before .before .before .before .pre .0 .slots .size-high)
 
 loop-less : tie.Need-loop-less Inv-loop μ-loop
 loop-less c = omega (arith, met (c .before .before .before .before .before))

@@ -45,7 +45,7 @@ returns c =
     let s = c .before .before .before .before .before .before in
     let e : c .before .before .loop .i ≡ s .args .split .slots = omega arith in (
       c .before .before .loop .inv .1 ∙ ap (λ (k : ℕ). length (keptBelow edition1 (now (s .args .area)) (now (s .args .cells)) (now (s .args .marks)) (s .args .split) k)) e,
-      omega (arith, c .before .before .loop .inv .2, s .pre .slots-high),
+      omega (arith, c .before .before .loop .inv .2, s .pre .slots .slots-high),
     )
 
 pub measure-spec : {M : Type 1} → statement M

@@ -23,7 +23,7 @@ abbrev μ-loop : tie.MeasureT-loop
 
 -- the slot's part of the area is S bytes long
 long : (c : tie.After-cut Inv-loop μ-loop) → length (now (c .cut .result)) ≡ c .before .before .before .before .args .split .size
-long c = let s = c .before .before .before .before in slot-long (s .pre .0) _ (s .pre .1) _ (c .cut .ensures)
+long c = let s = c .before .before .before .before in slot-long (s .pre .0 .slots) _ (s .pre .1) _ (c .cut .ensures)
 
 -- the entry that the turn meets, and its place
 met : (c : tie.After-known-told Inv-loop μ-loop)
@@ -35,7 +35,7 @@ place : (c : tie.After-known-told Inv-loop μ-loop)
     a .slot * a .split .size + c .before .before .before .before .loop .at < 65536
 place c =
     let s = c .before .before .before .before .before .before .before .before .before in
-    place-short (s .pre .0) _ (s .pre .1) _ (c .before .before .before .before .before .cut .ensures) _ _ (met c .fits) (met c .some-byte)
+    place-short (s .pre .0 .slots) _ (s .pre .1) _ (c .before .before .before .before .before .cut .ensures) _ _ (met c .fits) (met c .some-byte)
 
 short : (c : tie.After-kept-length Inv-loop μ-loop) → c .kept-length .result ≤ c .before .before .header .given .0 .0 .length
 short c =
@@ -43,7 +43,7 @@ short c =
     omega (arith, c .kept-length .ensures, entry-short edition1 (now (a .area)) (now (a .cells)) (now (a .marks)) (c .before .before .header .given .0 .0) (a .slot * a .split .size + c .before .before .before .before .before .loop .at))
 
 cut-requires : tie.Need-cut-requires Inv-loop μ-loop
-cut-requires c κs = let s = c .before .before .before in slot-lies (s .pre .0) (s .args .slot) (s .pre .1)
+cut-requires c κs = let s = c .before .before .before in slot-lies (s .pre .0 .slots) (s .args .slot) (s .pre .1)
 
 loop-holds : tie.Need-loop-holds Inv-loop μ-loop
 unfolding edition1
@@ -64,7 +64,7 @@ add-kept-length c = omega (arith, place c)
 kept-length-requires : tie.Need-kept-length-requires Inv-loop μ-loop
 kept-length-requires c κs =
     let s = c .before .before .before .before .before .before .before .before .before in
-    (s .pre .0 .marks-long, (entry-lies (s .pre .0) _ (s .pre .1) _ (c .before .before .before .before .before .cut .ensures) _ _ (met c .fits), place c))
+    (s .pre .0 .marks-long, (entry-lies (s .pre .0 .slots) _ (s .pre .1) _ (c .before .before .before .before .before .cut .ensures) _ _ (met c .fits), place c))
 
 add-total : tie.Need-add-total Inv-loop μ-loop
 add-total c = omega (arith, short c, met (c .before), long (c .before .before .before .before .before .before))
@@ -88,7 +88,7 @@ enum-told c = search needs
 returns : tie.Need-returns Inv-loop μ-loop
 returns c = (
   measured-stop edition1 _ _ _ _ _ _ _ _ _ (c .before .before .before .loop .inv .0) (stops edition1 _ _ _ (c .before .before .next .ensures) (c .enum-told .given .1)),
-  omega (arith, c .before .before .before .loop .inv .1, c .before .before .before .loop .inv .2, long (c .before .before .before .before), c .before .before .before .before .before .before .before .before .pre .0 .size-high),
+  omega (arith, c .before .before .before .loop .inv .1, c .before .before .before .loop .inv .2, long (c .before .before .before .before), c .before .before .before .before .before .before .before .before .pre .0 .slots .size-high),
 )
 
 pub measure-slot-spec : {M : Type 1} → statement M

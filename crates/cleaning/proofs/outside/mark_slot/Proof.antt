@@ -24,7 +24,7 @@ abbrev μ-loop : tie.MeasureT-loop
 
 -- the slot's part of the area is S bytes long
 long : (c : tie.After-cut Inv-loop μ-loop) → length (now (c .cut .result)) ≡ c .before .before .before .before .args .split .size
-long c = let s = c .before .before .before .before in slot-long (s .pre .0) _ (s .pre .1) _ (c .cut .ensures)
+long c = let s = c .before .before .before .before in slot-long (s .pre .0 .slots) _ (s .pre .1) _ (c .cut .ensures)
 
 -- the entry that the turn meets
 met : (c : tie.After-known-told Inv-loop μ-loop)
@@ -32,7 +32,7 @@ met : (c : tie.After-known-told Inv-loop μ-loop)
 met c = meets edition1 _ _ _ (c .before .before .before .next .ensures) _ (c .before .header .given .1)
 
 cut-requires : tie.Need-cut-requires Inv-loop μ-loop
-cut-requires c κs = let s = c .before .before .before in slot-lies (s .pre .0) (s .args .slot) (s .pre .1)
+cut-requires c κs = let s = c .before .before .before in slot-lies (s .pre .0 .slots) (s .args .slot) (s .pre .1)
 
 loop-holds : tie.Need-loop-holds Inv-loop μ-loop
 unfolding edition1
@@ -54,7 +54,7 @@ add-at c =
       arith,
       met (c .before .before .before .before .before),
       long (c .before .before .before .before .before .before .before .before .before .before),
-      c .before .before .before .before .before .before .before .before .before .before .before .before .before .before .pre .0 .size-high,
+      c .before .before .before .before .before .before .before .before .before .before .before .before .before .before .pre .0 .slots .size-high,
     )
 
 loop-less : tie.Need-loop-less Inv-loop μ-loop

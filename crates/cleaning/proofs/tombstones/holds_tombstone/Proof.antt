@@ -1,0 +1,67 @@
+-- `cleaning::tombstones::holds_tombstone` meets its contract. The invariant: the entries from here on give the whole answer.
+use Prim.Native.Nat.{_-_}
+use mathlib.Core.Path.{_≡_, refl}
+use native.Mathlib.Omega.{arith}
+use lib.ListN.{length}
+use borrow.Author.Needs.{needs}
+use Rattle.segment.specs.Layout.{edition1, digestSize}
+use Rattle.index.specs.Build.{entriesAt}
+use Rattle.cleaning.specs.EntriesLaws.{Meets, meets, stops}
+use Rattle.cleaning.specs.Tombstones.{tombstoneIn, tombstone-none, tombstone-found, tombstone-next}
+use Rattle.cleaning.proofs.tombstones.holds_tombstone.Statement.{statement}
+use Rattle.cleaning.proofs.tombstones.holds_tombstone.Tie as tie
+
+abbrev Inv-loop : tie.InvT-loop
+Inv-loop s at₀ at = tombstoneIn (entriesAt edition1 s at) ≡ tombstoneIn (entriesAt edition1 s (digestSize edition1))
+
+abbrev μ-loop : tie.MeasureT-loop
+μ-loop s at₀ at = length s - at
+
+loop-holds : tie.Need-loop-holds Inv-loop μ-loop
+unfolding edition1
+loop-holds c = refl
+
+next-requires : tie.Need-next-requires Inv-loop μ-loop
+next-requires c κs = search needs
+
+enum-known-header : tie.Need-enum-known-header Inv-loop μ-loop
+enum-known-header c = search needs
+
+-- the entry that the turn meets
+met : (c : tie.After-known-told Inv-loop μ-loop)
+    → Meets edition1 (c .before .before .before .before .before .before .args .s .now) (c .before .before .before .before .loop .at) (c .before .header .given .0 .0)
+met c = meets edition1 _ _ _ (c .before .before .before .next .ensures) _ (c .before .header .given .1)
+
+returns : tie.Need-returns Inv-loop μ-loop
+returns c = tombstone-found edition1 _ _ _ (c .before .before .before .before .before .loop .inv) (met (c .before)) (c .if1 .taken)
+
+add-at : tie.Need-add-at Inv-loop μ-loop
+add-at c = omega (arith, met (c .before .before))
+
+loop-less : tie.Need-loop-less Inv-loop μ-loop
+loop-less c = omega (arith, met (c .before .before))
+
+loop-again : tie.Need-loop-again Inv-loop μ-loop
+loop-again c = tombstone-next edition1 _ _ _ (c .before .before .before .before .before .before .loop .inv) (met (c .before .before)) (c .before .if1 .left)
+
+enum-told : tie.Need-enum-told Inv-loop μ-loop
+enum-told c = search needs
+
+returns-2 : tie.Need-returns-2 Inv-loop μ-loop
+returns-2 c = tombstone-none edition1 _ _ _ (c .before .before .before .loop .inv) (stops edition1 _ _ _ (c .before .before .next .ensures) (c .enum-told .given .1))
+
+pub holds-tombstone-spec : {M : Type 1} → statement M
+holds-tombstone-spec =
+    tie.close
+    (tie.spec
+    Inv-loop
+    μ-loop
+    loop-holds
+    next-requires
+    enum-known-header
+    returns
+    add-at
+    loop-less
+    loop-again
+    enum-told
+    returns-2)

@@ -1,0 +1,34 @@
+-- `cleaning::tombstones::slot_holds` meets its contract.
+use mathlib.Core.Path.{sym, _∙_, ap}
+use Prim.Native.Nat.{ℕ}
+use mathlib.Core.List.{List}
+use borrow.Author.Needs.{needs}
+use Rattle.segment.specs.Layout.{edition1, digestSize}
+use borrow.Author.Tests.{not-true, not-false}
+use Rattle.index.specs.Build.{entriesAt}
+use Rattle.cleaning.specs.Tombstones.{tombstoneIn, victim-none, victim-goes}
+use Rattle.cleaning.specs.EntriesLaws.{slot-lies}
+use Rattle.cleaning.proofs.tombstones.slot_holds.Statement.{statement}
+use Rattle.cleaning.proofs.tombstones.slot_holds.Tie as tie
+
+is-named-requires : tie.Need-is-named-requires
+is-named-requires c κs = search needs
+
+returns : tie.Need-returns
+returns c = victim-none edition1 _ _ _ (sym (c .before .is-named .ensures) ∙ not-true _ (c .if1 .taken))
+
+cut-requires : tie.Need-cut-requires
+cut-requires c κs = let s = c .before .before .before in slot-lies (s .pre .0) (s .args .slot) (s .pre .1)
+
+holds-tombstone-requires : tie.Need-holds-tombstone-requires
+holds-tombstone-requires c κs = search needs
+
+returns-2 : tie.Need-returns-2
+returns-2 c =
+    let n = c .before .before in
+    victim-goes edition1 _ _ _ (sym (n .before .is-named .ensures) ∙ not-false _ (n .if1 .left))
+    (c .holds-tombstone .ensures ∙ ap (λ (s : List ℕ). tombstoneIn (entriesAt edition1 s (digestSize edition1))) (c .before .cut .ensures))
+
+pub slot-holds-spec : {M : Type 1} → statement M
+slot-holds-spec =
+    tie.close (tie.spec is-named-requires returns cut-requires holds-tombstone-requires returns-2)

@@ -1,0 +1,60 @@
+// Whether a victim holds a tombstone: only then it matters which objects stand outside the victims.
+use crate::Next;
+use crate::Split;
+use crate::entries::next;
+use log::slots::is_named;
+use segment::area::cut;
+use segment::layout::DIGEST_SIZE;
+ghost use Prim.Native.Nat.{_<_};
+ghost use mathlib.Core.Path.{_≡_};
+ghost use Rattle.segment.specs.Layout.{edition1, digestSize};
+ghost use Rattle.index.specs.Build.{entriesAt};
+ghost use Rattle.cleaning.specs.Entries.{SlotsFit};
+ghost use Rattle.cleaning.specs.Tombstones.{tombstoneIn, victimHolds, anyTombstone};
+
+// Whether a tombstone stands in a segment.
+fn holds_tombstone(s: &[u8]) -> bool
+    ensures { λ r. ⌜ r ≡ tombstoneIn (entriesAt edition1 (now (s .entry)) (digestSize edition1)) ⌝ }
+{
+    let mut at = DIGEST_SIZE;
+    loop {
+        match next(s, at) {
+            Next::Entry(header) => {
+                if header.tombstone {
+                    return true;
+                }
+                at += header.length;
+            }
+            Next::Stop => {
+                return false;
+            }
+        }
+    }
+}
+
+// Whether a slot is a victim and holds a tombstone.
+fn slot_holds(area: &[u8], split: Split, slot: usize) -> bool
+    requires { ⌜ SlotsFit split (now area) ⌝ }
+    requires { ⌜ slot < split .slots ⌝ }
+    ensures { λ r. ⌜ r ≡ victimHolds edition1 (now (area .entry)) split slot ⌝ }
+{
+    if !is_named(split.victims, slot) {
+        return false;
+    }
+    holds_tombstone(cut(split.size, area, slot))
+}
+
+// Whether one of the victims holds a tombstone.
+pub fn any_tombstone(area: &[u8], split: Split) -> bool
+    requires { ⌜ SlotsFit split (now area) ⌝ }
+    ensures { λ r. ⌜ r ≡ anyTombstone edition1 (now (area .entry)) split ⌝ }
+{
+    let mut i = 0;
+    while i < split.slots {
+        if slot_holds(area, split, i) {
+            return true;
+        }
+        i += 1;
+    }
+    false
+}

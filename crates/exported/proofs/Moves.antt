@@ -1,0 +1,265 @@
+-- One law for each exported call: its contract is a transition of the runs.
+use Prim.Native.Nat.{ℕ, _≤_}
+use mathlib.Core.Path.{_≡_, refl, sym, ap, ap₂, _∙_, subst}
+use mathlib.Core.Bool.{Bool, true, false, not}
+use mathlib.Core.List.{List, [], _∷_, _++_}
+use mathlib.Core.Option.{Option, none, some}
+use lib.Dec.{eqb}
+use lib.ListN.{length, take, drop}
+use Rattle.segment.specs.Choice.{pick, pick-false}
+use Rattle.segment.specs.Layout.{edition1}
+use Rattle.segment.specs.declared.Key.{Key}
+use Rattle.record.specs.Answers.{Said, refusal, taken, takenWith, recoverSaid, readSaid, startSaid, stepSaid}
+use Rattle.record.specs.Range.{fitsLent}
+use Rattle.record.specs.RangeLaws.{blank-unfit}
+use Rattle.record.specs.Refusals.{numberOfRefusal}
+use Rattle.record.specs.declared.Record.{Record}
+use Rattle.record.specs.declared.ReadAnswer.{ReadAnswer}
+use Rattle.record.specs.declared.RecoverAnswer.{RecoverAnswer}
+use Rattle.record.specs.declared.Refusal.{Refusal}
+use Rattle.record.specs.declared.Refusal.the-variants.{BadRecord}
+use Rattle.record.specs.declared.StartAnswer.{StartAnswer}
+use Rattle.record.specs.declared.Stepped.{Stepped}
+use Rattle.record.specs.declared.StepAnswer.{StepAnswer}
+use Rattle.model.specs.Arguments.{typed-key, typed-write, typed-delete, typed-clean}
+use Rattle.model.specs.Operations.{Operation, write, delete, clean, Typed}
+use Rattle.model.specs.Refused.{isPending}
+use Rattle.model.specs.Promises.{Begun, begun, readLengths, lentLengths}
+use Rattle.laws.specs.CauseLaws.{cause-first, refusal-number}
+use Rattle.words.specs.Words.{recordWords, isRecord, decoded}
+use Rattle.words.specs.WordLaws.{record-long, decoded-record, decoded-none, decode-encode}
+use Rattle.words.specs.declared.Decoded.{Decoded}
+use Rattle.history.specs.Book.{reads, readsValue, starts, steps, asks, recovers, saying, giving, Event, called}
+use Rattle.history.specs.Runs as Store
+use Rattle.history.specs.Runs.{World, recoveredWorld, Run}
+use Rattle.kurdavel.specs.Crossing.{keptWords, wordsAfter, RecoverCrossed, ReadCrossed, ValueCrossed, storesAfter, StartCrossed, leftAfter, toldAfter, StepCrossed}
+use Rattle.exported.specs.Runs.{HeldWords, Memory, heldBy, worldOf, KeyArgument, Arguments, numberSaid, stepTold, readTold, recoveredMemory, Exports, start, step, read, readValue, recover, short, cuts, ExportedRun, stop, go}
+
+-- ---- arguments: whatever has its C type is typed
+
+pub arguments-typed : (o : Operation) → Arguments o → Typed o
+arguments-typed (write k value) p = typed-write k (p .0 .0) (p .0 .1) value (p .1)
+arguments-typed (delete k) p = typed-delete k (p .0) (p .1)
+arguments-typed (clean victims) p = typed-clean victims p
+
+-- ---- answers: what a number and the told values say is what the answer says
+
+taken-said : (number : ℕ) (values : Said) → number ≡ 0 → values ≡ numberSaid number values
+unfolding pick
+taken-said number values e = ap (λ (x : ℕ). numberSaid x values) (sym e)
+
+refused-said : (c : Refusal) (number : ℕ) (values : Said) → number ≡ numberOfRefusal c → refusal (numberOfRefusal c) ≡ numberSaid number values
+refused-said c number values e =
+    sym (pick-false (eqb (numberOfRefusal c) 0) values (refusal (numberOfRefusal c)) (refusal-number c)) ∙
+    ap (λ (x : ℕ). numberSaid x values) (sym e)
+
+start-said :
+    (a : StartAnswer) (stores stores′ number : ℕ) → number ≡ startSaid a .refused → stores′ ≡ storesAfter a stores →
+    startSaid a ≡ numberSaid number (takenWith stores′)
+unfolding storesAfter
+start-said (StartAnswer.Started k) stores stores′ number e f = ap takenWith (sym f) ∙ taken-said number (takenWith stores′) e
+start-said (StartAnswer.Refused c) stores stores′ number e f = refused-said c number (takenWith stores′) e
+
+step-said :
+    (a : StepAnswer) (left left′ version version′ number : ℕ) → number ≡ stepSaid a .refused → left′ ≡ leftAfter a left →
+    version′ ≡ toldAfter a version → stepSaid a ≡ numberSaid number (stepTold left′ version′)
+unfolding leftAfter toldAfter
+step-said (StepAnswer.Left k) left left′ version version′ number e f g =
+    ap₂ stepTold (sym f) (sym g) ∙ taken-said number (stepTold left′ version′) e
+step-said (StepAnswer.Done v) left left′ version version′ number e f g =
+    ap₂ stepTold (sym f) (sym g) ∙ taken-said number (stepTold left′ version′) e
+step-said (StepAnswer.Refused c) left left′ version version′ number e f g = refused-said c number (stepTold left′ version′) e
+
+pub read-said :
+    (a : ReadAnswer) (version kind number : ℕ) → number ≡ readSaid a .refused → version ≡ readSaid a .version → kind ≡ readSaid a .kind →
+    readSaid a ≡ readTold number version kind
+read-said a version kind number e f g = no-stores a ∙ (λ i. readTold (sym e i) (sym f i) (sym g i))
+  where
+    no-stores : (a : ReadAnswer) → readSaid a ≡ readTold (readSaid a .refused) (readSaid a .version) (readSaid a .kind)
+    no-stores (ReadAnswer.Present v k) = refl
+    no-stores (ReadAnswer.Refused c) = refl
+
+recover-said : (a : RecoverAnswer) (number : ℕ) → number ≡ recoverSaid a .refused → recoverSaid a ≡ numberSaid number taken
+recover-said RecoverAnswer.Recovered number e = taken-said number taken e
+recover-said (RecoverAnswer.Refused c) number e = refused-said c number taken e
+
+-- ---- words: what is handed back is what they say afterwards
+
+by-record :
+    (words : List ℕ) (T : Type 0) → (isRecord words ≡ true → decoded words .ok ≡ true → T) →
+    (isRecord words ≡ false → decoded words .ok ≡ false → T) → T
+by-record words T yes-case no-case = go (isRecord words) refl
+  where
+    go : (t : Bool) → isRecord words ≡ t → T
+    go true e = yes-case e (ap (λ (d : Decoded). d .ok) (decoded-record words e))
+    go false e = no-case e (ap (λ (d : Decoded). d .ok) (decoded-none words e))
+
+-- words that are no record say the blank one, which every call refuses with 4
+none-unfit : (words : List ℕ) → isRecord words ≡ false → (a i : ℕ) → not (fitsLent edition1 (decoded words .rec) a i) ≡ true
+none-unfit words e a i =
+    ap (λ (d : Decoded). not (fitsLent edition1 (d .rec) a i)) (decoded-none words e) ∙ ap not (blank-unfit edition1 a i)
+
+pub words-say :
+    (words words′ : List ℕ) (r : Record) → words′ ≡ keptWords (decoded words .ok) words r →
+    (isRecord words ≡ false → r ≡ decoded words .rec) → decoded words′ .rec ≡ r
+unfolding keptWords
+words-say words words′ r w same =
+    by-record words (decoded words′ .rec ≡ r)
+    (λ e ok.
+    ap (λ (l : List ℕ). decoded l .rec) (w ∙ ap (λ (t : Bool). keptWords t words r) ok) ∙
+    ap (λ (d : Decoded). d .rec) (decode-encode r words (record-long words e)))
+    (λ e ok. ap (λ (l : List ℕ). decoded l .rec) (w ∙ ap (λ (t : Bool). keptWords t words r) ok) ∙ sym (same e))
+
+-- ---- the calls
+
+module _ (n s : ℕ) where
+  -- one event of the store, with its answer and the world after it written in another way
+  abbrev Runs : World → List Event → World → Type 0
+  Runs w es x = Run edition1 n s w es x
+
+  start-runs :
+      (area work work′ words′ : List ℕ) (h : HeldWords) (m : Option ℕ) (o : Operation) (stores stores′ number : ℕ) → Arguments o →
+      StartCrossed o (h .words) words′ area (h .cells) work work′ stores stores′ number →
+      Runs (worldOf (record { area = area; held = some h; cells = m }))
+      (called (starts o) (lentLengths area (h .cells) work) (saying (numberSaid number (takenWith stores′))) ∷ [])
+      (worldOf (record { area = area; held = some (record { words = words′; cells = h .cells; work = pick (eqb number 0) work′ (h .work) }); cells = m }))
+  unfolding begun
+  start-runs area work work′ words′ h m o stores stores′ number p c =
+      subst
+      (λ (x : World).
+      Runs (worldOf (record { area = area; held = some h; cells = m }))
+      (called (starts o) (lentLengths area (h .cells) work) (saying (numberSaid number (takenWith stores′))) ∷ []) x)
+      (λ i.
+      record {
+        area = area;
+        held = some (record { rec = sym says i; cells = h .cells; work = pick (eqb (sym (c .handed .numbered) i) 0) work′ (h .work) });
+        cells = m;
+      })
+      (subst
+      (λ (a : Said).
+      Runs (worldOf (record { area = area; held = some h; cells = m }))
+      (called (starts o) (lentLengths area (h .cells) work) (saying a) ∷ [])
+      (record { area = area; held = some (Store.heldAfter (heldBy h) work′ (c .start)); cells = m }))
+      (start-said (c .start .answer) stores stores′ number (c .handed .numbered) (c .handed .told))
+      (Store.go (Store.start {h = heldBy h} (arguments-typed o p) (c .promised)) Store.stop))
+    where
+      says : decoded words′ .rec ≡ c .start .rec
+      says =
+          words-say (h .words) words′ (c .start .rec) (c .handed .says)
+          (λ e. ap (λ (b : Begun). b .start .rec) (c .promised .unfit (none-unfit (h .words) e _ _)))
+
+  step-runs :
+      (area area′ cells′ work words′ : List ℕ) (h : HeldWords) (m : Option ℕ) (left left′ version version′ number : ℕ) →
+      (isPending (decoded (h .words) .rec .pending) ≡ true → work ≡ h .work) →
+      StepCrossed (h .words) words′ area area′ (h .cells) cells′ work left left′ version version′ number →
+      Runs (worldOf (record { area = area; held = some h; cells = m }))
+      (called steps (lentLengths area (h .cells) work) (saying (numberSaid number (stepTold left′ version′))) ∷ [])
+      (worldOf (record { area = area′; held = some (record { words = words′; cells = cells′; work = h .work }); cells = m }))
+  step-runs area area′ cells′ work words′ h m left left′ version version′ number own c =
+      subst
+      (λ (r : Record).
+      Runs (worldOf (record { area = area; held = some h; cells = m }))
+      (called steps (lentLengths area (h .cells) work) (saying (numberSaid number (stepTold left′ version′))) ∷ [])
+      (record { area = area′; held = some (record { rec = r; cells = cells′; work = h .work }); cells = m }))
+      (sym says)
+      (subst
+      (λ (a : Said).
+      Runs (worldOf (record { area = area; held = some h; cells = m })) (called steps (lentLengths area (h .cells) work) (saying a) ∷ [])
+      (record { area = area′; held = some (record { rec = c .stepped .rec; cells = cells′; work = h .work }); cells = m }))
+      (step-said (c .stepped .answer) left left′ version version′ number (c .numbered) (c .left-told) (c .version-told))
+      (Store.go (Store.step {h = heldBy h} own (c .promised)) Store.stop))
+    where
+      says : decoded words′ .rec ≡ c .stepped .rec
+      says =
+          words-say (h .words) words′ (c .stepped .rec) (c .says)
+          (λ e. ap (λ (a : Stepped). a .rec) (c .promised .refused BadRecord (cause-first _ _ (none-unfit (h .words) e _ _)) .answers))
+
+  read-runs :
+      (area : List ℕ) (h : HeldWords) (m : Option ℕ) (k : Key) (version kind number : ℕ) → KeyArgument k →
+      ReadCrossed (h .words) area (h .cells) k version kind number →
+      Runs (worldOf (record { area = area; held = some h; cells = m }))
+      (called (asks (reads k)) (readLengths area (h .cells)) (saying (readTold number version kind)) ∷ [])
+      (worldOf (record { area = area; held = some h; cells = m }))
+  read-runs area h m k version kind number p c =
+      subst
+      (λ (a : Said).
+      Runs (worldOf (record { area = area; held = some h; cells = m })) (called (asks (reads k)) (readLengths area (h .cells)) (saying a) ∷ [])
+      (worldOf (record { area = area; held = some h; cells = m })))
+      (read-said (c .reading .answer) version kind number (c .numbered) (c .version-told) (c .kind-told))
+      (Store.go (Store.ask (Store.read {h = heldBy h} (typed-key k (p .0) (p .1)) (c .promised))) Store.stop)
+
+  value-runs :
+      (area : List ℕ) (h : HeldWords) (m : Option ℕ) (k : Key) (place bytes number : ℕ) → KeyArgument k →
+      (c : ValueCrossed (h .words) area (h .cells) k place bytes number) →
+      Runs (worldOf (record { area = area; held = some h; cells = m }))
+      (called (asks (reads k)) (readLengths area (h .cells)) (saying (readSaid (c .reading .answer)))
+      ∷ called (asks (readsValue k)) (readLengths area (h .cells)) (giving (take bytes (drop place area)))
+      ∷ [])
+      (worldOf (record { area = area; held = some h; cells = m }))
+  value-runs area h m k place bytes number p c =
+      let typed = typed-key k (p .0) (p .1) in
+      Store.go (Store.ask (Store.read {h = heldBy h} typed (c .promised)))
+      (Store.go (Store.ask (Store.readValue {h = heldBy h} typed (c .value))) Store.stop)
+
+  -- ---- recovery
+
+  module _ (m : Memory) (cells′ words words′ : List ℕ) (rec : Record) (number : ℕ) (long : recordWords ≤ length words) where
+    world-after :
+        (a : RecoverAnswer) → number ≡ recoverSaid a .refused → words′ ≡ wordsAfter a words rec →
+        recoveredWorld (worldOf m) cells′ (record { answer = a; rec = rec }) ≡ worldOf (recoveredMemory m cells′ words′ number)
+    unfolding pick wordsAfter
+    world-after RecoverAnswer.Recovered e w =
+        (λ i. record { area = m .area; held = some (record { rec = sym says i; cells = cells′; work = [] }); cells = some (length cells′) }) ∙
+        ap (λ (x : ℕ). worldOf (recoveredMemory m cells′ words′ x)) (sym e)
+      where
+        says : decoded words′ .rec ≡ rec
+        says = ap (λ (l : List ℕ). decoded l .rec) w ∙ ap (λ (d : Decoded). d .rec) (decode-encode rec words long)
+    world-after (RecoverAnswer.Refused c) e w =
+        rw (refusal-number c) (by-twenty (eqb (numberOfRefusal c) 20)) ∙ ap (λ (x : ℕ). worldOf (recoveredMemory m cells′ words′ x)) (sym e)
+      where
+        by-twenty :
+            (t : Bool) →
+            pick t (record { area = m .area; held = none; cells = m .cells }) (worldOf m) ≡
+            worldOf (pick t (record { area = m .area; held = none; cells = m .cells }) m)
+        by-twenty true = refl
+        by-twenty false = refl
+
+  recover-runs :
+      (m : Memory) (order cells cells′ words words′ : List ℕ) (number : ℕ) → recordWords ≤ length words →
+      RecoverCrossed n s order (m .area) cells cells′ words words′ number →
+      Runs (worldOf m) (called (recovers n s order) (readLengths (m .area) cells) (saying (numberSaid number taken)) ∷ [])
+      (worldOf (recoveredMemory m cells′ words′ number))
+  recover-runs m order cells cells′ words words′ number long c =
+      let r = c .recovers long in
+      subst
+      (λ (x : World). Runs (worldOf m) (called (recovers n s order) (readLengths (m .area) cells) (saying (numberSaid number taken)) ∷ []) x)
+      (world-after m cells′ words words′ (r .recovery .rec) number long (r .recovery .answer) (r .numbered) (r .says))
+      (subst
+      (λ (a : Said).
+      Runs (worldOf m) (called (recovers n s order) (readLengths (m .area) cells) (saying a) ∷ []) (recoveredWorld (worldOf m) cells′ (r .recovery)))
+      (recover-said (r .recovery .answer) number (r .numbered))
+      (Store.go (Store.recover (r .promised)) Store.stop))
+
+  -- ---- together
+
+  pub exports-run : {m x : Memory} {es : List Event} → Exports n s m es x → Runs (worldOf m) es (worldOf x)
+  exports-run (start {area} {work} {work′} {words′} {h} {m} {o} {stores} {stores′} {number} p c) =
+      start-runs area work work′ words′ h m o stores stores′ number p c
+  exports-run (step {area} {area′} {cells′} {work} {words′} {h} {m} {left} {left′} {version} {version′} {number} own c) =
+      step-runs area area′ cells′ work words′ h m left left′ version version′ number own c
+  exports-run (read {area} {h} {m} {k} {version} {kind} {number} p c) =
+      read-runs area h m k version kind number p c
+  exports-run (readValue {area} {h} {m} {k} {place} {bytes} {number} p c) = value-runs area h m k place bytes number p c
+  exports-run (recover {m} {order} {cells} {cells′} {words} {words′} {number} long c) =
+      recover-runs m order cells cells′ words words′ number long c
+  exports-run (short less c) = Store.stop
+  exports-run cuts = Store.go Store.cuts Store.stop
+
+  run-append : {w x y : World} {es fs : List Event} → Runs w es x → Runs x fs y → Runs w (es ++ fs) y
+  run-append Store.stop q = q
+  run-append (Store.go m p) q = Store.go m (run-append p q)
+
+  -- A run of exported calls is a run of the store.
+  pub exported-run : {m x : Memory} {es : List Event} → ExportedRun n s m es x → Runs (worldOf m) es (worldOf x)
+  exported-run stop = Store.stop
+  exported-run (go e r) = run-append (exports-run e) (exported-run r)

@@ -1,0 +1,89 @@
+-- Demand 3 for the exported calls, from demand 3 for the store.
+use Prim.Native.Nat.{ℕ, _≤_}
+use native.Mathlib.Omega.{arith}
+use mathlib.Core.Path.{_≡_, refl, sym, ap, _∙_, subst}
+use mathlib.Core.Bool.{Bool, true, false}
+use mathlib.Core.List.{List}
+use lib.ListN.{length}
+use borrow.Author.Tests.{eq-eqb}
+use Rattle.segment.specs.Layout.{edition1}
+use Rattle.segment.specs.declared.Key.{Key}
+use Rattle.record.specs.Answers.{formatSaid, recoverSaid, readSaid}
+use Rattle.record.specs.Refusals.{numberOfRefusal}
+use Rattle.record.specs.declared.FormatAnswer.{FormatAnswer}
+use Rattle.record.specs.declared.Reading.{Reading}
+use Rattle.record.specs.declared.ReadAnswer.{ReadAnswer}
+use Rattle.record.specs.declared.Record.{Record}
+use Rattle.record.specs.declared.RecoverAnswer.{RecoverAnswer}
+use Rattle.model.specs.Arguments.{typed-key}
+use Rattle.model.specs.Promises.{FormatPromise, ReadPromise, ValuePromise}
+use Rattle.laws.specs.CauseLaws.{refusal-number}
+use Rattle.words.specs.Words.{recordWords, decoded}
+use Rattle.words.specs.WordLaws.{decode-encode}
+use Rattle.words.specs.declared.Decoded.{Decoded}
+use Rattle.history.specs.Book.{Book, bookOf}
+use Rattle.history.specs.Demand3.{bookAnswer, GivesBook, Demand3Of}
+use Rattle.history.proofs.Theorem.{demand-3}
+use Rattle.kurdavel.specs.Crossing.{wordsAfter, Recovers}
+use Rattle.exported.specs.Runs.{worldOf, KeyArgument}
+use Rattle.exported.specs.Demand3.{WordsGiveBook, Demand3Exported}
+use Rattle.exported.proofs.Moves.{read-said, exported-run}
+
+-- what returned 0 was accepted
+format-accepted : (a : FormatAnswer) → 0 ≡ formatSaid a .refused → a ≡ FormatAnswer.Formatted
+format-accepted FormatAnswer.Formatted e = refl
+format-accepted (FormatAnswer.Refused c) e = absurd (never (sym (eq-eqb (numberOfRefusal c) 0 (sym e)) ∙ refusal-number c))
+  where
+    never : _≡_ {A = Bool} true false → ⊥
+    never p = let z : _≡_ {A = ℕ} 0 1 = cc in absurd (omega arith)
+
+-- what a recovery of the store gives, it gives through words
+module _ (n s : ℕ) (order area cells cells′ words words′ : List ℕ) (number : ℕ) (b : Book) (long : recordWords ≤ length words)
+    (x : Recovers n s order area cells cells′ words words′ number) (given : GivesBook edition1 area cells′ (x .recovery) b)
+  where
+    says : decoded words′ .rec ≡ x .recovery .rec
+    unfolding wordsAfter
+    says =
+        ap (λ (l : List ℕ). decoded l .rec) (x .says ∙ ap (λ (a : RecoverAnswer). wordsAfter a words (x .recovery .rec)) (given .is-accepted)) ∙
+        ap (λ (d : Decoded). d .rec) (decode-encode (x .recovery .rec) words long)
+
+    answered :
+        (k : Key) → KeyArgument k → (a : Reading) → ReadPromise edition1 (decoded words′ .rec) area cells′ k a →
+        a .answer ≡ bookAnswer edition1 (b .keys k)
+    answered k p a q =
+        given .answers k (typed-key k (p .0) (p .1)) a (subst (λ (r : Record). ReadPromise edition1 r area cells′ k a) says q)
+
+    words-give : WordsGiveBook area cells′ words′ number b
+    words-give =
+        record {
+          is-accepted = x .numbered ∙ ap (λ (a : RecoverAnswer). recoverSaid a .refused) (given .is-accepted);
+          next-version = ap (λ (r : Record). r .next .0) says ∙ given .next-version;
+          answers =
+              λ k p version kind told c.
+              sym (read-said (c .reading .answer) version kind told (c .numbered) (c .version-told) (c .kind-told)) ∙
+              ap (λ (a : ReadAnswer). readSaid a) (answered k p (c .reading) (c .promised));
+          values =
+              λ k p place bytes told c. (
+                c .numbered ∙ ap (λ (a : ReadAnswer). readSaid a .refused) (answered k p (c .reading) (c .promised)),
+                given .values k (typed-key k (p .0) (p .1)) (record { place = place; bytes = bytes })
+                    (subst (λ (r : Record). ValuePromise edition1 r area cells′ k (record { place = place; bytes = bytes })) says (c .value)),
+              );
+        }
+
+-- Demand 3 for the exported calls.
+pub demand-3-exported : Demand3Exported
+demand-3-exported n s area₀ area ab f es m run =
+    record {
+      recovery =
+          λ order cells cells′ words words′ number good large long c.
+          words-give n s order (m .area) cells cells′ words words′ number (bookOf es) long (c .recovers long)
+          (stored .recovery order cells cells′ (c .recovers long .recovery) good large (c .recovers long .promised));
+      above-told = stored .above-told;
+      agrees = stored .agrees;
+    }
+  where
+    formatted : FormatPromise edition1 n s area₀ area FormatAnswer.Formatted
+    formatted = subst (λ (a : FormatAnswer). FormatPromise edition1 n s area₀ area a) (format-accepted (f .answer) (f .numbered)) (f .promised)
+
+    stored : Demand3Of edition1 n s (worldOf m) es
+    stored = demand-3 n s area₀ area ab formatted es (worldOf m) (exported-run n s run)

@@ -1,0 +1,43 @@
+-- Demand 3 for the exported calls.
+use Prim.Native.Nat.{ℕ, _≤_, _<_}
+use mathlib.Core.Path.{_≡_}
+use mathlib.Core.Bool.{false}
+use mathlib.Core.List.{List}
+use lib.ListN.{length, take, drop}
+use Rattle.word.specs.Number.{Bytes}
+use Rattle.segment.specs.Layout.{edition1}
+use Rattle.segment.specs.declared.Key.{Key}
+use Rattle.record.specs.Answers.{readSaid}
+use Rattle.model.specs.Recovery.{orderBad}
+use Rattle.words.specs.Words.{recordWords, decoded}
+use Rattle.history.specs.Book.{Event, Book, freshBook, bookOf, highestTold}
+use Rattle.history.specs.Demand3.{LargeEnough, bookAnswer, bookValue, EventsAgree}
+use Rattle.kurdavel.specs.Crossing.{FormatCrossed, RecoverCrossed, ReadCrossed, ValueCrossed}
+use Rattle.exported.specs.Runs.{Memory, freshMemory, KeyArgument, readTold, ExportedRun}
+
+-- What a recovery gives through words and index: it is accepted, the words say the book's next version, and for each key the two reads
+-- then answer what the book holds.
+pub record WordsGiveBook (area cells words : List ℕ) (number : ℕ) (b : Book) : Type 0 where
+  pub is-accepted : number ≡ 0
+  pub next-version : decoded words .rec .next .0 ≡ b .next
+  pub answers :
+      (k : Key) → KeyArgument k → (version kind told : ℕ) → ReadCrossed words area cells k version kind told →
+      readTold told version kind ≡ readSaid (bookAnswer edition1 (b .keys k))
+  pub values :
+      (k : Key) → KeyArgument k → (place bytes told : ℕ) → ValueCrossed words area cells k place bytes told →
+      (told ≡ readSaid (bookAnswer edition1 (b .keys k)) .refused) × (take bytes (drop place area) ≡ bookValue (b .keys k))
+
+-- What demand 3 says of one list of exported calls and cuts.
+pub record ExportedDemand3 (n s : ℕ) (m : Memory) (es : List Event) : Type 0 where
+  pub recovery :
+      (order cells cells′ words words′ : List ℕ) (number : ℕ) → orderBad n order ≡ false → LargeEnough (m .cells) (length cells) →
+      recordWords ≤ length words → RecoverCrossed n s order (m .area) cells cells′ words words′ number →
+      WordsGiveBook (m .area) cells′ words′ number (bookOf es)
+  pub above-told : highestTold es < bookOf es .next
+  pub agrees : EventsAgree edition1 freshBook es
+
+-- From an accepted kurdavel_format on, for every list of exported calls and cuts.
+abbrev pub Demand3Exported : Type 0
+Demand3Exported =
+    (n s : ℕ) (area₀ area : List ℕ) → Bytes area₀ → FormatCrossed n s area₀ area 0 → (es : List Event) (m : Memory) →
+    ExportedRun n s (freshMemory area) es m → ExportedDemand3 n s m es

@@ -1,0 +1,132 @@
+-- The lists of exported calls and cuts that can happen on one store by 01's rules of use. Every transition is the contract of the
+-- exported function, with the arguments that the caller passes and what is told through pointers; its event is the one of the call
+-- behind it.
+use Prim.Native.Nat.{ℕ, _^_, _≤_, _<_}
+use mathlib.Core.Path.{_≡_}
+use mathlib.Core.Bool.{true}
+use mathlib.Core.List.{List, [], _∷_, _++_}
+use mathlib.Core.Option.{Option, none, some}
+use lib.Dec.{eqb}
+use lib.ListN.{length, take, drop}
+use Rattle.word.specs.Number.{Bytes}
+use Rattle.segment.specs.Choice.{pick}
+use Rattle.segment.specs.declared.Key.{Key}
+use Rattle.record.specs.Answers.{Said, refusal, taken, takenWith, readSaid}
+use Rattle.model.specs.Operations.{Operation, write, delete, clean}
+use Rattle.model.specs.Refused.{isPending}
+use Rattle.model.specs.Promises.{readLengths, lentLengths}
+use Rattle.words.specs.Words.{recordWords, decoded}
+use Rattle.history.specs.Book.{reads, readsValue, starts, steps, asks, recovers, saying, giving, Event, called, cut}
+use Rattle.history.specs.Runs.{Held, World}
+use Rattle.kurdavel.specs.Crossing.{RecoverCrossed, ReadCrossed, ValueCrossed, StartCrossed, StepCrossed}
+
+-- ---- what is held
+
+-- What the firmware holds from an accepted recovery to the next cut: the record's words, the index, and the work buffer that the last
+-- accepted start filled.
+pub record HeldWords : Type 0 where
+  pub words : List ℕ
+  pub cells : List ℕ
+  pub work : List ℕ
+
+-- The area, what is held if anything is, and the number of cells at the last accepted recovery if there was one.
+pub record Memory : Type 0 where
+  pub area : List ℕ
+  pub held : Option HeldWords
+  pub cells : Option ℕ
+
+abbrev pub freshMemory : List ℕ → Memory
+freshMemory area = record { area = area; held = none; cells = none }
+
+-- The record held is the one that the words say.
+abbrev pub heldBy : HeldWords → Held
+heldBy h = record { rec = decoded (h .words) .rec; cells = h .cells; work = h .work }
+
+abbrev pub heldIn : Option HeldWords → Option Held
+heldIn none = none
+heldIn (some h) = some (heldBy h)
+
+abbrev pub worldOf : Memory → World
+worldOf m = record { area = m .area; held = heldIn (m .held); cells = m .cells }
+
+-- ---- arguments and answers
+
+-- An argument has its C type: 16 bits for a table, 32 for a key and for victims, bytes for a value.
+abbrev pub KeyArgument : Key → Type 0
+KeyArgument k = (k .table < 2 ^ 16) × (k .key < 2 ^ 32)
+
+abbrev pub Arguments : Operation → Type 0
+Arguments (write k value) = KeyArgument k × Bytes value
+Arguments (delete k) = KeyArgument k
+Arguments (clean victims) = victims < 2 ^ 32
+
+-- What a call says by the number that it returns, given the values that it tells through pointers: at 0 those values.
+abbrev pub numberSaid : ℕ → Said → Said
+numberSaid number values = pick (eqb number 0) values (refusal number)
+
+abbrev pub stepTold : (left version : ℕ) → Said
+stepTold left version = record { refused = 0; stores = left; version = version; kind = 0 }
+
+-- A read tells version and kind through pointers whether it is refused or not.
+abbrev pub readTold : (number version kind : ℕ) → Said
+readTold number version kind = record { refused = number; stores = 0; version = version; kind = kind }
+
+-- ---- the transitions
+
+-- An accepted recovery gives the words and the index; one that is refused with 20 leaves no index, and any other leaves all as it was.
+abbrev pub recoveredMemory : Memory → List ℕ → List ℕ → ℕ → Memory
+recoveredMemory m cells′ words′ number =
+    pick (eqb number 0)
+    (record { area = m .area; held = some (record { words = words′; cells = cells′; work = [] }); cells = some (length cells′) })
+    (pick (eqb number 20) (record { area = m .area; held = none; cells = m .cells }) m)
+
+-- One exported call, or a cut, with the events that it stands for.
+pub data Exports (n s : ℕ) : Memory → List Event → Memory → Type 0 where
+  -- kurdavel_write, kurdavel_delete and kurdavel_clean, with any work buffer
+  start :
+      {area work work′ words′ : List ℕ} {h : HeldWords} {m : Option ℕ} {o : Operation} {stores stores′ number : ℕ} → Arguments o →
+      StartCrossed o (h .words) words′ area (h .cells) work work′ stores stores′ number →
+      Exports n s (record { area = area; held = some h; cells = m })
+      (called (starts o) (lentLengths area (h .cells) work) (saying (numberSaid number (takenWith stores′))) ∷ [])
+      (record { area = area; held = some (record { words = words′; cells = h .cells; work = pick (eqb number 0) work′ (h .work) }); cells = m })
+  -- kurdavel_step; while an operation is pending it gets the work buffer that the start filled
+  step :
+      {area area′ cells′ work words′ : List ℕ} {h : HeldWords} {m : Option ℕ} {left left′ version version′ number : ℕ} →
+      (isPending (decoded (h .words) .rec .pending) ≡ true → work ≡ h .work) →
+      StepCrossed (h .words) words′ area area′ (h .cells) cells′ work left left′ version version′ number →
+      Exports n s (record { area = area; held = some h; cells = m })
+      (called steps (lentLengths area (h .cells) work) (saying (numberSaid number (stepTold left′ version′))) ∷ [])
+      (record { area = area′; held = some (record { words = words′; cells = cells′; work = h .work }); cells = m })
+  -- kurdavel_read
+  read :
+      {area : List ℕ} {h : HeldWords} {m : Option ℕ} {k : Key} {version kind number : ℕ} → KeyArgument k →
+      ReadCrossed (h .words) area (h .cells) k version kind number →
+      Exports n s (record { area = area; held = some h; cells = m })
+      (called (asks (reads k)) (readLengths area (h .cells)) (saying (readTold number version kind)) ∷ [])
+      (record { area = area; held = some h; cells = m })
+  -- kurdavel_read_value: its number is that of a read, whose version and kind it does not tell, and then it gives the value
+  readValue :
+      {area : List ℕ} {h : HeldWords} {m : Option ℕ} {k : Key} {place bytes number : ℕ} → KeyArgument k →
+      (c : ValueCrossed (h .words) area (h .cells) k place bytes number) →
+      Exports n s (record { area = area; held = some h; cells = m })
+      (called (asks (reads k)) (readLengths area (h .cells)) (saying (readSaid (c .reading .answer)))
+      ∷ called (asks (readsValue k)) (readLengths area (h .cells)) (giving (take bytes (drop place area)))
+      ∷ [])
+      (record { area = area; held = some h; cells = m })
+  -- kurdavel_recover with the N and S of the format, any order list, any index and room for the words
+  recover :
+      {m : Memory} {order cells cells′ words words′ : List ℕ} {number : ℕ} → recordWords ≤ length words →
+      RecoverCrossed n s order (m .area) cells cells′ words words′ number →
+      Exports n s m (called (recovers n s order) (readLengths (m .area) cells) (saying (numberSaid number taken)) ∷ [])
+      (recoveredMemory m cells′ words′ number)
+  -- kurdavel_recover without room for the words changes nothing, and no call is made
+  short :
+      {m : Memory} {order cells cells′ words words′ : List ℕ} {number : ℕ} → length words < recordWords →
+      RecoverCrossed n s order (m .area) cells cells′ words words′ number → Exports n s m [] m
+  -- the power fails
+  cuts : {m : Memory} → Exports n s m (cut ∷ []) (record { area = m .area; held = none; cells = m .cells })
+
+-- Exported calls and cuts, one after the other.
+pub data ExportedRun (n s : ℕ) : Memory → List Event → Memory → Type 0 where
+  stop : {m : Memory} → ExportedRun n s m [] m
+  go : {m x y : Memory} {es fs : List Event} → Exports n s m es x → ExportedRun n s x fs y → ExportedRun n s m (es ++ fs) y
