@@ -6,7 +6,8 @@ use mathlib.Core.List.{List, [], _∷_, List·Memᴰ·head, List·Memᴰ·tail}
 use native.Mathlib.Numerals.{add-one}
 use native.Mathlib.Omega.{arith}
 use Rattle.segment.specs.Choice.{both, either, either-false, either-false-left, either-false-right, either-true-left}
-use Rattle.segment.specs.Layout.{Layout, isTombstone}
+use Rattle.segment.specs.Layout.{Layout}
+use Rattle.segment.specs.Entry.{isTombstone}
 use Rattle.slot_map.specs.Bit.{named}
 use Rattle.model.specs.Log.{Item}
 use Rattle.laws.specs.Members.{In, clash}
@@ -17,12 +18,12 @@ use Rattle.cleaning.specs.EntriesLaws.{Meets, entries-meets}
 use Rattle.cleaning.specs.declared.Split.{Split}
 use Rattle.cleaning.specs.declared.Header.{Header}
 
-unfoldable pub tombstoneIn : Layout → List Item → Bool
-tombstoneIn L [] = false
-tombstoneIn L (x ∷ xs) = either (isTombstone L (x .entry .kind)) (tombstoneIn L xs)
+unfoldable pub tombstoneIn : List Item → Bool
+tombstoneIn [] = false
+tombstoneIn (x ∷ xs) = either (isTombstone (x .entry)) (tombstoneIn xs)
 
 unfoldable pub victimHolds : Layout → List ℕ → Split → ℕ → Bool
-victimHolds L area split i = both (named (split .victims) i) (tombstoneIn L (slotItems L area (split .size) i))
+victimHolds L area split i = both (named (split .victims) i) (tombstoneIn (slotItems L area (split .size) i))
 
 abbrev pub anyTombstone : Layout → List ℕ → Split → Bool
 anyTombstone L area split = anyBelow (victimHolds L area split) (split .slots)
@@ -30,25 +31,25 @@ anyTombstone L area split = anyBelow (victimHolds L area split) (split .slots)
 -- ---- at each test of the code
 
 -- a turn of the loop over a segment: the whole answer is the answer from here
-module _ (L : Layout) (s : List ℕ) (at : ℕ) (whole : Bool) (from : tombstoneIn L (entriesAt L s at) ≡ whole) where
+module _ (L : Layout) (s : List ℕ) (at : ℕ) (whole : Bool) (from : tombstoneIn (entriesAt L s at) ≡ whole) where
   pub tombstone-none : entriesAt L s at ≡ [] → false ≡ whole
   unfolding tombstoneIn
-  tombstone-none e = ap (tombstoneIn L) (sym e) ∙ from
+  tombstone-none e = ap tombstoneIn (sym e) ∙ from
 
   module _ {h : Header} (m : Meets L s at h) where
-    its : isTombstone L (m .met .kind) ≡ h .tombstone
+    its : isTombstone (m .met) ≡ h .tombstone
     its = ap (λ (g : Header). g .tombstone) (m .its)
 
     pub tombstone-found : h .tombstone ≡ true → true ≡ whole
     unfolding tombstoneIn
     tombstone-found e =
-        sym (either-true-left (isTombstone L (m .met .kind)) (tombstoneIn L (entriesAt L s (at + h .length))) (its ∙ e))
-        ∙ ap (tombstoneIn L) (sym (entries-meets L s at m))
+        sym (either-true-left (isTombstone (m .met)) (tombstoneIn (entriesAt L s (at + h .length))) (its ∙ e))
+        ∙ ap tombstoneIn (sym (entries-meets L s at m))
         ∙ from
 
-    pub tombstone-next : h .tombstone ≡ false → tombstoneIn L (entriesAt L s (at + h .length)) ≡ whole
+    pub tombstone-next : h .tombstone ≡ false → tombstoneIn (entriesAt L s (at + h .length)) ≡ whole
     unfolding tombstoneIn either
-    tombstone-next e = let passed = its ∙ e in sym (ap (tombstoneIn L) (entries-meets L s at m) ∙ rw passed) ∙ from
+    tombstone-next e = let passed = its ∙ e in sym (ap tombstoneIn (entries-meets L s at m) ∙ rw passed) ∙ from
 
 -- a slot, and a turn of a loop over the slots
 module _ (L : Layout) (area : List ℕ) (split : Split) (i : ℕ) where
@@ -56,7 +57,7 @@ module _ (L : Layout) (area : List ℕ) (split : Split) (i : ℕ) where
   unfolding victimHolds both
   victim-none e = rw e
 
-  pub victim-goes : {r : Bool} → named (split .victims) i ≡ true → r ≡ tombstoneIn L (slotItems L area (split .size) i) → r ≡ victimHolds L area split i
+  pub victim-goes : {r : Bool} → named (split .victims) i ≡ true → r ≡ tombstoneIn (slotItems L area (split .size) i) → r ≡ victimHolds L area split i
   unfolding victimHolds both
   victim-goes e h = rw e h
 
@@ -77,14 +78,14 @@ module _ (g : ℕ → Bool) (i n : ℕ) where
 
 -- ---- where no victim holds one
 
-none-in : (L : Layout) (is : List Item) → tombstoneIn L is ≡ false → (y : Item) → In y is → isTombstone L (y .entry .kind) ≡ false
+none-in : (is : List Item) → tombstoneIn is ≡ false → (y : Item) → In y is → isTombstone (y .entry) ≡ false
 unfolding tombstoneIn
-none-in L (x ∷ xs) e y (List·Memᴰ·head q) =
-    ap (λ (z : Item). isTombstone L (z .entry .kind)) q ∙ either-false-left (isTombstone L (x .entry .kind)) (tombstoneIn L xs) e
-none-in L (x ∷ xs) e y (List·Memᴰ·tail m) = none-in L xs (either-false-right (isTombstone L (x .entry .kind)) (tombstoneIn L xs) e) y m
+none-in (x ∷ xs) e y (List·Memᴰ·head q) =
+    ap (λ (z : Item). isTombstone (z .entry)) q ∙ either-false-left (isTombstone (x .entry)) (tombstoneIn xs) e
+none-in (x ∷ xs) e y (List·Memᴰ·tail m) = none-in xs (either-false-right (isTombstone (x .entry)) (tombstoneIn xs) e) y m
 
 pub no-tombstone : (L : Layout) (area : List ℕ) (split : Split) → anyTombstone L area split ≡ false → (i : ℕ) → i < split .slots →
-    named (split .victims) i ≡ true → (y : Item) → In y (slotItems L area (split .size) i) → isTombstone L (y .entry .kind) ≡ false
+    named (split .victims) i ≡ true → (y : Item) → In y (slotItems L area (split .size) i) → isTombstone (y .entry) ≡ false
 unfolding victimHolds both
 no-tombstone L area split e i h v y m =
-    none-in L (slotItems L area (split .size) i) (rw v at (below-none (split .slots) (victimHolds L area split) e i h)) y m
+    none-in (slotItems L area (split .size) i) (rw v at (below-none (split .slots) (victimHolds L area split) e i h)) y m

@@ -14,7 +14,7 @@ ghost use Rattle.cleaning.specs.Tombstones.{tombstoneIn, victimHolds, an
 
 // Whether a tombstone stands in a segment.
 fn holds_tombstone(s: &[u8]) -> bool
-    ensures { λ r. ⌜ r ≡ tombstoneIn edition1 (entriesAt edition1 (now (s .entry)) (digestSize edition1)) ⌝ }
+    ensures { λ r. ⌜ r ≡ tombstoneIn (entriesAt edition1 (now (s .entry)) (digestSize edition1)) ⌝ }
 {
     let mut at = DIGEST_SIZE;
     loop {

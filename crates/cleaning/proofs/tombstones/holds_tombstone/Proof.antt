@@ -12,7 +12,7 @@ use Rattle.cleaning.proofs.tombstones.holds_tombstone.Statement.{statem
 use Rattle.cleaning.proofs.tombstones.holds_tombstone.Tie as tie
 
 abbrev Inv-loop : tie.InvT-loop
-Inv-loop s at₀ at = tombstoneIn edition1 (entriesAt edition1 s at) ≡ tombstoneIn edition1 (entriesAt edition1 s (digestSize edition1))
+Inv-loop s at₀ at = tombstoneIn (entriesAt edition1 s at) ≡ tombstoneIn (entriesAt edition1 s (digestSize edition1))
 
 abbrev μ-loop : tie.MeasureT-loop
 μ-loop s at₀ at = length s - at

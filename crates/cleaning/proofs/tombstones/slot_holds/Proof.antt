@@ -27,7 +27,7 @@ returns-2 : tie.Need-returns-2
 returns-2 c =
     let n = c .before .before in
     victim-goes edition1 _ _ _ (sym (n .before .is-named .ensures) ∙ not-false _ (n .if1 .left))
-    (c .holds-tombstone .ensures ∙ ap (λ (s : List ℕ). tombstoneIn edition1 (entriesAt edition1 s (digestSize edition1))) (c .before .cut .ensures))
+    (c .holds-tombstone .ensures ∙ ap (λ (s : List ℕ). tombstoneIn (entriesAt edition1 s (digestSize edition1))) (c .before .cut .ensures))
 
 pub slot-holds-spec : {M : Type 1} → statement M
 slot-holds-spec =
