@@ -100,7 +100,7 @@ cleanedWith L r victims l work bytes = begunWith L r victims work bytes (firstCa
 
 module _ (L : Layout) (r : Record) (log : List Placed) (victims : ℕ) (work : List ℕ) where
   abbrev model-bytes : List ℕ
-  model-bytes = allEncoded L (kept L victims log)
+  model-bytes = allEncoded L (kept victims log)
 
   model-length : length (encodedDigest L (newDigest r victims) ++ model-bytes) ≡ digestSize L + length model-bytes
   model-length =
@@ -152,7 +152,7 @@ module _ (L : Layout) (area cells : List ℕ) (r : Record) (victims : ℕ) (work
   code-bytes = keptBytes L area cells (marksOf L area cells (splitOf r victims)) (splitOf r victims)
 
   abbrev its-bytes : List ℕ
-  its-bytes = allEncoded L (kept L victims (logNow L area r))
+  its-bytes = allEncoded L (kept victims (logNow L area r))
 
   -- the bytes are the model's where the record is in range and the victims are good, and else they do not matter
   same-bytes : Bytes area → Genuine L area r cells → cleanedWith L r victims lengths work code-bytes ≡ cleanedWith L r victims lengths work its-bytes

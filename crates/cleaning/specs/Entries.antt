@@ -6,8 +6,8 @@ use mathlib.Core.List.{List, [], _∷_}
 use lib.Dec.{eqb}
 use lib.ListN.{length}
 use Rattle.segment.specs.Choice.{both, either}
-use Rattle.segment.specs.Layout.{Layout, isTombstone, digestSize}
-use Rattle.segment.specs.Entry.{Entry, Found, entry, end, damage, sizeOf, keyOf}
+use Rattle.segment.specs.Layout.{Layout, digestSize}
+use Rattle.segment.specs.Entry.{Entry, Found, entry, end, damage, sizeOf, keyOf, isTombstone}
 use Rattle.segment.specs.declared.Key.{Key}
 use Rattle.slot_map.specs.Bit.{named}
 use Rattle.model.specs.Log.{Item, segmentOf}
@@ -35,7 +35,7 @@ slotItems L area S i = entriesAt L (segmentOf area S i) (digestSize L)
 -- ---- one entry
 
 abbrev pub headerOf : Layout → Entry → Header
-headerOf L e = record { key = keyOf e; tombstone = isTombstone L (e .kind); length = sizeOf L e }
+headerOf L e = record { key = keyOf e; tombstone = isTombstone e; length = sizeOf L e }
 
 unfoldable pub nextOf : Layout → Found → Next
 nextOf L (entry e) = N.Entry (headerOf L e)

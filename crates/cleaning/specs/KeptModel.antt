@@ -12,9 +12,9 @@ use borrow.Author.Tests.{eq-eqb, ne-eqb, eqb-true, eqb-false, ltb-true, ltb-fals
 use Rattle.word.specs.Number.{Bytes}
 use Rattle.word.specs.Laws.{bytes-take, bytes-drop}
 use Rattle.segment.specs.Choice.{pick-true, pick-false, both, both-left, either}
-use Rattle.segment.specs.Layout.{Layout, isTombstone}
+use Rattle.segment.specs.Layout.{Layout}
 use Rattle.segment.specs.Packed.{field-at}
-use Rattle.segment.specs.Entry.{Entry, entry, entryAt, encoded, sizeOf, keyOf}
+use Rattle.segment.specs.Entry.{Entry, entry, entryAt, encoded, sizeOf, keyOf, isTombstone}
 use Rattle.segment.specs.EntryLaws.{found-fits, found-stands}
 use Rattle.segment.specs.declared.Key.{Key}
 use Rattle.slot_map.specs.Bit.{named, within, less}
@@ -22,7 +22,7 @@ use Rattle.slot_map.specs.BitLaws.{bit-le, within-le, named-true, set-named}
 use Rattle.record.specs.Answers.{withPending}
 use Rattle.record.specs.declared.Pending.the-variants.{Idle}
 use Rattle.record.specs.declared.Record.{Record}
-use Rattle.model.specs.Log.{View, Item, Placed, placeOf, segmentOf, viewsOf, scan, itemsOf, placedIn, logOf, sameKey, latest}
+use Rattle.model.specs.Log.{View, Item, Placed, placeOf, segmentOf, viewsOf, scan, itemsOf, placedIn, logOf, sameKeys, sameKey, latest}
 use Rattle.model.specs.Index.{HasCell}
 use Rattle.model.specs.Operations.{logNow, isVersion, isHighest, objectOutside, isKept, keptOf, kept, allEncoded}
 use Rattle.model.specs.Promises.{Genuine}
@@ -58,29 +58,29 @@ module _ (L : Layout) where
   encoded-append (x ∷ a) b = ap (λ (l : List ℕ). encoded L x ++ l) (encoded-append a b) ∙ sym (append-assoc (encoded L x) (allEncoded L a) (allEncoded L b))
 
   module _ (victims : ℕ) (log : List Placed) where
-    kept-front : (x : Placed) (xs : List Placed) → isKept L victims log x ≡ true → keptOf L victims log (x ∷ xs) ≡ x .entry ∷ keptOf L victims log xs
+    kept-front : (x : Placed) (xs : List Placed) → isKept victims log x ≡ true → keptOf victims log (x ∷ xs) ≡ x .entry ∷ keptOf victims log xs
     unfolding keptOf
-    kept-front x xs e = pick-true (isKept L victims log x) (x .entry ∷ keptOf L victims log xs) (keptOf L victims log xs) e
+    kept-front x xs e = pick-true (isKept victims log x) (x .entry ∷ keptOf victims log xs) (keptOf victims log xs) e
 
-    kept-behind : (x : Placed) (xs : List Placed) → isKept L victims log x ≡ false → keptOf L victims log (x ∷ xs) ≡ keptOf L victims log xs
+    kept-behind : (x : Placed) (xs : List Placed) → isKept victims log x ≡ false → keptOf victims log (x ∷ xs) ≡ keptOf victims log xs
     unfolding keptOf
-    kept-behind x xs e = pick-false (isKept L victims log x) (x .entry ∷ keptOf L victims log xs) (keptOf L victims log xs) e
+    kept-behind x xs e = pick-false (isKept victims log x) (x .entry ∷ keptOf victims log xs) (keptOf victims log xs) e
 
-    kept-append : (a b : List Placed) → keptOf L victims log (a ++ b) ≡ keptOf L victims log a ++ keptOf L victims log b
+    kept-append : (a b : List Placed) → keptOf victims log (a ++ b) ≡ keptOf victims log a ++ keptOf victims log b
     unfolding keptOf
     kept-append [] b = refl
-    kept-append (x ∷ a) b = go (isKept L victims log x) refl (kept-append a b)
+    kept-append (x ∷ a) b = go (isKept victims log x) refl (kept-append a b)
       where
-        go : (t : Bool) → isKept L victims log x ≡ t → keptOf L victims log (a ++ b) ≡ keptOf L victims log a ++ keptOf L victims log b →
-            keptOf L victims log (x ∷ (a ++ b)) ≡ keptOf L victims log (x ∷ a) ++ keptOf L victims log b
+        go : (t : Bool) → isKept victims log x ≡ t → keptOf victims log (a ++ b) ≡ keptOf victims log a ++ keptOf victims log b →
+            keptOf victims log (x ∷ (a ++ b)) ≡ keptOf victims log (x ∷ a) ++ keptOf victims log b
         go true e ih =
             kept-front x (a ++ b) e
             ∙ ap (λ (l : List Entry). x .entry ∷ l) ih
-            ∙ ap (λ (l : List Entry). l ++ keptOf L victims log b) (sym (kept-front x a e))
-        go false e ih = kept-behind x (a ++ b) e ∙ ih ∙ ap (λ (l : List Entry). l ++ keptOf L victims log b) (sym (kept-behind x a e))
+            ∙ ap (λ (l : List Entry). l ++ keptOf victims log b) (sym (kept-front x a e))
+        go false e ih = kept-behind x (a ++ b) e ∙ ih ∙ ap (λ (l : List Entry). l ++ keptOf victims log b) (sym (kept-behind x a e))
 
     -- of slots that are no victims nothing is kept
-    kept-none : (xs : List Placed) → ((x : Placed) → In x xs → named victims (x .slot) ≡ false) → keptOf L victims log xs ≡ []
+    kept-none : (xs : List Placed) → ((x : Placed) → In x xs → named victims (x .slot) ≡ false) → keptOf victims log xs ≡ []
     unfolding keptOf both
     kept-none [] f = refl
     kept-none (x ∷ xs) f = kept-behind x xs (rw (f x first)) ∙ kept-none xs (λ y m. f y (List·Memᴰ·tail m))
@@ -216,7 +216,7 @@ module _ (L : Layout) (area cells : List ℕ) (r : Record) (g : Genuine L area r
     -- the search for the key of an entry of a slot outside the victims tells it from another key
     tells : (k : Key) (c : KeyCell k) (i : ℕ) → i < r .slots → named (less (r .map) victims) i ≡ true → (y : Item) →
         In y (slotItems L area (r .size) i) → Tells L area cells k (c .cell .cell) (headerOf L (y .entry))
-    unfolding sameKey
+    unfolding sameKey sameKeys
     tells k c i h out y m =
         record {
           own = λ e. sym (ap (searchFor L area cells) (same-key k (y .entry) e)) ∙ c .finds;
@@ -243,37 +243,37 @@ module _ (L : Layout) (area cells : List ℕ) (r : Record) (g : Genuine L area r
             }))
 
     -- a key's cell is marked exactly if an object of the key stands outside the victims
-    marked-outside : (k : Key) (c : KeyCell k) → isMarked marks (c .cell .cell) ≡ objectOutside L victims log k
+    marked-outside : (k : Key) (c : KeyCell k) → isMarked marks (c .cell .cell) ≡ objectOutside victims log k
     marked-outside k c =
         below-mark L area cells k (c .cell .cell) (omega (arith, c .cell .below)) (splitOf r victims) (replicate 128 0) (length-replicate {A = ℕ} 128 0)
         (clear-marks (c .cell .cell)) (tells k c) (r .slots) (omega arith)
         ∙ object-same L area (r .size) (r .map) victims (r .slots) scans k
 
     kept-same : (x : Placed) → In x log → named victims (x .slot) ≡ true →
-        keptTest L area cells marks (headerOf L (x .entry)) (placeOf (r .size) x) ≡ isKept L victims log x
+        keptTest L area cells marks (headerOf L (x .entry)) (placeOf (r .size) x) ≡ isKept victims log x
     unfolding keptAt cellKept both
     kept-same x m e =
         let c = key-cell x m in
-        ap (cellKept cells marks (isTombstone L (x .entry .kind)) (placeOf (r .size) x)) (c .finds)
-        ∙ ap (λ (b : Bool). both b (either (not (isTombstone L (x .entry .kind))) (isMarked marks (c .cell .cell)))) (cell-highest x m c)
-        ∙ ap (λ (b : Bool). both (isHighest log (x .entry)) (either (not (isTombstone L (x .entry .kind))) b)) (marked-outside (keyOf (x .entry)) c)
-        ∙ sym (ap (λ (b : Bool). both b (both (isHighest log (x .entry)) (either (not (isTombstone L (x .entry .kind))) (objectOutside L victims log (keyOf (x .entry)))))) e)
+        ap (cellKept cells marks (isTombstone (x .entry)) (placeOf (r .size) x)) (c .finds)
+        ∙ ap (λ (b : Bool). both b (either (not (isTombstone (x .entry))) (isMarked marks (c .cell .cell)))) (cell-highest x m c)
+        ∙ ap (λ (b : Bool). both (isHighest log (x .entry)) (either (not (isTombstone (x .entry))) b)) (marked-outside (keyOf (x .entry)) c)
+        ∙ sym (ap (λ (b : Bool). both b (both (isHighest log (x .entry)) (either (not (isTombstone (x .entry))) (objectOutside victims log (keyOf (x .entry)))))) e)
 
     module _ (bytes : Bytes area) where
       gathered-kept : (xs : List Placed) → Within xs log → ((x : Placed) → In x xs → named victims (x .slot) ≡ true) →
-          gathered L area cells marks (r .size) xs ≡ allEncoded L (keptOf L victims log xs)
+          gathered L area cells marks (r .size) xs ≡ allEncoded L (keptOf victims log xs)
       unfolding gathered allEncoded keptOf
       gathered-kept [] w f = refl
-      gathered-kept (x ∷ xs) w f = go (isKept L victims log x) refl (gathered-kept xs (λ y m. w y (List·Memᴰ·tail m)) (λ y m. f y (List·Memᴰ·tail m)))
+      gathered-kept (x ∷ xs) w f = go (isKept victims log x) refl (gathered-kept xs (λ y m. w y (List·Memᴰ·tail m)) (λ y m. f y (List·Memᴰ·tail m)))
         where
           entry-part : List ℕ
           entry-part = keptEntry L area cells marks (headerOf L (x .entry)) (placeOf (r .size) x)
 
-          same : (t : Bool) → isKept L victims log x ≡ t → keptTest L area cells marks (headerOf L (x .entry)) (placeOf (r .size) x) ≡ t
+          same : (t : Bool) → isKept victims log x ≡ t → keptTest L area cells marks (headerOf L (x .entry)) (placeOf (r .size) x) ≡ t
           same t e = kept-same x (w x first) (f x first) ∙ e
 
-          go : (t : Bool) → isKept L victims log x ≡ t → gathered L area cells marks (r .size) xs ≡ allEncoded L (keptOf L victims log xs) →
-              entry-part ++ gathered L area cells marks (r .size) xs ≡ allEncoded L (keptOf L victims log (x ∷ xs))
+          go : (t : Bool) → isKept victims log x ≡ t → gathered L area cells marks (r .size) xs ≡ allEncoded L (keptOf victims log xs) →
+              entry-part ++ gathered L area cells marks (r .size) xs ≡ allEncoded L (keptOf victims log (x ∷ xs))
           go true e ih =
               ap (λ (l : List ℕ). l ++ gathered L area cells marks (r .size) xs) (pick-true _ _ _ (same true e) ∙ own-part x (w x first) bytes)
               ∙ ap (λ (l : List ℕ). encoded L (x .entry) ++ l) ih
@@ -306,12 +306,12 @@ module _ (L : Layout) (area cells : List ℕ) (r : Record) (g : Genuine L area r
           go false e = absurd (List·Memᴰ·not-nil (rw (part-passed v (named (r .map)) i e) at m))
 
       part-kept : (i : ℕ) → i < r .slots →
-          keptPart L area cells marks (splitOf r victims) i ≡ allEncoded L (keptOf L victims log (partOf v (named (r .map)) i))
+          keptPart L area cells marks (splitOf r victims) i ≡ allEncoded L (keptOf victims log (partOf v (named (r .map)) i))
       unfolding allEncoded
       part-kept i h = go (named victims i) refl
         where
           go : (t : Bool) → named victims i ≡ t →
-              keptPart L area cells marks (splitOf r victims) i ≡ allEncoded L (keptOf L victims log (partOf v (named (r .map)) i))
+              keptPart L area cells marks (splitOf r victims) i ≡ allEncoded L (keptOf victims log (partOf v (named (r .map)) i))
           go true e =
               let in-map : named (r .map) i ≡ true =
               set-named (r .map) i (omega (arith, within-le victims (r .map) sub i, named-true victims i e, bit-le (r .map) i)) in
@@ -326,13 +326,13 @@ module _ (L : Layout) (area cells : List ℕ) (r : Record) (g : Genuine L area r
               ∙ sym (ap (allEncoded L) (kept-none L victims log (partOf v (named (r .map)) i) (λ x m. ap (named victims) (part-slot i x m) ∙ e)))
 
       below-kept : (n : ℕ) → n ≤ r .slots →
-          keptBelow L area cells marks (splitOf r victims) n ≡ allEncoded L (keptOf L victims log (logOf v (named (r .map)) n))
+          keptBelow L area cells marks (splitOf r victims) n ≡ allEncoded L (keptOf victims log (logOf v (named (r .map)) n))
       unfolding keptBelow logOf keptOf allEncoded
       below-kept zero h = refl
       below-kept (suc n) h =
           (λ i. below-kept n (omega arith) i ++ part-kept n h i)
-          ∙ sym (encoded-append L (keptOf L victims log (logOf v (named (r .map)) n)) (keptOf L victims log (partOf v (named (r .map)) n)))
+          ∙ sym (encoded-append L (keptOf victims log (logOf v (named (r .map)) n)) (keptOf victims log (partOf v (named (r .map)) n)))
           ∙ ap (allEncoded L) (sym (kept-append L victims log (logOf v (named (r .map)) n) (partOf v (named (r .map)) n)))
 
-      pub bytes-kept : keptBytes L area cells marks (splitOf r victims) ≡ allEncoded L (kept L victims log)
+      pub bytes-kept : keptBytes L area cells marks (splitOf r victims) ≡ allEncoded L (kept victims log)
       bytes-kept = below-kept (r .slots) (omega arith)

@@ -6,11 +6,12 @@ use mathlib.Core.Logic.{_⊎_, inl, inr}
 use mathlib.Core.List.{List, [], _∷_, List·Memᴰ·head, List·Memᴰ·tail}
 use lib.Dec.{eqb}
 use Rattle.segment.specs.Choice.{both, both-left, both-right, both-true, both-false-left, both-false-right, either-false, either-false-left, either-false-right}
-use Rattle.segment.specs.Layout.{Layout, isTombstone}
+use Rattle.segment.specs.Layout.{Layout}
 use Rattle.segment.specs.declared.Key.{Key}
+use Rattle.segment.specs.Entry.{isTombstone}
 use Rattle.slot_map.specs.Bit.{bit, named, less}
 use Rattle.slot_map.specs.BitLaws.{bit-cases, bit-less}
-use Rattle.model.specs.Log.{Item, Placed, segmentOf, viewsOf, scan, itemsOf, logOf, sameKey}
+use Rattle.model.specs.Log.{Item, Placed, segmentOf, viewsOf, scan, itemsOf, logOf, sameKeys, sameKey}
 use Rattle.model.specs.Operations.{objectOutside}
 use Rattle.laws.specs.Members.{fail-together, clash, In, first}
 use Rattle.laws.specs.LogLaws.{AllScanned, InLog, itemOf, placedAt, in-log, log-in, none-below, below-none}
@@ -37,17 +38,17 @@ module _ (L : Layout) (k : Key) where
   module _ (victims : ℕ) where
     -- the model's test of one entry
     abbrev seen : Placed → Bool
-    seen x = both (both (not (named victims (x .slot))) (sameKey k (x .entry))) (not (isTombstone L (x .entry .kind)))
+    seen x = both (both (not (named victims (x .slot))) (sameKey k (x .entry))) (not (isTombstone (x .entry)))
 
-    outside-none : (log : List Placed) → ((x : Placed) → In x log → seen x ≡ false) → objectOutside L victims log k ≡ false
+    outside-none : (log : List Placed) → ((x : Placed) → In x log → seen x ≡ false) → objectOutside victims log k ≡ false
     unfolding objectOutside
     outside-none [] f = refl
-    outside-none (x ∷ xs) f = either-false (seen x) (objectOutside L victims xs k) (f x first) (outside-none xs (λ y m. f y (List·Memᴰ·tail m)))
+    outside-none (x ∷ xs) f = either-false (seen x) (objectOutside victims xs k) (f x first) (outside-none xs (λ y m. f y (List·Memᴰ·tail m)))
 
-    none-outside : (log : List Placed) → objectOutside L victims log k ≡ false → (x : Placed) → In x log → seen x ≡ false
+    none-outside : (log : List Placed) → objectOutside victims log k ≡ false → (x : Placed) → In x log → seen x ≡ false
     unfolding objectOutside
-    none-outside (y ∷ ys) e x (List·Memᴰ·head q) = ap seen q ∙ either-false-left (seen y) (objectOutside L victims ys k) e
-    none-outside (y ∷ ys) e x (List·Memᴰ·tail m) = none-outside ys (either-false-right (seen y) (objectOutside L victims ys k) e) x m
+    none-outside (y ∷ ys) e x (List·Memᴰ·head q) = ap seen q ∙ either-false-left (seen y) (objectOutside victims ys k) e
+    none-outside (y ∷ ys) e x (List·Memᴰ·tail m) = none-outside ys (either-false-right (seen y) (objectOutside victims ys k) e) x m
 
     -- the two tests of an entry agree outside the victims
     seen-victim : (x : Placed) → named victims (x .slot) ≡ true → seen x ≡ false
@@ -55,10 +56,10 @@ module _ (L : Layout) (k : Key) where
         both-false-left (both (not (named victims (x .slot))) (sameKey k (x .entry))) _ (both-false-left (not (named victims (x .slot))) _ (ap not e))
 
     seen-object : (x : Placed) → named victims (x .slot) ≡ false → seen x ≡ isObject k (headerOf L (x .entry))
-    unfolding isObject sameKey both
+    unfolding isObject sameKey sameKeys both
     seen-object x e =
         rw e
-        (go (eqb (k .table) (x .entry .table)) (eqb (k .key) (x .entry .key)) (not (isTombstone L (x .entry .kind))))
+        (go (eqb (k .table) (x .entry .table)) (eqb (k .key) (x .entry .key)) (not (isTombstone (x .entry))))
       where
         go : (t j n : Bool) → both (both true (both t j)) n ≡ both n (both t j)
         go true true true = refl
@@ -99,7 +100,7 @@ module _ (L : Layout) (area : List ℕ) (S map victims n : ℕ) (scans : AllScan
   abbrev split : Split
   split = record { slots = n; size = S; victims = victims; outside = less map victims }
 
-  to-model : objectBelow L area split k ≡ false → objectOutside L victims log k ≡ false
+  to-model : objectBelow L area split k ≡ false → objectOutside victims log k ≡ false
   to-model e = outside-none L k victims log (λ x m. go x (log-in (viewsOf L area S) (named map) n x m) (named victims (x .slot)) refl)
     where
       go : (x : Placed) → InLog (viewsOf L area S) (named map) n x → (t : Bool) → named victims (x .slot) ≡ t → seen L k victims x ≡ false
@@ -111,7 +112,7 @@ module _ (L : Layout) (area : List ℕ) (S map victims n : ℕ) (scans : AllScan
           ∙ none-items L k (slotItems L area S (x .slot)) (both-rest (named (less map victims) (x .slot)) out (below-none n (slotHolds L area split k) e (x .slot) (w .below))) (itemOf x)
           (subst (λ (is : List Item). In (itemOf x) is) (sym (slot-items L area S map n scans (x .slot) (w .below) (w .picked))) (w .item))
 
-  from-model : objectOutside L victims log k ≡ false → objectBelow L area split k ≡ false
+  from-model : objectOutside victims log k ≡ false → objectBelow L area split k ≡ false
   from-model e = none-below n (slotHolds L area split k) (λ i h. go i h (named (less map victims) i) refl)
     where
       go : (i : ℕ) → i < n → (t : Bool) → named (less map victims) i ≡ t → slotHolds L area split k i ≡ false
@@ -132,5 +133,5 @@ module _ (L : Layout) (area : List ℕ) (S map victims n : ℕ) (scans : AllScan
           not-of true p = sym p
           not-of false p = refl
 
-  pub object-same : objectBelow L area split k ≡ objectOutside L victims log k
-  object-same = fail-together (objectBelow L area split k) (objectOutside L victims log k) to-model from-model
+  pub object-same : objectBelow L area split k ≡ objectOutside victims log k
+  object-same = fail-together (objectBelow L area split k) (objectOutside victims log k) to-model from-model

@@ -9,14 +9,14 @@ use lib.Dec.{eqb}
 use lib.ListN.{length}
 use borrow.Author.Tests.{eqb-true}
 use Rattle.segment.specs.Choice.{pick, both-left, both-right}
-use Rattle.segment.specs.Layout.{Layout, objectKind}
+use Rattle.segment.specs.Layout.{Layout}
 use Rattle.segment.specs.Entry.{Entry}
 use Rattle.segment.specs.declared.Key.{Key}
 use Rattle.record.specs.declared.Record.{Record}
-use Rattle.model.specs.Log.{Placed, sameKey}
-use Rattle.model.specs.Operations.{Operation, write, delete, clean, logNow, kindElse, writtenEntry, tombstoneEntry, fitsHead, appendedRecord, headedRecord, finishedRecord, toldVersion}
+use Rattle.model.specs.Log.{Placed, sameKey, sameKeys}
+use Rattle.model.specs.Operations.{Operation, write, delete, clean, logNow, writtenEntry, tombstoneEntry, fitsHead, appendedRecord, headedRecord, finishedRecord, toldVersion}
 use Rattle.laws.specs.Operated.{mapAfter}
-use Rattle.history.specs.Book.{Kept, Book, finish, versionFor, sameKeys}
+use Rattle.history.specs.Book.{Kept, Book, finish, versionFor}
 use Rattle.history.proofs.Invariant.{bookEntry}
 
 -- nothing is pending once an operation is finished
@@ -35,8 +35,8 @@ module _ (L : Layout) (before : List ℕ) (idle : Record) (b : Book) (same : idl
 
   pub finished-next : (o : Operation) → finishedRecord L before idle o .next .0 ≡ finish b o .next
   unfolding finishedRecord finish
-  finished-next (write k value) = entry-next (fitsHead L idle (writtenEntry L idle k value)) (writtenEntry L idle k value) (logNow L before idle)
-  finished-next (delete k) = entry-next (fitsHead L idle (tombstoneEntry L idle k)) (tombstoneEntry L idle k) (logNow L before idle)
+  finished-next (write k value) = entry-next (fitsHead L idle (writtenEntry idle k value)) (writtenEntry idle k value) (logNow L before idle)
+  finished-next (delete k) = entry-next (fitsHead L idle (tombstoneEntry idle k)) (tombstoneEntry idle k) (logNow L before idle)
   finished-next (clean victims) = same
 
   -- the version that the last step tells
@@ -60,8 +60,8 @@ module _ (L : Layout) (before : List ℕ) (idle : Record) (b : Book) (same : idl
 
   -- the map and the book's keys
   written :
-      (k j : Key) (value : List ℕ) (old : Option Entry) (x : Option Kept) → old ≡ bookEntry L j x → (t : Bool) → sameKeys j k ≡ t →
-      pick t (some (writtenEntry L idle k value)) old ≡ bookEntry L j (pick t (some (record { version = b .next; value = value })) x)
+      (k j : Key) (value : List ℕ) (old : Option Entry) (x : Option Kept) → old ≡ bookEntry j x → (t : Bool) → sameKeys j k ≡ t →
+      pick t (some (writtenEntry idle k value)) old ≡ bookEntry j (pick t (some (record { version = b .next; value = value })) x)
   unfolding pick bookEntry sameKeys
   written k j value old x e true p =
       let ht : j .table ≡ k .table = eqb-true (j .table) (k .table) (both-left (eqb (j .table) (k .table)) (eqb (j .key) (k .key)) p) in
@@ -70,24 +70,23 @@ module _ (L : Layout) (before : List ℕ) (idle : Record) (b : Book) (same : idl
       (λ (y : Entry). some y)
       (λ i.
       record {
-        kind = kindElse (objectKind L (length value));
         table = sym ht i;
         key = sym hk i;
         version = same i;
-        value = value;
+        value = some value;
       })
   written k j value old x e false p = e
 
   deleted :
-      (j : Key) (old : Option Entry) (x : Option Kept) → old ≡ bookEntry L j x → (t : Bool) → pick t none old ≡ bookEntry L j (pick t none x)
+      (j : Key) (old : Option Entry) (x : Option Kept) → old ≡ bookEntry j x → (t : Bool) → pick t none old ≡ bookEntry j (pick t none x)
   unfolding pick bookEntry
   deleted j old x e true = refl
   deleted j old x e false = e
 
   pub finished-map :
-      (o : Operation) (old : Key → Option Entry) → ((j : Key) → old j ≡ bookEntry L j (b .keys j)) → (j : Key) →
-      mapAfter L idle o old j ≡ bookEntry L j (finish b o .keys j)
-  unfolding mapAfter finish sameKey sameKeys
+      (o : Operation) (old : Key → Option Entry) → ((j : Key) → old j ≡ bookEntry j (b .keys j)) → (j : Key) →
+      mapAfter idle o old j ≡ bookEntry j (finish b o .keys j)
+  unfolding mapAfter finish sameKey
   finished-map (write k value) old e j = written k j value (old j) (b .keys j) (e j) (sameKeys j k) refl
   finished-map (delete k) old e j = deleted j (old j) (b .keys j) (e j) (sameKeys j k)
   finished-map (clean victims) old e j = e j

@@ -6,7 +6,7 @@ use mathlib.Core.List.{List}
 use mathlib.Core.Option.{Option, none, some}
 use lib.ListN.{length}
 use Rattle.word.specs.Number.{Bytes}
-use Rattle.segment.specs.Layout.{Layout, objectKind}
+use Rattle.segment.specs.Layout.{Layout}
 use Rattle.segment.specs.Entry.{Entry}
 use Rattle.segment.specs.declared.Key.{Key}
 use Rattle.record.specs.Answers.{withPending}
@@ -16,7 +16,7 @@ use Rattle.record.specs.declared.Record.{Record}
 use Rattle.model.specs.Log.{Placed}
 use Rattle.model.specs.Causes.{firstCause}
 use Rattle.model.specs.Recovery.{recovered, recordFrom, ifNone, areaCauses}
-use Rattle.model.specs.Operations.{logNow, kindElse, storesFor}
+use Rattle.model.specs.Operations.{logNow, storesFor}
 use Rattle.model.specs.Promises.{Genuine, Started}
 use Rattle.laws.specs.MapLaws.{valueAt}
 use Rattle.laws.specs.Operated.{Accepted}
@@ -24,22 +24,21 @@ use Rattle.history.specs.Book.{Kept, Book}
 use Rattle.history.specs.Runs.{Held, World}
 
 -- the entry by which a log holds what the book holds of a key
-unfoldable pub bookEntry : Layout → Key → Option Kept → Option Entry
-bookEntry L k none = none
-bookEntry L k (some x) =
+unfoldable pub bookEntry : Key → Option Kept → Option Entry
+bookEntry k none = none
+bookEntry k (some x) =
     some
     (record {
-      kind = kindElse (objectKind L (length (x .value)));
       table = k .table;
       key = k .key;
       version = x .version;
-      value = x .value;
+      value = some (x .value);
     })
 
 -- The bytes of the area say what the book holds.
 pub record Agrees (L : Layout) (n s : ℕ) (area : List ℕ) (b : Book) : Type 0 where
   pub next-same : recordFrom L n s 16 area .next .0 ≡ b .next
-  pub map-same : (k : Key) → valueAt L (logNow L area (recordFrom L n s 16 area)) k ≡ bookEntry L k (b .keys k)
+  pub map-same : (k : Key) → valueAt (logNow L area (recordFrom L n s 16 area)) k ≡ bookEntry k (b .keys k)
 
 -- how many cells are known to suffice
 unfoldable pub baseCells : Option ℕ → ℕ
@@ -145,7 +144,7 @@ started-accepted L area r work st =
 -- The invariant from a recovered record that agrees with the book.
 pub rebuilt :
     (L : Layout) (n s m : ℕ) (area : List ℕ) (r : Record) (held : Option Held) (b : Book) (told : ℕ) → Bytes area →
-    recovered L n s m area ≡ some r → r .next .0 ≡ b .next → ((k : Key) → valueAt L (logNow L area r) k ≡ bookEntry L k (b .keys k)) →
+    recovered L n s m area ≡ some r → r .next .0 ≡ b .next → ((k : Key) → valueAt (logNow L area r) k ≡ bookEntry k (b .keys k)) →
     told < b .next → HeldGood L n s area (some m) b held → Inv L n s (record { area = area; held = held; cells = some m }) b told
 unfolding baseCells
 rebuilt L n s m area r held b told ab e next same less good =
@@ -155,7 +154,7 @@ rebuilt L n s m area r held b told ab e next same less good =
       agrees =
           record {
             next-same = next-of L n s m area r e ∙ next;
-            map-same = λ k. ap (λ (log : List Placed). valueAt L log k) (log-of L n s m area r e) ∙ same k;
+            map-same = λ k. ap (λ (log : List Placed). valueAt log k) (log-of L n s m area r e) ∙ same k;
           };
       below = less;
       held = good;

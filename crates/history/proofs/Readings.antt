@@ -8,9 +8,9 @@ use mathlib.Core.List.{List, [], _∷_}
 use mathlib.Core.Option.{Option, none, some}
 use lib.ListN.{length}
 use Rattle.word.specs.Number.{Bytes}
-use Rattle.segment.specs.Choice.{pick}
+use Rattle.segment.specs.Choice.{pick, isNone}
 use Rattle.segment.specs.Layout.{Layout}
-use Rattle.segment.specs.Entry.{Entry}
+use Rattle.segment.specs.Entry.{Entry, kindOf, bytesIn}
 use Rattle.segment.specs.declared.Key.{Key}
 use Rattle.record.specs.Answers.{readSaid, withPending, storesLeft}
 use Rattle.record.specs.Range.{fitsLent}
@@ -26,10 +26,10 @@ use Rattle.model.specs.Log.{Placed, present}
 use Rattle.model.specs.Causes.{when, firstCause}
 use Rattle.model.specs.Recovery.{recovered}
 use Rattle.model.specs.Operations.{Operation, write, delete, clean, logNow, writtenEntry, tombstoneEntry, fitsHead, laidAppend, laidHead, laid, storesFor}
-use Rattle.model.specs.Refused.{Lengths, recordBad, keyAbsent, isAbsent, readCauses}
+use Rattle.model.specs.Refused.{Lengths, recordBad, keyAbsent, readCauses}
 use Rattle.model.specs.Promises.{ReadPromise, ValuePromise, readAnswer, presentAnswer, readLengths, Part, partOf, valueAnswer, valuePart}
 use Rattle.laws.specs.CauseLaws.{cause-skip}
-use Rattle.laws.specs.MapLaws.{valueAt, entryOf}
+use Rattle.laws.specs.MapLaws.{valueAt, unplaced}
 use Rattle.laws.specs.Operated.{OperationLaws}
 use Rattle.history.specs.Book.{Question, reads, readsValue, asks, Answer, saying, giving, called, accepted, Kept, Book, feed, feedCall, toldBy}
 use Rattle.history.specs.Runs.{Held, World, Asked, read, readValue}
@@ -58,8 +58,8 @@ laid-left L r log o k = go o
     entry false e = refl
 
     go : (o : Operation) → storesLeft (laid L r log o .pending k) ≡ k
-    go (write j value) = entry (fitsHead L r (writtenEntry L r j value)) (writtenEntry L r j value)
-    go (delete j) = entry (fitsHead L r (tombstoneEntry L r j)) (tombstoneEntry L r j)
+    go (write j value) = entry (fitsHead L r (writtenEntry r j value)) (writtenEntry r j value)
+    go (delete j) = entry (fitsHead L r (tombstoneEntry r j)) (tombstoneEntry r j)
     go (clean victims) = refl
 
 module _ (L : Layout) (laws : OperationLaws L) (n s : ℕ) where
@@ -106,47 +106,47 @@ module _ (L : Layout) (laws : OperationLaws L) (n s : ℕ) where
   some-same q = cc
 
   present-answer :
-      (k : Key) (p : Option Placed) (x : Option Kept) → entryOf p ≡ bookEntry L k x →
-      readAnswer (firstCause (when (isAbsent p) Absent ∷ [])) p ≡ bookAnswer L x
-  unfolding entryOf bookEntry firstCause pick isAbsent readAnswer presentAnswer bookAnswer
+      (k : Key) (p : Option Placed) (x : Option Kept) → unplaced p ≡ bookEntry k x →
+      readAnswer L (firstCause (when (isNone p) Absent ∷ [])) p ≡ bookAnswer L x
+  unfolding unplaced bookEntry firstCause pick isNone readAnswer presentAnswer bookAnswer
   present-answer k none none e = refl
   present-answer k none (some y) e = cc
   present-answer k (some p) none e = cc
-  present-answer k (some p) (some y) e = ap (λ (z : Entry). ReadAnswer.Present (record { 0 = z .version }) (z .kind)) (some-same e)
+  present-answer k (some p) (some y) e = ap (λ (z : Entry). ReadAnswer.Present (record { 0 = z .version }) (kindOf L z)) (some-same e)
 
   present-value :
-      (area : List ℕ) (size : ℕ) (k : Key) (p : Option Placed) (x : Option Kept) → entryOf p ≡ bookEntry L k x →
-      ((y : Placed) → p ≡ some y → partOf area (valuePart L size (some y)) ≡ y .entry .value) →
-      partOf area (valueAnswer L size (firstCause (when (isAbsent p) Absent ∷ [])) p) ≡ bookValue x
-  unfolding entryOf bookEntry firstCause pick isAbsent valueAnswer valuePart bookValue
+      (area : List ℕ) (size : ℕ) (k : Key) (p : Option Placed) (x : Option Kept) → unplaced p ≡ bookEntry k x →
+      ((y : Placed) → p ≡ some y → partOf area (valuePart L size (some y)) ≡ bytesIn (y .entry .value)) →
+      partOf area (valueAnswer L size (firstCause (when (isNone p) Absent ∷ [])) p) ≡ bookValue x
+  unfolding unplaced bookEntry firstCause pick isNone valueAnswer valuePart bookValue bytesIn
   present-value area size k none none e part = refl
   present-value area size k none (some y) e part = cc
   present-value area size k (some p) none e part = cc
-  present-value area size k (some p) (some y) e part = part p refl ∙ ap (λ (z : Entry). z .value) (some-same e)
+  present-value area size k (some p) (some y) e part = part p refl ∙ ap (λ (z : Entry). bytesIn (z .value)) (some-same e)
 
   -- A record that recovery of the area gives, its pending operation aside, and that fits what is lent.
   module _ (area cells : List ℕ) (r : Record) (ab : Bytes area)
       (recovers : recovered L (r .slots) (r .size) (r .cells) area ≡ some (withPending r Idle))
       (fits : fitsLent L r (length area) (length cells) ≡ true) (k : Key) (x : Option Kept)
-      (same : valueAt L (logNow L area r) k ≡ bookEntry L k x)
+      (same : valueAt (logNow L area r) k ≡ bookEntry k x)
     where
       only-absent :
-          firstCause (readCauses L r (logNow L area r) (readLengths area cells) k) ≡ firstCause (when (keyAbsent L (logNow L area r) k) Absent ∷ [])
+          firstCause (readCauses L r (logNow L area r) (readLengths area cells) k) ≡ firstCause (when (keyAbsent (logNow L area r) k) Absent ∷ [])
       only-absent =
-          cause-skip (when (recordBad L r (readLengths area cells)) BadRecord) (when (keyAbsent L (logNow L area r) k) Absent ∷ []) (ap not fits)
+          cause-skip (when (recordBad L r (readLengths area cells)) BadRecord) (when (keyAbsent (logNow L area r) k) Absent ∷ []) (ap not fits)
 
       pub read-answer :
-          readAnswer (firstCause (readCauses L r (logNow L area r) (readLengths area cells) k)) (present L (logNow L area r) k) ≡ bookAnswer L x
+          readAnswer L (firstCause (readCauses L r (logNow L area r) (readLengths area cells) k)) (present (logNow L area r) k) ≡ bookAnswer L x
       read-answer =
-          ap (λ (c : Option Refusal). readAnswer c (present L (logNow L area r) k)) only-absent ∙
-          present-answer k (present L (logNow L area r) k) x same
+          ap (λ (c : Option Refusal). readAnswer L c (present (logNow L area r) k)) only-absent ∙
+          present-answer k (present (logNow L area r) k) x same
 
       pub value-answer :
-          partOf area (valueAnswer L (r .size) (firstCause (readCauses L r (logNow L area r) (readLengths area cells) k)) (present L (logNow L area r) k)) ≡
+          partOf area (valueAnswer L (r .size) (firstCause (readCauses L r (logNow L area r) (readLengths area cells) k)) (present (logNow L area r) k)) ≡
           bookValue x
       value-answer =
-          ap (λ (c : Option Refusal). partOf area (valueAnswer L (r .size) c (present L (logNow L area r) k))) only-absent ∙
-          present-value area (r .size) k (present L (logNow L area r) k) x same
+          ap (λ (c : Option Refusal). partOf area (valueAnswer L (r .size) c (present (logNow L area r) k))) only-absent ∙
+          present-value area (r .size) k (present (logNow L area r) k) x same
           (λ y q. laws .value-part area (withPending r Idle) ab recovers k y q)
 
   -- ---- reads in a run
@@ -162,16 +162,16 @@ module _ (L : Layout) (laws : OperationLaws L) (n s : ℕ) where
       next-now : h .rec .next .0 ≡ b .next
       next-now = sym (next-of L n s (h .rec .cells) area (withPending (h .rec) Idle) idle-recovers) ∙ inv .agrees .next-same
 
-      map-now : valueAt L (logNow L area (h .rec)) k ≡ bookEntry L k (b .keys k)
+      map-now : valueAt (logNow L area (h .rec)) k ≡ bookEntry k (b .keys k)
       map-now =
-          ap (λ (log : List Placed). valueAt L log k) (sym (log-of L n s (h .rec .cells) area (withPending (h .rec) Idle) idle-recovers)) ∙
+          ap (λ (log : List Placed). valueAt log k) (sym (log-of L n s (h .rec .cells) area (withPending (h .rec) Idle) idle-recovers)) ∙
           inv .agrees .map-same k
 
       fits : fitsLent L (h .rec) (length area) (length (h .cells)) ≡ true
       fits = held-fits area m b h (inv .bytes) good
 
       told-less :
-          (c : Option Refusal) (x : Option Placed) → present L (logNow L area (h .rec)) k ≡ x → readSaid (readAnswer c x) .version < b .next
+          (c : Option Refusal) (x : Option Placed) → present (logNow L area (h .rec)) k ≡ x → readSaid (readAnswer L c x) .version < b .next
       unfolding readAnswer presentAnswer
       told-less (some c) x e = omega (arith, inv .below)
       told-less none none e = omega (arith, inv .below)
@@ -196,7 +196,7 @@ module _ (L : Layout) (laws : OperationLaws L) (n s : ℕ) where
           less : readSaid (a .answer) .version < b .next
           less =
               subst⁻¹ (λ (x : ReadAnswer). readSaid x .version < b .next) (p .exact (good .genuine))
-              (told-less (firstCause (readCauses L (h .rec) (logNow L area (h .rec)) (readLengths area (h .cells)) k)) (present L (logNow L area (h .rec)) k) refl)
+              (told-less (firstCause (readCauses L (h .rec) (logNow L area (h .rec)) (readLengths area (h .cells)) k)) (present (logNow L area (h .rec)) k) refl)
 
       value-keeps : (l : Lengths) (p : Part) → ValuePromise L (h .rec) area (h .cells) k p → QuestionGoal (readsValue k) l (giving (partOf area p))
       unfolding feed feedCall toldBy pick EventAgrees QuestionAgrees

@@ -98,9 +98,9 @@ module _ (L : Layout) (laws : OperationLaws L) (n s : ℕ) where
       next-idle : st .idle .next .0 ≡ b .next
       next-idle = sym (next-of L n s (st .idle .cells) area (st .idle) area-recovers) ∙ inv .agrees .next-same
 
-      map-idle : (k : Key) → valueAt L (logNow L (st .before) (st .idle)) k ≡ bookEntry L k (b .keys k)
+      map-idle : (k : Key) → valueAt (logNow L (st .before) (st .idle)) k ≡ bookEntry k (b .keys k)
       map-idle k =
-          ap (λ (x : List Placed). valueAt L x k) (sym area-log ∙ sym (log-of L n s (st .idle .cells) area (st .idle) area-recovers)) ∙
+          ap (λ (x : List Placed). valueAt x k) (sym area-log ∙ sym (log-of L n s (st .idle .cells) area (st .idle) area-recovers)) ∙
           inv .agrees .map-same k
 
       -- the area after one more store
@@ -136,7 +136,7 @@ module _ (L : Layout) (laws : OperationLaws L) (n s : ℕ) where
             (book-left (suc k) 0, max-zero t, e)
             (subst (λ (c : Option ℕ). Inv L n s (record { area = after; held = some held′; cells = c }) b′ t) cells-idle
             (rebuilt L n s (st .idle .cells) after (st .idle) (some held′) b′ t bytes′ recovers′ next-idle
-            (λ j. ap (λ (x : List Placed). valueAt L x j) log′ ∙ map-idle j) (inv .below) holding′)),
+            (λ j. ap (λ (x : List Placed). valueAt x j) log′ ∙ map-idle j) (inv .below) holding′)),
         agrees-with (StepAnswer.Left (suc k)) (sym e) (λ z. absurd (omega (arith, e, z))),
       )
         where
@@ -214,7 +214,7 @@ module _ (L : Layout) (laws : OperationLaws L) (n s : ℕ) where
             (subst (λ (c : Option ℕ). Inv L n s (record { area = after; held = some held′; cells = c }) b′ t′) cells-idle
             (rebuilt L n s (st .idle .cells) after fin (some held′) b′ t′ bytes′ recovers′
             (finished-next L (st .before) (st .idle) b next-idle (st .operation))
-            (λ j. ap (λ (x : List ℕ). valueAt L (logNow L x fin) j) all-stored ∙ laws .finish-map (st .before) (st .idle) (st .operation) acc j ∙ finished-map L (st .before) (st .idle) b next-idle (st .operation) (valueAt L (logNow L (st .before) (st .idle))) map-idle j)
+            (λ j. ap (λ (x : List ℕ). valueAt (logNow L x fin) j) all-stored ∙ laws .finish-map (st .before) (st .idle) (st .operation) acc j ∙ finished-map L (st .before) (st .idle) b next-idle (st .operation) (valueAt (logNow L (st .before) (st .idle))) map-idle j)
             told′ holding′)),
         agrees-with (StepAnswer.Done (record { 0 = toldVersion (st .idle) (st .operation) })) (sym e) (λ z. told-same L (st .before) (st .idle) b next-idle (st .operation)),
       )

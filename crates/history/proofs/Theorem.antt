@@ -25,7 +25,7 @@ use Rattle.model.specs.Operations.{formatted}
 use Rattle.model.specs.Refused.{formatCauses}
 use Rattle.model.specs.Promises.{Genuine, FormatPromise, RecoverPromise, IndexAfter, formatAnswer, areaUnless, readLengths, partOf}
 use Rattle.laws.specs.CauseLaws.{cause-false}
-use Rattle.laws.specs.MapLaws.{valueAt, entryOf}
+use Rattle.laws.specs.MapLaws.{valueAt, unplaced}
 use Rattle.laws.specs.Operated.{OperationLaws}
 use Rattle.laws.specs.RecoverLaws.{recovered-recovery}
 use Rattle.laws.specs.OperationsKept.{edition1-laws}
@@ -123,7 +123,7 @@ module _ (L : Layout) (laws : OperationLaws L) (n s : ℕ) where
   -- ---- the fresh store
 
   fresh : (area₀ area : List ℕ) → Bytes area₀ → FormatPromise L n s area₀ area FormatAnswer.Formatted → Inv L n s (freshWorld area) freshBook 0
-  unfolding formatAnswer areaUnless baseCells HeldGood between both present latest objectOnly entryOf bookEntry
+  unfolding formatAnswer areaUnless baseCells HeldGood between both present latest objectOnly unplaced bookEntry
   fresh area₀ area ab p = subst⁻¹ (λ (x : List ℕ). Inv L n s (freshWorld x) freshBook 0) left start′
     where
       cause : Option Refusal
@@ -150,7 +150,7 @@ module _ (L : Layout) (laws : OperationLaws L) (n s : ℕ) where
             agrees =
                 record {
                   next-same = laws .format-log n s 16 area₀ geometry .1;
-                  map-same = λ k. ap (λ (log : List Placed). valueAt L log k) (laws .format-log n s 16 area₀ geometry .0);
+                  map-same = λ k. ap (λ (log : List Placed). valueAt log k) (laws .format-log n s 16 area₀ geometry .0);
                 };
             below = omega arith;
             held = tt;

@@ -4,9 +4,10 @@ use mathlib.Core.Bool.{Bool}
 use mathlib.Core.List.{List, [], _∷_}
 use mathlib.Core.Option.{Option, none, some}
 use lib.Dec.{eqb}
-use Rattle.segment.specs.Choice.{pick, both}
+use Rattle.segment.specs.Choice.{pick}
 use Rattle.segment.specs.declared.Key.{Key}
 use Rattle.record.specs.Answers.{Said, taken}
+use Rattle.model.specs.Log.{sameKeys}
 use Rattle.model.specs.Operations.{Operation, write, delete, clean}
 use Rattle.model.specs.Refused.{Lengths}
 
@@ -64,9 +65,6 @@ pub record Book : Type 0 where
 -- After format of any area: no keys, next version 1, nothing pending.
 abbrev pub freshBook : Book
 freshBook = record { keys = λ k. none; next = 1; pending = none }
-
-unfoldable pub sameKeys : Key → Key → Bool
-sameKeys a b = both (eqb (a .table) (b .table)) (eqb (a .key) (b .key))
 
 -- the keys with one of them set or dropped
 abbrev pub withKey : (Key → Option Kept) → Key → Option Kept → (Key → Option Kept)

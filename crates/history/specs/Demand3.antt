@@ -6,8 +6,9 @@ use mathlib.Core.List.{List, [], _∷_}
 use mathlib.Core.Option.{Option, none, some}
 use lib.ListN.{length}
 use Rattle.word.specs.Number.{Bytes}
-use Rattle.segment.specs.Layout.{Layout, edition1, objectKind}
+use Rattle.segment.specs.Layout.{Layout, edition1}
 use Rattle.segment.specs.declared.Key.{Key}
+use Rattle.segment.specs.Entry.{kindFor}
 use Rattle.record.specs.Answers.{Said, readSaid}
 use Rattle.record.specs.Range.{cellsGood}
 use Rattle.record.specs.declared.FormatAnswer.{FormatAnswer}
@@ -16,7 +17,7 @@ use Rattle.record.specs.declared.ReadAnswer.{ReadAnswer}
 use Rattle.record.specs.declared.Recovery.{Recovery}
 use Rattle.record.specs.declared.RecoverAnswer.{RecoverAnswer}
 use Rattle.record.specs.declared.Refusal.{Refusal}
-use Rattle.model.specs.Operations.{TypedKey, kindElse}
+use Rattle.model.specs.Operations.{TypedKey}
 use Rattle.model.specs.Recovery.{orderBad}
 use Rattle.model.specs.Promises.{FormatPromise, RecoverPromise, ReadPromise, Part, partOf, ValuePromise}
 use Rattle.history.specs.Book.{Question, reads, readsValue, starts, steps, asks, recovers, Answer, saying, giving, Event, called, cut, accepted, Kept, Awaited, Book, freshBook, feed, bookOf, versionFor, highestTold}
@@ -30,7 +31,7 @@ LargeEnough (some k) m = (cellsGood m ≡ true) × (k ≤ m)
 -- what a read answers of a key by the book: version and kind, or 8
 unfoldable pub bookAnswer : Layout → Option Kept → ReadAnswer
 bookAnswer L none = ReadAnswer.Refused Refusal.Absent
-bookAnswer L (some x) = ReadAnswer.Present (record { 0 = x .version }) (kindElse (objectKind L (length (x .value))))
+bookAnswer L (some x) = ReadAnswer.Present (record { 0 = x .version }) (kindFor L (some (x .value)))
 
 -- and its value, the empty part where read refuses
 unfoldable pub bookValue : Option Kept → List ℕ

@@ -7,8 +7,9 @@ use mathlib.Core.Option.{Option, none, some}
 use lib.Dec.{eqb}
 use Rattle.segment.specs.Choice.{both}
 use Rattle.segment.specs.declared.Key.{Key}
+use Rattle.model.specs.Log.{sameKeys}
 use Rattle.model.specs.Operations.{Operation, write, delete, clean}
-use Rattle.history.specs.Book.{starts, steps, asks, recovers, Answer, Event, called, cut, accepted, Awaited, Book, sameKeys, feed}
+use Rattle.history.specs.Book.{starts, steps, asks, recovers, Answer, Event, called, cut, accepted, Awaited, Book, feed}
 
 -- a write of that key
 unfoldable pub isWriteOf : Key → Operation → Bool

@@ -8,7 +8,7 @@ use borrow.Author.Tests.{le-leb}
 use Rattle.segment.specs.Choice.{both}
 use Rattle.segment.specs.Layout.{Layout, entrySize}
 use Rattle.segment.specs.declared.Key.{Key}
-use Rattle.model.specs.Log.{Placed, placeOf, sameKey}
+use Rattle.model.specs.Log.{Placed, placeOf, sameKeys, sameKey}
 use Rattle.model.specs.Index.{HasCell}
 use Rattle.laws.specs.Members.{In}
 use Rattle.index.specs.Search.{tableAt, keyAt, versionAt, hasKeyAt, cellHas}
@@ -29,7 +29,7 @@ place-back p = omega arith
 
 module _ (L : Layout) (area : List ℕ) (S : ℕ) where
   pub in-area-key : (k : Key) (x : Placed) → InArea L area S x → hasKeyAt L area k (placeOf S x) ≡ sameKey k (x .entry)
-  unfolding hasKeyAt sameKey both
+  unfolding hasKeyAt sameKey sameKeys both
   in-area-key k x a =
       rw (le-leb (placeOf S x + entrySize L 0) (length area) (a .fits), a .table-there, a .key-there)
 

@@ -15,8 +15,8 @@ use Rattle.word.specs.Number.{numberOf}
 use Rattle.segment.specs.Choice.{pick, pick-true, pick-false, both, both-left, both-right, both-true, either}
 use Rattle.segment.specs.Layout.{Layout, entrySize, digestSize}
 use Rattle.segment.specs.Packed.{field-at}
-use Rattle.segment.specs.Entry.{Entry, entry, entryAt, sizeOf}
-use Rattle.segment.specs.EntryLaws.{decodedAt, decoded-at, found-fits, found-accepted}
+use Rattle.segment.specs.Entry.{Entry, bytesIn, entry, entryAt, sizeOf}
+use Rattle.segment.specs.EntryLaws.{decodedAt, decoded-at, found-fits, found-readable}
 use Rattle.slot_map.specs.Bit.{named}
 use Rattle.slot_map.specs.BitLaws.{named-true, set-below}
 use Rattle.model.specs.Log.{Item, Placed, segmentOf, viewsOf, scan, itemsOf, logOf, keysOf, versionShared}
@@ -39,8 +39,8 @@ module _ (L : Layout) (area : List ℕ) (S i at : ℕ) (e : Entry) (found : entr
   inside : at + sizeOf L e ≤ min S (length area - i * S)
   inside = simp (length-take, length-drop) at (found-fits L (segmentOf area S i) at e found)
 
-  fields : decodedAt L (segmentOf area S i) at (length (e .value)) ≡ e
-  fields = sym (decoded-at L (segmentOf area S i) at (length (e .value))) ∙ found-accepted L (segmentOf area S i) at e found .same
+  fields : decodedAt L (segmentOf area S i) at (length (bytesIn (e .value))) ≡ e
+  fields = sym (decoded-at L (segmentOf area S i) at (length (bytesIn (e .value)))) ∙ found-readable L (segmentOf area S i) at e found .same
 
   -- a field, read in the segment and in the area
   field : (w k : ℕ) → k + w ≤ entrySize L 0 → numberOf (take w (drop (i * S + at + k) area)) ≡ numberOf (take w (drop (at + k) (segmentOf area S i)))

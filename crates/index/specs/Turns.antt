@@ -12,8 +12,8 @@ use lib.Seq.{drop-length, drop-cons}
 use borrow.Author.Fill.{fill-more}
 use borrow.Author.Tests.{ltb-true, ltb-false, leb-true}
 use Rattle.segment.specs.Choice.{pick-true, pick-false, both, both-right, both-false-left}
-use Rattle.segment.specs.Layout.{Layout, isTombstone}
-use Rattle.segment.specs.Entry.{Entry, Found, entry, end, damage, entryAt, sizeOf, keyOf, answer}
+use Rattle.segment.specs.Layout.{Layout}
+use Rattle.segment.specs.Entry.{Entry, Found, entry, end, damage, entryAt, sizeOf, keyOf, answer, isTombstone}
 use Rattle.segment.specs.EntryLaws.{found-fits}
 use Rattle.segment.specs.Packed.{length-part}
 use Rattle.segment.specs.AnswerLaws.{answer-end, answer-damage, answer-tombstone, answer-object}
@@ -56,9 +56,9 @@ nextRead Read.Damage = Next.Stop
 
 next-answer : (L : Layout) (f : Found) → nextRead (answer L f) ≡ nextOf L f
 unfolding nextRead nextOf
-next-answer L (entry e) = go (isTombstone L (e .kind)) refl
+next-answer L (entry e) = go (isTombstone e) refl
   where
-    go : (t : Bool) → isTombstone L (e .kind) ≡ t → nextRead (answer L (entry e)) ≡ nextOf L (entry e)
+    go : (t : Bool) → isTombstone e ≡ t → nextRead (answer L (entry e)) ≡ nextOf L (entry e)
     go true t = rw (answer-tombstone L e t)
     go false t = rw (answer-object L e t)
 next-answer L end = rw (answer-end L)

@@ -30,7 +30,7 @@ outside-log v map victims n = log-those v (named map) (λ i. not (named victims 
 
 module _ (L : Layout) (v v′ : ℕ → View) (n s m : ℕ) (h : Head) (victims : ℕ) (f : Sound v n m h)
     (sub : within victims (h .digest .map) ≡ true)
-    (c : Heads L v v′ n (newSlot (recordUnder v n s m h)) (newDigest (recordUnder v n s m h) victims) (kept L victims (logUnder v n h))) where
+    (c : Heads L v v′ n (newSlot (recordUnder v n s m h)) (newDigest (recordUnder v n s m h) victims) (kept victims (logUnder v n h))) where
   -- the old log, the new head, its log, and the entries kept in their places
   abbrev old : List Placed
   old = logUnder v n h
@@ -42,22 +42,22 @@ module _ (L : Layout) (v v′ : ℕ → View) (n s m : ℕ) (h : Head) (victims 
   after = logUnder v′ n cleaned
 
   abbrev moved : List Placed
-  moved = placedFrom L (newSlot (recordUnder v n s m h)) (digestSize L) (kept L victims (logUnder v n h))
+  moved = placedFrom L (newSlot (recordUnder v n s m h)) (digestSize L) (kept victims (logUnder v n h))
 
   abbrev rest : List Placed
   rest = logOf v (outsideSlots (h .digest .map) victims) n
 
   parts : OnePart [] moved rest after
-  parts = new-log L v v′ n s m h victims (kept L victims old) f sub c
+  parts = new-log L v v′ n s m h victims (kept victims old) f sub c
 
   same-rest : outside victims old ≡ rest
   same-rest = outside-log v (h .digest .map) victims n
 
   -- What stood outside the victims, and what was kept, in its new place.
-  pub cleaned-log : Cleaned L victims old moved after
+  pub cleaned-log : Cleaned victims old moved after
   cleaned-log =
       record {
-        entries = entries-placed L (newSlot (recordUnder v n s m h)) (digestSize L) (kept L victims old);
+        entries = entries-placed L (newSlot (recordUnder v n s m h)) (digestSize L) (kept victims old);
         members = rw same-rest (part-members moved rest after parts);
       }
 
@@ -69,34 +69,34 @@ module _ (L : Layout) (v v′ : ℕ → View) (n s m : ℕ) (h : Head) (victims 
   cleaned-used some-victim =
       renewed-le n (h .digest .map) victims (newSlot (recordUnder v n s m h)) sub
       (map-in n (h .slot) (h .digest .map) (f .map-good) .below) some-victim
-      (slot-below L v v′ n s m h victims (kept L victims old) f sub c)
-      (slot-clear L v v′ n s m h victims (kept L victims old) f sub c)
+      (slot-below L v v′ n s m h victims (kept victims old) f sub c)
+      (slot-clear L v v′ n s m h victims (kept victims old) f sub c)
 
   pub cleaned-sound : 0 < victims → Sound v′ n m cleaned
   cleaned-sound some-victim =
-      new-sound L v v′ n s m h victims (kept L victims old) f sub c
+      new-sound L v v′ n s m h victims (kept victims old) f sub c
       (omega (arith, cleaned-used some-victim, map-in n (h .slot) (h .digest .map) (f .map-good) .some-free))
-      (clean-shared-any L victims old moved after cleaned-log (λ k. rw same-rest (part-count moved rest after parts k)) (f .versions))
-      (omega (arith, clean-keys-count L victims old moved after cleaned-log, f .keys))
+      (clean-shared-any victims old moved after cleaned-log (λ k. rw same-rest (part-count moved rest after parts k)) (f .versions))
+      (omega (arith, clean-keys-count victims old moved after cleaned-log, f .keys))
 
   -- the next version is the digest's own, for what is left has no higher version than the log had
   pub cleaned-next : nextVersion (newDigest (recordUnder v n s m h) victims) after ≡ nextVersion (h .digest) old
-  cleaned-next = omega (arith, clean-highest L victims old moved after cleaned-log)
+  cleaned-next = omega (arith, clean-highest victims old moved after cleaned-log)
 
 -- ---- on areas
 
 module _ (L : Layout) (n s m : ℕ) (area area′ : List ℕ) (r : Record) (victims : ℕ) (e : recovered L n s m area ≡ some r)
     (sub : within victims (r .map) ≡ true)
-    (c : Heads L (viewsOf L area s) (viewsOf L area′ s) n (newSlot r) (newDigest r victims) (kept L victims (logNow L area r))) where
+    (c : Heads L (viewsOf L area s) (viewsOf L area′ s) n (newSlot r) (newDigest r victims) (kept victims (logNow L area r))) where
   pub cleaned-cleaned :
-      Cleaned L victims (logNow L area r) (placedFrom L (newSlot r) (digestSize L) (kept L victims (logNow L area r)))
+      Cleaned victims (logNow L area r) (placedFrom L (newSlot r) (digestSize L) (kept victims (logNow L area r)))
       (logNow L area′ (cleanedRecord L area r victims))
   cleaned-cleaned =
       recovered-case L n s m area
       (λ (k : Record).
       within victims (k .map) ≡ true
-      → Heads L (viewsOf L area s) (viewsOf L area′ s) n (newSlot k) (newDigest k victims) (kept L victims (logNow L area k))
-      → Cleaned L victims (logNow L area k) (placedFrom L (newSlot k) (digestSize L) (kept L victims (logNow L area k)))
+      → Heads L (viewsOf L area s) (viewsOf L area′ s) n (newSlot k) (newDigest k victims) (kept victims (logNow L area k))
+      → Cleaned victims (logNow L area k) (placedFrom L (newSlot k) (digestSize L) (kept victims (logNow L area k)))
       (logNow L area′ (cleanedRecord L area k victims)))
       (λ h l f. cleaned-log L (viewsOf L area s) (viewsOf L area′ s) n s m h victims f) r e sub c
 
@@ -105,7 +105,7 @@ module _ (L : Layout) (n s m : ℕ) (area area′ : List ℕ) (r : Record) (vict
       recovered-case L n s m area
       (λ (k : Record).
       within victims (k .map) ≡ true
-      → Heads L (viewsOf L area s) (viewsOf L area′ s) n (newSlot k) (newDigest k victims) (kept L victims (logNow L area k))
+      → Heads L (viewsOf L area s) (viewsOf L area′ s) n (newSlot k) (newDigest k victims) (kept victims (logNow L area k))
       → recovered L n s m area′ ≡ some (cleanedRecord L area k victims))
       (λ h l f b d.
       sound-recovered L n s m area′ (cleaned L (viewsOf L area s) (viewsOf L area′ s) n s m h victims f b d)
@@ -113,7 +113,7 @@ module _ (L : Layout) (n s m : ℕ) (area area′ : List ℕ) (r : Record) (vict
       (cleaned-sound L (viewsOf L area s) (viewsOf L area′ s) n s m h victims f b d some-victim) ∙
       ap some
       (rw (
-        new-end L (viewsOf L area s) (viewsOf L area′ s) n s m h victims (kept L victims (logUnder (viewsOf L area s) n h)) f b d,
+        new-end L (viewsOf L area s) (viewsOf L area′ s) n s m h victims (kept victims (logUnder (viewsOf L area s) n h)) f b d,
         cleaned-next L (viewsOf L area s) (viewsOf L area′ s) n s m h victims f b d,
         cleaned-keys L (viewsOf L area s) (viewsOf L area′ s) n s m h victims f b d,
       ))) r e sub c

@@ -21,33 +21,33 @@ use Rattle.laws.specs.OperationsKept.{finishes, edition1-roomy}
 -- that it names the highest version of each key decides what the map holds of it.
 pub record ReadsAs (n s m : ℕ) (area : List ℕ) (r : Record) (map : Key → Option Entry) : Type 0 where
   pub recovers : recovered edition1 n s m area ≡ some r
-  pub decides : (j : Key) → valueAt edition1 (logNow edition1 area r) j ≡ map j
+  pub decides : (j : Key) → valueAt (logNow edition1 area r) j ≡ map j
 
 module _ (before : List ℕ) (idle : Record) where
   -- the map before an operation
   abbrev old : Key → Option Entry
-  old = valueAt edition1 (logNow edition1 before idle)
+  old = valueAt (logNow edition1 before idle)
 
   -- what is read after its last store
   abbrev pub Finished : Operation → (Key → Option Entry) → Type 0
   Finished o map =
       ReadsAs (idle .slots) (idle .size) (idle .cells) (stored before (planAt edition1 before idle o)) (finishedRecord edition1 before idle o) map
 
-  read-after : (o : Operation) → Accepted edition1 before idle o → Finished o (mapAfter edition1 idle o old)
+  read-after : (o : Operation) → Accepted edition1 before idle o → Finished o (mapAfter idle o old)
   read-after o a = let f = finishes edition1 edition1-roomy before idle o a in record { recovers = f .0; decides = f .1 }
 
   -- a write sets its key to that value at the next version, and no other
   pub demand-2-write :
       (k : Key) (value : List ℕ) → Accepted edition1 before idle (write k value) →
       Finished (write k value)
-      (λ j. pick (sameKey j (writtenEntry edition1 idle k value)) (some (writtenEntry edition1 idle k value)) (old j))
+      (λ j. pick (sameKey j (writtenEntry idle k value)) (some (writtenEntry idle k value)) (old j))
   unfolding mapAfter
   demand-2-write k value a = read-after (write k value) a
 
   -- a delete drops its key, and no other
   pub demand-2-delete :
       (k : Key) → Accepted edition1 before idle (delete k) →
-      Finished (delete k) (λ j. pick (sameKey j (tombstoneEntry edition1 idle k)) none (old j))
+      Finished (delete k) (λ j. pick (sameKey j (tombstoneEntry idle k)) none (old j))
   unfolding mapAfter
   demand-2-delete k a = read-after (delete k) a
 

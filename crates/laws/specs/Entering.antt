@@ -9,17 +9,17 @@ use mathlib.Core.Option.{Option, none, some}
 use lib.Dec.{eqb, ltb}
 use lib.ListN.{length}
 use borrow.Author.Tests.{eqb-false, ltb-false}
-use Rattle.segment.specs.Choice.{pick, both}
-use Rattle.segment.specs.Layout.{Layout, valueLength, objectKind, isTombstone, entrySize, digestSize, versionLimit, numberLimit}
-use Rattle.segment.specs.LayoutLaws.{object-kind, object-no-tombstone, tombstone-length, version-good}
-use Rattle.segment.specs.Entry.{Entry, WellFormed}
+use Rattle.segment.specs.Choice.{pick, both, isNone}
+use Rattle.segment.specs.Layout.{Layout, valueLength, entrySize, digestSize, versionLimit, numberLimit}
+use Rattle.segment.specs.LayoutLaws.{version-good}
+use Rattle.segment.specs.Entry.{Entry, bytesIn, lengthKnown, WellFormed}
 use Rattle.segment.specs.declared.Key.{Key}
 use Rattle.slot_map.specs.Count.{used}
 use Rattle.record.specs.RangeLaws.{Lent, lent}
 use Rattle.record.specs.declared.Record.{Record}
 use Rattle.model.specs.Log.{Placed, hasKey, present, latest, objectOnly}
-use Rattle.model.specs.Operations.{Operation, write, delete, logNow, kindElse, writtenEntry, tombstoneEntry, fitsHead, countNew}
-use Rattle.model.specs.Refused.{keyFacts, startCauses, isNone, isAbsent}
+use Rattle.model.specs.Operations.{Operation, write, delete, logNow, writtenEntry, tombstoneEntry, fitsHead, countNew}
+use Rattle.model.specs.Refused.{keyFacts, startCauses}
 use Rattle.laws.specs.Latest.{latest-has}
 use Rattle.laws.specs.RecoverLaws.{recovered-fits, recovered-next, recovered-number}
 use Rattle.laws.specs.Appended.{Takes}
@@ -62,11 +62,6 @@ number-below x h e = omega (arith, eqb-false x numberLimit e)
 free-two : (n used : ℕ) → used ≤ n → ltb (n - used) 2 ≡ false → used + 2 ≤ n
 free-two n used h e = omega (arith, ltb-false (n - used) 2 e)
 
-some-kind : (o : Option ℕ) → isNone o ≡ false → o ≡ some (kindElse o)
-unfolding isNone kindElse
-some-kind none e = cc
-some-kind (some k) e = refl
-
 -- a new key finds room where the keys are not full
 new-room : (has : Bool) (keys m : ℕ) → keys ≤ m - 1 → both (not has) (eqb keys (m - 1)) ≡ false → keys + pick has 0 1 ≤ m - 1
 unfolding pick both
@@ -78,11 +73,11 @@ unfolding pick
 pick-room keys m h = omega arith
 
 -- a present key has an entry
-present-has : (L : Layout) (log : List Placed) (k : Key) → isAbsent (present L log k) ≡ false → hasKey log k ≡ true
-unfolding present objectOnly isAbsent
-present-has L log k e = go (latest log k) refl e
+present-has : (log : List Placed) (k : Key) → isNone (present log k) ≡ false → hasKey log k ≡ true
+unfolding present objectOnly isNone
+present-has log k e = go (latest log k) refl e
   where
-    go : (x : Option Placed) → latest log k ≡ x → isAbsent (objectOnly L x) ≡ false → hasKey log k ≡ true
+    go : (x : Option Placed) → latest log k ≡ x → isNone (objectOnly x) ≡ false → hasKey log k ≡ true
     go none p q = cc
     go (some x) p q = latest-has log k x p
 
@@ -92,13 +87,13 @@ module _ (L : Layout) (before : List ℕ) (idle : Record) (k : Key) where
   abbrev log : List Placed
   log = logNow L before idle
 
-  pub write-enters : (value : List ℕ) → Accepted L before idle (write k value) → Entering L before idle (writtenEntry L idle k value)
-  unfolding startCauses countNew
+  pub write-enters : (value : List ℕ) → Accepted L before idle (write k value) → Entering L before idle (writtenEntry idle k value)
+  unfolding startCauses countNew lengthKnown bytesIn
   write-enters value a =
       record {
         formed =
             record {
-              kind-known = object-kind L (length value) (kindElse (objectKind L (length value))) kind;
+              length-known = ap not (tests .value-known);
               table-fits = a .typed .0 .0;
               key-fits = a .typed .0 .1;
               version-good = version-good L (idle .next .0) (facts .next-some) (omega (arith, idle-next L before idle (write k value) a, eqb-false (idle .next .0) (versionLimit L) (tests .versions-left)));
@@ -109,22 +104,19 @@ module _ (L : Layout) (before : List ℕ) (idle : Record) (k : Key) where
         number-left = λ f. number-below (idle .digest .0) (idle-number L before idle (write k value) a) (both-true-false _ _ (tests .number-left) (not-true-of _ f));
       }
     where
-      tests : WritePassed L idle (a .lengths) (keyFacts L log k) (length value)
-      tests = write-passed L idle (a .lengths) (keyFacts L log k) (length value) (a .no-cause)
+      tests : WritePassed L idle (a .lengths) (keyFacts log k) (length value)
+      tests = write-passed L idle (a .lengths) (keyFacts log k) (length value) (a .no-cause)
 
       facts : Lent L idle (length before) (idle .cells)
       facts = idle-lent L before idle (write k value) a
 
-      kind : objectKind L (length value) ≡ some (kindElse (objectKind L (length value)))
-      kind = some-kind (objectKind L (length value)) (tests .value-known)
-
-  pub delete-enters : Accepted L before idle (delete k) → Entering L before idle (tombstoneEntry L idle k)
-  unfolding startCauses countNew
+  pub delete-enters : Accepted L before idle (delete k) → Entering L before idle (tombstoneEntry idle k)
+  unfolding startCauses countNew lengthKnown bytesIn
   delete-enters a =
       record {
         formed =
             record {
-              kind-known = tombstone-length L;
+              length-known = refl;
               table-fits = a .typed .0;
               key-fits = a .typed .1;
               version-good =
@@ -135,7 +127,7 @@ module _ (L : Layout) (before : List ℕ) (idle : Record) (k : Key) where
         takes =
             record {
               version = refl;
-              room = rw (present-has L log k (tests .present)) (pick-room (idle .keys) (idle .cells) (facts .keys-high));
+              room = rw (present-has log k (tests .present)) (pick-room (idle .keys) (idle .cells) (facts .keys-high));
             };
         two-free =
             λ f.
@@ -147,15 +139,8 @@ module _ (L : Layout) (before : List ℕ) (idle : Record) (k : Key) where
             (both-true-false _ _ (tests .number-left) (not-true-of _ f));
       }
     where
-      tests : DeletePassed L idle (a .lengths) (keyFacts L log k)
-      tests = delete-passed L idle (a .lengths) (keyFacts L log k) (a .no-cause)
+      tests : DeletePassed L idle (a .lengths) (keyFacts log k)
+      tests = delete-passed L idle (a .lengths) (keyFacts log k) (a .no-cause)
 
       facts : Lent L idle (length before) (idle .cells)
       facts = idle-lent L before idle (delete k) a
-
-  -- what is written is an object
-  pub write-object : (value : List ℕ) → Accepted L before idle (write k value) → isTombstone L (writtenEntry L idle k value .kind) ≡ false
-  unfolding startCauses
-  write-object value a =
-      object-no-tombstone L (length value) (kindElse (objectKind L (length value)))
-      (some-kind (objectKind L (length value)) (write-passed L idle (a .lengths) (keyFacts L log k) (length value) (a .no-cause) .value-known))

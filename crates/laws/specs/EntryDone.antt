@@ -10,8 +10,8 @@ use borrow.Author.Tests.{leb-true}
 use Rattle.word.specs.Number.{Bytes}
 use Rattle.segment.specs.Choice.{pick}
 use Rattle.segment.specs.Layout.{Layout, digestSize}
-use Rattle.segment.specs.Entry.{Entry, encoded, sizeOf}
-use Rattle.segment.specs.EntryLaws.{length-encoded}
+use Rattle.segment.specs.Entry.{Entry, bytesIn, kindOf, encoded, sizeOf}
+use Rattle.segment.specs.EntryLaws.{length-encoded, formed-known}
 use Rattle.segment.specs.Digest.{encodedDigest}
 use Rattle.segment.specs.declared.Key.{Key}
 use Rattle.record.specs.RangeLaws.{Lent, lent}
@@ -45,7 +45,7 @@ module _ (L : Layout) (roomy : Roomy L) (area : List ℕ) (r : Record) (x : Entr
     abbrev Done : List ℕ → Record → Type 0
     Done area′ r′ =
         (recovered L (r .slots) (r .size) (r .cells) area′ ≡ some r′)
-        × ((j : Key) → valueAt L (logNow L area′ r′) j ≡ pick (sameKey j x) (gives L x) (valueAt L (logNow L area r) j))
+        × ((j : Key) → valueAt (logNow L area′ r′) j ≡ pick (sameKey j x) (gives x) (valueAt (logNow L area r) j))
 
     above : (slot offset : ℕ) → Above (record { slot = slot; offset = offset; entry = x }) (logNow L area r)
     above slot offset =
@@ -90,7 +90,7 @@ module _ (L : Layout) (roomy : Roomy L) (area : List ℕ) (r : Record) (x : Entr
         appended-recovered L (r .slots) (r .size) (r .cells) area (stored area append-plan) r (itemAt (r .end) x) e append-views
             (length-stored area append-plan) (f .takes),
         value-added (logNow L area r) (record { slot = r .head; offset = r .end; entry = x })
-            (logNow L (stored area append-plan) (appendedRecord L r (logNow L area r) x)) appended-added (above (r .head) (r .end)) L
+            (logNow L (stored area append-plan) (appendedRecord L r (logNow L area r) x)) appended-added (above (r .head) (r .end))
             (recovered-apart L (r .slots) (r .size) (r .cells) area r e),
       )
 
@@ -105,7 +105,7 @@ module _ (L : Layout) (roomy : Roomy L) (area : List ℕ) (r : Record) (x : Entr
             arith,
             ap length (encoded-one L x),
             length-encoded L x,
-            roomy .room (x .kind) (length (x .value)) (f .formed .kind-known),
+            roomy .room (kindOf L x) (length (bytesIn (x .value))) (formed-known L x (f .formed)),
             facts .size-low,
           )
 
@@ -147,7 +147,7 @@ module _ (L : Layout) (roomy : Roomy L) (area : List ℕ) (r : Record) (x : Entr
         headed-recovered L (r .slots) (r .size) (r .cells) area (stored area head-plan) r x e head-views (length-stored area head-plan)
             (omega (arith, f .two-free no-fit)) (f .takes),
         value-added (logNow L area r) (record { slot = newSlot r; offset = digestSize L; entry = x })
-            (logNow L (stored area head-plan) (headedRecord L r (logNow L area r) x)) headed-added-one (above (newSlot r) (digestSize L)) L
+            (logNow L (stored area head-plan) (headedRecord L r (logNow L area r) x)) headed-added-one (above (newSlot r) (digestSize L))
             (recovered-apart L (r .slots) (r .size) (r .cells) area r e),
       )
 
@@ -156,8 +156,8 @@ module _ (L : Layout) (roomy : Roomy L) (area : List ℕ) (r : Record) (x : Entr
         (recovered L (r .slots) (r .size) (r .cells) (stored area (planOf r (laidEntry L r x .pending 0) (laidEntry L r x .bytes))) ≡
         some (entryRecord L r (logNow L area r) x))
         × ((j : Key) →
-        valueAt L (logNow L (stored area (planOf r (laidEntry L r x .pending 0) (laidEntry L r x .bytes))) (entryRecord L r (logNow L area r) x)) j ≡
-        pick (sameKey j x) (gives L x) (valueAt L (logNow L area r) j))
+        valueAt (logNow L (stored area (planOf r (laidEntry L r x .pending 0) (laidEntry L r x .bytes))) (entryRecord L r (logNow L area r) x)) j ≡
+        pick (sameKey j x) (gives x) (valueAt (logNow L area r) j))
     unfolding pick planOf
     entry-done = go (fitsHead L r x) refl
       where

@@ -11,14 +11,14 @@ use Rattle.segment.specs.Choice.{pick, both-left, both-right, both-true, either
 use Rattle.segment.specs.Choice.{either-true-left, either-true-right}
 use Rattle.segment.specs.Entry.{Entry, keyOf}
 use Rattle.segment.specs.declared.Key.{Key}
-use Rattle.model.specs.Log.{Placed, sameKey, laterOf, latest, hasKey}
+use Rattle.model.specs.Log.{Placed, sameKeys, sameKey, laterOf, latest, hasKey}
 use Rattle.laws.specs.Members.{clash, In, first, Within, Same}
 
 -- ---- the test of a key
 
 -- An entry has the key k exactly if k is the entry's key.
 pub same-key : (k : Key) (e : Entry) → sameKey k e ≡ true → k ≡ keyOf e
-unfolding sameKey
+unfolding sameKey sameKeys
 same-key k e p = λ i. record { table = table i; key = key i }
   where
     table : k .table ≡ e .table
@@ -28,7 +28,7 @@ same-key k e p = λ i. record { table = table i; key = key i }
     key = eqb-true (k .key) (e .key) (both-right (eqb (k .table) (e .table)) (eqb (k .key) (e .key)) p)
 
 pub key-same : (k : Key) (e : Entry) → k ≡ keyOf e → sameKey k e ≡ true
-unfolding sameKey
+unfolding sameKey sameKeys
 key-same k e p =
     both-true (eqb (k .table) (e .table)) (eqb (k .key) (e .key)) (eq-eqb (k .table) (e .table) (ap (λ (j : Key). j .table) p))
     (eq-eqb (k .key) (e .key) (ap (λ (j : Key). j .key) p))

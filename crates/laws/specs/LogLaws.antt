@@ -9,12 +9,12 @@ use mathlib.Core.Option.{Option, none, some}
 use native.Mathlib.Decide.{ℕ-discrete}
 use native.Mathlib.Omega.{arith}
 use lib.ListN.{length}
-use Rattle.segment.specs.Choice.{pick, pick-true, pick-false, both, either, either-false, either-false-left, either-false-right}
+use Rattle.segment.specs.Choice.{pick, pick-true, pick-false, both, either, either-false, either-false-left, either-false-right, isNone}
 use Rattle.segment.specs.Entry.{keyOf}
 use Rattle.segment.specs.declared.Digest.{Digest}
 use Rattle.model.specs.Log.{View, Item, Placed, Scan, damaged, scanned, itemsOf, endOf, isDamaged, placedIn, logOf, keysOf, hasVersion, versionShared, highest}
 use Rattle.model.specs.Operations.{countNew}
-use Rattle.model.specs.Recovery.{noDigest, namesNoDigest, logDamaged}
+use Rattle.model.specs.Recovery.{namesNoDigest, logDamaged}
 use Rattle.laws.specs.Members.{In, Within, Same, Added, added-between, those, total}
 use Rattle.laws.specs.Versions.{count, count-append, shared-fewer, shared-append, below-highest, highest-added}
 use Rattle.laws.specs.Keys.{keys-added}
@@ -41,7 +41,7 @@ below-none (suc n) g e i l = go (ℕ-discrete i n) (λ m. below-none n g (either
     go (no q) r = r (omega arith)
 
 -- the two that recovery makes
-names-any : (v : ℕ → View) (p : ℕ → Bool) (n : ℕ) → namesNoDigest v p n ≡ anyBelow (λ i. both (p i) (noDigest (v i .digest))) n
+names-any : (v : ℕ → View) (p : ℕ → Bool) (n : ℕ) → namesNoDigest v p n ≡ anyBelow (λ i. both (p i) (isNone (v i .digest))) n
 unfolding namesNoDigest anyBelow
 names-any v p zero = refl
 names-any v p (suc n) = cc (names-any v p n)
@@ -70,27 +70,27 @@ unfolding both
 both-of-true true b f = f refl
 both-of-true false b f = refl
 
-has-digest : (o : Option Digest) → noDigest o ≡ false → (d : Digest) × (o ≡ some d)
-unfolding noDigest
+has-digest : (o : Option Digest) → isNone o ≡ false → (d : Digest) × (o ≡ some d)
+unfolding isNone
 has-digest none e = let z : _≡_ {A = ℕ} 0 1 = cc in absurd (omega arith)
 has-digest (some d) e = (d, refl)
 
-digest-had : (o : Option Digest) (d : Digest) → o ≡ some d → noDigest o ≡ false
-unfolding noDigest
+digest-had : (o : Option Digest) (d : Digest) → o ≡ some d → isNone o ≡ false
+unfolding isNone
 digest-had o d e = rw e
 
 module _ (v : ℕ → View) (p : ℕ → Bool) (n : ℕ) where
   pub names-digests : namesNoDigest v p n ≡ false → AllDigests v p n
   names-digests e i l q =
       has-digest (v i .digest)
-      (both-true-false (p i) (noDigest (v i .digest))
-      (below-none n (λ k. both (p k) (noDigest (v k .digest))) (sym (names-any v p n) ∙ e) i l) q)
+      (both-true-false (p i) (isNone (v i .digest))
+      (below-none n (λ k. both (p k) (isNone (v k .digest))) (sym (names-any v p n) ∙ e) i l) q)
 
   pub digests-named : AllDigests v p n → namesNoDigest v p n ≡ false
   digests-named f =
       names-any v p n ∙
-      none-below n (λ k. both (p k) (noDigest (v k .digest)))
-      (λ i l. both-of-true (p i) (noDigest (v i .digest)) (λ q. let d = f i l q in digest-had (v i .digest) (d .0) (d .1)))
+      none-below n (λ k. both (p k) (isNone (v k .digest)))
+      (λ i l. both-of-true (p i) (isNone (v i .digest)) (λ q. let d = f i l q in digest-had (v i .digest) (d .0) (d .1)))
 
   pub undamaged-scans : logDamaged v p n ≡ false → AllScanned v p n
   undamaged-scans e i l q =

@@ -10,8 +10,8 @@ use lib.Dec.{eqb}
 use lib.ListN.{length, length-append}
 use borrow.Author.Tests.{eq-eqb, eqb-true, not-true}
 use Rattle.segment.specs.Choice.{pick, pick-true, both, both-left, both-right, both-true, either, either-true-left, either-true-right}
-use Rattle.segment.specs.Layout.{Layout, isTombstone}
-use Rattle.segment.specs.Entry.{Entry, encoded, sizeOf, keyOf}
+use Rattle.segment.specs.Layout.{Layout}
+use Rattle.segment.specs.Entry.{Entry, encoded, sizeOf, keyOf, isTombstone}
 use Rattle.segment.specs.declared.Key.{Key}
 use Rattle.slot_map.specs.Bit.{named}
 use Rattle.model.specs.Log.{Placed, sameKey, latest, objectOnly, present, keysOf, versionShared, highest}
@@ -25,29 +25,30 @@ use Rattle.laws.specs.Keys.{KeysWithin, keys-within}
 
 -- ---- what a key has
 
-unfoldable pub entryOf : Option Placed → Option Entry
-entryOf none = none
-entryOf (some x) = some (x .entry)
+-- an entry without its place
+unfoldable pub unplaced : Option Placed → Option Entry
+unplaced none = none
+unplaced (some x) = some (x .entry)
 
 -- the object of a key, wherever it stands
-abbrev pub valueAt : Layout → List Placed → Key → Option Entry
-valueAt L log k = entryOf (present L log k)
+abbrev pub valueAt : List Placed → Key → Option Entry
+valueAt log k = unplaced (present log k)
 
 -- what an entry gives its key if it is the latest: a tombstone gives nothing
-unfoldable pub gives : Layout → Entry → Option Entry
-gives L e = pick (isTombstone L (e .kind)) none (some e)
+unfoldable pub gives : Entry → Option Entry
+gives e = pick (isTombstone e) none (some e)
 
-pub value-some : (L : Layout) (log : List Placed) (k : Key) (x : Placed) → latest log k ≡ some x → valueAt L log k ≡ gives L (x .entry)
-unfolding present objectOnly entryOf gives pick
-value-some L log k x e = rw e (go (isTombstone L (x .entry .kind)))
+pub value-some : (log : List Placed) (k : Key) (x : Placed) → latest log k ≡ some x → valueAt log k ≡ gives (x .entry)
+unfolding present objectOnly unplaced gives pick
+value-some log k x e = rw e (go (isTombstone (x .entry)))
   where
-    go : (t : Bool) → entryOf (pick t none (some x)) ≡ pick t none (some (x .entry))
+    go : (t : Bool) → unplaced (pick t none (some x)) ≡ pick t none (some (x .entry))
     go true = refl
     go false = refl
 
-pub value-none : (L : Layout) (log : List Placed) (k : Key) → latest log k ≡ none → valueAt L log k ≡ none
-unfolding present objectOnly entryOf
-value-none L log k e = rw e
+pub value-none : (log : List Placed) (k : Key) → latest log k ≡ none → valueAt log k ≡ none
+unfolding present objectOnly unplaced
+value-none log k e = rw e
 
 -- ---- one entry more, with a version above all others
 
@@ -96,13 +97,13 @@ module _ (log : List Placed) (x : Placed) (after : List Placed) (w : Added log x
       go false p = other-latest k p (latest log k) (latest-is log k)
 
   -- what an added entry gives to its key, and to no other
-  pub value-added : (L : Layout) → Apart log → (k : Key) → valueAt L after k ≡ pick (sameKey k (x .entry)) (gives L (x .entry)) (valueAt L log k)
+  pub value-added : Apart log → (k : Key) → valueAt after k ≡ pick (sameKey k (x .entry)) (gives (x .entry)) (valueAt log k)
   unfolding pick
-  value-added L d k = go (sameKey k (x .entry)) (latest-added d k)
+  value-added d k = go (sameKey k (x .entry)) (latest-added d k)
     where
-      go : (t : Bool) → latest after k ≡ pick t (some x) (latest log k) → valueAt L after k ≡ pick t (gives L (x .entry)) (valueAt L log k)
-      go true e = value-some L after k x e
-      go false e = unfold present in ap (λ (o : Option Placed). entryOf (objectOnly L o)) e
+      go : (t : Bool) → latest after k ≡ pick t (some x) (latest log k) → valueAt after k ≡ pick t (gives (x .entry)) (valueAt log k)
+      go true e = value-some after k x e
+      go false e = unfold present in ap (λ (o : Option Placed). unplaced (objectOnly o)) e
 
 -- ---- what a cleaning keeps
 
@@ -122,34 +123,34 @@ outside-in victims log x m =
     (h .0, not-true (named victims (x .slot)) (h .1))
 
 -- what is kept are the entries of those members that are kept
-pub kept-those : (L : Layout) (victims : ℕ) (log xs : List Placed) → keptOf L victims log xs ≡ entriesOf (those (isKept L victims log) xs)
+pub kept-those : (victims : ℕ) (log xs : List Placed) → keptOf victims log xs ≡ entriesOf (those (isKept victims log) xs)
 unfolding keptOf those
-kept-those L victims log [] = refl
-kept-those L victims log (x ∷ xs) = go (isKept L victims log x) (kept-those L victims log xs)
+kept-those victims log [] = refl
+kept-those victims log (x ∷ xs) = go (isKept victims log x) (kept-those victims log xs)
   where
-    go : (t : Bool) → keptOf L victims log xs ≡ entriesOf (those (isKept L victims log) xs) →
-        pick t (x .entry ∷ keptOf L victims log xs) (keptOf L victims log xs) ≡
-        entriesOf (pick t (x ∷ those (isKept L victims log) xs) (those (isKept L victims log) xs))
+    go : (t : Bool) → keptOf victims log xs ≡ entriesOf (those (isKept victims log) xs) →
+        pick t (x .entry ∷ keptOf victims log xs) (keptOf victims log xs) ≡
+        entriesOf (pick t (x ∷ those (isKept victims log) xs) (those (isKept victims log) xs))
     go true ih = unfold pick in ap (λ (es : List Entry). x .entry ∷ es) ih
     go false ih = unfold pick in ih
 
 -- an object of the key outside the victims is seen
-object-seen : (L : Layout) (victims : ℕ) (k : Key) {log : List Placed} {x : Placed} → In x log → named victims (x .slot) ≡ false →
-    sameKey k (x .entry) ≡ true → isTombstone L (x .entry .kind) ≡ false → objectOutside L victims log k ≡ true
+object-seen : (victims : ℕ) (k : Key) {log : List Placed} {x : Placed} → In x log → named victims (x .slot) ≡ false →
+    sameKey k (x .entry) ≡ true → isTombstone (x .entry) ≡ false → objectOutside victims log k ≡ true
 unfolding objectOutside
-object-seen L victims k {x = x} (List·Memᴰ·head {x = y} {xs = ys} e) p q r =
-    either-true-left (here y) (objectOutside L victims ys k) (ap here (sym e) ∙ seen)
+object-seen victims k {x = x} (List·Memᴰ·head {x = y} {xs = ys} e) p q r =
+    either-true-left (here y) (objectOutside victims ys k) (ap here (sym e) ∙ seen)
   where
     here : Placed → Bool
-    here z = both (both (not (named victims (z .slot))) (sameKey k (z .entry))) (not (isTombstone L (z .entry .kind)))
+    here z = both (both (not (named victims (z .slot))) (sameKey k (z .entry))) (not (isTombstone (z .entry)))
 
     seen : here x ≡ true
     seen =
-        both-true (both (not (named victims (x .slot))) (sameKey k (x .entry))) (not (isTombstone L (x .entry .kind)))
+        both-true (both (not (named victims (x .slot))) (sameKey k (x .entry))) (not (isTombstone (x .entry)))
         (both-true (not (named victims (x .slot))) (sameKey k (x .entry)) (ap not p) q) (ap not r)
-object-seen L victims k (List·Memᴰ·tail {x = y} {xs = ys} m) p q r =
-    either-true-right (both (both (not (named victims (y .slot))) (sameKey k (y .entry))) (not (isTombstone L (y .entry .kind))))
-    (objectOutside L victims ys k) (object-seen L victims k m p q r)
+object-seen victims k (List·Memᴰ·tail {x = y} {xs = ys} m) p q r =
+    either-true-right (both (both (not (named victims (y .slot))) (sameKey k (y .entry))) (not (isTombstone (y .entry))))
+    (objectOutside victims ys k) (object-seen victims k m p q r)
 
 -- An entry of the log is its key's highest version exactly if it is the newest of its key.
 pub newest-highest : (log : List Placed) (k : Key) (x : Placed) → Apart log → Newest log k x → isHighest log (x .entry) ≡ true
@@ -169,23 +170,23 @@ highest-newest log x d m e = go (latest log (keyOf (x .entry))) (latest-is log (
         rw same at n
 
 -- the test on what a highest version is: an object, or a tombstone whose key has an object outside the victims
-abbrev worth : Layout → ℕ → List Placed → Placed → Bool
-worth L victims log x = either (not (isTombstone L (x .entry .kind))) (objectOutside L victims log (keyOf (x .entry)))
+abbrev worth : ℕ → List Placed → Placed → Bool
+worth victims log x = either (not (isTombstone (x .entry))) (objectOutside victims log (keyOf (x .entry)))
 
 -- the test whether a member is kept, by its three parts
-module _ (L : Layout) (victims : ℕ) (log : List Placed) (x : Placed) where
-  kept-when : named victims (x .slot) ≡ true → isHighest log (x .entry) ≡ true → worth L victims log x ≡ true → isKept L victims log x ≡ true
+module _ (victims : ℕ) (log : List Placed) (x : Placed) where
+  kept-when : named victims (x .slot) ≡ true → isHighest log (x .entry) ≡ true → worth victims log x ≡ true → isKept victims log x ≡ true
   kept-when p q r =
-      both-true (named victims (x .slot)) (both (isHighest log (x .entry)) (worth L victims log x)) p
-      (both-true (isHighest log (x .entry)) (worth L victims log x) q r)
+      both-true (named victims (x .slot)) (both (isHighest log (x .entry)) (worth victims log x)) p
+      (both-true (isHighest log (x .entry)) (worth victims log x) q r)
 
-  kept-victim : isKept L victims log x ≡ true → named victims (x .slot) ≡ true
-  kept-victim e = both-left (named victims (x .slot)) (both (isHighest log (x .entry)) (worth L victims log x)) e
+  kept-victim : isKept victims log x ≡ true → named victims (x .slot) ≡ true
+  kept-victim e = both-left (named victims (x .slot)) (both (isHighest log (x .entry)) (worth victims log x)) e
 
-  kept-highest : isKept L victims log x ≡ true → isHighest log (x .entry) ≡ true
+  kept-highest : isKept victims log x ≡ true → isHighest log (x .entry) ≡ true
   kept-highest e =
-      both-left (isHighest log (x .entry)) (worth L victims log x)
-      (both-right (named victims (x .slot)) (both (isHighest log (x .entry)) (worth L victims log x)) e)
+      both-left (isHighest log (x .entry)) (worth victims log x)
+      (both-right (named victims (x .slot)) (both (isHighest log (x .entry)) (worth victims log x)) e)
 
 -- ---- a cleaning
 
@@ -196,94 +197,94 @@ entries-placed L i at [] = refl
 entries-placed L i at (e ∷ es) = ap (λ (t : List Entry). e ∷ t) (entries-placed L i (at + sizeOf L e) es)
 
 -- The log after a cleaning, in any order: what stands outside the victims, and the entries kept, wherever they have moved.
-pub record Cleaned (L : Layout) (victims : ℕ) (log moved after : List Placed) : Type 0 where
-  pub entries : entriesOf moved ≡ kept L victims log
+pub record Cleaned (victims : ℕ) (log moved after : List Placed) : Type 0 where
+  pub entries : entriesOf moved ≡ kept victims log
   pub members : Same (outside victims log ++ moved) after
 
 -- Where a member of the log after comes from: it stood outside the victims, or is the copy of a member that was kept.
-pub data Origin (L : Layout) (victims : ℕ) (log : List Placed) (y : Placed) : Type 0 where
-  stood : In y log → named victims (y .slot) ≡ false → Origin L victims log y
-  copied : (x : Placed) → In x log → x .entry ≡ y .entry → isKept L victims log x ≡ true → Origin L victims log y
+pub data Origin (victims : ℕ) (log : List Placed) (y : Placed) : Type 0 where
+  stood : In y log → named victims (y .slot) ≡ false → Origin victims log y
+  copied : (x : Placed) → In x log → x .entry ≡ y .entry → isKept victims log x ≡ true → Origin victims log y
 
 -- What becomes of a key's latest entry: it stays, or it is copied; or it was a tombstone with no object of its key outside the
 -- victims, and then no object of the key is left at all.
-pub data Fate (L : Layout) (victims : ℕ) (log after : List Placed) (k : Key) (x : Placed) : Type 0 where
-  stays : named victims (x .slot) ≡ false → In x after → Fate L victims log after k x
-  moves : isKept L victims log x ≡ true → (y : Placed) → In y after → y .entry ≡ x .entry → Fate L victims log after k x
-  goes : isTombstone L (x .entry .kind) ≡ true → objectOutside L victims log k ≡ false →
-      ((y : Placed) → In y after → sameKey k (y .entry) ≡ true → isTombstone L (y .entry .kind) ≡ true) → Fate L victims log after k x
+pub data LatestAfter (victims : ℕ) (log after : List Placed) (k : Key) (x : Placed) : Type 0 where
+  stays : named victims (x .slot) ≡ false → In x after → LatestAfter victims log after k x
+  moves : isKept victims log x ≡ true → (y : Placed) → In y after → y .entry ≡ x .entry → LatestAfter victims log after k x
+  goes : isTombstone (x .entry) ≡ true → objectOutside victims log k ≡ false →
+      ((y : Placed) → In y after → sameKey k (y .entry) ≡ true → isTombstone (y .entry) ≡ true) → LatestAfter victims log after k x
 
-module _ (L : Layout) (victims : ℕ) (log moved after : List Placed) (c : Cleaned L victims log moved after) where
+module _ (victims : ℕ) (log moved after : List Placed) (c : Cleaned victims log moved after) where
   -- what is kept has its copy
-  pub copy-of : (x : Placed) → In x log → isKept L victims log x ≡ true → (y : Placed) × In y after × y .entry ≡ x .entry
+  pub copy-of : (x : Placed) → In x log → isKept victims log x ≡ true → (y : Placed) × In y after × y .entry ≡ x .entry
   copy-of x m e =
-      let among : In (x .entry) (entriesOf (those (isKept L victims log) log)) = entry-in (in-those (isKept L victims log) m e) in
-      let h = entry-of moved (x .entry) (rw (← (kept-those L victims log log), ← (c .entries)) at among) in
+      let among : In (x .entry) (entriesOf (those (isKept victims log) log)) = entry-in (in-those (isKept victims log) m e) in
+      let h = entry-of moved (x .entry) (rw (← (kept-those victims log log), ← (c .entries)) at among) in
       (h .0, c .members .to (h .0) (Memᴰ·append-right (outside victims log) (h .1)), h .2)
 
-  pub origin : (y : Placed) → In y after → Origin L victims log y
+  pub origin : (y : Placed) → In y after → Origin victims log y
   origin y m = go (List·Memᴰ·append-cases (outside victims log) (c .members .from y m))
     where
-      go : In y (outside victims log) ⊎ In y moved → Origin L victims log y
+      go : In y (outside victims log) ⊎ In y moved → Origin victims log y
       go (inl i) = let h = outside-in victims log y i in stood (h .0) (h .1)
       go (inr j) =
           let among : In (y .entry) (entriesOf moved) = entry-in j in
-          let h = entry-of (those (isKept L victims log) log) (y .entry) (rw (c .entries, kept-those L victims log log) at among) in
-          let i = those-in (isKept L victims log) log (h .0) (h .1) in
+          let h = entry-of (those (isKept victims log) log) (y .entry) (rw (c .entries, kept-those victims log log) at among) in
+          let i = those-in (isKept victims log) log (h .0) (h .1) in
           copied (h .0) (i .0) (h .2) (i .1)
 
   -- so every entry after is one before
   pub entry-before : (y : Placed) → In y after → (x : Placed) × In x log × x .entry ≡ y .entry
   entry-before y m = go (origin y m)
     where
-      go : Origin L victims log y → (x : Placed) × In x log × x .entry ≡ y .entry
+      go : Origin victims log y → (x : Placed) × In x log × x .entry ≡ y .entry
       go (stood i e) = (y, i, refl)
       go (copied x i e t) = (x, i, e)
 
   -- what is left of the key is a tombstone: an object outside the victims would have been seen, and a copy is the latest entry's
-  left-over : Apart log → (k : Key) (x : Placed) → Newest log k x → isTombstone L (x .entry .kind) ≡ true → objectOutside L victims log k ≡ false →
-      (y : Placed) → In y after → sameKey k (y .entry) ≡ true → isTombstone L (y .entry .kind) ≡ true
+  left-over : Apart log → (k : Key) (x : Placed) → Newest log k x → isTombstone (x .entry) ≡ true → objectOutside victims log k ≡ false →
+      (y : Placed) → In y after → sameKey k (y .entry) ≡ true → isTombstone (y .entry) ≡ true
   left-over d k x n t o y m p = go (origin y m)
     where
-      stays-dead : In y log → named victims (y .slot) ≡ false → (b : Bool) → isTombstone L (y .entry .kind) ≡ b → isTombstone L (y .entry .kind) ≡ true
-      stays-dead i e true q = q
-      stays-dead i e false q = absurd (clash (objectOutside L victims log k) (object-seen L victims k i e p q) o)
+      stays-tombstone : In y log → named victims (y .slot) ≡ false → (b : Bool) → isTombstone (y .entry) ≡ b → isTombstone (y .entry) ≡ true
+      stays-tombstone i e true q = q
+      stays-tombstone i e false q = absurd (clash (objectOutside victims log k) (object-seen victims k i e p q) o)
 
-      go : Origin L victims log y → isTombstone L (y .entry .kind) ≡ true
-      go (stood i e) = stays-dead i e (isTombstone L (y .entry .kind)) refl
+      go : Origin victims log y → isTombstone (y .entry) ≡ true
+      go (stood i e) = stays-tombstone i e (isTombstone (y .entry)) refl
       go (copied z i e q) =
-          let own : Newest log (keyOf (z .entry)) z = highest-newest log z d i (kept-highest L victims log z q) in
+          let own : Newest log (keyOf (z .entry)) z = highest-newest log z d i (kept-highest victims log z q) in
           let key : keyOf (z .entry) ≡ k = ap keyOf e ∙ sym (same-key k (y .entry) p) in
           let one : z ≡ x = newest-one log k z x d (rw key at own) n in
-          ap (λ (f : Entry). isTombstone L (f .kind)) (sym e ∙ ap (λ (u : Placed). u .entry) one) ∙ t
+          ap isTombstone (sym e ∙ ap (λ (u : Placed). u .entry) one) ∙ t
 
-  -- The heart of a cleaning: a tombstone may go only when no object of its key stands outside the victims.
-  pub fate : Apart log → (k : Key) (x : Placed) → Newest log k x → Fate L victims log after k x
-  fate d k x n = slot (named victims (x .slot)) refl
+  -- A tombstone goes only where no object of its key stands outside the victims.
+  pub latest-after : Apart log → (k : Key) (x : Placed) → Newest log k x → LatestAfter victims log after k x
+  latest-after d k x n = slot (named victims (x .slot)) refl
     where
-      copy : isKept L victims log x ≡ true → Fate L victims log after k x
+      copy : isKept victims log x ≡ true → LatestAfter victims log after k x
       copy e = let h = copy-of x (n .member) e in moves e (h .0) (h .1) (h .2)
 
-      outside-too : isTombstone L (x .entry .kind) ≡ true → named victims (x .slot) ≡ true → (b : Bool) → objectOutside L victims log k ≡ b →
-          Fate L victims log after k x
+      outside-too : isTombstone (x .entry) ≡ true → named victims (x .slot) ≡ true → (b : Bool) → objectOutside victims log k ≡ b →
+          LatestAfter victims log after k x
       outside-too t e true o =
           copy (
-          kept-when L victims log x e (newest-highest log k x d n)
-          (either-true-right (not (isTombstone L (x .entry .kind))) (objectOutside L victims log (keyOf (x .entry)))
-          (ap (objectOutside L victims log) (sym (same-key k (x .entry) (n .of-key))) ∙ o))
+          kept-when victims log x e (newest-highest log k x d n)
+          (either-true-right (not (isTombstone (x .entry))) (objectOutside victims log (keyOf (x .entry)))
+          (ap (objectOutside victims log) (sym (same-key k (x .entry) (n .of-key))) ∙ o))
           )
       outside-too t e false o = goes t o (left-over d k x n t o)
 
-      tombstone : named victims (x .slot) ≡ true → (b : Bool) → isTombstone L (x .entry .kind) ≡ b → Fate L victims log after k x
-      tombstone e true t = outside-too t e (objectOutside L victims log k) refl
+      tombstone : named victims (x .slot) ≡ true → (b : Bool) → isTombstone (x .entry) ≡ b → LatestAfter victims log after k x
+      tombstone e true t = outside-too t e (objectOutside victims log k) refl
       tombstone e false t =
           copy (
-          kept-when L victims log x e (newest-highest log k x d n)
-          (either-true-left (not (isTombstone L (x .entry .kind))) (objectOutside L victims log (keyOf (x .entry))) (ap not t))
+          kept-when victims log x e (newest-highest log k x d n)
+          (either-true-left (not (isTombstone (x .entry))) (objectOutside victims log (keyOf (x .entry))) (ap not t))
           )
 
-      slot : (b : Bool) → named victims (x .slot) ≡ b → Fate L victims log after k x
-      slot true e = tombstone e (isTombstone L (x .entry .kind)) refl
+      slot : (b : Bool) → named victims (x .slot) ≡ b → LatestAfter victims log after k x
+      slot true e = tombstone e (isTombstone (x .entry)) refl
       slot false e = stays e (c .members .to x (Memᴰ·append-left moved (in-outside victims (n .member) e)))
 
   -- a key's latest entry that is still there is still the latest
@@ -305,7 +306,7 @@ module _ (L : Layout) (victims : ℕ) (log moved after : List Placed) (c : Clean
       (z, refl, sym (w .2) ∙ ap (λ (u : Placed). u .entry) one)
 
   -- Cleaning: every key has what it had.
-  pub log-clean : Apart log → (k : Key) → valueAt L after k ≡ valueAt L log k
+  pub log-clean : Apart log → (k : Key) → valueAt after k ≡ valueAt log k
   log-clean d k = go (latest log k) refl (latest-is log k)
     where
       nothing : Keyless log k → (o : Option Placed) → LatestIs after k o → o ≡ none
@@ -314,27 +315,27 @@ module _ (L : Layout) (victims : ℕ) (log moved after : List Placed) (c : Clean
           let w = entry-before z (b .member) in
           absurd (clash (sameKey k (w .0 .entry)) (ap (sameKey k) (w .2) ∙ b .of-key) (f (w .0) (w .1)))
 
-      there : (x y : Placed) → latest log k ≡ some x → Newest log k x → In y after → y .entry ≡ x .entry → valueAt L after k ≡ valueAt L log k
+      there : (x y : Placed) → latest log k ≡ some x → Newest log k x → In y after → y .entry ≡ x .entry → valueAt after k ≡ valueAt log k
       there x y e n m p =
           let z = still-latest d k x y n m p (latest after k) (latest-is after k) in
-          value-some L after k (z .0) (z .1) ∙ ap (gives L) (z .2) ∙ sym (value-some L log k x e)
+          value-some after k (z .0) (z .1) ∙ ap gives (z .2) ∙ sym (value-some log k x e)
 
-      dead : ((y : Placed) → In y after → sameKey k (y .entry) ≡ true → isTombstone L (y .entry .kind) ≡ true) →
-          (o : Option Placed) → latest after k ≡ o → LatestIs after k o → valueAt L after k ≡ none
-      dead f none e l = value-none L after k e
-      dead f (some z) e (found b) =
-          value-some L after k z e ∙ unfold gives in pick-true (isTombstone L (z .entry .kind)) none (some (z .entry)) (f z (b .member) (b .of-key))
+      gone : ((y : Placed) → In y after → sameKey k (y .entry) ≡ true → isTombstone (y .entry) ≡ true) →
+          (o : Option Placed) → latest after k ≡ o → LatestIs after k o → valueAt after k ≡ none
+      gone f none e l = value-none after k e
+      gone f (some z) e (found b) =
+          value-some after k z e ∙ unfold gives in pick-true (isTombstone (z .entry)) none (some (z .entry)) (f z (b .member) (b .of-key))
 
-      ends : (x : Placed) → latest log k ≡ some x → Newest log k x → Fate L victims log after k x → valueAt L after k ≡ valueAt L log k
+      ends : (x : Placed) → latest log k ≡ some x → Newest log k x → LatestAfter victims log after k x → valueAt after k ≡ valueAt log k
       ends x e n (stays s m) = there x x e n m refl
       ends x e n (moves s y m p) = there x y e n m p
       ends x e n (goes t o f) =
-          dead f (latest after k) refl (latest-is after k) ∙
-          sym (value-some L log k x e ∙ unfold gives in pick-true (isTombstone L (x .entry .kind)) none (some (x .entry)) t)
+          gone f (latest after k) refl (latest-is after k) ∙
+          sym (value-some log k x e ∙ unfold gives in pick-true (isTombstone (x .entry)) none (some (x .entry)) t)
 
-      go : (o : Option Placed) → latest log k ≡ o → LatestIs log k o → valueAt L after k ≡ valueAt L log k
-      go none e (absent f) = value-none L after k (nothing f (latest after k) (latest-is after k)) ∙ sym (value-none L log k e)
-      go (some x) e (found n) = ends x e n (fate d k x n)
+      go : (o : Option Placed) → latest log k ≡ o → LatestIs log k o → valueAt after k ≡ valueAt log k
+      go none e (absent f) = value-none after k (nothing f (latest after k) (latest-is after k)) ∙ sym (value-none log k e)
+      go (some x) e (found n) = ends x e n (latest-after d k x n)
 
   -- Versions: none is new, and each stands no more often than before.
   pub clean-highest : highest after ≤ highest log
@@ -345,8 +346,8 @@ module _ (L : Layout) (victims : ℕ) (log moved after : List Placed) (c : Clean
   pub clean-count : (v : ℕ) → count v (outside victims log ++ moved) ≤ count v log
   clean-count v =
       let kept-few : count v moved ≤ count v (inside victims log) =
-      rw (c .entries, kept-those L victims log log)
-      (total-those (counted v) (isKept L victims log) (λ x. named victims (x .slot)) log (λ x m e. kept-victim L victims log x e)) in
+      rw (c .entries, kept-those victims log log)
+      (total-those (counted v) (isKept victims log) (λ x. named victims (x .slot)) log (λ x m e. kept-victim victims log x e)) in
       omega (arith, count-append v (outside victims log) moved, total-split (counted v) (λ x. named victims (x .slot)) log)
 
   -- Versions: none comes to be shared, in whatever order the log after stands.
@@ -383,10 +384,10 @@ encoded-those L p q log h =
 
 -- What is kept takes no more bytes than the victims' entries take.
 pub kept-size : (L : Layout) (victims : ℕ) (log : List Placed) →
-    length (allEncoded L (kept L victims log)) ≤ length (allEncoded L (entriesOf (inside victims log)))
+    length (allEncoded L (kept victims log)) ≤ length (allEncoded L (entriesOf (inside victims log)))
 kept-size L victims log =
-    rw (kept-those L victims log log)
-    (encoded-those L (isKept L victims log) (λ x. named victims (x .slot)) log (λ x m e. kept-victim L victims log x e))
+    rw (kept-those victims log log)
+    (encoded-those L (isKept victims log) (λ x. named victims (x .slot)) log (λ x m e. kept-victim victims log x e))
 
 -- the members in slot i
 abbrev pub inSlot : ℕ → List Placed → List Placed
@@ -394,7 +395,7 @@ inSlot i log = those (λ x. eqb (x .slot) i) log
 
 -- So one victim always fits.
 pub kept-size-one : (L : Layout) (victims i : ℕ) (log : List Placed) → ((j : ℕ) → named victims j ≡ true → j ≡ i) →
-    length (allEncoded L (kept L victims log)) ≤ length (allEncoded L (entriesOf (inSlot i log)))
+    length (allEncoded L (kept victims log)) ≤ length (allEncoded L (entriesOf (inSlot i log)))
 kept-size-one L victims i log only =
     omega (
       arith,

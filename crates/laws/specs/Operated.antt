@@ -9,7 +9,7 @@ use lib.ListN.{length, take}
 use Rattle.word.specs.Number.{Bytes}
 use Rattle.segment.specs.Choice.{pick}
 use Rattle.segment.specs.Layout.{Layout}
-use Rattle.segment.specs.Entry.{Entry}
+use Rattle.segment.specs.Entry.{Entry, bytesIn}
 use Rattle.segment.specs.declared.Key.{Key}
 use Rattle.record.specs.Range.{cellsGood, fitsLent}
 use Rattle.record.specs.declared.Record.{Record}
@@ -33,10 +33,10 @@ abbrev pub planAt : Layout → List ℕ → Record → Operation → List (ℕ �
 planAt L before idle o = planFor L idle (logNow L before idle) o
 
 -- The map that an operation leaves, from the map before it: the key set, the key gone, or every key as it was.
-unfoldable pub mapAfter : Layout → Record → Operation → (Key → Option Entry) → Key → Option Entry
-mapAfter L idle (write k value) old j = pick (sameKey j (writtenEntry L idle k value)) (some (writtenEntry L idle k value)) (old j)
-mapAfter L idle (delete k) old j = pick (sameKey j (tombstoneEntry L idle k)) none (old j)
-mapAfter L idle (clean victims) old j = old j
+unfoldable pub mapAfter : Record → Operation → (Key → Option Entry) → Key → Option Entry
+mapAfter idle (write k value) old j = pick (sameKey j (writtenEntry idle k value)) (some (writtenEntry idle k value)) (old j)
+mapAfter idle (delete k) old j = pick (sameKey j (tombstoneEntry idle k)) none (old j)
+mapAfter idle (clean victims) old j = old j
 
 -- All that the promise about cuts needs of the log, for a layout.
 pub record OperationLaws (L : Layout) : Type 0 where
@@ -58,8 +58,8 @@ pub record OperationLaws (L : Layout) : Type 0 where
   -- Demand 2.
   pub finish-map :
       (before : List ℕ) (idle : Record) (o : Operation) → Accepted L before idle o → (j : Key) →
-      valueAt L (logNow L (stored before (planAt L before idle o)) (finishedRecord L before idle o)) j ≡
-      mapAfter L idle o (valueAt L (logNow L before idle)) j
+      valueAt (logNow L (stored before (planAt L before idle o)) (finishedRecord L before idle o)) j ≡
+      mapAfter idle o (valueAt (logNow L before idle)) j
   -- An operation has from 1 to S + 1 stores, and its bytes fit a segment.
   pub some-stores : (before : List ℕ) (idle : Record) (o : Operation) → Accepted L before idle o → 0 < length (planAt L before idle o)
   pub few-stores :
@@ -77,10 +77,10 @@ pub record OperationLaws (L : Layout) : Type 0 where
   -- Every version in the log is below the next version, and a key's value is a part of the area.
   pub version-below :
       (area : List ℕ) (r : Record) → recovered L (r .slots) (r .size) (r .cells) area ≡ some r → (k : Key) (x : Placed) →
-      present L (logNow L area r) k ≡ some x → x .entry .version < r .next .0
+      present (logNow L area r) k ≡ some x → x .entry .version < r .next .0
   pub value-part :
       (area : List ℕ) (r : Record) → Bytes area → recovered L (r .slots) (r .size) (r .cells) area ≡ some r → (k : Key) (x : Placed) →
-      present L (logNow L area r) k ≡ some x → partOf area (valuePart L (r .size) (some x)) ≡ x .entry .value
+      present (logNow L area r) k ≡ some x → partOf area (valuePart L (r .size) (some x)) ≡ bytesIn (x .entry .value)
   -- A fresh area has an empty log and next version 1, at any number of cells.
   pub format-bytes : (n s : ℕ) (area : List ℕ) → Bytes area → Bytes (formatted L n s area)
   pub format-recovers :

@@ -8,13 +8,12 @@ use mathlib.Core.Option.{Option, none, some}
 use lib.Dec.{eqb, lit<, lit≤}
 use lib.ListN.{length, take, drop}
 use lib.Seq.{take-length}
-use borrow.Author.Tests.{not-false, eq-eqb, ltb-false, eqb-false}
-use Rattle.segment.specs.Choice.{pick, pick-true, pick-false, either-false-left, either-false-right}
+use borrow.Author.Tests.{not-false, ltb-false, eqb-false}
+use Rattle.segment.specs.Choice.{pick, pick-true, pick-false, isNone, either-false-left, either-false-right}
 use Rattle.segment.specs.Packed.{field-at}
-use Rattle.segment.specs.Layout.{Layout, edition1, lookup, valueLength, digestSize, entrySize, isTombstone, numberLimit}
-use Rattle.segment.specs.Entry.{Entry, WellFormed, sizeOf, entryAt, entry}
-use Rattle.segment.specs.EntryLaws as Found
-use Rattle.segment.specs.EntryLaws.{found-accepted}
+use Rattle.segment.specs.Layout.{Layout, edition1, lookup, valueLength, digestSize, entrySize, numberLimit}
+use Rattle.segment.specs.Entry.{Entry, WellFormed, isTombstone, bytesIn, sizeOf, entryAt, entry}
+use Rattle.segment.specs.EntryLaws.{Readable, found-readable, found-bytes}
 use Rattle.segment.specs.declared.Key.{Key}
 use Rattle.slot_map.specs.Bit.{named, within}
 use Rattle.record.specs.RangeLaws.{Lent, lent}
@@ -37,7 +36,7 @@ use Rattle.laws.specs.RecoverLaws.{recovered-case, recovered-fits, recov
 use Rattle.laws.specs.Headed.{Heads}
 use Rattle.laws.specs.Cleaned.{cleaned-cleaned, cleaned-recovered}
 use Rattle.laws.specs.Operated.{Accepted, planAt, mapAfter, OperationLaws}
-use Rattle.laws.specs.Entering.{Roomy, write-object, idle-lent, idle-number, write-enters, delete-enters}
+use Rattle.laws.specs.Entering.{Roomy, idle-lent, idle-number, write-enters, delete-enters}
 use Rattle.laws.specs.Planned.{log-formed, kept-in, planned, new-below, new-map-fits, new-next-fits, prefix-stays, prefix-bytes, plan-stores, plan-most, plan-fits}
 use Rattle.laws.specs.EntryDone.{entry-done}
 use Rattle.laws.specs.Passed.{CleanPassed, clean-passed}
@@ -58,31 +57,31 @@ module _ (L : Layout) (before : List ℕ) (idle : Record) (victims : ℕ) (a : A
   some-victim : 0 < victims
   some-victim = omega (arith, eqb-false victims 0 (either-false-left _ _ (tests .victims-good)))
 
-  room : digestSize L + length (allEncoded L (kept L victims (logNow L before idle))) ≤ idle .size
-  room = ltb-false (idle .size) (digestSize L + length (allEncoded L (kept L victims (logNow L before idle)))) (tests .kept-fits)
+  room : digestSize L + length (allEncoded L (kept victims (logNow L before idle))) ≤ idle .size
+  room = ltb-false (idle .size) (digestSize L + length (allEncoded L (kept victims (logNow L before idle)))) (tests .kept-fits)
 
   number-left : idle .digest .0 + 1 < 256 ^ 4
   number-left = omega (arith, idle-number L before idle (clean victims) a, eqb-false (idle .digest .0) numberLimit (tests .number-left))
 
   abbrev clean-plan : List (ℕ × ℕ)
-  clean-plan = headPlan L (idle .size) (newSlot idle) (newDigest idle victims) (kept L victims (logNow L before idle))
+  clean-plan = headPlan L (idle .size) (newSlot idle) (newDigest idle victims) (kept victims (logNow L before idle))
 
-  formed : (x : Entry) → List·Memᴰ x (kept L victims (logNow L before idle)) → WellFormed L x
+  formed : (x : Entry) → List·Memᴰ x (kept victims (logNow L before idle)) → WellFormed L x
   formed x i =
-      let y = kept-in L victims (logNow L before idle) x i in
+      let y = kept-in victims (logNow L before idle) x i in
       subst (WellFormed L) (y .2)
       (log-formed L (idle .slots) (idle .size) (idle .cells) before idle (a .area-bytes) (a .recovers) (y .0) (y .1))
 
   views :
       Heads L (viewsOf L before (idle .size)) (viewsOf L (stored before clean-plan) (idle .size)) (idle .slots) (newSlot idle)
-      (newDigest idle victims) (kept L victims (logNow L before idle))
+      (newDigest idle victims) (kept victims (logNow L before idle))
   views =
       record {
         others =
             λ i l o.
-            new-head-other L (idle .size) (newSlot idle) before (newDigest idle victims) (kept L victims (logNow L before idle)) room i o;
+            new-head-other L (idle .size) (newSlot idle) before (newDigest idle victims) (kept victims (logNow L before idle)) room i o;
         own =
-            new-head-view L (newDigest idle victims) (kept L victims (logNow L before idle)) number-left
+            new-head-view L (newDigest idle victims) (kept victims (logNow L before idle)) number-left
             (new-map-fits L before idle (a .recovers) victims sub) (new-next-fits L before idle (a .recovers) (a .area-bytes)) formed
             (idle .slots) (idle .size) (newSlot idle) before (facts .area-own) (new-below L before idle (a .recovers)) room;
       }
@@ -90,12 +89,12 @@ module _ (L : Layout) (before : List ℕ) (idle : Record) (victims : ℕ) (a : A
   pub clean-done :
       (recovered L (idle .slots) (idle .size) (idle .cells) (stored before clean-plan) ≡ some (cleanedRecord L before idle victims))
       × ((j : Key) →
-      valueAt L (logNow L (stored before clean-plan) (cleanedRecord L before idle victims)) j ≡ valueAt L (logNow L before idle) j)
+      valueAt (logNow L (stored before clean-plan) (cleanedRecord L before idle victims)) j ≡ valueAt (logNow L before idle) j)
   clean-done = (
     cleaned-recovered L (idle .slots) (idle .size) (idle .cells) before (stored before clean-plan) idle victims (a .recovers) sub views
         (length-stored before clean-plan) some-victim,
-    log-clean L victims (logNow L before idle)
-        (placedFrom L (newSlot idle) (digestSize L) (kept L victims (logNow L before idle)))
+    log-clean victims (logNow L before idle)
+        (placedFrom L (newSlot idle) (digestSize L) (kept victims (logNow L before idle)))
         (logNow L (stored before clean-plan) (cleanedRecord L before idle victims))
         (cleaned-cleaned L (idle .slots) (idle .size) (idle .cells) before (stored before clean-plan) idle victims (a .recovers) sub views)
         (recovered-apart L (idle .slots) (idle .size) (idle .cells) before idle (a .recovers)),
@@ -103,55 +102,55 @@ module _ (L : Layout) (before : List ℕ) (idle : Record) (victims : ℕ) (a : A
 
 -- ---- the three operations
 
-gives-object : (L : Layout) (e : Entry) → isTombstone L (e .kind) ≡ false → gives L e ≡ some e
+gives-object : (e : Entry) → isTombstone e ≡ false → gives e ≡ some e
 unfolding gives
-gives-object L e t = pick-false (isTombstone L (e .kind)) none (some e) t
+gives-object e t = pick-false (isTombstone e) none (some e) t
 
-gives-tombstone : (L : Layout) (e : Entry) → isTombstone L (e .kind) ≡ true → gives L e ≡ none
+gives-tombstone : (e : Entry) → isTombstone e ≡ true → gives e ≡ none
 unfolding gives
-gives-tombstone L e t = pick-true (isTombstone L (e .kind)) none (some e) t
+gives-tombstone e t = pick-true (isTombstone e) none (some e) t
 
 module _ (L : Layout) (roomy : Roomy L) (before : List ℕ) (idle : Record) where
   abbrev Finishes : Operation → Type 0
   Finishes o =
       (recovered L (idle .slots) (idle .size) (idle .cells) (stored before (planAt L before idle o)) ≡ some (finishedRecord L before idle o))
       × ((j : Key) →
-      valueAt L (logNow L (stored before (planAt L before idle o)) (finishedRecord L before idle o)) j ≡
-      mapAfter L idle o (valueAt L (logNow L before idle)) j)
+      valueAt (logNow L (stored before (planAt L before idle o)) (finishedRecord L before idle o)) j ≡
+      mapAfter idle o (valueAt (logNow L before idle)) j)
 
   pub finishes : (o : Operation) → Accepted L before idle o → Finishes o
-  unfolding laid finishedRecord mapAfter planOf
+  unfolding laid finishedRecord mapAfter planOf isNone
   finishes (write k value) a =
-      let x = writtenEntry L idle k value in
+      let x = writtenEntry idle k value in
       let f = write-enters L before idle k value a in
       let done = entry-done L roomy before idle x (a .recovers) (a .area-bytes) f in (
         done .0,
         λ j.
             done .1 j ∙
-            ap (λ (y : Option Entry). pick (sameKey j x) y (valueAt L (logNow L before idle) j)) (gives-object L x (write-object L before idle k value a)),
+            ap (λ (y : Option Entry). pick (sameKey j x) y (valueAt (logNow L before idle) j)) (gives-object x refl),
       )
   finishes (delete k) a =
-      let x = tombstoneEntry L idle k in
+      let x = tombstoneEntry idle k in
       let f = delete-enters L before idle k a in
       let done = entry-done L roomy before idle x (a .recovers) (a .area-bytes) f in (
         done .0,
         λ j.
             done .1 j ∙
-            ap (λ (y : Option Entry). pick (sameKey j x) y (valueAt L (logNow L before idle) j))
-            (gives-tombstone L x (eq-eqb (L .tombstoneKind) (L .tombstoneKind) refl)),
+            ap (λ (y : Option Entry). pick (sameKey j x) y (valueAt (logNow L before idle) j))
+            (gives-tombstone x refl),
       )
   finishes (clean victims) a = clean-done L before idle victims a
 
 -- ---- reading a recovered log
 
 -- a present entry is one of the log
-present-in : (L : Layout) (log : List Placed) (k : Key) (x : Placed) → present L log k ≡ some x → In x log
+present-in : (log : List Placed) (k : Key) (x : Placed) → present log k ≡ some x → In x log
 unfolding present objectOnly pick
-present-in L log k x e = go (latest log k) refl e
+present-in log k x e = go (latest log k) refl e
   where
-    go : (y : Option Placed) → latest log k ≡ y → objectOnly L y ≡ some x → In x log
+    go : (y : Option Placed) → latest log k ≡ y → objectOnly y ≡ some x → In x log
     go none p q = let z : _≡_ {A = ℕ} 0 1 = cc in absurd (omega arith)
-    go (some y) p q = by-kind (isTombstone L (y .entry .kind)) q
+    go (some y) p q = by-kind (isTombstone (y .entry)) q
       where
         by-kind : (t : Bool) → pick t none (some y) ≡ some x → In x log
         by-kind true r = let z : _≡_ {A = ℕ} 0 1 = cc in absurd (omega arith)
@@ -178,20 +177,20 @@ log-found L n s m area r e x =
 -- the value of an entry that stands in a segment is a part of the area
 value-there :
     (L : Layout) (area : List ℕ) (s : ℕ) (x : Placed) → length (segmentOf area s (x .slot)) ≡ s →
-    entryAt L (segmentOf area s (x .slot)) (x .offset) ≡ entry (x .entry) → partOf area (valuePart L s (some x)) ≡ x .entry .value
+    entryAt L (segmentOf area s (x .slot)) (x .offset) ≡ entry (x .entry) → partOf area (valuePart L s (some x)) ≡ bytesIn (x .entry .value)
 unfolding valuePart
 value-there L area s x long e =
-    ap (λ (p : ℕ). take (length (x .entry .value)) (drop p area)) place ∙
-    sym (field-at (length (x .entry .value)) (x .offset + (7 + L .width)) s (x .slot * s) area (omega (arith, there .fits, long))) ∙
+    ap (λ (p : ℕ). take (length (bytesIn (x .entry .value))) (drop p area)) place ∙
+    sym (field-at (length (bytesIn (x .entry .value))) (x .offset + (7 + L .width)) s (x .slot * s) area (omega (arith, there .fits, long))) ∙
     sym
-    (field-at (length (x .entry .value)) (7 + L .width) (sizeOf L (x .entry)) (x .offset) (segmentOf area s (x .slot)) (omega arith)) ∙
-    ap (take (length (x .entry .value))) value ∙ take-length (x .entry .value)
+    (field-at (length (bytesIn (x .entry .value))) (7 + L .width) (sizeOf L (x .entry)) (x .offset) (segmentOf area s (x .slot)) (omega arith)) ∙
+    ap (take (length (bytesIn (x .entry .value)))) value ∙ take-length (bytesIn (x .entry .value))
   where
-    there : Found.Accepted L (segmentOf area s (x .slot)) (x .offset) (x .entry)
-    there = found-accepted L (segmentOf area s (x .slot)) (x .offset) (x .entry) e
+    there : Readable L (segmentOf area s (x .slot)) (x .offset) (x .entry)
+    there = found-readable L (segmentOf area s (x .slot)) (x .offset) (x .entry) e
 
-    value : drop (7 + L .width) (take (sizeOf L (x .entry)) (drop (x .offset) (segmentOf area s (x .slot)))) ≡ x .entry .value
-    value = ap (λ (y : Entry). y .value) (there .same)
+    value : drop (7 + L .width) (take (sizeOf L (x .entry)) (drop (x .offset) (segmentOf area s (x .slot)))) ≡ bytesIn (x .entry .value)
+    value = found-bytes L (segmentOf area s (x .slot)) (x .offset) (x .entry) e
 
     place : placeOf s x + entrySize L 0 ≡ x .slot * s + (x .offset + (7 + L .width))
     place = omega arith
@@ -213,10 +212,10 @@ operation-laws L roomy =
       more-cells = λ n s m k area e good l. recovered-more L n s m k area (recordFrom L n s m area) e good l;
       version-below =
           λ area r e k x p.
-          recovered-above L (r .slots) (r .size) (r .cells) area r e x (present-in L (logNow L area r) k x p);
+          recovered-above L (r .slots) (r .size) (r .cells) area r e x (present-in (logNow L area r) k x p);
       value-part =
           λ area r ab e k x p.
-          let found = log-found L (r .slots) (r .size) (r .cells) area r e x (present-in L (logNow L area r) k x p) in
+          let found = log-found L (r .slots) (r .size) (r .cells) area r e x (present-in (logNow L area r) k x p) in
           value-there L area (r .size) x
           (length-segment area (r .size) (x .slot)
           (slot-inside area (r .slots) (r .size) (x .slot) (lent L r (length area) (r .cells) (recovered-fits L (r .slots) (r .size) (r .cells) area r e) .area-own) (found .0)))

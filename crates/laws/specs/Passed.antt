@@ -93,9 +93,9 @@ pub record StartPassed (L : Layout) (r : Record) (l : Lengths) : Type 0 where
 pub start-passed : (L : Layout) (r : Record) (log : List Placed) (l : Lengths) (o : Operation) → firstCause (startCauses L r log l o) ≡ none → StartPassed L r l
 unfolding startCauses
 start-passed L r log l (write k value) e =
-    let t = write-passed L r l (keyFacts L log k) (length value) e in record { record-good = t .record-good; work-long = t .work-long; idle = t .idle }
+    let t = write-passed L r l (keyFacts log k) (length value) e in record { record-good = t .record-good; work-long = t .work-long; idle = t .idle }
 start-passed L r log l (delete k) e =
-    let t = delete-passed L r l (keyFacts L log k) e in record { record-good = t .record-good; work-long = t .work-long; idle = t .idle }
+    let t = delete-passed L r l (keyFacts log k) e in record { record-good = t .record-good; work-long = t .work-long; idle = t .idle }
 start-passed L r log l (clean victims) e =
     let t = clean-passed L r l (keptLength L log victims) victims e in record { record-good = t .record-good; work-long = t .work-long; idle = t .idle }
 

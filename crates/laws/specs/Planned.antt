@@ -14,8 +14,8 @@ use Rattle.word.specs.Number.{Bytes}
 use Rattle.word.specs.Laws.{bytes-take, bytes-drop}
 use Rattle.segment.specs.Choice.{pick}
 use Rattle.segment.specs.Layout.{Layout, digestSize}
-use Rattle.segment.specs.Entry.{Entry, WellFormed, encoded, sizeOf}
-use Rattle.segment.specs.EntryLaws.{length-encoded}
+use Rattle.segment.specs.Entry.{Entry, WellFormed, bytesIn, kindOf, encoded, sizeOf}
+use Rattle.segment.specs.EntryLaws.{length-encoded, formed-known}
 use Rattle.segment.specs.Digest.{encodedDigest}
 use Rattle.segment.specs.declared.Digest.{Digest}
 use Rattle.slot_map.specs.Bit.{named, within}
@@ -65,7 +65,7 @@ module _ (L : Layout) (roomy : Roomy L) (before : List ℕ) (idle : Record) wher
           subst (λ (b : List ℕ). Planned L idle (encodedDigest L (newDigest idle 0) ++ b) ((newSlot idle * idle .size, 0) ∷ commit (idle .size) (newSlot idle) 0 (encodedDigest L (newDigest idle 0) ++ b)))
           (encoded-one L e)
           (heads (newDigest idle 0) (e ∷ []) (formed-one L e (f .formed))
-          (omega (arith, ap length (encoded-one L e), length-encoded L e, roomy .room (e .kind) (length (e .value)) (f .formed .kind-known))))
+          (omega (arith, ap length (encoded-one L e), length-encoded L e, roomy .room (kindOf L e) (length (bytesIn (e .value))) (formed-known L e (f .formed)))))
 
 -- every entry of a recovered log of bytes is well formed
 pub log-formed :
@@ -81,31 +81,31 @@ log-formed L n s m area r bytes e x =
     (at .item) .formed)
     r e
 
-pub kept-in : (L : Layout) (victims : ℕ) (log : List Placed) (e : Entry) → List·Memᴰ e (kept L victims log) → (x : Placed) × In x log × x .entry ≡ e
-kept-in L victims log e i =
-    let y = entry-of (those (isKept L victims log) log) e (subst (List·Memᴰ e) (kept-those L victims log log) i) in
-    (y .0, those-in (isKept L victims log) log (y .0) (y .1) .0, y .2)
+pub kept-in : (victims : ℕ) (log : List Placed) (e : Entry) → List·Memᴰ e (kept victims log) → (x : Placed) × In x log × x .entry ≡ e
+kept-in victims log e i =
+    let y = entry-of (those (isKept victims log) log) e (subst (List·Memᴰ e) (kept-those victims log log) i) in
+    (y .0, those-in (isKept victims log) log (y .0) (y .1) .0, y .2)
 
 module _ (L : Layout) (roomy : Roomy L) (before : List ℕ) (idle : Record) where
   -- The plan of an accepted operation.
   pub planned : (o : Operation) → Accepted L before idle o → Planned L idle (laid L idle (logNow L before idle) o .bytes) (planAt L before idle o)
   unfolding laid planOf startCauses
   planned (write k value) a =
-      planned-entry L roomy before idle (writtenEntry L idle k value) (write-enters L before idle k value a)
+      planned-entry L roomy before idle (writtenEntry idle k value) (write-enters L before idle k value a)
       (idle-lent L before idle (write k value) a .size-low)
   planned (delete k) a =
-      planned-entry L roomy before idle (tombstoneEntry L idle k) (delete-enters L before idle k a)
+      planned-entry L roomy before idle (tombstoneEntry idle k) (delete-enters L before idle k a)
       (idle-lent L before idle (delete k) a .size-low)
   planned (clean victims) a =
-      heads (newDigest idle victims) (kept L victims (logNow L before idle)) formed
-      (ltb-false (idle .size) (digestSize L + length (allEncoded L (kept L victims (logNow L before idle)))) (tests .kept-fits))
+      heads (newDigest idle victims) (kept victims (logNow L before idle)) formed
+      (ltb-false (idle .size) (digestSize L + length (allEncoded L (kept victims (logNow L before idle)))) (tests .kept-fits))
     where
       tests : CleanPassed L idle (a .lengths) (keptLength L (logNow L before idle) victims) victims
       tests = clean-passed L idle (a .lengths) (keptLength L (logNow L before idle) victims) victims (a .no-cause)
 
-      formed : (x : Entry) → List·Memᴰ x (kept L victims (logNow L before idle)) → WellFormed L x
+      formed : (x : Entry) → List·Memᴰ x (kept victims (logNow L before idle)) → WellFormed L x
       formed x i =
-          let y = kept-in L victims (logNow L before idle) x i in
+          let y = kept-in victims (logNow L before idle) x i in
           subst (WellFormed L) (y .2)
           (log-formed L (idle .slots) (idle .size) (idle .cells) before idle (a .area-bytes) (a .recovers) (y .0) (y .1))
 

@@ -9,13 +9,13 @@ use native.Mathlib.Omega.{arith}
 use lib.Dec.{eqb, ltb}
 use lib.ListN.{length, getD, drop}
 use borrow.Author.Tests.{ltb-false, eqb-true, eqb-false, not-false, lt-ltb, le-ltb, le-leb, eq-eqb, ne-eqb}
-use Rattle.segment.specs.Choice.{pick, both, both-left, both-right, both-true, either, either-false, either-false-left, either-false-right}
+use Rattle.segment.specs.Choice.{pick, both, both-left, both-right, both-true, either, either-false, either-false-left, either-false-right, isNone}
 use Rattle.word.specs.Number.{Bytes}
 use Rattle.word.specs.Laws.{bytes-take, bytes-drop}
 use Rattle.segment.specs.Layout.{Layout, digestSize, versionLimit, numberLimit}
 use Rattle.segment.specs.LayoutLaws.{version-below}
 use Rattle.segment.specs.Entry.{Entry, entry, entryAt}
-use Rattle.segment.specs.EntryLaws.{found-accepted}
+use Rattle.segment.specs.EntryLaws.{found-readable}
 use Rattle.segment.specs.DigestLaws.{digest-number-fits, digest-next-fits}
 use Rattle.segment.specs.Digest.{digestOf}
 use Rattle.segment.specs.declared.Digest.{Digest}
@@ -30,7 +30,7 @@ use Rattle.record.specs.declared.Recovery.{Recovery}
 use Rattle.record.specs.declared.RecoverAnswer.{RecoverAnswer}
 use Rattle.model.specs.Log.{View, Head, Placed, scanned, itemsOf, scan, digestIn, segmentOf, viewsOf, headOf, logOf, endOf, isDamaged, keysOf, versionShared, highest, nextVersion}
 use Rattle.model.specs.Causes.{Cause, when, firstCause}
-use Rattle.model.specs.Recovery.{noHead, headElse, sharing, mapBad, logSlots, logUnder, recordUnder, imageCauses, keyCauses, lentCauses, areaCauses, ifNone, recordFrom, recovered, orderBad, recoveryFor, recovery, recoverCauses}
+use Rattle.model.specs.Recovery.{headElse, sharing, mapBad, logSlots, logUnder, recordUnder, imageCauses, keyCauses, lentCauses, areaCauses, ifNone, recordFrom, recovered, orderBad, recoveryFor, recovery, recoverCauses}
 use Rattle.model.specs.Operations.{logNow}
 use Rattle.laws.specs.CauseLaws.{NoCause, no-cause, causes-none, cause-passed}
 use Rattle.laws.specs.Members.{clash, In}
@@ -70,7 +70,7 @@ module _ (v : ℕ → View) (n m : ℕ) where
   headCauses h = imageCauses v n (some h) ++ keyCauses v n m (some h)
 
   pub clear-sound : (h : Head) → headOf v n ≡ some h → NoCause (headCauses h) → Sound v n m h
-  unfolding noHead headElse
+  unfolding isNone headElse
   clear-sound h e f =
       let digest = f .1 .0 in
       let number = either-false-left _ _ digest in
@@ -90,7 +90,7 @@ module _ (v : ℕ → View) (n m : ℕ) where
       }
 
   pub sound-clear : (h : Head) → Sound v n m h → NoCause (headCauses h)
-  unfolding noHead headElse
+  unfolding isNone headElse
   sound-clear h s =
       let number =
       either-false _ _ (ne-eqb (h .digest .number .0) 0 (s .numbered))
@@ -109,7 +109,7 @@ module _ (v : ℕ → View) (n m : ℕ) where
 
   -- an image without a cause has a head
   pub clear-head : NoCause (imageCauses v n (headOf v n) ++ keyCauses v n m (headOf v n)) → (h : Head) × (headOf v n ≡ some h) × Sound v n m h
-  unfolding noHead
+  unfolding isNone
   clear-head = go (headOf v n) refl
     where
       go : (o : Option Head) → headOf v n ≡ o → NoCause (imageCauses v n o ++ keyCauses v n m o) → (h : Head) × (headOf v n ≡ some h) × Sound v n m h
@@ -418,7 +418,7 @@ segment-bytes area s i h = bytes-take s (drop (i * s) area) (bytes-drop (i * s) 
 
 -- an entry that is found has a version below the limit
 found-version : (L : Layout) (b : List ℕ) (at : ℕ) (x : Entry) → entryAt L b at ≡ entry x → x .version < versionLimit L
-found-version L b at x e = version-below L (x .version) (found-accepted L b at x e .good)
+found-version L b at x e = version-below L (x .version) (found-readable L b at x e .good)
 
 module _ (L : Layout) (n s m : ℕ) (area : List ℕ) (r : Record) (e : recovered L n s m area ≡ some r) where
   pub recovered-lent : Allowed n s m (length area)

@@ -81,7 +81,7 @@ module _ (L : Layout) (area : List ℕ) (r : Record) (e : recovered L (r .slots)
   -- One victim always fits: 14 never holds for a single victim.
   pub one-victim-fits : (i : ℕ) → named (r .map) i ≡ true → keptTooLong L r (keptLength L (logNow L area r) (2 ^ i)) ≡ false
   one-victim-fits i q =
-      le-ltb (r .size) (digestSize L + length (allEncoded L (kept L (2 ^ i) (logNow L area r))))
+      le-ltb (r .size) (digestSize L + length (allEncoded L (kept (2 ^ i) (logNow L area r))))
       (omega (arith, kept-size-one L (2 ^ i) i (logNow L area r) only, slot-fits i (set-below (r .slots) (r .map) i (facts .map-below) (named-true (r .map) i q)) q))
     where
       only : (j : ℕ) → named (2 ^ i) j ≡ true → j ≡ i

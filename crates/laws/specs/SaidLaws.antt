@@ -39,11 +39,11 @@ unfolding recovery
 recover-says L n s m order area r e =
     ap (λ (x : Recovery). recoverSaid (x .answer)) e ∙ given-says (firstCause (recoverCauses L n s m order area)) (recordFrom L n s m area)
 
-pub read-says : (c : Option Refusal) (x : Option Placed) → readSaid (readAnswer c x) ≡ saidBy c (objectSaid x)
+pub read-says : (L : Layout) (c : Option Refusal) (x : Option Placed) → readSaid (readAnswer L c x) ≡ saidBy c (objectSaid L x)
 unfolding readAnswer presentAnswer objectSaid saidBy
-read-says none none = refl
-read-says none (some x) = refl
-read-says (some c) x = refl
+read-says L none none = refl
+read-says L none (some x) = refl
+read-says L (some c) x = refl
 
 pub start-says :
     (L : Layout) (r : Record) (log : List Placed) (o : Operation) (work : List ℕ) (c : Option Refusal) →
@@ -63,16 +63,16 @@ pub read-settled :
     (L : Layout) (r : Record) (area cells : List ℕ) (k : Key) (a : ReadAnswer) →
     (recordBad L r (readLengths area cells) ≡ true → a ≡ ReadAnswer.Refused Refusal.BadRecord) →
     (Genuine L area r cells → a ≡
-    readAnswer (firstCause (readCauses L r (logNow L area r) (readLengths area cells) k)) (present L (logNow L area r) k)) →
+    readAnswer L (firstCause (readCauses L r (logNow L area r) (readLengths area cells) k)) (present (logNow L area r) k)) →
     Settled L area r cells (readLengths area cells) → readSaid a ≡
-    saidBy (firstCause (readCauses L r (logNow L area r) (readLengths area cells) k)) (objectSaid (present L (logNow L area r) k))
+    saidBy (firstCause (readCauses L r (logNow L area r) (readLengths area cells) k)) (objectSaid L (present (logNow L area r) k))
 unfolding saidBy
 read-settled L r area cells k a unfit exact (inl bad) =
     ap readSaid (unfit bad) ∙
-    sym (ap (λ (c : Option Refusal). saidBy c (objectSaid (present L (logNow L area r) k))) (cause-first _ _ bad))
+    sym (ap (λ (c : Option Refusal). saidBy c (objectSaid L (present (logNow L area r) k))) (cause-first _ _ bad))
 read-settled L r area cells k a unfit exact (inr genuine) =
     ap readSaid (exact genuine) ∙
-    read-says (firstCause (readCauses L r (logNow L area r) (readLengths area cells) k)) (present L (logNow L area r) k)
+    read-says L (firstCause (readCauses L r (logNow L area r) (readLengths area cells) k)) (present (logNow L area r) k)
 
 -- and likewise a start
 pub start-settled :

@@ -8,12 +8,12 @@ use native.Mathlib.Numerals.{add-one}
 use native.Mathlib.Omega.{arith}
 use lib.Dec.{eqb, ltb}
 use borrow.Author.Tests.{lt-ltb, le-ltb, eq-eqb, ne-eqb, eqb-true, eqb-false}
-use Rattle.segment.specs.Choice.{pick-true, pick-false, both, both-true, both-false-left, both-false-right, either-false, either-true-left, either-true-right}
+use Rattle.segment.specs.Choice.{pick-true, pick-false, both, both-true, both-false-left, both-false-right, either-false, either-true-left, either-true-right, isNone}
 use Rattle.segment.specs.Layout.{Layout}
 use Rattle.segment.specs.Digest.{digestOf, isDigest}
 use Rattle.segment.specs.declared.Digest.{Digest}
 use Rattle.model.specs.Log.{View, Head, segmentOf, viewsOf, headOf, newer, digestIn}
-use Rattle.model.specs.Recovery.{hasNumber, sharing, noDigest, namesNoDigest}
+use Rattle.model.specs.Recovery.{hasNumber, sharing, namesNoDigest}
 use Rattle.log.specs.declared.HeadFound.{HeadFound}
 use Rattle.log.specs.declared.HeadFound.the-variants.{Nothing, At}
 use Rattle.laws.specs.HeadLaws.{number-le}
@@ -144,21 +144,21 @@ module _ (v : ℕ → View) (p : ℕ → Bool) (i : ℕ) where
   unfolding namesNoDigest
   names-skip q e =
       ap (namesNoDigest v p) (add-one i)
-      ∙ either-false (namesNoDigest v p i) (both (p i) (noDigest (v i .digest))) e (both-false-left (p i) (noDigest (v i .digest)) q)
+      ∙ either-false (namesNoDigest v p i) (both (p i) (isNone (v i .digest))) e (both-false-left (p i) (isNone (v i .digest)) q)
 
   names-has : (d : Digest) → v i .digest ≡ some d → namesNoDigest v p i ≡ false → namesNoDigest v p (i + 1) ≡ false
-  unfolding namesNoDigest noDigest
+  unfolding namesNoDigest isNone
   names-has d q e =
       ap (namesNoDigest v p) (add-one i)
-      ∙ either-false (namesNoDigest v p i) (both (p i) (noDigest (v i .digest))) e
-      (both-false-right (p i) (noDigest (v i .digest)) (ap noDigest q))
+      ∙ either-false (namesNoDigest v p i) (both (p i) (isNone (v i .digest))) e
+      (both-false-right (p i) (isNone (v i .digest)) (ap isNone q))
 
   names-lacks : p i ≡ true → v i .digest ≡ none → (n : ℕ) → i < n → namesNoDigest v p n ≡ true
-  unfolding namesNoDigest noDigest
+  unfolding namesNoDigest isNone
   names-lacks q e n h =
-      stays (namesNoDigest v p) (λ m. either-true-left (namesNoDigest v p m) (both (p m) (noDigest (v m .digest)))) (suc i) n h
-      (either-true-right (namesNoDigest v p i) (both (p i) (noDigest (v i .digest)))
-      (both-true (p i) (noDigest (v i .digest)) q (ap noDigest e)))
+      stays (namesNoDigest v p) (λ m. either-true-left (namesNoDigest v p m) (both (p m) (isNone (v m .digest)))) (suc i) n h
+      (either-true-right (namesNoDigest v p i) (both (p i) (isNone (v i .digest)))
+      (both-true (p i) (isNone (v i .digest)) q (ap isNone e)))
 
 -- the test for a digest decides a slot that the map names
 module _ (L : Layout) (area : List ℕ) (s i : ℕ) (part : List ℕ) (its : part ≡ segmentOf area s i) (t : Bool) (tested : t ≡ isDigest L part)

@@ -5,11 +5,11 @@ use mathlib.Core.Bool.{Bool, true, false, not}
 use mathlib.Core.List.{List, [], _∷_, _++_}
 use mathlib.Core.Option.{Option, none, some}
 use lib.Dec.{eqb, ltb}
-use lib.ListN.{length, getD, take, drop}
+use lib.ListN.{length, take, drop}
 use Rattle.segment.specs.Choice.{pick, both, either}
-use Rattle.segment.specs.Layout.{Layout, isTombstone, digestSize}
-use Rattle.segment.specs.Entry.{Entry, Found, entry, end, damage, entryAt, sizeOf, keyOf}
-use Rattle.segment.specs.Digest.{digestOf}
+use Rattle.segment.specs.Layout.{Layout, digestSize}
+use Rattle.segment.specs.Entry.{Entry, Found, entry, end, damage, entryAt, isTombstone, sizeOf, keyOf}
+use Rattle.segment.specs.Digest.{isDigest, digestOf}
 use Rattle.segment.specs.declared.Digest.{Digest}
 use Rattle.segment.specs.declared.Key.{Key}
 
@@ -67,7 +67,7 @@ pub record View : Type 0 where
   pub scan : Scan
 
 unfoldable pub digestIn : Layout → List ℕ → Option Digest
-digestIn L s = pick (eqb (getD s 0 0) (L .digestKind)) (some (digestOf L s)) none
+digestIn L s = pick (isDigest L s) (some (digestOf L s)) none
 
 abbrev pub viewOf : Layout → List ℕ → View
 viewOf L s = record { digest = digestIn L s; scan = scan L s }
@@ -117,9 +117,13 @@ logOf v p (suc n) = logOf v p n ++ pick (p n) (placedIn n (itemsOf (v n .scan)))
 
 -- ---- the map of a log
 
--- A key is table and key together.
+-- whether two keys are one
+unfoldable pub sameKeys : Key → Key → Bool
+sameKeys a b = both (eqb (a .table) (b .table)) (eqb (a .key) (b .key))
+
+-- whether an entry is of a key
 unfoldable pub sameKey : Key → Entry → Bool
-sameKey k e = both (eqb (k .table) (e .table)) (eqb (k .key) (e .key))
+sameKey k e = sameKeys k (keyOf e)
 
 -- the newer of two entries of one key
 unfoldable pub laterOf : Placed → Option Placed → Option Placed
@@ -131,13 +135,13 @@ unfoldable pub latest : List Placed → Key → Option Placed
 latest [] k = none
 latest (x ∷ xs) k = pick (sameKey k (x .entry)) (laterOf x (latest xs k)) (latest xs k)
 
-unfoldable pub objectOnly : Layout → Option Placed → Option Placed
-objectOnly L none = none
-objectOnly L (some x) = pick (isTombstone L (x .entry .kind)) none (some x)
+unfoldable pub objectOnly : Option Placed → Option Placed
+objectOnly none = none
+objectOnly (some x) = pick (isTombstone (x .entry)) none (some x)
 
 -- A key is present exactly if its highest-version entry is an object, which then gives its value.
-unfoldable pub present : Layout → List Placed → Key → Option Placed
-present L log k = objectOnly L (latest log k)
+unfoldable pub present : List Placed → Key → Option Placed
+present log k = objectOnly (latest log k)
 
 -- whether the log has any entry of a key
 unfoldable pub hasKey : List Placed → Key → Bool

@@ -7,8 +7,8 @@ use lib.Dec.{eqb, ltb, leb}
 use lib.ListN.{length, getD, take, drop, set}
 use Rattle.word.specs.Number.{Bytes}
 use Rattle.segment.specs.Choice.{pick, both, either}
-use Rattle.segment.specs.Layout.{Layout, objectKind, isTombstone, digestSize}
-use Rattle.segment.specs.Entry.{Entry, encoded, decoded, sizeOf, keyOf}
+use Rattle.segment.specs.Layout.{Layout, digestSize}
+use Rattle.segment.specs.Entry.{Entry, isTombstone, encoded, sizeOf, keyOf}
 use Rattle.segment.specs.Digest.{encodedDigest}
 use Rattle.segment.specs.declared.Digest.{Digest}
 use Rattle.segment.specs.declared.Key.{Key}
@@ -44,17 +44,12 @@ logNow L area r = logOf (viewsOf L area (r .size)) (named (r .map)) (r .slots)
 
 -- ---- what a start lays out
 
-unfoldable pub kindElse : Option ℕ → ℕ
-kindElse none = 0
-kindElse (some k) = k
-
 -- The entry of a write takes the next version, and so does the tombstone of a delete.
-abbrev pub writtenEntry : Layout → Record → Key → List ℕ → Entry
-writtenEntry L r k value =
-    record { kind = kindElse (objectKind L (length value)); table = k .table; key = k .key; version = r .next .0; value = value }
+abbrev pub writtenEntry : Record → Key → List ℕ → Entry
+writtenEntry r k value = record { table = k .table; key = k .key; version = r .next .0; value = some value }
 
-abbrev pub tombstoneEntry : Layout → Record → Key → Entry
-tombstoneEntry L r k = record { kind = L .tombstoneKind; table = k .table; key = k .key; version = r .next .0; value = [] }
+abbrev pub tombstoneEntry : Record → Key → Entry
+tombstoneEntry r k = record { table = k .table; key = k .key; version = r .next .0; value = none }
 
 -- The entry fits the head: it may end exactly at S.
 abbrev pub fitsHead : Layout → Record → Entry → Bool
@@ -78,27 +73,27 @@ abbrev pub isHighest : List Placed → Entry → Bool
 isHighest log e = isVersion (latest log (keyOf e)) (e .version)
 
 -- A log slot outside the victims holds an object of that key.
-unfoldable pub objectOutside : Layout → ℕ → List Placed → Key → Bool
-objectOutside L victims [] k = false
-objectOutside L victims (x ∷ xs) k =
-    either (both (both (not (named victims (x .slot))) (sameKey k (x .entry))) (not (isTombstone L (x .entry .kind))))
-    (objectOutside L victims xs k)
+unfoldable pub objectOutside : ℕ → List Placed → Key → Bool
+objectOutside victims [] k = false
+objectOutside victims (x ∷ xs) k =
+    either (both (both (not (named victims (x .slot))) (sameKey k (x .entry))) (not (isTombstone (x .entry))))
+    (objectOutside victims xs k)
 
 -- A victim's object is kept if it is its key's highest version, and a tombstone if besides an object of the key stands
 -- outside the victims.
-abbrev pub isKept : Layout → ℕ → List Placed → Placed → Bool
-isKept L victims log x =
+abbrev pub isKept : ℕ → List Placed → Placed → Bool
+isKept victims log x =
     both (named victims (x .slot))
-    (both (isHighest log (x .entry)) (either (not (isTombstone L (x .entry .kind))) (objectOutside L victims log (keyOf (x .entry)))))
+    (both (isHighest log (x .entry)) (either (not (isTombstone (x .entry))) (objectOutside victims log (keyOf (x .entry)))))
 
 -- those of xs that are kept in a cleaning of the log, in their order
-unfoldable pub keptOf : Layout → ℕ → List Placed → List Placed → List Entry
-keptOf L victims log [] = []
-keptOf L victims log (x ∷ xs) = pick (isKept L victims log x) (x .entry ∷ keptOf L victims log xs) (keptOf L victims log xs)
+unfoldable pub keptOf : ℕ → List Placed → List Placed → List Entry
+keptOf victims log [] = []
+keptOf victims log (x ∷ xs) = pick (isKept victims log x) (x .entry ∷ keptOf victims log xs) (keptOf victims log xs)
 
 -- The entries kept of the log, by ascending slot and then offset.
-abbrev pub kept : Layout → ℕ → List Placed → List Entry
-kept L victims log = keptOf L victims log log
+abbrev pub kept : ℕ → List Placed → List Entry
+kept victims log = keptOf victims log log
 
 unfoldable pub allEncoded : Layout → List Entry → List ℕ
 allEncoded L [] = []
@@ -127,13 +122,13 @@ laidEntry L r e = pick (fitsHead L r e) (laidAppend L e) (laidHead L r e)
 abbrev pub laidClean : Layout → Record → List Placed → ℕ → Laid
 laidClean L r log victims =
     record {
-      pending = λ k. Clean (newSlot r) victims (digestSize L + length (allEncoded L (kept L victims log))) k;
-      bytes = encodedDigest L (newDigest r victims) ++ allEncoded L (kept L victims log);
+      pending = λ k. Clean (newSlot r) victims (digestSize L + length (allEncoded L (kept victims log))) k;
+      bytes = encodedDigest L (newDigest r victims) ++ allEncoded L (kept victims log);
     }
 
 unfoldable pub laid : Layout → Record → List Placed → Operation → Laid
-laid L r log (write k value) = laidEntry L r (writtenEntry L r k value)
-laid L r log (delete k) = laidEntry L r (tombstoneEntry L r k)
+laid L r log (write k value) = laidEntry L r (writtenEntry r k value)
+laid L r log (delete k) = laidEntry L r (tombstoneEntry r k)
 laid L r log (clean victims) = laidClean L r log victims
 
 -- ---- the stores, in order: each is a place in the area and a byte
@@ -181,10 +176,11 @@ toldVersion r (write k value) = r .next .0
 toldVersion r (delete k) = r .next .0
 toldVersion r (clean victims) = 0
 
--- the log outside the victims, and the keys that a cleaning leaves: those outside and those kept
+-- the slots of a map outside the victims
 abbrev pub outsideSlots : ℕ → ℕ → ℕ → Bool
 outsideSlots map victims i = both (named map i) (not (named victims i))
 
+-- how many keys an entry of key k adds to those of the log
 unfoldable pub countNew : List Placed → Key → ℕ
 countNew log k = pick (hasKey log k) 0 1
 
@@ -218,18 +214,18 @@ entryRecord L r log e = pick (fitsHead L r e) (appendedRecord L r log e) (headed
 abbrev pub cleanedLog : Layout → List ℕ → Record → ℕ → List Placed
 cleanedLog L area r victims =
     logOf (viewsOf L area (r .size)) (outsideSlots (r .map) victims) (r .slots) ++
-    placedFrom L (newSlot r) (digestSize L) (kept L victims (logNow L area r))
+    placedFrom L (newSlot r) (digestSize L) (kept victims (logNow L area r))
 
 abbrev pub cleanedRecord : Layout → List ℕ → Record → ℕ → Record
 cleanedRecord L area r victims =
     committed r
-    (headCommit r (newSlot r) (digestSize L + length (allEncoded L (kept L victims (logNow L area r)))) (newDigest r victims .map) (r .next))
+    (headCommit r (newSlot r) (digestSize L + length (allEncoded L (kept victims (logNow L area r)))) (newDigest r victims .map) (r .next))
     (length (keysOf (cleanedLog L area r victims)))
 
 -- The record after the last step of an operation that was started on this area and record.
 unfoldable pub finishedRecord : Layout → List ℕ → Record → Operation → Record
-finishedRecord L area r (write k value) = entryRecord L r (logNow L area r) (writtenEntry L r k value)
-finishedRecord L area r (delete k) = entryRecord L r (logNow L area r) (tombstoneEntry L r k)
+finishedRecord L area r (write k value) = entryRecord L r (logNow L area r) (writtenEntry r k value)
+finishedRecord L area r (delete k) = entryRecord L r (logNow L area r) (tombstoneEntry r k)
 finishedRecord L area r (clean victims) = cleanedRecord L area r victims
 
 -- ---- format

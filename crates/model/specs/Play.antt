@@ -4,9 +4,9 @@ use mathlib.Core.List.{List, [], _∷_, _++_}
 use mathlib.Core.Option.{Option, none, some}
 use lib.ListN.{length, take, replicate}
 use Rattle.word.specs.Number.{numberOf, bytesOf}
-use Rattle.segment.specs.Choice.{pick, both, either}
-use Rattle.segment.specs.Layout.{edition1, objectKind, lookup, lookBack, isSome, valueLength, goodVersion}
-use Rattle.segment.specs.Entry.{Entry, ofVersion, ofLength, entryAt}
+use Rattle.segment.specs.Choice.{pick, both, either, isNone, orZero}
+use Rattle.segment.specs.Layout.{edition1, lookup, lookBack, isSome, valueLength, goodVersion}
+use Rattle.segment.specs.Entry.{Entry, bytesIn, kindFor, valueFor, ofVersion, ofLength, entryAt}
 use Rattle.segment.specs.Digest.{encodedDigest}
 use Rattle.segment.specs.declared.Key.{Key}
 use Rattle.slot_map.specs.Bit.{bit}
@@ -18,22 +18,22 @@ use Rattle.record.specs.Refusals.{numberOfRefusal}
 use Rattle.record.specs.declared.Recovery.{Recovery}
 use Rattle.record.specs.declared.Refusal.{Refusal}
 use Rattle.record.specs.declared.Record.{Record}
-use Rattle.model.specs.Log.{Placed, itemFirst, scanFrom, itemsOf, endOf, isDamaged, digestIn, newer, headOf, placedIn, logOf, sameKey, laterOf, latest, objectOnly, present, hasKey, keysOf, hasVersion, versionShared, highest}
+use Rattle.model.specs.Log.{Placed, itemFirst, scanFrom, itemsOf, endOf, isDamaged, digestIn, newer, headOf, placedIn, logOf, sameKeys, sameKey, laterOf, latest, objectOnly, present, hasKey, keysOf, hasVersion, versionShared, highest}
 use Rattle.model.specs.Causes.{Cause, firstCause}
-use Rattle.model.specs.Recovery.{lists, listsBelow, noHead, headElse, hasNumber, sharing, noDigest, namesNoDigest, logDamaged, recoveryFor, recovery, recordFrom}
-use Rattle.model.specs.Operations.{Operation, logNow, kindElse, isVersion, objectOutside, keptOf, kept, allEncoded, laid, storesFrom, planOf, planFor, storesFor, stored, toldVersion, countNew, placedFrom, finishedRecord, cleared, formatted}
-use Rattle.model.specs.Refused.{Lengths, isPending, isNone, isAbsent, readCauses, startCauses}
+use Rattle.model.specs.Recovery.{lists, listsBelow, headElse, hasNumber, sharing, namesNoDigest, logDamaged, recoveryFor, recovery, recordFrom}
+use Rattle.model.specs.Operations.{Operation, logNow, isVersion, objectOutside, keptOf, kept, allEncoded, laid, storesFrom, planOf, planFor, storesFor, stored, toldVersion, countNew, placedFrom, finishedRecord, cleared, formatted}
+use Rattle.model.specs.Refused.{Lengths, isPending, readCauses, startCauses}
 use Rattle.model.specs.Promises.{presentAnswer, readAnswer, partOf, valuePart, valueAnswer, Begun, begun, stepped}
 use Rattle.model.specs.Table.{same, failing}
 
 -- What a computed row looks through: a proof that opens this opens them all.
 unfoldable pub opened : Unit {0}
-unfolding numberOf bytesOf pick both either edition1 lookup lookBack isSome valueLength goodVersion ofVersion ofLength entryAt
+unfolding numberOf bytesOf pick both either isNone orZero edition1 lookup lookBack isSome valueLength goodVersion bytesIn kindFor valueFor ofVersion ofLength entryAt
     bit used slotAfter freeFrom nextFree between mapGood leftGood inRange lengthsOwn fitsLent
-    itemFirst scanFrom itemsOf endOf isDamaged digestIn newer headOf placedIn logOf sameKey laterOf latest objectOnly present hasKey keysOf hasVersion versionShared highest
-    firstCause lists listsBelow noHead headElse hasNumber sharing noDigest namesNoDigest logDamaged recoveryFor recovery
-    kindElse isVersion objectOutside keptOf allEncoded laid storesFrom planOf stored toldVersion countNew placedFrom finishedRecord cleared
-    isPending isNone isAbsent startCauses presentAnswer readAnswer valuePart valueAnswer begun stepped same failing
+    itemFirst scanFrom itemsOf endOf isDamaged digestIn newer headOf placedIn logOf sameKeys sameKey laterOf latest objectOnly present hasKey keysOf hasVersion versionShared highest
+    firstCause lists listsBelow headElse hasNumber sharing namesNoDigest logDamaged recoveryFor recovery
+    isVersion objectOutside keptOf allEncoded laid storesFrom planOf stored toldVersion countNew placedFrom finishedRecord cleared
+    isPending startCauses presentAnswer readAnswer valuePart valueAnswer begun stepped same failing
 opened = tt
 
 -- ---- areas
@@ -46,10 +46,10 @@ abbrev pub keyed : ℕ → ℕ → Key
 keyed t k = record { table = t; key = k }
 
 abbrev pub object : Key → ℕ → List ℕ → Entry
-object k v value = record { kind = kindElse (objectKind edition1 (length value)); table = k .table; key = k .key; version = v; value = value }
+object k v value = record { table = k .table; key = k .key; version = v; value = some value }
 
 abbrev pub tombstone : Key → ℕ → Entry
-tombstone k v = record { kind = edition1 .tombstoneKind; table = k .table; key = k .key; version = v; value = [] }
+tombstone k v = record { table = k .table; key = k .key; version = v; value = none }
 
 -- a slot that begins with these bytes and, where they leave room, a kind 0; the rest of it is b
 abbrev pub slotWith : ℕ → List ℕ → List ℕ
@@ -149,9 +149,9 @@ readCause r area k = firstCause (readCauses edition1 r (logNow edition1 area r) 
 
 abbrev pub reads : List ℕ → Key → List ℕ
 reads area k =
-    said (readSaid (readAnswer (readCause (recordNow area) area k) (present edition1 (log area) k))) ++
-    partOf area (valueAnswer edition1 256 (readCause (recordNow area) area k) (present edition1 (log area) k))
+    said (readSaid (readAnswer edition1 (readCause (recordNow area) area k) (present (log area) k))) ++
+    partOf area (valueAnswer edition1 256 (readCause (recordNow area) area k) (present (log area) k))
 
 -- the bytes that a cleaning keeps
 abbrev pub keeps : List ℕ → ℕ → List ℕ
-keeps area victims = allEncoded edition1 (kept edition1 victims (log area))
+keeps area victims = allEncoded edition1 (kept victims (log area))

@@ -13,7 +13,7 @@ use denote.Ref.{RefT}
 use Rattle.word.specs.Number.{Bytes}
 use Rattle.segment.specs.Choice.{pick}
 use Rattle.segment.specs.Layout.{Layout, entrySize}
-use Rattle.segment.specs.Entry.{Entry}
+use Rattle.segment.specs.Entry.{Entry, bytesIn, kindOf}
 use Rattle.segment.specs.declared.Key.{Key}
 use Rattle.record.specs.Answers.{Said, taken, takenWith, refusal, saidBy, formatSaid, recoverSaid, readSaid, startSaid, stepSaid, withPending, storesLeft}
 use Rattle.record.specs.declared.Pending.{Pending}
@@ -102,18 +102,18 @@ pub record RecoverPromise (L : Layout) (n s : ℕ) (order area cells cells′ : 
 
 -- ---- read
 
-unfoldable pub presentAnswer : Option Placed → ReadAnswer
-presentAnswer none = ReadAnswer.Present (record { 0 = 0 }) 0
-presentAnswer (some x) = ReadAnswer.Present (record { 0 = x .entry .version }) (x .entry .kind)
+unfoldable pub presentAnswer : Layout → Option Placed → ReadAnswer
+presentAnswer L none = ReadAnswer.Present (record { 0 = 0 }) 0
+presentAnswer L (some x) = ReadAnswer.Present (record { 0 = x .entry .version }) (kindOf L (x .entry))
 
-unfoldable pub readAnswer : Option Refusal → Option Placed → ReadAnswer
-readAnswer none x = presentAnswer x
-readAnswer (some c) x = ReadAnswer.Refused c
+unfoldable pub readAnswer : Layout → Option Refusal → Option Placed → ReadAnswer
+readAnswer L none x = presentAnswer L x
+readAnswer L (some c) x = ReadAnswer.Refused c
 
 -- what a read of that object says: its version and kind
-unfoldable pub objectSaid : Option Placed → Said
-objectSaid none = taken
-objectSaid (some x) = record { refused = 0; stores = 0; version = x .entry .version; kind = x .entry .kind }
+unfoldable pub objectSaid : Layout → Option Placed → Said
+objectSaid L none = taken
+objectSaid L (some x) = record { refused = 0; stores = 0; version = x .entry .version; kind = kindOf L (x .entry) }
 
 abbrev pub readLengths : List ℕ → List ℕ → Lengths
 readLengths area cells = record { area = length area; index = length cells; work = 0 }
@@ -125,10 +125,10 @@ pub record ReadPromise (L : Layout) (r : Record) (area cells : List ℕ) (k : Ke
   pub unfit : recordBad L r (readLengths area cells) ≡ true → a .answer ≡ ReadAnswer.Refused Refusal.BadRecord
   pub exact :
       Genuine L area r cells → a .answer ≡
-      readAnswer (firstCause (readCauses L r (logNow L area r) (readLengths area cells) k)) (present L (logNow L area r) k)
+      readAnswer L (firstCause (readCauses L r (logNow L area r) (readLengths area cells) k)) (present (logNow L area r) k)
   pub says :
       Settled L area r cells (readLengths area cells) → readSaid (a .answer) ≡
-      saidBy (firstCause (readCauses L r (logNow L area r) (readLengths area cells) k)) (objectSaid (present L (logNow L area r) k))
+      saidBy (firstCause (readCauses L r (logNow L area r) (readLengths area cells) k)) (objectSaid L (present (logNow L area r) k))
 
 -- A part of the area: the place at which it starts, and how many bytes it has.
 pub record Part : Type 0 where
@@ -147,7 +147,7 @@ nowhere = record { place = 0; bytes = 0 }
 -- area's start.
 unfoldable pub valuePart : Layout → ℕ → Option Placed → Part
 valuePart L S none = nowhere
-valuePart L S (some x) = record { place = placeOf S x + entrySize L 0; bytes = length (x .entry .value) }
+valuePart L S (some x) = record { place = placeOf S x + entrySize L 0; bytes = length (bytesIn (x .entry .value)) }
 
 unfoldable pub valueAnswer : Layout → ℕ → Option Refusal → Option Placed → Part
 valueAnswer L S none x = valuePart L S x
@@ -155,7 +155,7 @@ valueAnswer L S (some c) x = nowhere
 
 abbrev pub promisedPart : Layout → Record → List ℕ → List ℕ → Key → Part
 promisedPart L r area cells k =
-    valueAnswer L (r .size) (firstCause (readCauses L r (logNow L area r) (readLengths area cells) k)) (present L (logNow L area r) k)
+    valueAnswer L (r .size) (firstCause (readCauses L r (logNow L area r) (readLengths area cells) k)) (present (logNow L area r) k)
 
 -- Which part of the area the value is.
 pub record ValuePromise (L : Layout) (r : Record) (area cells : List ℕ) (k : Key) (p : Part) : Type 0 where

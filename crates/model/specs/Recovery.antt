@@ -5,7 +5,7 @@ use mathlib.Core.List.{List, [], _∷_, _++_}
 use mathlib.Core.Option.{Option, none, some}
 use lib.Dec.{eqb, ltb}
 use lib.ListN.{length}
-use Rattle.segment.specs.Choice.{pick, both, either}
+use Rattle.segment.specs.Choice.{pick, both, either, isNone}
 use Rattle.segment.specs.Layout.{Layout}
 use Rattle.segment.specs.declared.Digest.{Digest}
 use Rattle.slot_map.specs.Bit.{named}
@@ -37,12 +37,7 @@ listsBelow xs (suc n) = both (listsBelow xs n) (lists xs n)
 abbrev pub orderBad : ℕ → List ℕ → Bool
 orderBad n order = not (both (eqb (length order) n) (listsBelow order n))
 
--- 16: no byte 0 is the digest's kind
-unfoldable pub noHead : Option Head → Bool
-noHead none = true
-noHead (some h) = false
-
--- the head, or a slot of zeros where there is none, which 16 has refused
+-- 16: no byte 0 is the digest's kind, so that there is no head. The head, or a slot of zeros where there is none
 unfoldable pub headElse : Option Head → Head
 headElse none = record { slot = 0; digest = record { number = record { 0 = 0 }; map = 0; next = record { 0 = 0 } } }
 headElse (some h) = h
@@ -66,13 +61,9 @@ mapBad n h =
     either (not (ltb (h .digest .map) (2 ^ n))) (either (not (named (h .digest .map) (h .slot))) (not (ltb (used n (h .digest .map)) n)))
 
 -- the map names a slot whose byte 0 is not the digest's kind
-unfoldable pub noDigest : Option Digest → Bool
-noDigest none = true
-noDigest (some d) = false
-
 unfoldable pub namesNoDigest : (ℕ → View) → (ℕ → Bool) → ℕ → Bool
 namesNoDigest v p zero = false
-namesNoDigest v p (suc n) = either (namesNoDigest v p n) (both (p n) (noDigest (v n .digest)))
+namesNoDigest v p (suc n) = either (namesNoDigest v p n) (both (p n) (isNone (v n .digest)))
 
 -- next version 0
 abbrev pub nextBad : Head → Bool
@@ -116,7 +107,7 @@ recordUnder v n s m h =
 -- 16 to 19, which look at the image alone
 abbrev pub imageCauses : (ℕ → View) → ℕ → Option Head → List Cause
 imageCauses v n h =
-    when (noHead h) NoDigest
+    when (isNone h) NoDigest
     ∷ when (digestBad v n (headElse h)) BadDigest
     ∷ when (logDamaged v (logSlots (headElse h)) n) DamagedLog
     ∷ when (versionShared (logUnder v n (headElse h))) SharedVersion

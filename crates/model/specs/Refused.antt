@@ -3,10 +3,9 @@
 use Prim.Native.Nat.{ℕ, _+_, _-_}
 use mathlib.Core.Bool.{Bool, true, false, not}
 use mathlib.Core.List.{List, [], _∷_}
-use mathlib.Core.Option.{Option, none, some}
 use lib.Dec.{eqb, ltb, leb}
 use lib.ListN.{length}
-use Rattle.segment.specs.Choice.{both, either}
+use Rattle.segment.specs.Choice.{both, either, isNone}
 use Rattle.segment.specs.Layout.{Layout, objectKind, entrySize, digestSize, versionLimit, numberLimit}
 use Rattle.segment.specs.declared.Key.{Key}
 use Rattle.slot_map.specs.Bit.{within}
@@ -43,20 +42,12 @@ isPending (NewHead i n k) = true
 isPending (Clean i v n k) = true
 
 -- 7, for a value of n bytes
-unfoldable pub isNone : Option ℕ → Bool
-isNone none = true
-isNone (some k) = false
-
 abbrev pub valueBad : Layout → ℕ → Bool
 valueBad L n = isNone (objectKind L n)
 
 -- 8
-unfoldable pub isAbsent : Option Placed → Bool
-isAbsent none = true
-isAbsent (some x) = false
-
-abbrev pub keyAbsent : Layout → List Placed → Key → Bool
-keyAbsent L log k = isAbsent (present L log k)
+abbrev pub keyAbsent : List Placed → Key → Bool
+keyAbsent log k = isNone (present log k)
 
 -- What a call knows of its key: whether a byte was met that the rules of the log forbid, whether the log has any entry of
 -- the key, and whether no object gives it a value.
@@ -66,8 +57,8 @@ pub record KeyFacts : Type 0 where
   pub absent : Bool
 
 -- by the log, whose entries have no such byte
-abbrev pub keyFacts : Layout → List Placed → Key → KeyFacts
-keyFacts L log k = record { forbidden = false; in-log = hasKey log k; absent = keyAbsent L log k }
+abbrev pub keyFacts : List Placed → Key → KeyFacts
+keyFacts log k = record { forbidden = false; in-log = hasKey log k; absent = keyAbsent log k }
 
 -- 9
 abbrev pub versionsSpent : Layout → Record → Bool
@@ -104,7 +95,7 @@ formatCauses n s areaLength = when (geometryBad n s areaLength) Geometry ∷ []
 
 -- Read: 4, 8.
 abbrev pub readCauses : Layout → Record → List Placed → Lengths → Key → List Cause
-readCauses L r log l k = when (recordBad L r l) BadRecord ∷ when (keyAbsent L log k) Absent ∷ []
+readCauses L r log l k = when (recordBad L r l) BadRecord ∷ when (keyAbsent log k) Absent ∷ []
 
 -- Write: 4, 3, 5, 7, 9, 11, 12, 10, for a value of n bytes. A forbidden byte is met where the key is looked up, which 11 is
 -- the first to need.
@@ -147,12 +138,12 @@ cleanCauses L r l n victims =
 
 -- how many bytes a cleaning of the log keeps
 abbrev pub keptLength : Layout → List Placed → ℕ → ℕ
-keptLength L log victims = length (allEncoded L (kept L victims log))
+keptLength L log victims = length (allEncoded L (kept victims log))
 
 -- The causes of a start, with what the log says.
 unfoldable pub startCauses : Layout → Record → List Placed → Lengths → Operation → List Cause
-startCauses L r log l (write k value) = writeCauses L r l (keyFacts L log k) (length value)
-startCauses L r log l (delete k) = deleteCauses L r l (keyFacts L log k)
+startCauses L r log l (write k value) = writeCauses L r l (keyFacts log k) (length value)
+startCauses L r log l (delete k) = deleteCauses L r l (keyFacts log k)
 startCauses L r log l (clean victims) = cleanCauses L r l (keptLength L log victims) victims
 
 -- Step: 4, 3, 6.

@@ -4,8 +4,7 @@ use mathlib.Core.Path.{_≡_, refl, sym, _∙_, ap}
 use mathlib.Core.Bool.{Bool, true, false}
 use lib.Dec.{eqb, ltb}
 use borrow.Author.Tests.{eq-eqb, ne-eqb}
-use Rattle.segment.specs.Choice.{pick, pick-true, pick-false, both, both-false-left}
-use Rattle.segment.specs.Kinds.{orZero}
+use Rattle.segment.specs.Choice.{pick, pick-true, pick-false, both, both-false-left, orZero}
 use Rattle.segment.specs.Layout.{edition1, objectKind}
 use Rattle.segment.specs.declared.Version.{Version}
 use Rattle.record.specs.Refusals.{numberOfRefusal}

@@ -6,7 +6,7 @@ use mathlib.Core.List.{List, [], _∷_}
 use mathlib.Core.Option.{Option, none, some}
 use native.Mathlib.Omega.{arith}
 use lib.ListN.{length}
-use Rattle.segment.specs.Choice.{either}
+use Rattle.segment.specs.Choice.{either, isNone}
 use Rattle.segment.specs.Layout.{Layout}
 use Rattle.segment.specs.declared.Digest.{Digest}
 use Rattle.segment.specs.declared.Version.{Version}
@@ -16,7 +16,7 @@ use Rattle.record.specs.declared.Refusal.{Refusal}
 use Rattle.record.specs.declared.Refusal.the-variants.{Geometry, Cells, BadOrder, NoDigest, BadDigest, DamagedLog, SharedVersion}
 use Rattle.model.specs.Log.{View, Head, Scan, damaged, scanned, scan, endOf, segmentOf, headOf, highest, versionShared}
 use Rattle.model.specs.Causes.{Cause, when, firstCause}
-use Rattle.model.specs.Recovery.{geometryBad, orderBad, noHead, headElse, mapBad, digestBad, logDamaged, logSlots, logUnder, imageCauses}
+use Rattle.model.specs.Recovery.{geometryBad, orderBad, headElse, mapBad, digestBad, logDamaged, logSlots, logUnder, imageCauses}
 use Rattle.laws.specs.CauseLaws.{cause-first, cause-skip, cause-none}
 use Rattle.laws.specs.Scans.{scan-scans, scans-high}
 use Rattle.laws.specs.Stores.{length-segment}
@@ -88,10 +88,10 @@ map-bad n h t e = ap not e ∙ sym (map-bad-good n h)
 
 module _ (v : ℕ → View) (n : ℕ) where
   pub head-none : headOf v n ≡ none → Image.Refused NoDigest ≡ imageOf v n
-  unfolding imageFor noHead
+  unfolding imageFor isNone
   head-none e =
       ap (λ (o : Option Refusal). imageFor v n (headElse (headOf v n)) o)
-      (sym (cause-first (when (noHead (headOf v n)) NoDigest) _ (ap noHead e)))
+      (sym (cause-first (when (isNone (headOf v n)) NoDigest) _ (ap isNone e)))
 
   pub head-some : (h : Head) → headOf v n ≡ some h → imageUnder v n h ≡ imageOf v n
   unfolding headElse
@@ -108,7 +108,7 @@ module _ (v : ℕ → View) (n : ℕ) where
     shared = when (versionShared (logUnder v n h)) SharedVersion
 
     has-head : firstCause (imageCauses v n (some h)) ≡ firstCause (digest ∷ damage ∷ shared ∷ [])
-    unfolding noHead headElse
+    unfolding isNone headElse
     has-head = cause-skip (when false NoDigest) (digest ∷ damage ∷ shared ∷ []) refl
 
     pub head-digest : digestBad v n h ≡ true → Image.Refused BadDigest ≡ imageUnder v n h

@@ -8,9 +8,9 @@ use native.Mathlib.Nat.{mul-add-div-right, mul-add-mod-self-right, mod-eq-of-lt,
 use native.Mathlib.Omega.{arith}
 use lib.ListN.{length, getD, take, drop, length-take}
 use borrow.Author.Tests.{not-true}
-use Rattle.segment.specs.Choice.{pick, pick-true, pick-false}
-use Rattle.segment.specs.Layout.{Layout, isTombstone, entrySize}
-use Rattle.segment.specs.Entry.{entry, entryAt, sizeOf, keyOf, answer}
+use Rattle.segment.specs.Choice.{pick, pick-true, pick-false, isNone}
+use Rattle.segment.specs.Layout.{Layout, entrySize}
+use Rattle.segment.specs.Entry.{bytesIn, entry, entryAt, sizeOf, keyOf, answer, isTombstone, kindOf}
 use Rattle.segment.specs.AnswerLaws.{tells-object}
 use Rattle.segment.specs.EntryLaws.{found-fits}
 use Rattle.segment.specs.declared.Key.{Key}
@@ -27,7 +27,7 @@ use Rattle.record.specs.declared.Refusal.{Refusal}
 use Rattle.model.specs.Log.{Placed, placeOf, segmentOf, viewsOf, logOf, latest, objectOnly, present, keysOf, scan}
 use Rattle.model.specs.Causes.{when, firstCause}
 use Rattle.model.specs.Operations.{logNow}
-use Rattle.model.specs.Refused.{recordBad, keyAbsent, isAbsent, readCauses}
+use Rattle.model.specs.Refused.{recordBad, keyAbsent, readCauses}
 use Rattle.model.specs.Promises.{Genuine, ReadPromise, ValuePromise, readAnswer, presentAnswer, readLengths, valuePart, valueAnswer}
 use Rattle.laws.specs.CauseLaws.{cause-first, cause-none, cause-skip}
 use Rattle.laws.specs.SaidLaws.{read-settled}
@@ -142,7 +142,7 @@ log-stands L area S p n scans x m =
 -- the lookup for a key's object, or for none
 unfoldable pub lookupFor : Layout → ℕ → Option Placed → Lookup
 lookupFor L S none = Lookup.Absent
-lookupFor L S (some x) = Lookup.Object (placeOf S x) (record { 0 = x .entry .version }) (x .entry .kind) (sizeOf L (x .entry))
+lookupFor L S (some x) = Lookup.Object (placeOf S x) (record { 0 = x .entry .version }) (kindOf L (x .entry)) (sizeOf L (x .entry))
 
 -- a place and the slot and offset that it stands for
 module _ (S i at : ℕ) (inside : at < S) where
@@ -153,14 +153,14 @@ module _ (S i at : ℕ) (inside : at < S) where
   place-offset = mul-add-mod-self-right i S at ∙ mod-eq-of-lt inside
 
 -- an entry at its place, as the lookup takes it
-entry-lookup : (L : Layout) (S : ℕ) (x : Placed) → lookupOf (placeOf S x) (answer L (entry (x .entry))) ≡ lookupFor L S (objectOnly L (some x))
+entry-lookup : (L : Layout) (S : ℕ) (x : Placed) → lookupOf (placeOf S x) (answer L (entry (x .entry))) ≡ lookupFor L S (objectOnly (some x))
 unfolding lookupOf answer lookupFor objectOnly pick
-entry-lookup L S x = go (isTombstone L (x .entry .kind))
+entry-lookup L S x = go (isTombstone (x .entry))
   where
     go : (t : Bool)
         → lookupOf (placeOf S x)
         (pick t (Read.Tombstone (keyOf (x .entry)) (record { 0 = x .entry .version }) (sizeOf L (x .entry)))
-        (Read.Object (keyOf (x .entry)) (record { 0 = x .entry .version }) (x .entry .kind) (sizeOf L (x .entry))))
+        (Read.Object (keyOf (x .entry)) (record { 0 = x .entry .version }) (kindOf L (x .entry)) (sizeOf L (x .entry))))
         ≡ lookupFor L S (pick t none (some x))
     go true = refl
     go false = refl
@@ -192,19 +192,19 @@ module _ (L : Layout) (r : Record) (area cells : List ℕ) (k : Key) (genuine : 
       ∙ ap (λ (o : ℕ). answer L (entryAt L s o)) (place-offset S (x .slot) (x .offset) inside)
       ∙ ap (answer L) found
 
-  pub genuine-lookup : lookedUp L r area cells k ≡ lookupFor L S (present L log k)
+  pub genuine-lookup : lookedUp L r area cells k ≡ lookupFor L S (present log k)
   unfolding present
   genuine-lookup = go (latest log k) refl
     where
       picks : Picks (cellHas L area k) S log k
       picks = area-picks L area S log k (log-in-area L area S (named (r .map)) (r .slots) scans)
 
-      go : (o : Option Placed) → latest log k ≡ o → lookedUp L r area cells k ≡ lookupFor L S (objectOnly L (latest log k))
+      go : (o : Option Placed) → latest log k ≡ o → lookedUp L r area cells k ≡ lookupFor L S (objectOnly (latest log k))
       go none e =
           let (c, f) = search-new S log cells (genuine .rule) (cellHas L area k) k picks e few in
-          looked-free L r area cells k fit (c .cell) f ∙ sym (ap (λ (o : Option Placed). lookupFor L S (objectOnly L o)) e ∙ absent)
+          looked-free L r area cells k fit (c .cell) f ∙ sym (ap (λ (o : Option Placed). lookupFor L S (objectOnly o)) e ∙ absent)
         where
-          absent : lookupFor L S (objectOnly L none) ≡ Lookup.Absent
+          absent : lookupFor L S (objectOnly none) ≡ Lookup.Absent
           absent = unfold lookupFor objectOnly in refl
       go (some x) e =
           let (c, f) = search-known S log cells (genuine .rule) (cellHas L area k) k picks x e in
@@ -213,7 +213,7 @@ module _ (L : Layout) (r : Record) (area cells : List ℕ) (k : Key) (genuine : 
           ∙ ap (λ (p : ℕ). lookupOf p (standsAt L S area p)) place
           ∙ ap (lookupOf (placeOf S x)) (at-place x (latest-some log k x e .member))
           ∙ entry-lookup L S x
-          ∙ sym (ap (λ (o : Option Placed). lookupFor L S (objectOnly L o)) e)
+          ∙ sym (ap (λ (o : Option Placed). lookupFor L S (objectOnly o)) e)
 
 -- ---- the promises
 
@@ -222,7 +222,7 @@ module _ (L : Layout) (r : Record) (area cells : List ℕ) (k : Key) where
   fits = fitsLent L r (length area) (length cells)
 
   abbrev object : Option Placed
-  object = present L (logNow L area r) k
+  object = present (logNow L area r) k
 
   abbrev cause : Option Refusal
   cause = firstCause (readCauses L r (logNow L area r) (readLengths area cells) k)
@@ -230,16 +230,16 @@ module _ (L : Layout) (r : Record) (area cells : List ℕ) (k : Key) where
   cause-unfit : fits ≡ false → cause ≡ some Refusal.BadRecord
   cause-unfit e = cause-first (when (recordBad L r (readLengths area cells)) Refusal.BadRecord) _ (ap not e)
 
-  cause-fit : fits ≡ true → cause ≡ firstCause (when (keyAbsent L (logNow L area r) k) Refusal.Absent ∷ [])
+  cause-fit : fits ≡ true → cause ≡ firstCause (when (keyAbsent (logNow L area r) k) Refusal.Absent ∷ [])
   cause-fit e = cause-skip (when (recordBad L r (readLengths area cells)) Refusal.BadRecord) _ (ap not e)
 
   cause-absent : fits ≡ true → object ≡ none → cause ≡ some Refusal.Absent
-  unfolding isAbsent
-  cause-absent e d = cause-fit e ∙ cause-first (when (keyAbsent L (logNow L area r) k) Refusal.Absent) [] (ap isAbsent d)
+  unfolding isNone
+  cause-absent e d = cause-fit e ∙ cause-first (when (keyAbsent (logNow L area r) k) Refusal.Absent) [] (ap isNone d)
 
   cause-present : (x : Placed) → fits ≡ true → object ≡ some x → cause ≡ none
-  unfolding isAbsent firstCause
-  cause-present x e d = cause-fit e ∙ cause-none (when (keyAbsent L (logNow L area r) k) Refusal.Absent) [] (ap isAbsent d) refl
+  unfolding isNone firstCause
+  cause-present x e d = cause-fit e ∙ cause-none (when (keyAbsent (logNow L area r) k) Refusal.Absent) [] (ap isNone d) refl
 
   unfit-false : recordBad L r (readLengths area cells) ≡ true → fits ≡ false
   unfit-false e = not-true fits e
@@ -258,14 +258,14 @@ module _ (L : Layout) (r : Record) (area cells : List ℕ) (k : Key) where
       unfit : recordBad L r (readLengths area cells) ≡ true → said ≡ ReadAnswer.Refused Refusal.BadRecord
       unfit e = its ∙ ap toldBy (same ∙ looked-unfit L r area cells k (unfit-false e))
 
-      exact : Genuine L area r cells → (t : Bool) → fits ≡ t → (o : Option Placed) → object ≡ o → toldBy found ≡ readAnswer cause object
-      exact g false e o d = ap toldBy (same ∙ looked-unfit L r area cells k e) ∙ sym (ap (λ (c : Option Refusal). readAnswer c object) (cause-unfit e))
+      exact : Genuine L area r cells → (t : Bool) → fits ≡ t → (o : Option Placed) → object ≡ o → toldBy found ≡ readAnswer L cause object
+      exact g false e o d = ap toldBy (same ∙ looked-unfit L r area cells k e) ∙ sym (ap (λ (c : Option Refusal). readAnswer L c object) (cause-unfit e))
       exact g true e none d =
           ap toldBy (same ∙ genuine-lookup L r area cells k g e ∙ ap (lookupFor L (r .size)) d)
-          ∙ sym (ap (λ (c : Option Refusal). readAnswer c object) (cause-absent e d))
+          ∙ sym (ap (λ (c : Option Refusal). readAnswer L c object) (cause-absent e d))
       exact g true e (some x) d =
           ap toldBy (same ∙ genuine-lookup L r area cells k g e ∙ ap (lookupFor L (r .size)) d)
-          ∙ sym (ap (λ (c : Option Refusal). readAnswer c object) (cause-present x e d) ∙ ap presentAnswer d)
+          ∙ sym (ap (λ (c : Option Refusal). readAnswer L c object) (cause-present x e d) ∙ ap (presentAnswer L) d)
 
   value-length : (n : ℕ) → entrySize L n - entrySize L 0 ≡ n
   value-length n = omega arith
@@ -283,5 +283,5 @@ module _ (L : Layout) (r : Record) (area cells : List ℕ) (k : Key) where
           ∙ sym (ap (λ (c : Option Refusal). valueAnswer L (r .size) c object) (cause-absent e d))
       exact g true e (some x) d =
           ap (partBy L) (same ∙ genuine-lookup L r area cells k g e ∙ ap (lookupFor L (r .size)) d)
-          ∙ ap (λ (n : ℕ). record { place = placeOf (r .size) x + entrySize L 0; bytes = n }) (value-length (length (x .entry .value)))
+          ∙ ap (λ (n : ℕ). record { place = placeOf (r .size) x + entrySize L 0; bytes = n }) (value-length (length (bytesIn (x .entry .value))))
           ∙ sym (ap (λ (c : Option Refusal). valueAnswer L (r .size) c object) (cause-present x e d) ∙ ap (valuePart L (r .size)) d)

@@ -11,7 +11,7 @@ use borrow.Author.Tests.{not-false, ltb-false}
 use Rattle.segment.specs.Choice.{pick, pick-true, pick-false, either-false-left, either-false-right}
 use Rattle.segment.specs.Layout.{Layout, versionLimit}
 use Rattle.segment.specs.LayoutLaws.{version-below}
-use Rattle.segment.specs.EntryLaws.{found-accepted}
+use Rattle.segment.specs.EntryLaws.{found-readable}
 use Rattle.segment.specs.declared.Digest.{Digest}
 use Rattle.segment.specs.declared.Version.{Version}
 use Rattle.slot_map.specs.Bit.{named}
@@ -218,7 +218,7 @@ module _ (L : Layout) (n s : ℕ) (order area cells : List ℕ) where
             highest-below log (versionLimit L) p
                 (λ x w.
                 version-below L (x .entry .version)
-                (found-accepted L (segmentOf area s (x .slot)) (x .offset) (x .entry)
+                (found-readable L (segmentOf area s (x .slot)) (x .offset) (x .entry)
                 (log-stands L area s (named (d .map)) n (image-scans v n i d top image) x w) .good)),
           )
 

@@ -11,8 +11,8 @@ use borrow.Author.Tests.{ne-eqb, eq-eqb}
 use Rattle.word.specs.Number.{Bytes}
 use Rattle.word.specs.Laws.{bytes-take, bytes-drop}
 use Rattle.segment.specs.Choice.{pick, pick-true, pick-false}
-use Rattle.segment.specs.Layout.{Layout, isTombstone}
-use Rattle.segment.specs.Entry.{entry, entryAt, answer, keyOf, sizeOf}
+use Rattle.segment.specs.Layout.{Layout}
+use Rattle.segment.specs.Entry.{entry, entryAt, answer, keyOf, sizeOf, isTombstone, kindOf}
 use Rattle.segment.specs.EntryLaws.{found-stands, found-fits}
 use Rattle.segment.specs.declared.Key.{Key}
 use Rattle.segment.specs.declared.Read.{Read}
@@ -78,7 +78,7 @@ pub record RecoveredArea (L : Layout) (area : List ℕ) (r : Record) (cells : Li
 
 -- the ranks of the present keys of its log
 abbrev pub presentRanks : Layout → List ℕ → Record → List ℕ
-presentRanks L area r = ranks (presentKeys L (logNow L area r))
+presentRanks L area r = ranks (presentKeys (logNow L area r))
 
 module _ (L : Layout) (area : List ℕ) (r : Record) (cells : List ℕ) (ready : RecoveredArea L area r cells) where
   abbrev S : ℕ
@@ -124,22 +124,22 @@ module _ (L : Layout) (area : List ℕ) (r : Record) (cells : List ℕ) (ready :
     member : In x log
     member = latest-some log (keyOf (x .entry)) x l .member
 
-    its-present : present L log (keyOf (x .entry)) ≡ pick (isTombstone L (x .entry .kind)) none (some x)
+    its-present : present log (keyOf (x .entry)) ≡ pick (isTombstone (x .entry)) none (some x)
     unfolding present objectOnly
-    its-present = ap (objectOnly L) l
+    its-present = ap objectOnly l
 
-    its-rank : cellRank L S area (placeOf S x + 1) ≡ pick (isTombstone L (x .entry .kind)) none (some (rank (keyOf (x .entry))))
+    its-rank : cellRank L S area (placeOf S x + 1) ≡ pick (isTombstone (x .entry)) none (some (rank (keyOf (x .entry))))
     its-rank =
         cell-taken L S area (placeOf S x + 1) (λ e. omega arith)
         ∙ ap (λ (p : ℕ). rankRead (standsAt L S area p)) (place-back (placeOf S x))
         ∙ ap rankRead (at-place L r area cells (keyOf (x .entry)) (ready .genuine) (ready .fit) x member)
         ∙ of-answer
       where
-        of-answer : rankRead (answer L (entry (x .entry))) ≡ pick (isTombstone L (x .entry .kind)) none (some (rank (keyOf (x .entry))))
-        of-answer = unfold rankRead answer pick in go (isTombstone L (x .entry .kind))
+        of-answer : rankRead (answer L (entry (x .entry))) ≡ pick (isTombstone (x .entry)) none (some (rank (keyOf (x .entry))))
+        of-answer = unfold rankRead answer pick in go (isTombstone (x .entry))
           where
             go : (t : Bool) → rankRead (pick t (Read.Tombstone (keyOf (x .entry)) (record { 0 = x .entry .version }) (sizeOf L (x .entry)))
-                (Read.Object (keyOf (x .entry)) (record { 0 = x .entry .version }) (x .entry .kind) (sizeOf L (x .entry))))
+                (Read.Object (keyOf (x .entry)) (record { 0 = x .entry .version }) (kindOf L (x .entry)) (sizeOf L (x .entry))))
                 ≡ pick t none (some (rank (keyOf (x .entry))))
             go true = unfold rankRead pick in refl
             go false = unfold rankRead pick in refl
@@ -149,7 +149,7 @@ module _ (L : Layout) (area : List ℕ) (r : Record) (cells : List ℕ) (ready :
     pub object : Placed
     pub is-latest : IsLatest log object
     pub holds : getD cells i 0 ≡ placeOf S object + 1
-    pub is-present : present L log (keyOf (object .entry)) ≡ some object
+    pub is-present : present log (keyOf (object .entry)) ≡ some object
     pub ranks-so : z ≡ rank (keyOf (object .entry))
 
   given-behind : (i z : ℕ) → i < length cells → cellRank L S area (getD cells i 0) ≡ some z → Behind i z
@@ -159,9 +159,9 @@ module _ (L : Layout) (area : List ℕ) (r : Record) (cells : List ℕ) (ready :
       taken q = let d = cell-free L S area (getD cells i 0) q in let w : _≡_ {A = ℕ} 0 1 = cc in absurd (omega arith)
 
       from : (x : Placed) × IsLatest log x × (getD cells i 0 ≡ placeOf S x + 1) → Behind i z
-      from (x, l, c) = go (isTombstone L (x .entry .kind)) (sym (its-rank x l) ∙ ap (cellRank L S area) (sym c) ∙ e) (its-present x l)
+      from (x, l, c) = go (isTombstone (x .entry)) (sym (its-rank x l) ∙ ap (cellRank L S area) (sym c) ∙ e) (its-present x l)
         where
-          go : (t : Bool) → pick t none (some (rank (keyOf (x .entry)))) ≡ some z → present L log (keyOf (x .entry)) ≡ pick t none (some x) → Behind i z
+          go : (t : Bool) → pick t none (some (rank (keyOf (x .entry)))) ≡ some z → present log (keyOf (x .entry)) ≡ pick t none (some x) → Behind i z
           go true q p = unfold pick in (let w : _≡_ {A = ℕ} 0 1 = cc in absurd (omega arith))
           go false q p =
               let q′ : some (rank (keyOf (x .entry))) ≡ some z = sym (pick-false false _ _ refl) ∙ q in
@@ -180,54 +180,54 @@ module _ (L : Layout) (area : List ℕ) (r : Record) (cells : List ℕ) (ready :
       let same : x ≡ y = cc in
       ready .genuine .rule .once i j bi bj (λ e. omega (arith, a .holds, e)) (a .holds ∙ ap (λ (w : Placed). placeOf S w + 1) same ∙ sym (b .holds))
 
-  object-key : (k : Key) (x : Placed) → present L log k ≡ some x → k ≡ keyOf (x .entry)
-  object-key k x e = same-key k (x .entry) (latest-some log k x (present-latest L log k x e) .of-key)
+  object-key : (k : Key) (x : Placed) → present log k ≡ some x → k ≡ keyOf (x .entry)
+  object-key k x e = same-key k (x .entry) (latest-some log k x (present-latest log k x e) .of-key)
 
-  typed-object : (k : Key) → HasObject L log k → TypedKey k
+  typed-object : (k : Key) → HasObject log k → TypedKey k
   typed-object k (x, e) =
-      subst TypedKey (sym (object-key k x e)) (typed-entry x (latest-some log k x (present-latest L log k x e) .member))
+      subst TypedKey (sym (object-key k x e)) (typed-entry x (latest-some log k x (present-latest log k x e) .member))
 
-  object-gives : (k : Key) → HasObject L log k → Gives (cellRank L S area) cells (rank k)
+  object-gives : (k : Key) → HasObject log k → Gives (cellRank L S area) cells (rank k)
   object-gives k (x, e) = at (ready .genuine .rule .found x is-latest)
     where
       is-latest : IsLatest log x
-      is-latest = ap (latest log) (sym (object-key k x e)) ∙ present-latest L log k x e
+      is-latest = ap (latest log) (sym (object-key k x e)) ∙ present-latest log k x e
 
-      its : pick (isTombstone L (x .entry .kind)) none (some x) ≡ some x
-      its = sym (its-present x is-latest) ∙ ap (present L log) (sym (object-key k x e)) ∙ e
+      its : pick (isTombstone (x .entry)) none (some x) ≡ some x
+      its = sym (its-present x is-latest) ∙ ap (present log) (sym (object-key k x e)) ∙ e
 
       go : (t : Bool) → pick t none (some x) ≡ some x → pick t none (some (rank (keyOf (x .entry)))) ≡ some (rank k)
       go true q = unfold pick in (let w : _≡_ {A = ℕ} 0 1 = cc in absurd (omega arith))
       go false q = pick-false false _ _ refl ∙ ap (λ (j : Key). some (rank j)) (sym (object-key k x e))
 
       at : HasCell S cells x → Gives (cellRank L S area) cells (rank k)
-      at c = (c .cell, c .below, ap (cellRank L S area) (c .holds) ∙ its-rank x is-latest ∙ go (isTombstone L (x .entry .kind)) its)
+      at c = (c .cell, c .below, ap (cellRank L S area) (c .holds) ∙ its-rank x is-latest ∙ go (isTombstone (x .entry)) its)
 
   -- ---- what the walk over the index gathers
 
   pub index-gathers : gathered (cellRank L S area) cells ≡ presentRanks L area r
   index-gathers =
-      let o = present-ranked L log typed-object in
-      ascending-one (gathered (cellRank L S area) cells) (ranks (presentKeys L log))
+      let o = present-ranked log typed-object in
+      ascending-one (gathered (cellRank L S area) cells) (ranks (presentKeys log))
       (gathered-ascending (cellRank L S area) cells gives-once) (o .ascend)
       (record {
         to = λ z m. to z (gathered-given (cellRank L S area) cells z m);
         from = λ z m. from z (o .only z m);
       })
     where
-      to : (z : ℕ) → Gives (cellRank L S area) cells z → In z (ranks (presentKeys L log))
+      to : (z : ℕ) → Gives (cellRank L S area) cells z → In z (ranks (presentKeys log))
       to z (i, l, e) =
           let b = given-behind i z l e in
-          subst (λ (w : ℕ). In w (ranks (presentKeys L log))) (sym (b .ranks-so))
-          (present-ranked L log typed-object .all (keyOf (b .object .entry)) (b .object, b .is-present))
+          subst (λ (w : ℕ). In w (ranks (presentKeys log))) (sym (b .ranks-so))
+          (present-ranked log typed-object .all (keyOf (b .object .entry)) (b .object, b .is-present))
 
-      from : (z : ℕ) → (k : Key) × HasObject L log k × (z ≡ rank k) → In z (gathered (cellRank L S area) cells)
+      from : (z : ℕ) → (k : Key) × HasObject log k × (z ≡ rank k) → In z (gathered (cellRank L S area) cells)
       from z (k, h, e) =
           subst (λ (w : ℕ). In w (gathered (cellRank L S area) cells)) (sym e)
           (given-gathered (cellRank L S area) cells (rank k) (object-gives k h))
 
-  pub keys-typed : AllTyped (presentKeys L log)
-  keys-typed = present-typed L log typed-object
+  pub keys-typed : AllTyped (presentKeys log)
+  keys-typed = present-typed log typed-object
 
   pub cells-inside : CellsInside S area cells
   cells-inside i below taken = from (held S log cells (ready .genuine .rule) i below taken)

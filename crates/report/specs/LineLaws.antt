@@ -32,11 +32,11 @@ lineFound k Lookup.Absent = []
 lineFound k Lookup.Bad = []
 
 pub line-found : (L : Layout) (area : List ℕ) (r : Record) (cells : List ℕ) (k : Key) (found : Lookup) → RecoveredArea L area r cells
-    → found ≡ lookedUp L r area cells k → lineFound k found ≡ lineOf k (present L (logNow L area r) k)
+    → found ≡ lookedUp L r area cells k → lineFound k found ≡ lineOf L k (present (logNow L area r) k)
 line-found L area r cells k found ready e =
-    ap (lineFound k) (e ∙ genuine-lookup L r area cells k (ready .genuine) (ready .fit)) ∙ go (present L (logNow L area r) k)
+    ap (lineFound k) (e ∙ genuine-lookup L r area cells k (ready .genuine) (ready .fit)) ∙ go (present (logNow L area r) k)
   where
-    go : (o : Option Placed) → lineFound k (lookupFor L (r .size) o) ≡ lineOf k o
+    go : (o : Option Placed) → lineFound k (lookupFor L (r .size) o) ≡ lineOf L k o
     go none = unfold lineFound lookupFor lineOf in refl
     go (some x) = unfold lineFound lookupFor lineOf in refl
 
@@ -83,11 +83,11 @@ module _ (ks : List Key) (xs : List ℕ) (same : xs ≡ ranks ks) (typed : AllTy
       omega (arith, here-rank, t .0, t .1)
 
   pub next-line : (L : Layout) (log : List Placed) (key : Key) → key ≡ ranked (getD xs i 0)
-      → lineOf key (present L log key) ++ linesOf L log (drop (i + 1) ks) ≡ linesOf L log (drop i ks)
+      → lineOf L key (present log key) ++ linesOf L log (drop (i + 1) ks) ≡ linesOf L log (drop i ks)
   unfolding linesOf
   next-line L log key e =
-      ap (λ (k : Key). lineOf k (present L log k) ++ linesOf L log (drop (i + 1) ks)) (e ∙ here-key)
-      ∙ ap (λ (j : ℕ). lineOf (here .key) (present L log (here .key)) ++ linesOf L log (drop j ks)) (add-one i)
+      ap (λ (k : Key). lineOf L k (present log k) ++ linesOf L log (drop (i + 1) ks)) (e ∙ here-key)
+      ∙ ap (λ (j : ℕ). lineOf L (here .key) (present log (here .key)) ++ linesOf L log (drop j ks)) (add-one i)
       ∙ sym (ap (linesOf L log) (here .rest))
 
 length-ranks : (ks : List Key) → length (ranks ks) ≡ length ks
@@ -108,7 +108,7 @@ module _ (L : Layout) (log : List Placed) (ks : List Key) (xs : List ℕ) (same 
       none-left = drop-of-length-le ks {i = i} (omega (arith, ap length same, length-ranks ks))
 
   pub lines-turn : (typed : AllTyped ks) → i < length xs → (key : Key) → key ≡ ranked (getD xs i 0) → (out₁ : List ℕ) (e : ℕ)
-      → length out₁ ≡ length out → PutWithin out out₁ end e (lineOf key (present L log key)) 44 → LinesLeft L log ks out₀ at out₁ e (i + 1)
+      → length out₁ ≡ length out → PutWithin out out₁ end e (lineOf L key (present log key)) 44 → LinesLeft L log ks out₀ at out₁ e (i + 1)
   lines-turn typed h key its out₁ e long p =
       record {
         long = long ∙ left .long;
@@ -126,7 +126,7 @@ pub record Listed (L : Layout) (area : List ℕ) (r : Record) (xs : List ℕ) (n
   pub inside : n ≤ length xs
   pub long : length (take n xs) ≡ n
   pub stands : take n xs ≡ presentRanks L area r
-  pub counts : n ≡ length (presentKeys L (logNow L area r))
+  pub counts : n ≡ length (presentKeys (logNow L area r))
 
 pub gathered-listed : (L : Layout) (area : List ℕ) (r : Record) (cells xs : List ℕ) (n : ℕ) → RecoveredArea L area r cells → length xs ≡ 4096
     → Gathered (cellRank L (r .size) area) cells xs 0 n → Listed L area r xs n
@@ -139,5 +139,5 @@ gathered-listed L area r cells xs n ready long g =
       inside = omega arith;
       long = cut;
       stands = stands;
-      counts = sym cut ∙ ap length stands ∙ length-ranks (presentKeys L (logNow L area r));
+      counts = sym cut ∙ ap length stands ∙ length-ranks (presentKeys (logNow L area r));
     }

@@ -26,13 +26,13 @@ ascending [] = []
 ascending (k ∷ ks) = inOrder k (ascending ks)
 
 -- those of these keys that are present
-unfoldable pub presentOf : Layout → List Placed → List Key → List Key
-presentOf L log [] = []
-presentOf L log (k ∷ ks) = pick (keyAbsent L log k) (presentOf L log ks) (k ∷ presentOf L log ks)
+unfoldable pub presentOf : List Placed → List Key → List Key
+presentOf log [] = []
+presentOf log (k ∷ ks) = pick (keyAbsent log k) (presentOf log ks) (k ∷ presentOf log ks)
 
 -- The present keys of a log, each once.
-abbrev pub presentKeys : Layout → List Placed → List Key
-presentKeys L log = ascending (presentOf L log (keysOf log))
+abbrev pub presentKeys : List Placed → List Key
+presentKeys log = ascending (presentOf log (keysOf log))
 
 -- ---- at work on a log
 
@@ -40,7 +40,7 @@ abbrev placed : Entry → Placed
 placed e = record { slot = 0; offset = 13; entry = e }
 
 -- The table comes first, the older entry of a key does not count twice, and a key whose latest entry is a tombstone is not there.
-listed : presentKeys edition1
+listed : presentKeys
     (placed (object (keyed 2 1) 1 (replicate 8 0))
     ∷ placed (object (keyed 1 9) 2 (replicate 8 0))
     ∷ placed (object (keyed 1 8) 3 (replicate 8 0))

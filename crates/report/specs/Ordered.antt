@@ -8,12 +8,12 @@ use mathlib.Core.Option.{Option, none, some}
 use native.Mathlib.Omega.{arith}
 use lib.Dec.{eqb, ltb}
 use borrow.Author.Tests.{ltb-true, ltb-false, lt-ltb, le-ltb, eqb-true, eqb-false}
-use Rattle.segment.specs.Choice.{pick, pick-true, pick-false, both, either}
-use Rattle.segment.specs.Layout.{Layout, isTombstone}
+use Rattle.segment.specs.Choice.{pick, pick-true, pick-false, both, either, isNone}
 use Rattle.segment.specs.declared.Key.{Key}
+use Rattle.segment.specs.Entry.{isTombstone}
 use Rattle.model.specs.Log.{Placed, latest, objectOnly, present, keysOf}
 use Rattle.model.specs.Operations.{TypedKey}
-use Rattle.model.specs.Refused.{isAbsent, keyAbsent}
+use Rattle.model.specs.Refused.{keyAbsent}
 use Rattle.laws.specs.Members.{In, first, Within, Once, empty, more, clash}
 use Rattle.laws.specs.Latest.{latest-has}
 use Rattle.laws.specs.Keys.{key-listed, keys-once}
@@ -149,57 +149,57 @@ ascending-ranked (k ∷ ks) ts (more new once) =
 
 -- ---- the present keys
 
-module _ (L : Layout) (log : List Placed) where
-  present-only : (ks : List Key) (k : Key) → In k (presentOf L log ks) → In k ks × (keyAbsent L log k ≡ false)
+module _ (log : List Placed) where
+  present-only : (ks : List Key) (k : Key) → In k (presentOf log ks) → In k ks × (keyAbsent log k ≡ false)
   unfolding presentOf pick
   present-only [] k m = absurd (List·Memᴰ·not-nil m)
-  present-only (j ∷ js) k m = go (keyAbsent L log j) refl m (present-only js k)
+  present-only (j ∷ js) k m = go (keyAbsent log j) refl m (present-only js k)
     where
-      front : keyAbsent L log j ≡ false → In k (j ∷ presentOf L log js) → (In k (presentOf L log js) → In k js × (keyAbsent L log k ≡ false))
-          → In k (j ∷ js) × (keyAbsent L log k ≡ false)
-      front e (List·Memᴰ·head q) ih = (List·Memᴰ·head q, ap (keyAbsent L log) q ∙ e)
+      front : keyAbsent log j ≡ false → In k (j ∷ presentOf log js) → (In k (presentOf log js) → In k js × (keyAbsent log k ≡ false))
+          → In k (j ∷ js) × (keyAbsent log k ≡ false)
+      front e (List·Memᴰ·head q) ih = (List·Memᴰ·head q, ap (keyAbsent log) q ∙ e)
       front e (List·Memᴰ·tail n) ih = let w = ih n in (List·Memᴰ·tail (w .0), w .1)
 
-      go : (t : Bool) → keyAbsent L log j ≡ t → In k (pick t (presentOf L log js) (j ∷ presentOf L log js))
-          → (In k (presentOf L log js) → In k js × (keyAbsent L log k ≡ false)) → In k (j ∷ js) × (keyAbsent L log k ≡ false)
+      go : (t : Bool) → keyAbsent log j ≡ t → In k (pick t (presentOf log js) (j ∷ presentOf log js))
+          → (In k (presentOf log js) → In k js × (keyAbsent log k ≡ false)) → In k (j ∷ js) × (keyAbsent log k ≡ false)
       go true e n ih = let w = ih n in (List·Memᴰ·tail (w .0), w .1)
       go false e n ih = front e n ih
 
-  present-all : (ks : List Key) (k : Key) → In k ks → keyAbsent L log k ≡ false → In k (presentOf L log ks)
+  present-all : (ks : List Key) (k : Key) → In k ks → keyAbsent log k ≡ false → In k (presentOf log ks)
   unfolding presentOf pick
-  present-all (j ∷ js) k (List·Memᴰ·head q) e = go (keyAbsent L log j) refl
+  present-all (j ∷ js) k (List·Memᴰ·head q) e = go (keyAbsent log j) refl
     where
-      go : (t : Bool) → keyAbsent L log j ≡ t → In k (pick t (presentOf L log js) (j ∷ presentOf L log js))
-      go true d = absurd (clash (keyAbsent L log j) d (ap (keyAbsent L log) (sym q) ∙ e))
+      go : (t : Bool) → keyAbsent log j ≡ t → In k (pick t (presentOf log js) (j ∷ presentOf log js))
+      go true d = absurd (clash (keyAbsent log j) d (ap (keyAbsent log) (sym q) ∙ e))
       go false d = List·Memᴰ·head q
-  present-all (j ∷ js) k (List·Memᴰ·tail m) e = go (keyAbsent L log j) (present-all js k m e)
+  present-all (j ∷ js) k (List·Memᴰ·tail m) e = go (keyAbsent log j) (present-all js k m e)
     where
-      go : (t : Bool) → In k (presentOf L log js) → In k (pick t (presentOf L log js) (j ∷ presentOf L log js))
+      go : (t : Bool) → In k (presentOf log js) → In k (pick t (presentOf log js) (j ∷ presentOf log js))
       go true i = i
       go false i = List·Memᴰ·tail i
 
-  present-once : (ks : List Key) → Once ks → Once (presentOf L log ks)
+  present-once : (ks : List Key) → Once ks → Once (presentOf log ks)
   unfolding presentOf pick
   present-once [] empty = empty
-  present-once (j ∷ js) (more new once) = go (keyAbsent L log j) (present-once js once)
+  present-once (j ∷ js) (more new once) = go (keyAbsent log j) (present-once js once)
     where
-      go : (t : Bool) → Once (presentOf L log js) → Once (pick t (presentOf L log js) (j ∷ presentOf L log js))
+      go : (t : Bool) → Once (presentOf log js) → Once (pick t (presentOf log js) (j ∷ presentOf log js))
       go true o = o
       go false o = more (λ m. new (present-only js j m .0)) o
 
   -- a key is among them exactly if it has an object
-  is-present : (k : Key) → keyAbsent L log k ≡ false → (x : Placed) × (present L log k ≡ some x)
-  unfolding isAbsent
-  is-present k e = go (present L log k) e
+  is-present : (k : Key) → keyAbsent log k ≡ false → (x : Placed) × (present log k ≡ some x)
+  unfolding isNone
+  is-present k e = go (present log k) e
     where
-      go : (o : Option Placed) → isAbsent o ≡ false → (x : Placed) × (o ≡ some x)
+      go : (o : Option Placed) → isNone o ≡ false → (x : Placed) × (o ≡ some x)
       go none q = let z : _≡_ {A = ℕ} 0 1 = cc in absurd (omega arith)
       go (some x) q = (x, refl)
 
   abbrev pub HasObject : Key → Type 0
-  HasObject k = (x : Placed) × (present L log k ≡ some x)
+  HasObject k = (x : Placed) × (present log k ≡ some x)
 
-  pub present-latest : (k : Key) (x : Placed) → present L log k ≡ some x → latest log k ≡ some x
+  pub present-latest : (k : Key) (x : Placed) → present log k ≡ some x → latest log k ≡ some x
   unfolding present objectOnly pick
   present-latest k x e = go (latest log k) e
     where
@@ -207,20 +207,20 @@ module _ (L : Layout) (log : List Placed) where
       at y true q = let z : _≡_ {A = ℕ} 0 1 = cc in absurd (omega arith)
       at y false q = q
 
-      go : (o : Option Placed) → objectOnly L o ≡ some x → o ≡ some x
+      go : (o : Option Placed) → objectOnly o ≡ some x → o ≡ some x
       go none q = let z : _≡_ {A = ℕ} 0 1 = cc in absurd (omega arith)
-      go (some y) q = at y (isTombstone L (y .entry .kind)) q
+      go (some y) q = at y (isTombstone (y .entry)) q
 
   module _ (typed : (k : Key) → HasObject k → TypedKey k) where
-    listed-object : (k : Key) → In k (presentOf L log (keysOf log)) → HasObject k
+    listed-object : (k : Key) → In k (presentOf log (keysOf log)) → HasObject k
     listed-object k m = is-present k (present-only (keysOf log) k m .1)
 
-    object-listed : (k : Key) → HasObject k → In k (presentOf L log (keysOf log))
-    unfolding isAbsent
-    object-listed k (x, e) = present-all (keysOf log) k (key-listed log k (latest-has log k x (present-latest k x e))) (ap isAbsent e)
+    object-listed : (k : Key) → HasObject k → In k (presentOf log (keysOf log))
+    unfolding isNone
+    object-listed k (x, e) = present-all (keysOf log) k (key-listed log k (latest-has log k x (present-latest k x e))) (ap isNone e)
 
-    pub present-typed : AllTyped (presentKeys L log)
-    present-typed k m = typed k (listed-object k (ascending-only (presentOf L log (keysOf log)) k m))
+    pub present-typed : AllTyped (presentKeys log)
+    present-typed k m = typed k (listed-object k (ascending-only (presentOf log (keysOf log)) k m))
 
     -- The ranks of the present keys ascend, and are those of the keys that have an object.
     pub record Objects (xs : List ℕ) : Type 0 where
@@ -228,9 +228,9 @@ module _ (L : Layout) (log : List Placed) where
       pub only : (z : ℕ) → In z xs → (k : Key) × HasObject k × (z ≡ rank k)
       pub all : (k : Key) → HasObject k → In (rank k) xs
 
-    pub present-ranked : Objects (ranks (presentKeys L log))
+    pub present-ranked : Objects (ranks (presentKeys log))
     present-ranked =
-        let r = ascending-ranked (presentOf L log (keysOf log)) (λ k m. typed k (listed-object k m)) (present-once (keysOf log) (keys-once log)) in
+        let r = ascending-ranked (presentOf log (keysOf log)) (λ k m. typed k (listed-object k m)) (present-once (keysOf log) (keys-once log)) in
         record {
           ascend = r .ascend;
           only = λ z m. let w = r .only z m in (w .0, listed-object (w .0) (w .1), w .2);

@@ -11,6 +11,7 @@ use Rattle.segment.specs.Layout.{Layout, edition1}
 use Rattle.segment.specs.declared.DigestNumber.{DigestNumber}
 use Rattle.segment.specs.declared.Key.{Key}
 use Rattle.segment.specs.declared.Version.{Version}
+use Rattle.segment.specs.Entry.{kindOf}
 use Rattle.record.specs.Refusals.{numberOfRefusal}
 use Rattle.record.specs.declared.Refusal.{Refusal}
 use Rattle.record.specs.declared.Record.{Record}
@@ -40,21 +41,21 @@ keyLine k version kind =
     field (k .table) (ascii " ") ++ field (k .key) (ascii " ") ++ field (version .0) (ascii " ") ++ field kind (ascii "\n")
 
 -- the line of a key that has this object; a key that has none has no line
-unfoldable pub lineOf : Key → Option Placed → List ℕ
-lineOf k none = []
-lineOf k (some x) = keyLine k (record { 0 = x .entry .version }) (x .entry .kind)
+unfoldable pub lineOf : Layout → Key → Option Placed → List ℕ
+lineOf L k none = []
+lineOf L k (some x) = keyLine k (record { 0 = x .entry .version }) (kindOf L (x .entry))
 
 unfoldable pub linesOf : Layout → List Placed → List Key → List ℕ
 linesOf L log [] = []
-linesOf L log (k ∷ ks) = lineOf k (present L log k) ++ linesOf L log ks
+linesOf L log (k ∷ ks) = lineOf L k (present log k) ++ linesOf L log ks
 
 abbrev pub presentLines : Layout → List ℕ → Record → List ℕ
-presentLines L area r = linesOf L (logNow L area r) (presentKeys L (logNow L area r))
+presentLines L area r = linesOf L (logNow L area r) (presentKeys (logNow L area r))
 
 -- The listing of an area with this record: the head line, then a line for each present key of its log.
 abbrev pub listingText : Layout → List ℕ → Record → List ℕ
 listingText L area r =
-    headLine (r .next) (r .digest) (length (presentKeys L (logNow L area r))) ++ presentLines L area r
+    headLine (r .next) (r .digest) (length (presentKeys (logNow L area r))) ++ presentLines L area r
 
 -- M
 abbrev pub cellsUsed : ℕ

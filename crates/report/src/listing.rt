@@ -23,7 +23,7 @@ fn put_line(rec: Record, area: &[u8], index: &[u32], key: Key, out: &mut [u8], a
     requires { ⌜ RecoveredArea edition1 (now area) rec (now index) × (at + 44 ≤ length (now out)) ⌝ }
     ensures { λ r.
         ⌜ PutWithin (now (out .entry)) (now (out .exit)) at r
-        (lineOf key (present edition1 (logNow edition1 (now (area .entry)) rec) key)) 44 ⌝ }
+        (lineOf edition1 key (present (logNow edition1 (now (area .entry)) rec) key)) 44 ⌝ }
 {
     match find(rec, area, index, key) {
         Lookup::Object {

@@ -1,6 +1,8 @@
--- How a definition goes by a test, and how a test is taken apart.
+-- How a definition goes by a test or by what may be missing, and how a test is taken apart.
+use Prim.Native.Nat.{ℕ}
 use mathlib.Core.Path.{_≡_, refl}
 use mathlib.Core.Bool.{Bool, true, false}
+use mathlib.Core.Option.{Option, none, some}
 
 unfoldable pub pick {ℓ} : {A : Type ℓ} → Bool → A → A → A
 pick true a b = a
@@ -67,3 +69,18 @@ pub either-false-right : (a b : Bool) → either a b ≡ false → b ≡ false
 unfolding either
 either-false-right true b e = cc
 either-false-right false b e = e
+
+-- ---- what may be missing
+
+unfoldable pub isNone {ℓ} : {A : Type ℓ} → Option A → Bool
+isNone none = true
+isNone (some x) = false
+
+unfoldable pub orZero : Option ℕ → ℕ
+orZero none = 0
+orZero (some n) = n
+
+pub not-none : (o : Option ℕ) → isNone o ≡ false → o ≡ some (orZero o)
+unfolding isNone orZero
+not-none none e = cc
+not-none (some n) e = refl

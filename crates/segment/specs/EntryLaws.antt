@@ -12,70 +12,83 @@ use borrow.Author.Tests.{lt-ltb, le-ltb, le-leb, lt-leb, eq-eqb, ne-eqb, ltb-tru
 use Rattle.word.specs.Number.{numberOf, Bytes}
 use Rattle.word.specs.Laws.{bytes-take, bytes-drop, number-at-lt}
 use Rattle.segment.specs.Choice.{pick-true, pick-false}
-use Rattle.segment.specs.Layout.{Layout, valueLength, entrySize, versionLimit, goodVersion}
+use Rattle.segment.specs.Layout.{Layout, valueLength, isTombstoneKind, entrySize, versionLimit, goodVersion}
 use Rattle.segment.specs.LayoutLaws.{entry-not-end, entry-kind-byte, version-positive, version-below, version-fits}
 use Rattle.segment.specs.Packed.{packed, length-packed, bytes-packed, packed-rest, first-number, second-number, third-number, packed-read, field-at, first-at, length-part}
-use Rattle.segment.specs.Entry.{Entry, encoded, sizeOf, decoded, Found, entry, end, damage, ofVersion, ofLength, entryAt, WellFormed, Stands}
+use Rattle.segment.specs.ValueLaws.{value-known, value-back, length-of-kind, no-value, kind-back, bytes-back}
+use Rattle.segment.specs.Entry.{Entry, isTombstone, bytesIn, kindOf, kindFor, valueFor, encoded, sizeOf, decodedEntry, Found, entry, end, damage, ofVersion, ofLength, entryAt, WellFormed, Stands}
 
 -- ---- an entry and its bytes
 
 module _ (L : Layout) (e : Entry) where
-  pub entry-packed : encoded L e ≡ packed (e .kind) 2 4 (L .width) (e .table) (e .key) (e .version) (e .value)
+  pub entry-packed : encoded L e ≡ packed (kindOf L e) 2 4 (L .width) (e .table) (e .key) (e .version) (bytesIn (e .value))
   entry-packed = simp append-assoc
 
   pub length-encoded : length (encoded L e) ≡ sizeOf L e
-  length-encoded = ap length entry-packed ∙ length-packed (e .kind) 2 4 (L .width) (e .table) (e .key) (e .version) (e .value)
+  length-encoded = ap length entry-packed ∙ length-packed (kindOf L e) 2 4 (L .width) (e .table) (e .key) (e .version) (bytesIn (e .value))
 
-  pub encoded-first : getD (encoded L e) 0 0 ≡ e .kind
+  pub encoded-first : getD (encoded L e) 0 0 ≡ kindOf L e
   encoded-first = refl
 
-  pub formed-not-end : WellFormed L e → e .kind ≡ 0 → ⊥
-  formed-not-end f = entry-not-end L (e .kind) (length (e .value)) (f .kind-known)
+  pub formed-known : WellFormed L e → valueLength L (kindOf L e) ≡ some (length (bytesIn (e .value)))
+  formed-known f = value-known L (e .value) (f .length-known)
+
+  pub formed-not-end : WellFormed L e → kindOf L e ≡ 0 → ⊥
+  formed-not-end f = entry-not-end L (kindOf L e) (length (bytesIn (e .value))) (formed-known f)
 
   pub bytes-encoded : WellFormed L e → Bytes (encoded L e)
   bytes-encoded f =
       subst Bytes (sym entry-packed)
-      (bytes-packed (e .kind) 2 4 (L .width) (e .table) (e .key) (e .version) (e .value)
-      (entry-kind-byte L (e .kind) (length (e .value)) (f .kind-known)) (f .value-bytes))
+      (bytes-packed (kindOf L e) 2 4 (L .width) (e .table) (e .key) (e .version) (bytesIn (e .value))
+      (entry-kind-byte L (kindOf L e) (length (bytesIn (e .value))) (formed-known f)) (f .value-bytes))
 
   -- what is written is read back
-  pub decoded-encoded : WellFormed L e → decoded L (encoded L e) ≡ e
+  pub decoded-encoded : WellFormed L e → decodedEntry L (encoded L e) ≡ e
   decoded-encoded f =
-      ap (decoded L) entry-packed
+      ap (decodedEntry L) entry-packed
       ∙ λ i.
       record {
-        kind = e .kind;
-        table = first-number (e .kind) 2 4 (L .width) (e .table) (e .key) (e .version) (e .value) (f .table-fits) i;
-        key = second-number (e .kind) 2 4 (L .width) (e .table) (e .key) (e .version) (e .value) (f .key-fits) i;
+        table = first-number (kindOf L e) 2 4 (L .width) (e .table) (e .key) (e .version) (bytesIn (e .value)) (f .table-fits) i;
+        key = second-number (kindOf L e) 2 4 (L .width) (e .table) (e .key) (e .version) (bytesIn (e .value)) (f .key-fits) i;
         version =
-            third-number (e .kind) 2 4 (L .width) (e .table) (e .key) (e .version) (e .value)
+            third-number (kindOf L e) 2 4 (L .width) (e .table) (e .key) (e .version) (bytesIn (e .value))
             (version-fits L (e .version) (f .version-good)) i;
-        value = packed-rest (e .kind) 2 4 (L .width) (e .table) (e .key) (e .version) (e .value) i;
+        value = value i;
       }
+    where
+      value : valueFor L (kindOf L e) (drop (7 + L .width) (packed (kindOf L e) 2 4 (L .width) (e .table) (e .key) (e .version) (bytesIn (e .value)))) ≡ e .value
+      value =
+          ap (valueFor L (kindOf L e)) (packed-rest (kindOf L e) 2 4 (L .width) (e .table) (e .key) (e .version) (bytesIn (e .value)))
+          ∙ value-back L (e .value) (f .length-known)
 
-pub encoded-decoded : (L : Layout) (b : List ℕ) → Bytes b → 7 + L .width ≤ length b → encoded L (decoded L b) ≡ b
-encoded-decoded L b h fits = entry-packed L (decoded L b) ∙ packed-read 2 4 (L .width) b h fits
+-- bytes whose first is the kind of entries with as many bytes of value
+pub encoded-decoded : (L : Layout) (b : List ℕ) → Bytes b → 7 + L .width ≤ length b
+    → valueLength L (getD b 0 0) ≡ some (length (drop (7 + L .width) b)) → encoded L (decodedEntry L b) ≡ b
+encoded-decoded L b h fits known =
+    entry-packed L (decodedEntry L b)
+    ∙ (λ i.
+    packed (kind-back L (getD b 0 0) (drop (7 + L .width) b) known i) 2 4 (L .width) (decodedEntry L b .table) (decodedEntry L b .key) (decodedEntry L b .version)
+    (bytes-back L (getD b 0 0) (drop (7 + L .width) b) known i))
+    ∙ packed-read 2 4 (L .width) b h fits
 
 -- the entry that stands at an offset, its fields read in the whole segment
 abbrev pub decodedAt : Layout → List ℕ → ℕ → ℕ → Entry
 decodedAt L s at n =
     record {
-      kind = getD s at 0;
       table = numberOf (take 2 (drop (at + 1) s));
       key = numberOf (take 4 (drop (at + 3) s));
       version = numberOf (take (L .width) (drop (at + 7) s));
-      value = take n (drop (at + (7 + L .width)) s);
+      value = valueFor L (getD s at 0) (take n (drop (at + (7 + L .width)) s));
     }
 
-pub decoded-at : (L : Layout) (s : List ℕ) (at n : ℕ) → decoded L (take (entrySize L n) (drop at s)) ≡ decodedAt L s at n
+pub decoded-at : (L : Layout) (s : List ℕ) (at n : ℕ) → decodedEntry L (take (entrySize L n) (drop at s)) ≡ decodedAt L s at n
 decoded-at L s at n =
     λ i.
     record {
-      kind = first-at (entrySize L n) at s (omega arith) i;
       table = numberOf (field-at 2 1 (entrySize L n) at s (omega arith) i);
       key = numberOf (field-at 4 3 (entrySize L n) at s (omega arith) i);
       version = numberOf (field-at (L .width) 7 (entrySize L n) at s (omega arith) i);
-      value = value i;
+      value = valueFor L (first-at (entrySize L n) at s (omega arith) i) (value i);
     }
   where
     value : drop (7 + L .width) (take (entrySize L n) (drop at s)) ≡ take n (drop (at + (7 + L .width)) s)
@@ -118,7 +131,7 @@ module _ (L : Layout) (s : List ℕ) (at : ℕ) where
     unfolding ofLength
     entry-long p = known ∙ pick-false (leb (at + entrySize L n) (length s)) _ damage (lt-leb (at + entrySize L n) (length s) p)
 
-    whole : at + entrySize L n ≤ length s → entryAt L s at ≡ ofVersion L (decoded L (take (entrySize L n) (drop at s)))
+    whole : at + entrySize L n ≤ length s → entryAt L s at ≡ ofVersion L (decodedEntry L (take (entrySize L n) (drop at s)))
     unfolding ofLength
     whole p = known ∙ pick-true (leb (at + entrySize L n) (length s)) _ damage (le-leb (at + entrySize L n) (length s) p)
 
@@ -140,15 +153,15 @@ module _ (L : Layout) (s : List ℕ) (at : ℕ) where
 -- ---- the answer of entryAt, taken apart
 
 -- What it means, in the tests of entryAt, that it gives the entry e.
-pub record Accepted (L : Layout) (s : List ℕ) (at : ℕ) (e : Entry) : Type 0 where
-  pub known : valueLength L (getD s at 0) ≡ some (length (e .value))
+pub record Readable (L : Layout) (s : List ℕ) (at : ℕ) (e : Entry) : Type 0 where
+  pub known : valueLength L (getD s at 0) ≡ some (length (bytesIn (e .value)))
   pub fits : at + sizeOf L e ≤ length s
   pub good : goodVersion L (e .version) ≡ true
-  pub same : decoded L (take (sizeOf L e) (drop at s)) ≡ e
+  pub same : decodedEntry L (take (sizeOf L e) (drop at s)) ≡ e
 
 -- An answer with its tests.
 pub data Reading (L : Layout) (s : List ℕ) (at : ℕ) (f : Found) : Type 0 where
-  is-entry : (e : Entry) → f ≡ entry e → Accepted L s at e → Reading L s at f
+  is-entry : (e : Entry) → f ≡ entry e → Readable L s at e → Reading L s at f
   is-end : f ≡ end → at ≤ length s → getD s at 0 ≡ 0 → Reading L s at f
   is-damage : f ≡ damage → Reading L s at f
 
@@ -157,8 +170,11 @@ module _ (L : Layout) (s : List ℕ) (at : ℕ) where
       → Reading L s at (entryAt L s at)
   reading-whole n h e p = go (goodVersion L (decodedAt L s at n .version)) refl
     where
-      sized : length (decodedAt L s at n .value) ≡ n
-      sized = length-part n (at + (7 + L .width)) s (omega arith)
+      part : length (take n (drop (at + (7 + L .width)) s)) ≡ n
+      part = length-part n (at + (7 + L .width)) s (omega arith)
+
+      sized : length (bytesIn (decodedAt L s at n .value)) ≡ n
+      sized = ap length (bytes-back L (getD s at 0) (take n (drop (at + (7 + L .width)) s)) (e ∙ ap some (sym part))) ∙ part
 
       go : (t : Bool) → goodVersion L (decodedAt L s at n .version) ≡ t → Reading L s at (entryAt L s at)
       go true g =
@@ -167,7 +183,7 @@ module _ (L : Layout) (s : List ℕ) (at : ℕ) where
             known = e ∙ ap some (sym sized);
             fits = omega (arith, sized);
             good = g;
-            same = ap (λ (m : ℕ). decoded L (take (entrySize L m) (drop at s))) sized ∙ decoded-at L s at n;
+            same = ap (λ (m : ℕ). decodedEntry L (take (entrySize L m) (drop at s))) sized ∙ decoded-at L s at n;
           })
       go false g = is-damage (version-bad L s at n h e p g)
 
@@ -201,23 +217,23 @@ module _ (L : Layout) (s : List ℕ) (at : ℕ) where
           let e = eqb-false at (length s) q in
           is-damage (past-end L s at (omega arith))
 
-  pub found-accepted : (e : Entry) → entryAt L s at ≡ entry e → Accepted L s at e
-  found-accepted e p = go reading
+  pub found-readable : (e : Entry) → entryAt L s at ≡ entry e → Readable L s at e
+  found-readable e p = go reading
     where
-      go : Reading L s at (entryAt L s at) → Accepted L s at e
+      go : Reading L s at (entryAt L s at) → Readable L s at e
       go (is-entry e′ q a) =
           let same : e′ ≡ e = cc in
-          subst (Accepted L s at) same a
+          subst (Readable L s at) same a
       go (is-end q _ _) = let z : _≡_ {A = ℕ} 0 1 = cc in absurd (omega arith)
       go (is-damage q) = let z : _≡_ {A = ℕ} 0 1 = cc in absurd (omega arith)
 
-  pub accepted-found : (e : Entry) → Accepted L s at e → entryAt L s at ≡ entry e
-  accepted-found e a =
-      let same : decodedAt L s at (length (e .value)) ≡ e = sym (decoded-at L s at (length (e .value))) ∙ a .same in
-      let good : goodVersion L (decodedAt L s at (length (e .value)) .version) ≡ true =
+  pub readable-found : (e : Entry) → Readable L s at e → entryAt L s at ≡ entry e
+  readable-found e a =
+      let same : decodedAt L s at (length (bytesIn (e .value))) ≡ e = sym (decoded-at L s at (length (bytesIn (e .value)))) ∙ a .same in
+      let good : goodVersion L (decodedAt L s at (length (bytesIn (e .value))) .version) ≡ true =
       ap (λ (x : Entry). goodVersion L (x .version)) same ∙ a .good
       in
-      entry-whole L s at (length (e .value)) (omega (arith, a .fits)) (a .known) (a .fits) good ∙ ap entry same
+      entry-whole L s at (length (bytesIn (e .value))) (omega (arith, a .fits)) (a .known) (a .fits) good ∙ ap entry same
 
   -- the end: kind 0, which also counts as standing where the segment ends
   pub found-end : entryAt L s at ≡ end → (at ≤ length s) × (getD s at 0 ≡ 0)
@@ -239,19 +255,47 @@ module _ (L : Layout) (s : List ℕ) (at : ℕ) where
 
   module _ (e : Entry) (p : entryAt L s at ≡ entry e) where
     pub found-fits : at + sizeOf L e ≤ length s
-    found-fits = found-accepted e p .fits
+    found-fits = found-readable e p .fits
 
-    pub found-kind : e .kind ≡ getD s at 0
-    found-kind = sym (ap (λ (x : Entry). x .kind) (found-accepted e p .same)) ∙ first-at (sizeOf L e) at s (omega arith)
+    -- its own bytes, which begin with a kind of entries as long
+    abbrev own : List ℕ
+    own = take (sizeOf L e) (drop at s)
 
-    pub found-known : valueLength L (e .kind) ≡ some (length (e .value))
-    found-known = ap (valueLength L) found-kind ∙ found-accepted e p .known
+    own-first : getD own 0 0 ≡ getD s at 0
+    own-first = first-at (sizeOf L e) at s (omega arith)
 
-    pub found-not-end : e .kind ≡ 0 → ⊥
-    found-not-end = entry-not-end L (e .kind) (length (e .value)) found-known
+    own-known : valueLength L (getD own 0 0) ≡ some (length (drop (7 + L .width) own))
+    own-known =
+        ap (valueLength L) own-first
+        ∙ found-readable e p .known
+        ∙ ap some (simp length-drop (omega (arith, length-part (sizeOf L e) at s found-fits)))
+
+    pub found-kind : kindOf L e ≡ getD s at 0
+    found-kind =
+        ap (kindOf L) (sym (found-readable e p .same))
+        ∙ kind-back L (getD own 0 0) (drop (7 + L .width) own) own-known
+        ∙ own-first
+
+    pub found-tombstone : isTombstone e ≡ isTombstoneKind L (getD s at 0)
+    found-tombstone =
+        ap isTombstone (sym (found-readable e p .same))
+        ∙ no-value L (getD own 0 0) (drop (7 + L .width) own)
+        ∙ ap (isTombstoneKind L) own-first
+
+    -- the bytes behind its version are those of its value
+    pub found-bytes : drop (7 + L .width) own ≡ bytesIn (e .value)
+    found-bytes =
+        sym (bytes-back L (getD own 0 0) (drop (7 + L .width) own) own-known)
+        ∙ ap (λ (x : Entry). bytesIn (x .value)) (found-readable e p .same)
+
+    pub found-known : valueLength L (kindOf L e) ≡ some (length (bytesIn (e .value)))
+    found-known = ap (valueLength L) found-kind ∙ found-readable e p .known
+
+    pub found-not-end : kindOf L e ≡ 0 → ⊥
+    found-not-end = entry-not-end L (kindOf L e) (length (bytesIn (e .value))) found-known
 
     pub found-good : goodVersion L (e .version) ≡ true
-    found-good = found-accepted e p .good
+    found-good = found-readable e p .good
 
     pub found-positive : 0 < e .version
     found-positive = version-positive L (e .version) found-good
@@ -265,33 +309,30 @@ module _ (L : Layout) (s : List ℕ) (at : ℕ) where
         record {
           formed =
               record {
-                kind-known = found-known;
+                length-known = length-of-kind L (e .value) found-not-end;
                 table-fits = subst (λ (x : Entry). x .table < 256 ^ 2) same (number-at-lt 2 1 own part-bytes);
                 key-fits = subst (λ (x : Entry). x .key < 256 ^ 4) same (number-at-lt 4 3 own part-bytes);
                 version-good = found-good;
-                value-bytes = subst (λ (x : Entry). Bytes (x .value)) same (bytes-drop (7 + L .width) own part-bytes);
+                value-bytes = subst Bytes found-bytes (bytes-drop (7 + L .width) own part-bytes);
               };
           fits = found-fits;
-          same = sym (ap (encoded L) (sym same) ∙ encoded-decoded L own part-bytes (omega (arith, length-part (sizeOf L e) at s found-fits)));
+          same = sym (ap (encoded L) (sym same) ∙ encoded-decoded L own part-bytes (omega (arith, length-part (sizeOf L e) at s found-fits)) own-known);
         }
       where
-        own : List ℕ
-        own = take (sizeOf L e) (drop at s)
-
         part-bytes : Bytes (take (sizeOf L e) (drop at s))
         part-bytes = bytes-take (sizeOf L e) (drop at s) (bytes-drop at s h)
 
-        same : decoded L (take (sizeOf L e) (drop at s)) ≡ e
-        same = found-accepted e p .same
+        same : decodedEntry L (take (sizeOf L e) (drop at s)) ≡ e
+        same = found-readable e p .same
 
   pub stands-found : (e : Entry) → Stands L s at e → entryAt L s at ≡ entry e
   stands-found e h =
-      accepted-found e
+      readable-found e
       (record {
-        known = ap (valueLength L) (sym (first-at (sizeOf L e) at s (omega arith)) ∙ ap (λ (b : List ℕ). getD b 0 0) (h .same)) ∙ h .formed .kind-known;
+        known = ap (valueLength L) (sym (first-at (sizeOf L e) at s (omega arith)) ∙ ap (λ (b : List ℕ). getD b 0 0) (h .same)) ∙ formed-known L e (h .formed);
         fits = h .fits;
         good = h .formed .version-good;
-        same = ap (decoded L) (h .same) ∙ decoded-encoded L e (h .formed);
+        same = ap (decodedEntry L) (h .same) ∙ decoded-encoded L e (h .formed);
       })
 
 -- ---- reading depends on the entry's own bytes alone
@@ -301,17 +342,17 @@ module _ (L : Layout) (s t : List ℕ) (at to : ℕ) where
   pub own-bytes : (e : Entry) → entryAt L s at ≡ entry e → to + sizeOf L e ≤ length t → take (sizeOf L e) (drop to t) ≡ take (sizeOf L e) (drop at s)
       → entryAt L t to ≡ entry e
   own-bytes e p h same =
-      accepted-found L t to e
+      readable-found L t to e
       (record {
         known =
             ap (valueLength L)
             (sym (first-at (sizeOf L e) to t (omega arith))
             ∙ ap (λ (b : List ℕ). getD b 0 0) same
             ∙ first-at (sizeOf L e) at s (omega arith))
-            ∙ found-accepted L s at e p .known;
+            ∙ found-readable L s at e p .known;
         fits = h;
-        good = found-accepted L s at e p .good;
-        same = ap (decoded L) same ∙ found-accepted L s at e p .same;
+        good = found-readable L s at e p .good;
+        same = ap (decodedEntry L) same ∙ found-readable L s at e p .same;
       })
 
 pub own-end : (L : Layout) (s t : List ℕ) (at : ℕ) → entryAt L s at ≡ end → at ≤ length t → getD t at 0 ≡ getD s at 0 → entryAt L t at ≡ end

@@ -3,12 +3,9 @@ use Prim.Native.Nat.{ℕ, _+_, _≤_}
 use mathlib.Core.Path.{_≡_, refl, sym, _∙_, ap}
 use mathlib.Core.Option.{Option, none, some}
 use native.Mathlib.Omega.{arith}
+use Rattle.segment.specs.Choice.{orZero}
 use Rattle.segment.specs.Layout.{Layout, valueLength, objectKind, entrySize}
 use Rattle.segment.specs.LayoutLaws.{entry-not-end, object-kind}
-
-unfoldable pub orZero : Option ℕ → ℕ
-orZero none = 0
-orZero (some n) = n
 
 unfoldable pub sizeOrZero : Layout → Option ℕ → ℕ
 sizeOrZero L none = 0

@@ -1,5 +1,6 @@
--- 01, "Bytes of a segment": kinds, lengths and limits, as data. Every number of the format stands in this file. All other
--- definitions and laws take a layout as a parameter and know it by the laws below alone.
+-- 01, "Bytes of a segment": kinds, lengths of values and limits of counters, as data. Definitions and laws that need them take
+-- a layout as a parameter and know it by the laws below alone. The widths of table, key, digest number and slot map are the same
+-- in every layout; they stand with the bytes of an entry and of a digest.
 use Prim.Native.Nat.{ℕ, _+_, _-_, _^_, _<_}
 use mathlib.Core.Path.{_≡_, refl}
 use mathlib.Core.Bool.{Bool, true, false, not}
@@ -24,11 +25,14 @@ unfoldable pub isSome : ℕ → Option ℕ → Bool
 isSome n none = false
 isSome n (some m) = eqb m n
 
--- the kinds of objects among pairs of kind and length: none is 0 or the tombstone's, each fits a byte and stands once
+-- the kinds of objects among pairs of kind and length: none is 0 or the tombstone's, each fits a byte, and neither a kind nor a
+-- length stands twice
 unfoldable pub soundObjects : ℕ → List (ℕ × ℕ) → List (ℕ × ℕ) → Bool
 soundObjects t all [] = true
 soundObjects t all (p ∷ ps) =
-    both (both (both (not (eqb (p .0) 0)) (not (eqb (p .0) t))) (both (ltb (p .0) 256) (isSome (p .1) (lookup (p .0) all))))
+    both
+    (both (both (not (eqb (p .0) 0)) (not (eqb (p .0) t)))
+    (both (ltb (p .0) 256) (both (isSome (p .1) (lookup (p .0) all)) (isSome (p .0) (lookBack (p .1) all)))))
     (soundObjects t all ps)
 
 -- What an edition of the format fixes: how many bytes a version takes, the kinds of digest and tombstone, and for each
@@ -44,7 +48,7 @@ pub record Layout : Type 0 where
 
 -- 01's table of kinds: versions of 4 bytes; objects of 8, 24 and 56 bytes are kinds 1, 2 and 3; a tombstone is 4, a digest 5
 unfoldable pub edition1 : Layout
-unfolding both lookup soundObjects isSome pick
+unfolding both lookup lookBack soundObjects isSome pick
 edition1 =
     record {
       width = 4;
@@ -64,9 +68,9 @@ valueLength L k = pick (eqb k (L .tombstoneKind)) (some 0) (lookup k (L .objects
 abbrev pub objectKind : Layout → ℕ → Option ℕ
 objectKind L n = lookBack n (L .objects)
 
--- whether an entry's kind is the tombstone's
-abbrev pub isTombstone : Layout → ℕ → Bool
-isTombstone L k = eqb k (L .tombstoneKind)
+-- whether a kind is the tombstone's
+abbrev pub isTombstoneKind : Layout → ℕ → Bool
+isTombstoneKind L k = eqb k (L .tombstoneKind)
 
 -- the length of an entry whose value is n bytes long: kind 1, table 2, key 4, version, value
 abbrev pub entrySize : Layout → ℕ → ℕ

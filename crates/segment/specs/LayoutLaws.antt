@@ -9,7 +9,7 @@ use native.Mathlib.Omega.{arith}
 use lib.Dec.{eqb, ltb}
 use borrow.Author.Tests.{eq-eqb, ne-eqb, eqb-true, eqb-false, ltb-true, lt-ltb, le-ltb, not-true}
 use Rattle.segment.specs.Choice.{pick-true, pick-false, both, both-left, both-right, both-true, both-false-left, both-false-right}
-use Rattle.segment.specs.Layout.{Layout, lookup, lookBack, isSome, soundObjects, valueLength, objectKind, isTombstone, versionLimit, goodVersion, tombstone-not-end, tombstone-byte}
+use Rattle.segment.specs.Layout.{Layout, lookup, lookBack, isSome, soundObjects, valueLength, objectKind, isTombstoneKind, versionLimit, goodVersion, tombstone-not-end, tombstone-byte}
 
 -- ---- the table of objects
 
@@ -19,6 +19,7 @@ pub record Sound (t : ℕ) (all : List (ℕ × ℕ)) (k n : ℕ) : Type 0 where
   pub not-tombstone : k ≡ t → ⊥
   pub byte : k < 256
   pub found : lookup k all ≡ some n
+  pub found-back : lookBack n all ≡ some k
 
 is-some : (n : ℕ) (o : Option ℕ) → isSome n o ≡ true → o ≡ some n
 unfolding isSome
@@ -26,15 +27,19 @@ is-some n none e = cc
 is-some n (some m) e = ap some (eqb-true m n e)
 
 sound-pair : (t : ℕ) (all : List (ℕ × ℕ)) (k n : ℕ)
-    → both (both (not (eqb k 0)) (not (eqb k t))) (both (ltb k 256) (isSome n (lookup k all))) ≡ true → Sound t all k n
+    → both (both (not (eqb k 0)) (not (eqb k t))) (both (ltb k 256) (both (isSome n (lookup k all)) (isSome k (lookBack n all)))) ≡ true
+    → Sound t all k n
 sound-pair t all k n e =
-    let apart = both-left (both (not (eqb k 0)) (not (eqb k t))) (both (ltb k 256) (isSome n (lookup k all))) e in
-    let fits = both-right (both (not (eqb k 0)) (not (eqb k t))) (both (ltb k 256) (isSome n (lookup k all))) e in
+    let once = both (isSome n (lookup k all)) (isSome k (lookBack n all)) in
+    let apart = both-left (both (not (eqb k 0)) (not (eqb k t))) (both (ltb k 256) once) e in
+    let fits = both-right (both (not (eqb k 0)) (not (eqb k t))) (both (ltb k 256) once) e in
+    let stands = both-right (ltb k 256) once fits in
     record {
       not-end = eqb-false k 0 (not-true (eqb k 0) (both-left (not (eqb k 0)) (not (eqb k t)) apart));
       not-tombstone = eqb-false k t (not-true (eqb k t) (both-right (not (eqb k 0)) (not (eqb k t)) apart));
-      byte = ltb-true k 256 (both-left (ltb k 256) (isSome n (lookup k all)) fits);
-      found = is-some n (lookup k all) (both-right (ltb k 256) (isSome n (lookup k all)) fits);
+      byte = ltb-true k 256 (both-left (ltb k 256) once fits);
+      found = is-some n (lookup k all) (both-left (isSome n (lookup k all)) (isSome k (lookBack n all)) stands);
+      found-back = is-some k (lookBack n all) (both-right (isSome n (lookup k all)) (isSome k (lookBack n all)) stands);
     }
 
 sound-member : (t : ℕ) (all : List (ℕ × ℕ)) {ps : List (ℕ × ℕ)} (k n : ℕ) → List·Memᴰ (k, n) ps → soundObjects t all ps ≡ true → Sound t all k n
@@ -110,7 +115,7 @@ module _ (L : Layout) where
   sound-object : (n k : ℕ) → objectKind L n ≡ some k → Sound (L .tombstoneKind) (L .objects) k n
   sound-object n k e = sound-member (L .tombstoneKind) (L .objects) k n (lookBack-member n k (L .objects) e) (L .sound-objects)
 
-  pub object-no-tombstone : (n k : ℕ) → objectKind L n ≡ some k → isTombstone L k ≡ false
+  pub object-no-tombstone : (n k : ℕ) → objectKind L n ≡ some k → isTombstoneKind L k ≡ false
   object-no-tombstone n k e = ne-eqb k (L .tombstoneKind) (sound-object n k e .not-tombstone)
 
   pub object-kind : (n k : ℕ) → objectKind L n ≡ some k → valueLength L k ≡ some n
@@ -118,8 +123,16 @@ module _ (L : Layout) where
   object-kind n k e =
       pick-false (eqb k (L .tombstoneKind)) (some 0) (lookup k (L .objects)) (object-no-tombstone n k e) ∙ sound-object n k e .found
 
+  -- kind and length of an object determine each other
+  pub kind-of-length : (k n : ℕ) → valueLength L k ≡ some n → isTombstoneKind L k ≡ false → objectKind L n ≡ some k
+  kind-of-length k n e t = go (entry-cases k n e)
+    where
+      go : ((k ≡ L .tombstoneKind) × (n ≡ 0)) ⊎ Sound (L .tombstoneKind) (L .objects) k n → objectKind L n ≡ some k
+      go (inl z) = absurd (eqb-false k (L .tombstoneKind) t (z .0))
+      go (inr s) = s .found-back
+
   -- the value of a tombstone is empty
-  pub tombstone-empty : (k n : ℕ) → isTombstone L k ≡ true → valueLength L k ≡ some n → n ≡ 0
+  pub tombstone-empty : (k n : ℕ) → isTombstoneKind L k ≡ true → valueLength L k ≡ some n → n ≡ 0
   tombstone-empty k n t e = cc (eqb-true k (L .tombstoneKind) t, tombstone-length, e)
 
 -- ---- versions

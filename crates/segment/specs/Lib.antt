@@ -6,6 +6,7 @@ pub mod Digest
 pub mod LayoutLaws
 pub mod Packed
 pub mod DigestLaws
+pub mod ValueLaws
 pub mod EntryLaws
 pub mod Kinds
 pub mod AnswerLaws

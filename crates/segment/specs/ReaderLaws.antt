@@ -3,13 +3,16 @@ use Prim.Native.Nat.{ℕ, _+_, _-_, _≤_, _<_}
 use mathlib.Core.Path.{_≡_, sym, _∙_, ap}
 use mathlib.Core.Bool.{Bool, true, false}
 use mathlib.Core.List.{List}
+use mathlib.Core.Option.{Option, some}
 use native.Mathlib.Omega.{arith}
 use lib.ListN.{length, getD, take, drop}
 use borrow.Author.Tests.{eq-eqb, ne-eqb}
 use Rattle.word.specs.Number.{numberOf}
-use Rattle.segment.specs.Layout.{Layout, entrySize, goodVersion}
+use Rattle.segment.specs.Choice.{isNone}
+use Rattle.segment.specs.Layout.{Layout, isTombstoneKind, entrySize, goodVersion}
 use Rattle.segment.specs.Packed.{length-part}
-use Rattle.segment.specs.Entry.{Entry, sizeOf, entry, entryAt, answer}
+use Rattle.segment.specs.ValueLaws.{no-value, kind-back, bytes-back}
+use Rattle.segment.specs.Entry.{Entry, bytesIn, kindFor, valueFor, sizeOf, entry, entryAt, answer}
 use Rattle.segment.specs.EntryLaws.{past-end, at-end, kind-end, kind-unknown, entry-long, version-bad, entry-whole}
 use Rattle.segment.specs.AnswerLaws.{answer-end, answer-damage, answer-tombstone, answer-object}
 use Rattle.segment.specs.Kinds.{kindSize, Kind, no-size, has-size}
@@ -53,33 +56,48 @@ module _ (L : Layout) (s : List ℕ) (at : ℕ) where
       -- t and k are its table and key
       module _ (good : g ≡ true) (t k : ℕ) (ts : t ≡ numberOf (take 2 (drop (at + 1) s))) (ks : k ≡ numberOf (take 4 (drop (at + 3) s))) where
         -- the entry, whatever its value
-        abbrev with-value : List ℕ → Entry
-        with-value x = record { kind = getD s at 0; table = t; key = k; version = v; value = x }
+        abbrev with-value : Option (List ℕ) → Entry
+        with-value x = record { table = t; key = k; version = v; value = x }
 
-        reads-entry : (x : List ℕ) × (entryAt L s at ≡ entry (with-value x)) × (sizeOf L (with-value x) ≡ z)
+        -- What is read is an entry of that length, kind and value.
+        record Reads (x : Option (List ℕ)) : Type 0 where
+          is-entry : entryAt L s at ≡ entry (with-value x)
+          size : sizeOf L (with-value x) ≡ z
+          tombstone : isNone x ≡ isTombstoneKind L (getD s at 0)
+          kind : kindFor L x ≡ getD s at 0
+
+        reads-entry : (x : Option (List ℕ)) × Reads x
         reads-entry = go (sized nz)
           where
-            go : (n : ℕ) × Kind L (getD s at 0) n → (x : List ℕ) × (entryAt L s at ≡ entry (with-value x)) × (sizeOf L (with-value x) ≡ z)
+            go : (n : ℕ) × Kind L (getD s at 0) n → (x : Option (List ℕ)) × Reads x
             go (n, kind) =
-                let size : z ≡ entrySize L n = is ∙ kind .size in (
-                  take n (drop (at + (7 + L .width)) s),
-                  entry-whole L s at n h (kind .known) (omega arith) (ap (goodVersion L) (sym vs) ∙ sym gs ∙ good)
-                      ∙ λ i. entry (record { kind = getD s at 0; table = sym ts i; key = sym ks i; version = sym vs i; value = take n (drop (at + (7 + L .width)) s) }),
-                  ap (entrySize L) (length-part n (at + (7 + L .width)) s (omega arith)) ∙ sym size,
+                let size : z ≡ entrySize L n = is ∙ kind .size in
+                let bytes = take n (drop (at + (7 + L .width)) s) in
+                let long : length bytes ≡ n = length-part n (at + (7 + L .width)) s (omega arith) in
+                let known = kind .known ∙ ap some (sym long) in (
+                  valueFor L (getD s at 0) bytes,
+                  record {
+                    is-entry =
+                        entry-whole L s at n h (kind .known) (omega arith) (ap (goodVersion L) (sym vs) ∙ sym gs ∙ good)
+                        ∙ λ i. entry (record { table = sym ts i; key = sym ks i; version = sym vs i; value = valueFor L (getD s at 0) bytes });
+                    size = ap (λ (b : List ℕ). entrySize L (length b)) (bytes-back L (getD s at 0) bytes known) ∙ ap (entrySize L) long ∙ sym size;
+                    tombstone = no-value L (getD s at 0) bytes;
+                    kind = kind-back L (getD s at 0) bytes known;
+                  },
                 )
 
         pub reads-tombstone : getD s at 0 ≡ L .tombstoneKind → Tombstone (record { table = t; key = k }) (record { 0 = v }) z ≡ answer L (entryAt L s at)
         reads-tombstone tomb =
-            let (x, e, size) = reads-entry in
+            let (x, r) = reads-entry in
             sym
-            (ap (answer L) e
-            ∙ answer-tombstone L (with-value x) (eq-eqb (getD s at 0) (L .tombstoneKind) tomb)
-            ∙ ap (Tombstone (record { table = t; key = k }) (record { 0 = v })) size)
+            (ap (answer L) (r .is-entry)
+            ∙ answer-tombstone L (with-value x) (r .tombstone ∙ eq-eqb (getD s at 0) (L .tombstoneKind) tomb)
+            ∙ ap (Tombstone (record { table = t; key = k }) (record { 0 = v })) (r .size))
 
         pub reads-object : (getD s at 0 ≡ L .tombstoneKind → ⊥) → Object (record { table = t; key = k }) (record { 0 = v }) (getD s at 0) z ≡ answer L (entryAt L s at)
         reads-object no-tomb =
-            let (x, e, size) = reads-entry in
+            let (x, r) = reads-entry in
             sym
-            (ap (answer L) e
-            ∙ answer-object L (with-value x) (ne-eqb (getD s at 0) (L .tombstoneKind) no-tomb)
-            ∙ ap (Object (record { table = t; key = k }) (record { 0 = v }) (getD s at 0)) size)
+            (ap (answer L) (r .is-entry)
+            ∙ answer-object L (with-value x) (r .tombstone ∙ ne-eqb (getD s at 0) (L .tombstoneKind) no-tomb)
+            ∙ λ i. Object (record { table = t; key = k }) (record { 0 = v }) (r .kind i) (r .size i))

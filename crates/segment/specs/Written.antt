@@ -1,7 +1,8 @@
 -- What the writers of an entry and of a digest leave in a slice.
 use Prim.Native.Nat.{ℕ, _+_, _≤_, _<_}
 use mathlib.Core.Path.{_≡_, sym, _∙_, ap}
-use mathlib.Core.List.{List, _∷_, _++_}
+use mathlib.Core.List.{List, _∷_, _++_, append-assoc}
+use mathlib.Core.Option.{some}
 use native.Mathlib.Nat.{add-suc}
 use native.Mathlib.Numerals.{add-one}
 use native.Mathlib.Omega.{arith}
@@ -9,8 +10,9 @@ use lib.ListN.{length, getD, set, drop, length-append, drop-of-length-le}
 use lib.Seq.{sets, drop-cons}
 use Rattle.word.specs.Number.{bytesOf}
 use Rattle.word.specs.Laws.{length-bytesOf, sets-append}
-use Rattle.segment.specs.Layout.{Layout, entrySize}
-use Rattle.segment.specs.Entry.{Entry}
+use Rattle.segment.specs.Layout.{Layout, valueLength, entrySize}
+use Rattle.segment.specs.Entry.{Entry, bytesIn, kindFor, valueFor, encoded, sizeOf}
+use Rattle.segment.specs.ValueLaws.{kind-back, bytes-back}
 use Rattle.segment.specs.declared.Key.{Key}
 use Rattle.segment.specs.declared.Version.{Version}
 
@@ -18,9 +20,25 @@ use Rattle.segment.specs.declared.Version.{Version}
 abbrev pub encodedHead : Layout → ℕ → Key → Version → List ℕ
 encodedHead L kind key version = kind ∷ bytesOf 2 (key .table) ++ bytesOf 4 (key .key) ++ bytesOf (L .width) (version .0)
 
--- the entry that the writer's arguments say
-abbrev pub entryOf : ℕ → Key → Version → List ℕ → Entry
-entryOf kind key version value = record { kind = kind; table = key .table; key = key .key; version = version .0; value = value }
+-- the bytes of an entry of any kind and any bytes of value
+abbrev pub encodedAs : Layout → ℕ → Key → Version → List ℕ → List ℕ
+encodedAs L kind key version value = encodedHead L kind key version ++ value
+
+-- the entry that a kind, a key, a version and the bytes of a value say
+abbrev pub entryOf : Layout → ℕ → Key → Version → List ℕ → Entry
+entryOf L kind key version value = record { table = key .table; key = key .key; version = version .0; value = valueFor L kind value }
+
+-- where values of that kind are as long
+module _ (L : Layout) (kind : ℕ) (key : Key) (version : Version) (value : List ℕ) (known : valueLength L kind ≡ some (length value)) where
+  pub size-said : sizeOf L (entryOf L kind key version value) ≡ entrySize L (length value)
+  size-said = ap (λ (b : List ℕ). entrySize L (length b)) (bytes-back L kind value known)
+
+  pub encoded-said : encodedAs L kind key version value ≡ encoded L (entryOf L kind key version value)
+  encoded-said = (λ i. encodedAs L (sym (kind-back L kind value known) i) key version (sym (bytes-back L kind value known) i)) ∙ joined
+    where
+      joined :
+          encodedAs L (kindFor L (valueFor L kind value)) key version (bytesIn (valueFor L kind value)) ≡ encoded L (entryOf L kind key version value)
+      joined = simp append-assoc
 
 -- bytes stored after those that were stored before
 pub sets-then : (at n : ℕ) (a b s s₁ s₂ : List ℕ) → length a ≡ n → s₁ ≡ sets s at a → s₂ ≡ sets s₁ (at + n) b → s₂ ≡ sets s at (a ++ b)

@@ -1,7 +1,9 @@
 // The numbers of the format (01, "Bytes of a segment") as the code has them. What is proved here ties them to the layout.
+use crate::Version;
 ghost use mathlib.Core.Path.{_≡_};
 ghost use Rattle.segment.specs.Layout.{edition1, objectKind, goodVersion};
-ghost use Rattle.segment.specs.Kinds.{kindSize, orZero};
+ghost use Rattle.segment.specs.Choice.{orZero};
+ghost use Rattle.segment.specs.Kinds.{kindSize};
 
 // The kinds that have a name.
 pub const TOMBSTONE: u8 = 4;
@@ -45,8 +47,8 @@ pub fn object_kind(length: usize) -> u8
 }
 
 // Whether a version is one that an entry may have.
-pub fn good_version(version: u32) -> bool
-    ensures { λ r. ⌜ r ≡ goodVersion edition1 version ⌝ }
+pub fn good_version(version: Version) -> bool
+    ensures { λ r. ⌜ r ≡ goodVersion edition1 (version .0) ⌝ }
 {
-    0 < version && version < VERSION_LIMIT
+    0 < version.0 && version.0 < VERSION_LIMIT
 }

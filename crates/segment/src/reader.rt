@@ -35,7 +35,7 @@ pub fn read(s: &[u8], at: usize) -> Read
     if s.len() - at < length {
         return Read::Damage;
     }
-    let version = read32(s, at + 7);
+    let version = Version(read32(s, at + 7));
     if !layout::good_version(version) {
         return Read::Damage;
     }
@@ -43,7 +43,6 @@ pub fn read(s: &[u8], at: usize) -> Read
         table: read16(s, at + 1),
         key: read32(s, at + 3),
     };
-    let version = Version(version);
     if kind == layout::TOMBSTONE {
         Read::Tombstone {
             key,

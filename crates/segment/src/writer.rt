@@ -10,9 +10,8 @@ ghost use mathlib.Core.Path.{_≡_};
 ghost use lib.ListN.{length};
 ghost use lib.Seq.{sets};
 ghost use Rattle.segment.specs.Layout.{edition1, entrySize, digestSize};
-ghost use Rattle.segment.specs.Entry.{encoded};
 ghost use Rattle.segment.specs.Digest.{encodedDigest};
-ghost use Rattle.segment.specs.Written.{encodedHead, entryOf};
+ghost use Rattle.segment.specs.Written.{encodedHead, encodedAs};
 
 // All of `src`, from an offset of `dst` on.
 pub fn copy_into(dst: &mut [u8], at: usize, src: &[u8])
@@ -37,9 +36,10 @@ pub fn write_head(s: &mut [u8], at: usize, kind: u8, key: Key, version: Version)
     write32(s, at + 7, version.0);
 }
 
+// The bytes of an entry.
 pub fn write_entry(s: &mut [u8], at: usize, kind: u8, key: Key, version: Version, value: &[u8])
     requires { ⌜ at + entrySize edition1 (length (now value)) ≤ length (now s) ⌝ }
-    ensures { λ _. ⌜ now (s .exit) ≡ sets (now (s .entry)) at (encoded edition1 (entryOf kind key version (now (value .entry)))) ⌝ }
+    ensures { λ _. ⌜ now (s .exit) ≡ sets (now (s .entry)) at (encodedAs edition1 kind key version (now (value .entry))) ⌝ }
 {
     write_head(s, at, kind, key, version);
     copy_into(s, at + layout::HEAD_SIZE, value);

@@ -12,12 +12,9 @@ bit m i = m / 2 ^ i % 2
 abbrev pub named : ℕ → ℕ → Bool
 named m i = eqb (bit m i) 1
 
--- m with slot i, and m without it: m itself where it is so already
+-- m with slot i: m itself where it has it already
 unfoldable pub withBit : ℕ → ℕ → ℕ
 withBit m i = m + (1 - bit m i) * 2 ^ i
-
-unfoldable pub withoutBit : ℕ → ℕ → ℕ
-withoutBit m i = m - bit m i * 2 ^ i
 
 -- m without the slots that v names
 unfoldable pub less : ℕ → ℕ → ℕ

@@ -2,7 +2,7 @@
 use mathlib.Core.Path.{_≡_, refl, sym, ap, ap₂, _∙_}
 use mathlib.Core.Logic.{_≢_, _⊎_, inl, inr}
 use Prim.Native.Nat.{ℕ, zero, suc, _+_, _-_, _*_, _/_, _%_, _^_, _≤_, _<_, min, max}
-use native.Mathlib.Nat.{div-one, div-eq-of-lt, div-mul-le-self, mod-le, mul-le-mul-right, le-trans, lt-of-lt-of-le, mul-assoc, pow-suc, min-eq-left}
+use native.Mathlib.Nat.{div-one, div-eq-of-lt, lt-of-lt-of-le, mul-assoc, pow-suc, min-eq-left}
 use native.Mathlib.Numerals.{one-add}
 use native.Mathlib.Omega.{arith}
 use native.Mathlib.Decide.{decLt, ℕ-discrete}
@@ -11,7 +11,7 @@ use borrow.Author.Tests.{ltb-true, ltb-false, eqb-true, eqb-false, eq-eqb, ne-eq
 use lib.Arith.{bin-ind}
 use lib.Bits.{bitAnd, bitOr, and-step, or-step, and-le-l, and-le-r, and-comm}
 use lib.Pow.{pow-pos, pow-mono, shr-shr}
-use Rattle.slot_map.specs.Bit.{bit, named, withBit, withoutBit, less, namesBelow, within}
+use Rattle.slot_map.specs.Bit.{bit, named, withBit, less, namesBelow, within}
 
 -- ---- one bit
 
@@ -41,12 +41,7 @@ pub bit-of-zero : (i : ℕ) → bit 0 i ≡ 0
 unfolding bit
 bit-of-zero i = ap (λ (x : ℕ). x % 2) (div-eq-of-lt (pow-pos i))
 
--- the bit's own share is part of the map
-pub bit-fits : (m i : ℕ) → bit m i * 2 ^ i ≤ m
-unfolding bit
-bit-fits m i = le-trans (mul-le-mul-right (2 ^ i) (mod-le (m / 2 ^ i) 2)) (div-mul-le-self m (2 ^ i))
-
--- ---- a slot added, a slot taken out: what happens to the lowest bit and to the rest
+-- ---- a slot added: what happens to the lowest bit and to the rest
 
 doubled : (b i : ℕ) → b * 2 ^ suc i ≡ b * 2 ^ i * 2
 doubled b i = ap (λ (x : ℕ). b * x) (pow-suc 2 i) ∙ sym (mul-assoc b (2 ^ i) 2)
@@ -58,15 +53,6 @@ with-zero m = omega (arith, bit-zero m)
 pub with-suc : (m i : ℕ) → withBit m (suc i) ≡ withBit (m / 2) i * 2 + m % 2
 unfolding withBit
 with-suc m i = omega (arith, ap (λ (x : ℕ). (1 - x) * 2 ^ suc i) (bit-suc m i), doubled (1 - bit (m / 2) i) i)
-
-pub without-zero : (m : ℕ) → withoutBit m zero ≡ m / 2 * 2
-unfolding withoutBit
-without-zero m = omega (arith, bit-zero m)
-
-pub without-suc : (m i : ℕ) → withoutBit m (suc i) ≡ withoutBit (m / 2) i * 2 + m % 2
-unfolding withoutBit
-without-suc m i =
-    omega (arith, ap (λ (x : ℕ). x * 2 ^ suc i) (bit-suc m i), doubled (bit (m / 2) i) i, bit-fits (m / 2) i)
 
 -- ---- a map by its lowest bit d and the rest q
 
@@ -94,24 +80,7 @@ bit-with-other m (suc i) (suc j) h =
     ap (λ (x : ℕ). bit x (suc j)) (with-suc m i) ∙ bit-cons-suc (withBit (m / 2) i) (m % 2) j (low-le m)
     ∙ bit-with-other (m / 2) i j (λ e. h (ap suc e)) ∙ sym (bit-suc m j)
 
-pub bit-without-same : (m i : ℕ) → bit (withoutBit m i) i ≡ 0
-bit-without-same m zero = ap (λ (x : ℕ). bit x zero) (without-zero m) ∙ omega (arith, bit-zero (m / 2 * 2))
-bit-without-same m (suc i) =
-    ap (λ (x : ℕ). bit x (suc i)) (without-suc m i) ∙ bit-cons-suc (withoutBit (m / 2) i) (m % 2) i (low-le m)
-    ∙ bit-without-same (m / 2) i
-
-pub bit-without-other : (m i j : ℕ) → i ≢ j → bit (withoutBit m i) j ≡ bit m j
-bit-without-other m zero zero h = absurd (h refl)
-bit-without-other m zero (suc j) h =
-    let e : (m / 2 * 2) / 2 ≡ m / 2 = omega arith in
-    ap (λ (x : ℕ). bit x (suc j)) (without-zero m) ∙ bit-suc (m / 2 * 2) j ∙ ap (λ (x : ℕ). bit x j) e ∙ sym (bit-suc m j)
-bit-without-other m (suc i) zero h =
-    ap (λ (x : ℕ). bit x zero) (without-suc m i) ∙ bit-cons-zero (withoutBit (m / 2) i) (m % 2) (low-le m) ∙ sym (bit-zero m)
-bit-without-other m (suc i) (suc j) h =
-    ap (λ (x : ℕ). bit x (suc j)) (without-suc m i) ∙ bit-cons-suc (withoutBit (m / 2) i) (m % 2) j (low-le m)
-    ∙ bit-without-other (m / 2) i j (λ e. h (ap suc e)) ∙ sym (bit-suc m j)
-
--- the two as a plain sum and a plain difference, where the bit is known
+-- as a plain sum, or the map itself, where the bit is known
 pub with-clear : (m i : ℕ) → bit m i ≡ 0 → withBit m i ≡ m + 2 ^ i
 unfolding withBit
 with-clear m i h = omega (arith, ap (λ (x : ℕ). (1 - x) * 2 ^ i) h)
@@ -120,25 +89,11 @@ pub with-set : (m i : ℕ) → bit m i ≡ 1 → withBit m i ≡ m
 unfolding withBit
 with-set m i h = omega (arith, ap (λ (x : ℕ). (1 - x) * 2 ^ i) h)
 
-pub without-set : (m i : ℕ) → bit m i ≡ 1 → withoutBit m i ≡ m - 2 ^ i
-unfolding withoutBit
-without-set m i h = omega (arith, ap (λ (x : ℕ). x * 2 ^ i) h)
-
-pub without-clear : (m i : ℕ) → bit m i ≡ 0 → withoutBit m i ≡ m
-unfolding withoutBit
-without-clear m i h = omega (arith, ap (λ (x : ℕ). x * 2 ^ i) h)
-
 pub bit-add-same : (m i : ℕ) → bit m i ≡ 0 → bit (m + 2 ^ i) i ≡ 1
 bit-add-same m i h = ap (λ (x : ℕ). bit x i) (sym (with-clear m i h)) ∙ bit-with-same m i
 
 pub bit-add-other : (m i j : ℕ) → bit m i ≡ 0 → i ≢ j → bit (m + 2 ^ i) j ≡ bit m j
 bit-add-other m i j h d = ap (λ (x : ℕ). bit x j) (sym (with-clear m i h)) ∙ bit-with-other m i j d
-
-pub bit-sub-same : (m i : ℕ) → bit m i ≡ 1 → bit (m - 2 ^ i) i ≡ 0
-bit-sub-same m i h = ap (λ (x : ℕ). bit x i) (sym (without-set m i h)) ∙ bit-without-same m i
-
-pub bit-sub-other : (m i j : ℕ) → bit m i ≡ 1 → i ≢ j → bit (m - 2 ^ i) j ≡ bit m j
-bit-sub-other m i j h d = ap (λ (x : ℕ). bit x j) (sym (without-set m i h)) ∙ bit-without-other m i j d
 
 -- a slot's own map
 pub bit-pow-same : (i : ℕ) → bit (2 ^ i) i ≡ 1
@@ -316,7 +271,3 @@ set-below n m i h s = go (decLt i n)
     go : Dec (i < n) → i < n
     go (yes l) = l
     go (no g) = absurd (omega (arith, bit-above m n i h (omega arith)))
-
-pub without-le : (m i : ℕ) → withoutBit m i ≤ m
-unfolding withoutBit
-without-le m i = omega arith

@@ -8,8 +8,8 @@ use native.Mathlib.Decide.{ℕ-discrete, decLt}
 use native.Mathlib.Omega.{arith}
 use lib.Count.{ones, onesIn, ones-step}
 use lib.Pow.{pow-pos}
-use Rattle.slot_map.specs.Bit.{bit, withBit, withoutBit, less, within}
-use Rattle.slot_map.specs.BitLaws.{bit-zero, bit-suc, bit-le, bit-cases, bit-with-same, bit-with-other, bit-without-same, bit-without-other, bit-less, bit-of-zero, bit-above, with-clear, bit-sub, less-within, within-le, within-sub-le}
+use Rattle.slot_map.specs.Bit.{bit, withBit, less, within}
+use Rattle.slot_map.specs.BitLaws.{bit-zero, bit-suc, bit-le, bit-cases, bit-with-same, bit-with-other, bit-less, bit-of-zero, bit-above, with-clear, bit-sub, less-within, within-le, within-sub-le}
 use Rattle.slot_map.specs.Count.{used, allSlots}
 
 pub used-none : (m : ℕ) → used 0 m ≡ 0
@@ -46,7 +46,7 @@ used-one (suc n) a b i l h = go (λ g. used-one n a b i g h) (ℕ-discrete i n)
         omega (arith, used-suc n a, used-suc n b, ap (bit a) e, ap (bit b) e)
     go rest (no d) = omega (arith, used-suc n a, used-suc n b, rest (omega (arith, d)), h n d)
 
--- a slot added, a slot taken out
+-- a slot added
 pub used-with : (n m i : ℕ) → i < n → used n (withBit m i) ≡ used n m + (1 - bit m i)
 used-with n m i l =
     omega (arith, used-one n (withBit m i) m i l (λ j d. bit-with-other m i j d), bit-with-same m i, bit-le m i)
@@ -56,10 +56,6 @@ used-with-clear n m i l h = omega (arith, used-with n m i l)
 
 pub used-add : (n m i : ℕ) → i < n → bit m i ≡ 0 → used n (m + 2 ^ i) ≡ used n m + 1
 used-add n m i l h = ap (used n) (sym (with-clear m i h)) ∙ used-with-clear n m i l h
-
-pub used-without : (n m i : ℕ) → i < n → used n (withoutBit m i) + bit m i ≡ used n m
-used-without n m i l =
-    omega (arith, used-one n (withoutBit m i) m i l (λ j d. bit-without-other m i j d), bit-without-same m i)
 
 -- the slots of v taken out
 pub used-less : (n m v : ℕ) → ((i : ℕ) → i < n → bit v i ≤ bit m i) → used n (less m v) ≡ used n m - used n v
@@ -112,7 +108,12 @@ used-free n m i l h = go (eq-or-lt-of-le (used-le n m))
 
 -- a slot that is named counts
 pub used-some : (n m i : ℕ) → i < n → bit m i ≡ 1 → 1 ≤ used n m
-used-some n m i l h = omega (arith, used-without n m i l)
+used-some zero m i l h = absurd (omega arith)
+used-some (suc n) m i l h = go (ℕ-discrete i n) (λ g. used-some n m i g h)
+  where
+    go : Dec (i ≡ n) → (i < n → 1 ≤ used n m) → 1 ≤ used (suc n) m
+    go (yes e) rest = omega (arith, used-suc n m, ap (bit m) e)
+    go (no d) rest = omega (arith, used-suc n m, rest (omega (arith, d)))
 
 pub used-of-zero : (n : ℕ) → used n 0 ≡ 0
 used-of-zero zero = used-none 0

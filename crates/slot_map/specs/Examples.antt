@@ -1,13 +1,13 @@
 -- Slot maps with four slots and with 32, worked out.
 use mathlib.Core.Path.{_≡_, refl}
 use Prim.Native.Nat.{_-_, _^_}
-use Rattle.slot_map.specs.Bit.{bit, withBit, withoutBit}
+use Rattle.slot_map.specs.Bit.{bit, withBit, less}
 use Rattle.slot_map.specs.Count.{used}
 use Rattle.slot_map.specs.Next.{slotAfter, freeFrom, nextFree}
 
 -- 01, "Values to hold it to", case 5: cleaning slot 0 makes slot 1 the head, alone in its map
-cleaned : withBit (withoutBit 0b0001 0) (nextFree 4 0b0001 0) ≡ 2
-unfolding bit withBit withoutBit slotAfter freeFrom nextFree
+cleaned : withBit (less 0b0001 0b0001) (nextFree 4 0b0001 0) ≡ 2
+unfolding bit withBit less slotAfter freeFrom nextFree
 cleaned = refl
 
 -- going round; the head itself comes last; none is free

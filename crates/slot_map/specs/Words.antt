@@ -8,9 +8,9 @@ use lib.Arith.{mod-mul}
 use lib.Dec.{ltb, lit<}
 use lib.Bits.{bitAnd, bitOr, and-mask, and-le-l}
 use lib.Pow.{pow-pos, pow-lt, ones-split, ones-lt, high}
-use Rattle.slot_map.specs.Bit.{bit, withBit, withoutBit, less}
+use Rattle.slot_map.specs.Bit.{bit, withBit, less}
 use Rattle.slot_map.specs.Count.{allSlots}
-use Rattle.slot_map.specs.BitLaws.{bit-zero, bit-suc, bit-le, bit-and, bit-or, bit-less, bit-cons-zero, bit-cons-suc, bit-with-same, bit-with-other, bit-without-same, bit-without-other, bit-pow-same, bit-pow-other, same-bits, all-bits, less-le}
+use Rattle.slot_map.specs.BitLaws.{bit-zero, bit-suc, bit-le, bit-and, bit-or, bit-less, bit-cons-zero, bit-cons-suc, bit-with-same, bit-with-other, bit-pow-same, bit-pow-other, same-bits, all-bits, less-le}
 
 -- `(m >> i) & 1`
 pub tested : (m i : ℕ) → bitAnd (m / 2 ^ i) 1 ≡ bit m i
@@ -48,15 +48,6 @@ pub and-not : (k m v : ℕ) → m < 2 ^ k → v < 2 ^ k → bitAnd m (2 ^ k - 1 
 and-not k m v hm hv =
     same-bits k (bitAnd m (2 ^ k - 1 - v)) (less m v) (omega (arith, and-le-l m (2 ^ k - 1 - v))) (omega (arith, less-le m v))
     (λ i l. omega (arith, bit-and m (2 ^ k - 1 - v) i, bit-not k v i hv l, bit-less m v i, bit-le m i, bit-le v i))
-
--- `m & !(1 << i)`
-pub less-own : (m i : ℕ) → less m (2 ^ i) ≡ withoutBit m i
-less-own m i = all-bits (less m (2 ^ i)) (withoutBit m i) (λ j. go j (ℕ-discrete i j))
-  where
-    go : (j : ℕ) → Dec (i ≡ j) → bit (less m (2 ^ i)) j ≡ bit (withoutBit m i) j
-    go j (yes e) =
-        rw (← e) (omega (arith, bit-less m (2 ^ i) i, bit-pow-same i, bit-le m i, bit-without-same m i))
-    go j (no d) = omega (arith, bit-less m (2 ^ i) j, bit-pow-other i j d, bit-without-other m i j d)
 
 -- ---- the free slots of n as a map, and the first of them
 

@@ -3,7 +3,7 @@
 ghost use mathlib.Core.Path.{_≡_};
 ghost use Prim.Native.Nat.{_^_, _≤_, _<_};
 ghost use lib.Dec.{ltb};
-ghost use Rattle.slot_map.specs.Bit.{named, withBit, withoutBit, less, within};
+ghost use Rattle.slot_map.specs.Bit.{named, withBit, less, within};
 ghost use Rattle.slot_map.specs.Count.{free, allSlots};
 ghost use Rattle.slot_map.specs.Next.{nextFree};
 
@@ -21,14 +21,6 @@ pub fn with_slot(map: u32, i: u32) -> u32
     ensures { λ r. ⌜ r ≡ withBit map i ⌝ }
 {
     map | (1 << i)
-}
-
-// The map without slot i.
-pub fn without_slot(map: u32, i: u32) -> u32
-    requires { ⌜ i < 32 ⌝ }
-    ensures { λ r. ⌜ r ≡ withoutBit map i ⌝ }
-{
-    map & !(1 << i)
 }
 
 // The map without the slots that the victims name.

@@ -247,13 +247,13 @@ module _ (L : Layout) (before : List ℕ) (idle : Record) where
   clean-laid victims a k =
       let t = clean-tests victims a in
       both-true _ _ (new-slot-agrees (laidClean L idle (logNow L before idle) victims .pending k) (idle-lent L before idle (clean victims) a) (t .1))
-      (both-true _ _ (le-leb (digestSize L) (digestSize L + length (allEncoded L (kept L victims (logNow L before idle)))) (omega arith))
+      (both-true _ _ (le-leb (digestSize L) (digestSize L + length (allEncoded L (kept victims (logNow L before idle)))) (omega arith))
       (both-true _ _ (lt-ltb 0 victims (t .2)) (t .0)))
 
   pub laid-agrees : (o : Operation) → Accepted L before idle o → Agrees (laid L idle (logNow L before idle) o)
   unfolding laid
   laid-agrees (write key value) a =
-      entry-agrees (idle-lent L before idle (write key value) a) (writtenEntry L idle key value) (write-enters L before idle key value a)
+      entry-agrees (idle-lent L before idle (write key value) a) (writtenEntry idle key value) (write-enters L before idle key value a)
   laid-agrees (delete key) a =
-      entry-agrees (idle-lent L before idle (delete key) a) (tombstoneEntry L idle key) (delete-enters L before idle key a)
+      entry-agrees (idle-lent L before idle (delete key) a) (tombstoneEntry idle key) (delete-enters L before idle key a)
   laid-agrees (clean victims) a = clean-laid victims a

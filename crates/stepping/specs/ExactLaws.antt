@@ -150,7 +150,7 @@ module _ (L : Layout) (roomy : Roomy L) (before cells : List ℕ) (idle : Record
           (next-clear (idle .slots) (idle .map) (idle .head) (facts .head-below) (facts .some-free))
 
       abbrev count : ℕ
-      count = digestSize L + length (allEncoded L (kept L victims (logNow L before idle)))
+      count = digestSize L + length (allEncoded L (kept victims (logNow L before idle)))
 
       abbrev after-clean : List ℕ
       after-clean =
@@ -219,10 +219,10 @@ module _ (L : Layout) (roomy : Roomy L) (before cells : List ℕ) (idle : Record
   unfolding laid finishedRecord toldVersion
   operation-ends (write key value) a long rule k =
       entry-ends L roomy before cells idle (a .recovers) (a .area-bytes) (idle-lent L before idle (write key value) a) long rule
-      (writtenEntry L idle key value) (write-enters L before idle key value a) k (finishes L roomy before idle (write key value) a .0)
+      (writtenEntry idle key value) (write-enters L before idle key value a) k (finishes L roomy before idle (write key value) a .0)
   operation-ends (delete key) a long rule k =
       entry-ends L roomy before cells idle (a .recovers) (a .area-bytes) (idle-lent L before idle (delete key) a) long rule
-      (tombstoneEntry L idle key) (delete-enters L before idle key a) k (finishes L roomy before idle (delete key) a .0)
+      (tombstoneEntry idle key) (delete-enters L before idle key a) k (finishes L roomy before idle (delete key) a .0)
   operation-ends (clean victims) a long rule k =
       clean-ends L roomy before cells idle (a .recovers) (a .area-bytes) (idle-lent L before idle (clean victims) a) long rule victims
       (clean-tests L before idle victims a .0) k

@@ -216,10 +216,10 @@ module _ (L : Layout) (laws : OperationLaws L) (area : List ℕ) (r : Record) (w
     clean-told : (v : ℕ) → Told (laidClean L (s .idle) log v)
     unfolding planOf
     clean-told v f w h =
-        let bytes = encodedDigest L (newDigest (s .idle) v) ++ allEncoded L (kept L v log) in
-        let total : digestSize L + length (allEncoded L (kept L v log)) ≡ length bytes =
-        omega (arith, length-append (encodedDigest L (newDigest (s .idle) v)) (allEncoded L (kept L v log)), length-encodedDigest L (newDigest (s .idle) v)) in
-        clean-next (length area) work (s .idle) (digestSize L + length (allEncoded L (kept L v log))) bytes total w (s .since) (newSlot (s .idle)) v
+        let bytes = encodedDigest L (newDigest (s .idle) v) ++ allEncoded L (kept v log) in
+        let total : digestSize L + length (allEncoded L (kept v log)) ≡ length bytes =
+        omega (arith, length-append (encodedDigest L (newDigest (s .idle) v)) (allEncoded L (kept v log)), length-encodedDigest L (newDigest (s .idle) v)) in
+        clean-next (length area) work (s .idle) (digestSize L + length (allEncoded L (kept v log))) bytes total w (s .since) (newSlot (s .idle)) v
         (record {
           some = omega arith;
           read = omega arith;
@@ -230,8 +230,8 @@ module _ (L : Layout) (laws : OperationLaws L) (area : List ℕ) (r : Record) (w
 
     told : (o : Operation) → Told (laid L (s .idle) log o)
     unfolding laid
-    told (write k v) = entry-told (writtenEntry L (s .idle) k v)
-    told (delete k) = entry-told (tombstoneEntry L (s .idle) k)
+    told (write k v) = entry-told (writtenEntry (s .idle) k v)
+    told (delete k) = entry-told (tombstoneEntry (s .idle) k)
     told (clean v) = clean-told v
 
     -- the store of the plan whose turn it is

@@ -143,8 +143,8 @@ module _ (L : Layout) (idle : Record) (log : List Placed) where
   pub counts-down : (o : Operation) → CountsDown (laid L idle log o)
   unfolding laid oneLess
   counts-down (write key value) =
-      entry-counts (fitsHead L idle (writtenEntry L idle key value)) (writtenEntry L idle key value)
-  counts-down (delete key) = entry-counts (fitsHead L idle (tombstoneEntry L idle key)) (tombstoneEntry L idle key)
+      entry-counts (fitsHead L idle (writtenEntry idle key value)) (writtenEntry idle key value)
+  counts-down (delete key) = entry-counts (fitsHead L idle (tombstoneEntry idle key)) (tombstoneEntry idle key)
   counts-down (clean victims) = λ k. (refl, refl)
 
 -- ---- behind the store a step is refused with 4 alone, and hands the record back

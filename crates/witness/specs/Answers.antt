@@ -36,13 +36,13 @@ use Rattle.stepping.specs.CleanLaws.{recovered-built}
 abbrev pub readBy : Layout → Record → List ℕ → List ℕ → Key → Reading
 readBy L r area cells k =
     record {
-      answer = readAnswer (firstCause (readCauses L r (logNow L area r) (readLengths area cells) k)) (present L (logNow L area r) k);
+      answer = readAnswer L (firstCause (readCauses L r (logNow L area r) (readLengths area cells) k)) (present (logNow L area r) k);
       rec = r;
     }
 
 abbrev pub partBy : Layout → Record → List ℕ → List ℕ → Key → Part
 partBy L r area cells k =
-    valueAnswer L (r .size) (firstCause (readCauses L r (logNow L area r) (readLengths area cells) k)) (present L (logNow L area r) k)
+    valueAnswer L (r .size) (firstCause (readCauses L r (logNow L area r) (readLengths area cells) k)) (present (logNow L area r) k)
 
 module _ (L : Layout) (r : Record) (area cells : List ℕ) (k : Key) where
   pub read-made : ReadPromise L r area cells k (readBy L r area cells k)
@@ -50,18 +50,18 @@ module _ (L : Layout) (r : Record) (area cells : List ℕ) (k : Key) where
   read-made =
       record {
         hands-back = refl;
-        unfit = λ bad. ap (λ (c : Option Refusal). readAnswer c (present L (logNow L area r) k)) (cause-first _ _ bad);
+        unfit = λ bad. ap (λ (c : Option Refusal). readAnswer L c (present (logNow L area r) k)) (cause-first _ _ bad);
         exact = λ g. refl;
         says =
             read-settled L r area cells k _
-            (λ bad. ap (λ (c : Option Refusal). readAnswer c (present L (logNow L area r) k)) (cause-first _ _ bad)) (λ g. refl);
+            (λ bad. ap (λ (c : Option Refusal). readAnswer L c (present (logNow L area r) k)) (cause-first _ _ bad)) (λ g. refl);
       }
 
   pub value-made : ValuePromise L r area cells k (partBy L r area cells k)
   unfolding valueAnswer
   value-made =
       record {
-        unfit = λ bad. ap (λ (c : Option Refusal). valueAnswer L (r .size) c (present L (logNow L area r) k)) (cause-first _ _ bad);
+        unfit = λ bad. ap (λ (c : Option Refusal). valueAnswer L (r .size) c (present (logNow L area r) k)) (cause-first _ _ bad);
         exact = λ g. refl;
       }
 

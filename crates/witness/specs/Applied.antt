@@ -8,7 +8,7 @@ use mathlib.Core.Option.{Option, some}
 use native.Mathlib.Omega.{arith}
 use lib.ListN.{length}
 use Rattle.segment.specs.Choice.{pick}
-use Rattle.segment.specs.Layout.{edition1, objectKind, lookBack}
+use Rattle.segment.specs.Layout.{edition1, lookBack}
 use Rattle.segment.specs.declared.Key.{Key}
 use Rattle.record.specs.Answers.{Said, readSaid, refusal, saidBy}
 use Rattle.record.specs.declared.FormatAnswer.{FormatAnswer}
@@ -17,7 +17,7 @@ use Rattle.record.specs.declared.ReadAnswer.{ReadAnswer}
 use Rattle.record.specs.declared.Recovery.{Recovery}
 use Rattle.record.specs.declared.RecoverAnswer.{RecoverAnswer}
 use Rattle.record.specs.declared.Refusal.{Refusal}
-use Rattle.model.specs.Operations.{write, kindElse}
+use Rattle.model.specs.Operations.{write}
 use Rattle.model.specs.Play.{opened}
 use Rattle.model.specs.Recovery.{orderBad, recovery}
 use Rattle.model.specs.Promises.{formatAnswer, areaUnless, FormatPromise, RecoverPromise, ReadPromise, Part, partOf, ValuePromise}

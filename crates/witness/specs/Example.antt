@@ -13,12 +13,13 @@ use Rattle.segment.specs.Layout.{edition1}
 use Rattle.segment.specs.declared.Key.{Key}
 use Rattle.slot_map.specs.Bit.{withBit, less}
 use Rattle.record.specs.Answers.{Said, refusal, taken}
+use Rattle.model.specs.Log.{sameKeys}
 use Rattle.model.specs.Index.{around}
 use Rattle.model.specs.Operations.{Operation, write, delete, clean, Typed, TypedKey, formatted}
 use Rattle.model.specs.Play.{opened, keyed}
 use Rattle.model.specs.Refused.{Lengths}
 use Rattle.model.specs.Table.{failing}
-use Rattle.history.specs.Book.{reads, readsValue, starts, steps, asks, recovers, saying, giving, Event, called, cut, Kept, Awaited, Book, sameKeys, finish, oneOff, takeOne, feedCall, feed, bookAfter, bookOf}
+use Rattle.history.specs.Book.{reads, readsValue, starts, steps, asks, recovers, saying, giving, Event, called, cut, Kept, Awaited, Book, finish, oneOff, takeOne, feedCall, feed, bookAfter, bookOf}
 use Rattle.history.specs.Runs.{freshWorld, Run}
 use Rattle.index.specs.Build as Build
 use Rattle.index.specs.Build.{entriesFrom, inLog, listed}

@@ -6,10 +6,10 @@ use mathlib.Core.List.{List}
 use mathlib.Core.Option.{Option, none, some}
 use native.Mathlib.Omega.{arith}
 use lib.ListN.{length, getD, drop, length-take}
-use Rattle.segment.specs.Choice.{pick}
-use Rattle.segment.specs.Layout.{Layout, isTombstone}
+use Rattle.segment.specs.Choice.{pick, isNone}
+use Rattle.segment.specs.Layout.{Layout}
 use Rattle.segment.specs.Area.{standsAt, found-place}
-use Rattle.segment.specs.Entry.{entry, entryAt, sizeOf, keyOf, answer}
+use Rattle.segment.specs.Entry.{entry, entryAt, sizeOf, keyOf, answer, isTombstone, kindOf}
 use Rattle.segment.specs.EntryLaws.{found-fits}
 use Rattle.segment.specs.declared.Key.{Key}
 use Rattle.segment.specs.declared.Read.{Read}
@@ -21,7 +21,7 @@ use Rattle.record.specs.declared.Record.{Record}
 use Rattle.model.specs.Log.{Placed, segmentOf, placeOf, viewsOf, scan, latest, objectOnly, present, hasKey, keysOf}
 use Rattle.model.specs.Index.{HasCell}
 use Rattle.model.specs.Operations.{logNow}
-use Rattle.model.specs.Refused.{isAbsent, keyFacts}
+use Rattle.model.specs.Refused.{keyFacts}
 use Rattle.model.specs.Promises.{Genuine}
 use Rattle.laws.specs.Members.{In}
 use Rattle.laws.specs.Latest.{latest-some, latest-has, latest-none, key-none}
@@ -39,16 +39,16 @@ use Rattle.writing.specs.Tests.{factsOf, presenceOf, presenceAt, factsFo
 
 -- the facts of a key by its latest entry
 entry-facts : (L : Layout) (x : Placed) →
-    factsOf (presenceOf (answer L (entry (x .entry)))) ≡ record { forbidden = false; in-log = true; absent = isAbsent (objectOnly L (some x)) }
-unfolding factsOf presenceOf answer isAbsent objectOnly pick
-entry-facts L x = go (isTombstone L (x .entry .kind))
+    factsOf (presenceOf (answer L (entry (x .entry)))) ≡ record { forbidden = false; in-log = true; absent = isNone (objectOnly (some x)) }
+unfolding factsOf presenceOf answer isNone objectOnly pick
+entry-facts L x = go (isTombstone (x .entry))
   where
     go : (t : Bool) →
         factsOf
         (presenceOf
         (pick t (Read.Tombstone (keyOf (x .entry)) (record { 0 = x .entry .version }) (sizeOf L (x .entry)))
-        (Read.Object (keyOf (x .entry)) (record { 0 = x .entry .version }) (x .entry .kind) (sizeOf L (x .entry))))) ≡
-        record { forbidden = false; in-log = true; absent = isAbsent (pick t none (some x)) }
+        (Read.Object (keyOf (x .entry)) (record { 0 = x .entry .version }) (kindOf L (x .entry)) (sizeOf L (x .entry))))) ≡
+        record { forbidden = false; in-log = true; absent = isNone (pick t none (some x)) }
     go true = refl
     go false = refl
 
@@ -95,21 +95,21 @@ module _ (L : Layout) (area : List ℕ) (r : Record) (cells : List ℕ) (g : Gen
     an-entry x e = search-known (r .size) (logNow L area r) cells (g .rule) (cellHas L area k) k picks x e
 
     -- so the code's facts of a key are the log's
-    pub genuine-facts : factsFor L r area cells k ≡ keyFacts L (logNow L area r) k
-    unfolding factsOf presenceAt present isAbsent objectOnly
+    pub genuine-facts : factsFor L r area cells k ≡ keyFacts (logNow L area r) k
+    unfolding factsOf presenceAt present isNone objectOnly
     genuine-facts = go (latest (logNow L area r) k) refl
       where
-        go : (o : Option Placed) → latest (logNow L area r) k ≡ o → factsFor L r area cells k ≡ keyFacts L (logNow L area r) k
+        go : (o : Option Placed) → latest (logNow L area r) k ≡ o → factsFor L r area cells k ≡ keyFacts (logNow L area r) k
         go none e =
             let has = sym (key-none (logNow L area r) k (latest-none (logNow L area r) k e)) in
-            let absent = sym (ap (λ (o : Option Placed). isAbsent (objectOnly L o)) e) in
+            let absent = sym (ap (λ (o : Option Placed). isNone (objectOnly o)) e) in
             ap (λ (f : Found). factsOf (presenceAt L (r .size) area cells f)) (no-entry e .1)
             ∙ λ i. record { forbidden = false; in-log = has i; absent = absent i }
         go (some x) e =
             let w = an-entry x e in
             let place : getD cells (w .0 .cell) 0 - 1 ≡ placeOf (r .size) x = omega (arith, w .0 .holds) in
             let has = sym (latest-has (logNow L area r) k x e) in
-            let absent = sym (ap (λ (o : Option Placed). isAbsent (objectOnly L o)) e) in
+            let absent = sym (ap (λ (o : Option Placed). isNone (objectOnly o)) e) in
             ap (λ (f : Found). factsOf (presenceAt L (r .size) area cells f)) (w .1)
             ∙ ap (λ (p : ℕ). factsOf (presenceOf (standsAt L (r .size) area p))) place
             ∙ ap (λ (y : Read). factsOf (presenceOf y)) (stands-at x (latest-some (logNow L area r) k x e .member))

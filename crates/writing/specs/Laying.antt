@@ -3,18 +3,21 @@ use Prim.Native.Nat.{ℕ, _+_, _*_, _≤_}
 use mathlib.Core.Path.{_≡_, sym, _∙_, ap}
 use mathlib.Core.Bool.{Bool, true, false}
 use mathlib.Core.List.{List}
+use mathlib.Core.Option.{some}
 use native.Mathlib.Nat.{zero-add}
 use native.Mathlib.Omega.{arith}
+use lib.Dec.{leb}
 use lib.ListN.{length, length-append}
 use lib.Seq.{sets}
 use Rattle.segment.specs.Choice.{pick-true, pick-false}
-use Rattle.segment.specs.Layout.{Layout, entrySize, digestSize}
+use Rattle.segment.specs.Layout.{Layout, valueLength, entrySize, digestSize}
 use Rattle.segment.specs.Entry.{Entry, encoded, sizeOf}
 use Rattle.segment.specs.EntryLaws.{length-encoded}
 use Rattle.segment.specs.Digest.{encodedDigest}
 use Rattle.segment.specs.DigestLaws.{length-encodedDigest}
-use Rattle.segment.specs.Written.{sets-then}
+use Rattle.segment.specs.Written.{encodedAs, entryOf, size-said, encoded-said, sets-then}
 use Rattle.segment.specs.declared.Digest.{Digest}
+use Rattle.segment.specs.declared.Key.{Key}
 use Rattle.slot_map.specs.BitLaws.{bit-of-zero, within-of-le}
 use Rattle.record.specs.RangeLaws.{Lent}
 use Rattle.record.specs.declared.Pending.the-variants.{Append, NewHead}
@@ -55,7 +58,7 @@ module _ (L : Layout) (r : Record) (e : Entry) (work work′ : List ℕ) where
   unfolding planOf
   append-stores = commit-stores (r .size) (r .head) (r .end) (sizeOf L e) (encoded L e) (length-encoded L e) (omega arith)
 
-  pub append-laid :
+  append-laid :
       (start : Start) (left : ℕ) → start ≡ startedWith r (Append (sizeOf L e) left) left → left ≡ commitStores (r .size) (r .end) (sizeOf L e) →
       work′ ≡ sets work 0 (encoded L e) → record { start = start; work = work′ } ≡ laidBegun r (laidAppend L e) work
   unfolding laidBegun
@@ -69,7 +72,7 @@ module _ (L : Layout) (r : Record) (e : Entry) (work work′ : List ℕ) where
       ∙ ap (λ (k : ℕ). k + length (encoded L e)) (length-encodedDigest L (newDigest r 0))
       ∙ ap (λ (k : ℕ). digestSize L + k) (length-encoded L e)
 
-  pub head-laid :
+  head-laid :
       (start : Start) (slot left : ℕ) (d : Digest) (work₁ : List ℕ) →
       start ≡ startedWith r (NewHead slot (digestSize L + sizeOf L e) left) left → slot ≡ newSlot r → d ≡ newDigest r 0 →
       work₁ ≡ sets work 0 (encodedDigest L d) → work′ ≡ sets work₁ (digestSize L) (encoded L e) →
@@ -89,8 +92,49 @@ module _ (L : Layout) (r : Record) (e : Entry) (work work′ : List ℕ) where
 
 -- an entry that fits the head, and one that does not: t is what the code finds for the fit
 module _ (L : Layout) (r : Record) (e : Entry) (work : List ℕ) (t : Bool) (f : t ≡ fitsHead L r e) where
-  pub fits-laid : {b : Begun} → t ≡ true → b ≡ laidBegun r (laidAppend L e) work → b ≡ laidBegun r (laidEntry L r e) work
+  fits-laid : {b : Begun} → t ≡ true → b ≡ laidBegun r (laidAppend L e) work → b ≡ laidBegun r (laidEntry L r e) work
   fits-laid h g = g ∙ ap (λ (x : Laid). laidBegun r x work) (sym (pick-true (fitsHead L r e) (laidAppend L e) (laidHead L r e) (sym f ∙ h)))
 
-  pub new-laid : {b : Begun} → t ≡ false → b ≡ laidBegun r (laidHead L r e) work → b ≡ laidBegun r (laidEntry L r e) work
+  new-laid : {b : Begun} → t ≡ false → b ≡ laidBegun r (laidHead L r e) work → b ≡ laidBegun r (laidEntry L r e) work
   new-laid h g = g ∙ ap (λ (x : Laid). laidBegun r x work) (sym (pick-false (fitsHead L r e) (laidAppend L e) (laidHead L r e) (sym f ∙ h)))
+
+-- ---- the entry that the code's arguments say
+
+module _ (L : Layout) (r : Record) (kind : ℕ) (key : Key) (value : List ℕ) (known : valueLength L kind ≡ some (length value)) where
+  abbrev saidEntry : Entry
+  saidEntry = entryOf L kind key (r .next) value
+
+  size : entrySize L (length value) ≡ sizeOf L saidEntry
+  size = sym (size-said L kind key (r .next) value known)
+
+  module _ (work work′ : List ℕ) where
+    pub append-said :
+        (start : Start) (left : ℕ) → start ≡ startedWith r (Append (entrySize L (length value)) left) left →
+        left ≡ commitStores (r .size) (r .end) (entrySize L (length value)) → work′ ≡ sets work 0 (encodedAs L kind key (r .next) value) →
+        record { start = start; work = work′ } ≡ laidBegun r (laidAppend L saidEntry) work
+    append-said start left s p q =
+        append-laid L r saidEntry work work′ start left (s ∙ ap (λ (n : ℕ). startedWith r (Append n left) left) size)
+        (p ∙ ap (commitStores (r .size) (r .end)) size) (q ∙ ap (sets work 0) (encoded-said L kind key (r .next) value known))
+
+    pub head-said :
+        (start : Start) (slot left : ℕ) (d : Digest) (work₁ : List ℕ) →
+        start ≡ startedWith r (NewHead slot (digestSize L + entrySize L (length value)) left) left → slot ≡ newSlot r → d ≡ newDigest r 0 →
+        work₁ ≡ sets work 0 (encodedDigest L d) → work′ ≡ sets work₁ (digestSize L) (encodedAs L kind key (r .next) value) →
+        left ≡ headStores (r .size) (digestSize L + entrySize L (length value)) →
+        record { start = start; work = work′ } ≡ laidBegun r (laidHead L r saidEntry) work
+    head-said start slot left d work₁ s at dd p q n =
+        head-laid L r saidEntry work work′ start slot left d work₁
+        (s ∙ ap (λ (m : ℕ). startedWith r (NewHead slot (digestSize L + m) left) left) size) at dd p
+        (q ∙ ap (sets work₁ (digestSize L)) (encoded-said L kind key (r .next) value known))
+        (n ∙ ap (λ (m : ℕ). headStores (r .size) (digestSize L + m)) size)
+
+  -- t is what the code finds for the fit of that length
+  module _ (work : List ℕ) (t : Bool) (f : t ≡ leb (r .end + entrySize L (length value)) (r .size)) where
+    fit : t ≡ fitsHead L r saidEntry
+    fit = f ∙ ap (λ (n : ℕ). leb (r .end + n) (r .size)) size
+
+    pub fits-said : {b : Begun} → t ≡ true → b ≡ laidBegun r (laidAppend L saidEntry) work → b ≡ laidBegun r (laidEntry L r saidEntry) work
+    fits-said h g = fits-laid L r saidEntry work t fit h g
+
+    pub new-said : {b : Begun} → t ≡ false → b ≡ laidBegun r (laidHead L r saidEntry) work → b ≡ laidBegun r (laidEntry L r saidEntry) work
+    new-said h g = new-laid L r saidEntry work t fit h g

@@ -6,12 +6,12 @@ use mathlib.Core.List.{List, []}
 use mathlib.Core.Option.{Option, none, some}
 use lib.Dec.{leb}
 use lib.ListN.{length}
-use borrow.Author.Tests.{eqb-false, ltb-false, not-false}
-use Rattle.segment.specs.Choice.{both}
-use Rattle.segment.specs.Layout.{Layout, objectKind, entrySize, digestSize, numberLimit}
-use Rattle.segment.specs.LayoutLaws.{object-kind, tombstone-length}
+use borrow.Author.Tests.{eq-eqb, eqb-false, ltb-false, not-false}
+use Rattle.segment.specs.Choice.{both, orZero, not-none}
+use Rattle.segment.specs.Layout.{Layout, valueLength, objectKind, entrySize, digestSize, numberLimit}
+use Rattle.segment.specs.LayoutLaws.{object-kind, object-no-tombstone, tombstone-length}
 use Rattle.segment.specs.Entry.{Entry}
-use Rattle.segment.specs.Kinds.{orZero}
+use Rattle.segment.specs.ValueLaws.{value-object, value-tombstone}
 use Rattle.segment.specs.Written.{entryOf}
 use Rattle.segment.specs.declared.Key.{Key}
 use Rattle.record.specs.Range.{fitsLent}
@@ -22,8 +22,8 @@ use Rattle.record.specs.declared.Start.{Start}
 use Rattle.record.specs.declared.Record.{Record}
 use Rattle.model.specs.Log.{Placed}
 use Rattle.model.specs.Causes.{Cause, firstCause}
-use Rattle.model.specs.Operations.{Operation, write, delete, logNow, kindElse, writtenEntry, tombstoneEntry, Laid, laid, laidEntry}
-use Rattle.model.specs.Refused.{Lengths, KeyFacts, recordBad, workShort, noNumber, writeCauses, deleteCauses, startCauses, isNone}
+use Rattle.model.specs.Operations.{Operation, write, delete, logNow, writtenEntry, tombstoneEntry, Laid, laid, laidEntry}
+use Rattle.model.specs.Refused.{Lengths, KeyFacts, recordBad, workShort, noNumber, writeCauses, deleteCauses, startCauses}
 use Rattle.model.specs.Promises.{Genuine, Begun, begun, lentLengths, StartPromise}
 use Rattle.laws.specs.CauseLaws.{cause-first}
 use Rattle.laws.specs.Passed.{WritePassed, write-passed, DeletePassed, delete-passed}
@@ -130,16 +130,6 @@ module _ (L : Layout) (r : Record) (area cells work : List ℕ) (n : ℕ) where
 
 -- ---- a write
 
-or-else : (o : Option ℕ) → orZero o ≡ kindElse o
-unfolding orZero kindElse
-or-else none = refl
-or-else (some n) = refl
-
-some-kind : (o : Option ℕ) → isNone o ≡ false → o ≡ some (orZero o)
-unfolding isNone orZero
-some-kind none p = cc
-some-kind (some n) p = refl
-
 module _ (L : Layout) (r : Record) (area cells work : List ℕ) (k : Key) (value : List ℕ) where
   abbrev writeTests : List Cause
   writeTests = writeCauses L r (lentLengths area cells work) (factsFor L r area cells k) (length value)
@@ -165,10 +155,22 @@ module _ (L : Layout) (r : Record) (area cells work : List ℕ) (k : Key) (value
     written : WritePassed L r (lentLengths area cells work) (factsFor L r area cells k) (length value)
     written = write-passed L r (lentLengths area cells work) (factsFor L r area cells k) (length value) (checked-none _ passed)
 
+    -- the kind that the code finds is that of objects with so long a value
+    module _ (kind : ℕ) (q : kind ≡ orZero (objectKind L (length value))) where
+      kind-found : objectKind L (length value) ≡ some kind
+      kind-found = not-none (objectKind L (length value)) (written .value-known) ∙ ap some (sym q)
+
+      pub write-known : valueLength L kind ≡ some (length value)
+      write-known = object-kind L (length value) kind kind-found
+
+      write-said : entryOf L kind k (r .next) value ≡ writtenEntry r k value
+      write-said =
+          ap (λ (v : Option (List ℕ)). record { table = k .table; key = k .key; version = r .next .0; value = v })
+          (value-object L kind value (object-no-tombstone L (length value) kind kind-found))
+
     write-room : Roomy L → digestSize L + entrySize L (length value) ≤ 256
     write-room roomy =
-        roomy .room (orZero (objectKind L (length value))) (length value)
-        (object-kind L (length value) (orZero (objectKind L (length value))) (some-kind (objectKind L (length value)) (written .value-known)))
+        roomy .room (orZero (objectKind L (length value))) (length value) (write-known (orZero (objectKind L (length value))) refl)
 
     pub write-ready : Roomy L → EntryReady L r (length value) (length work)
     write-ready roomy = entry-ready L r area cells work (length value) (written .record-good) (written .work-long) (write-room roomy)
@@ -178,12 +180,12 @@ module _ (L : Layout) (r : Record) (area cells work : List ℕ) (k : Key) (value
 
     pub write-laid :
         (work′ : List ℕ) (a : Start) (kind : ℕ) → kind ≡ orZero (objectKind L (length value)) →
-        record { start = a; work = work′ } ≡ laidBegun r (laidEntry L r (entryOf kind k (r .next) value)) work →
+        record { start = a; work = work′ } ≡ laidBegun r (laidEntry L r (entryOf L kind k (r .next) value)) work →
         StartPromise L (write k value) r area cells work work′ a
     unfolding laid
     write-laid work′ a kind q h =
-        start-laid L (write k value) r area cells work writeTests write-causes (writtenEntry L r k value) refl passed work′ a
-        (h ∙ ap (λ (m : ℕ). laidBegun r (laidEntry L r (entryOf m k (r .next) value)) work) (q ∙ or-else (objectKind L (length value))))
+        start-laid L (write k value) r area cells work writeTests write-causes (writtenEntry r k value) refl passed work′ a
+        (h ∙ ap (λ (e : Entry). laidBegun r (laidEntry L r e) work) (write-said kind q))
 
 -- ---- a delete
 
@@ -219,10 +221,16 @@ module _ (L : Layout) (r : Record) (area cells work : List ℕ) (k : Key) where
     pub delete-number : leb (r .end + entrySize L 0) (r .size) ≡ false → NumberLeft r
     delete-number f = some-number L r area cells work 0 (deleted .number-left) f
 
+    delete-said : entryOf L (L .tombstoneKind) k (r .next) [] ≡ tombstoneEntry r k
+    delete-said =
+        ap (λ (v : Option (List ℕ)). record { table = k .table; key = k .key; version = r .next .0; value = v })
+        (value-tombstone L (L .tombstoneKind) [] (eq-eqb (L .tombstoneKind) (L .tombstoneKind) refl))
+
     pub delete-laid :
         (work′ : List ℕ) (a : Start) →
-        record { start = a; work = work′ } ≡ laidBegun r (laidEntry L r (entryOf (L .tombstoneKind) k (r .next) [])) work →
+        record { start = a; work = work′ } ≡ laidBegun r (laidEntry L r (entryOf L (L .tombstoneKind) k (r .next) [])) work →
         StartPromise L (delete k) r area cells work work′ a
     unfolding laid
     delete-laid work′ a h =
-        start-laid L (delete k) r area cells work deleteTests delete-causes (tombstoneEntry L r k) refl passed work′ a h
+        start-laid L (delete k) r area cells work deleteTests delete-causes (tombstoneEntry r k) refl passed work′ a
+        (h ∙ ap (λ (e : Entry). laidBegun r (laidEntry L r e) work) delete-said)

@@ -6,11 +6,11 @@ use mathlib.Core.List.{List, _∷_, _++_}
 use lib.Dec.{ltb, leb}
 use lib.ListN.{getD}
 use borrow.Author.Tests.{lt-ltb, le-ltb, eq-eqb, ne-eqb}
-use Rattle.segment.specs.Choice.{both, both-true, both-false-left, both-false-right}
+use Rattle.segment.specs.Choice.{both, both-true, both-false-left, both-false-right, isNone, orZero}
 use Rattle.segment.specs.Layout.{Layout, objectKind, entrySize, digestSize, versionLimit, numberLimit}
 use Rattle.segment.specs.LayoutLaws.{object-kind}
 use Rattle.segment.specs.Area.{standsAt}
-use Rattle.segment.specs.Kinds.{orZero, no-kind, has-kind}
+use Rattle.segment.specs.Kinds.{no-kind, has-kind}
 use Rattle.segment.specs.declared.Key.{Key}
 use Rattle.slot_map.specs.Count.{free}
 use Rattle.record.specs.Range.{fitsLent}
@@ -18,7 +18,7 @@ use Rattle.record.specs.declared.Refusal.{Refusal}
 use Rattle.record.specs.declared.Refusal.the-variants.{BadRecord, ValueLength, VersionsSpent, NumbersSpent, KeysFull, NoRoom}
 use Rattle.record.specs.declared.Record.{Record}
 use Rattle.model.specs.Causes.{Cause, when, firstCause}
-use Rattle.model.specs.Refused.{Lengths, isNone, writeCauses, deleteCauses}
+use Rattle.model.specs.Refused.{Lengths, writeCauses, deleteCauses}
 use Rattle.laws.specs.Entering.{Roomy}
 use Rattle.index.specs.Search.{searchFor}
 use Rattle.index.specs.declared.Found.{Found}

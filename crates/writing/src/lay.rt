@@ -13,23 +13,27 @@ use starting::answer::started;
 use starting::digest::new_digest;
 use starting::stores::commit_stores;
 use starting::stores::head_stores;
+ghost use Prim.Native.Nat.{_+_};
 ghost use mathlib.Core.Path.{_≡_};
 ghost use mathlib.Core.Bool.{true, false};
+ghost use mathlib.Core.Option.{some};
+ghost use lib.Dec.{leb};
 ghost use lib.ListN.{length};
-ghost use Rattle.segment.specs.Layout.{edition1};
+ghost use Rattle.segment.specs.Layout.{edition1, valueLength, entrySize};
 ghost use Rattle.segment.specs.Written.{entryOf};
-ghost use Rattle.model.specs.Operations.{fitsHead, laidAppend, laidHead, laidEntry};
+ghost use Rattle.model.specs.Operations.{laidAppend, laidHead, laidEntry};
 ghost use Rattle.starting.specs.NewHead.{NumberLeft};
 ghost use Rattle.writing.specs.Laying.{laidBegun, EntryReady};
 
 // An entry that goes to the end of the head.
 fn lay_append(rec: Record, work: &mut [u8], kind: u8, key: Key, value: &[u8]) -> Start
     requires { ⌜ EntryReady edition1 rec (length (now value)) (length (now work)) ⌝ }
-    requires { ⌜ fitsHead edition1 rec (entryOf kind key (rec .next) (now value)) ≡ true ⌝ }
+    requires { ⌜ leb (rec .end + entrySize edition1 (length (now value))) (rec .size) ≡ true ⌝ }
+    requires { ⌜ valueLength edition1 kind ≡ some (length (now value)) ⌝ }
     ensures { λ r.
         ⌜
         record { start = r; work = now (work .exit) }
-        ≡ laidBegun rec (laidAppend edition1 (entryOf kind key (rec .next) (now (value .entry)))) (now (work .entry))
+        ≡ laidBegun rec (laidAppend edition1 (entryOf edition1 kind key (rec .next) (now (value .entry)))) (now (work .entry))
         ⌝ }
 {
     let count = HEAD_SIZE + value.len();
@@ -44,10 +48,11 @@ fn lay_append(rec: Record, work: &mut [u8], kind: u8, key: Key, value: &[u8]) ->
 fn lay_head(rec: Record, work: &mut [u8], kind: u8, key: Key, value: &[u8]) -> Start
     requires { ⌜ EntryReady edition1 rec (length (now value)) (length (now work)) ⌝ }
     requires { ⌜ NumberLeft rec ⌝ }
+    requires { ⌜ valueLength edition1 kind ≡ some (length (now value)) ⌝ }
     ensures { λ r.
         ⌜
         record { start = r; work = now (work .exit) }
-        ≡ laidBegun rec (laidHead edition1 rec (entryOf kind key (rec .next) (now (value .entry)))) (now (work .entry))
+        ≡ laidBegun rec (laidHead edition1 rec (entryOf edition1 kind key (rec .next) (now (value .entry)))) (now (work .entry))
         ⌝ }
 {
     let count = DIGEST_SIZE + (HEAD_SIZE + value.len());
@@ -63,11 +68,12 @@ fn lay_head(rec: Record, work: &mut [u8], kind: u8, key: Key, value: &[u8]) -> S
 // An entry is appended to the head if it fits, else it comes to a new head.
 pub fn lay_entry(rec: Record, work: &mut [u8], kind: u8, key: Key, value: &[u8]) -> Start
     requires { ⌜ EntryReady edition1 rec (length (now value)) (length (now work)) ⌝ }
-    requires { ⌜ (fitsHead edition1 rec (entryOf kind key (rec .next) (now value)) ≡ false → NumberLeft rec) ⌝ }
+    requires { ⌜ (leb (rec .end + entrySize edition1 (length (now value))) (rec .size) ≡ false → NumberLeft rec) ⌝ }
+    requires { ⌜ valueLength edition1 kind ≡ some (length (now value)) ⌝ }
     ensures { λ r.
         ⌜
         record { start = r; work = now (work .exit) }
-        ≡ laidBegun rec (laidEntry edition1 rec (entryOf kind key (rec .next) (now (value .entry)))) (now (work .entry))
+        ≡ laidBegun rec (laidEntry edition1 rec (entryOf edition1 kind key (rec .next) (now (value .entry)))) (now (work .entry))
         ⌝ }
 {
     if fits_head(rec, HEAD_SIZE + value.len()) {

@@ -13,7 +13,7 @@ use Rattle.report.proofs.listing.put_lines.Tie as tie
 
 abbrev Inv-loop : tie.InvT-loop
 Inv-loop rec area index ranks out₀ at end₀ i₀ out end i =
-    LinesLeft edition1 (logNow edition1 area rec) (presentKeys edition1 (logNow edition1 area rec)) out₀ at out end i
+    LinesLeft edition1 (logNow edition1 area rec) (presentKeys (logNow edition1 area rec)) out₀ at out end i
 
 abbrev μ-loop : tie.MeasureT-loop
 μ-loop rec area index ranks out₀ at end₀ i₀ out end i = length ranks - i

@@ -1,8 +1,7 @@
 -- `segment::layout::object_kind` meets its contract: each arm is a row of the layout's table.
 use borrow.Author.Tests.{ne-eqb}
-use Rattle.segment.specs.Choice.{pick}
+use Rattle.segment.specs.Choice.{pick, orZero}
 use Rattle.segment.specs.Layout.{edition1, lookBack}
-use Rattle.segment.specs.Kinds.{orZero}
 use Rattle.segment.proofs.layout.object_kind.Statement.{statement}
 use Rattle.segment.proofs.layout.object_kind.Tie as tie
 

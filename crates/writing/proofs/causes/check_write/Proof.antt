@@ -11,6 +11,7 @@ use Rattle.laws.specs.OperationsKept.{edition1-roomy}
 use Rattle.starting.specs.declared.Check.{Check}
 use Rattle.starting.specs.Checks.{checked, idleCauses}
 use Rattle.starting.specs.CheckLaws.{record-lent}
+use Rattle.writing.specs.Tests.{presenceFor}
 use Rattle.writing.specs.TestLaws.{kind-room, write-bad, write-idle, write-value, write-spent, write-key, write-room}
 use borrow.Author.Needs.{needs}
 use Rattle.writing.proofs.causes.check_write.Statement.{statement}
@@ -60,7 +61,8 @@ unfolding edition1
 returns-3 c =
     let e = c .before .before .before in
     let t = e .before .before in
-    write-spent edition1 _ _ _ _ (t .before .before .before .before .fits-lent .ensures) (t .before .before .before .if1 .left) (idle t)
+    let a = t .before .before .before .before .before .before .before .args in
+    write-spent edition1 _ _ (presenceFor edition1 (a .rec .size) (now (a .area)) (now (a .index)) (a .key)) (a .value) (t .before .before .before .before .fits-lent .ensures) (t .before .before .before .if1 .left) (idle t)
     _ (e .before .object-kind .ensures) (e .if2 .left) (c .if3 .taken)
 
 cast-find : tie.Need-cast-find
@@ -102,7 +104,7 @@ returns-5 c =
     let s = c .before .before .before in
     let e = s .before .before .before .before .before .before in
     let t = e .before .before in
-    write-key edition1 _ _ _ _ (t .before .before .before .before .fits-lent .ensures) (t .before .before .before .if1 .left) (idle t)
+    write-key edition1 _ _ _ (t .before .before .before .before .before .before .before .args .value) (t .before .before .before .before .fits-lent .ensures) (t .before .before .before .if1 .left) (idle t)
     _ (e .before .object-kind .ensures) (e .if2 .left) (s .before .before .before .if3 .left) _
     (rw (s .before .find .ensures) at (sym (c .before .c2 .given .1) ∙ s .check-key .ensures))
 

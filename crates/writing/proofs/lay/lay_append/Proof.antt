@@ -4,7 +4,7 @@ use native.Mathlib.Omega.{arith}
 use borrow.Author.Tests.{leb-true}
 use Rattle.segment.specs.Layout.{edition1}
 use Rattle.starting.specs.Stores.{stores-most}
-use Rattle.writing.specs.Laying.{append-laid}
+use Rattle.writing.specs.Laying.{append-said}
 use Rattle.writing.proofs.lay.lay_append.Statement.{statement}
 use Rattle.writing.proofs.lay.lay_append.Tie as tie
 
@@ -22,7 +22,7 @@ cast-commit-stores-2 c = search needs
 
 commit-stores-requires : tie.Need-commit-stores-requires
 unfolding edition1
-commit-stores-requires c κs = leb-true _ _ (c .before .before .before .before .before .before .before .before .before .pre .1)
+commit-stores-requires c κs = leb-true _ _ (c .before .before .before .before .before .before .before .before .before .pre .1 .0)
 
 cast-left : tie.Need-cast-left
 unfolding edition1
@@ -42,7 +42,7 @@ same-length c = search needs
 returns : tie.Need-returns
 unfolding edition1
 returns c =
-    append-laid edition1 _ _ _ _ _ _ (c .started .ensures) (c .before .commit-stores .ensures) (c .before .before .before .before .before .before .write-entry .ensures)
+    append-said edition1 _ _ _ _ (c .before .before .before .before .before .before .before .before .before .before .before .pre .1 .1) _ _ _ _ (c .started .ensures) (c .before .commit-stores .ensures) (c .before .before .before .before .before .before .write-entry .ensures)
 
 pub lay-append-spec : {M : Type 1} → statement M
 lay-append-spec =

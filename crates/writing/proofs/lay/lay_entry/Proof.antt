@@ -2,9 +2,8 @@
 use borrow.Author.Needs.{needs}
 use mathlib.Core.Path.{sym, _∙_}
 use denote.Ref.{now}
-use Rattle.segment.specs.Written.{entryOf}
 use Rattle.segment.specs.Layout.{edition1}
-use Rattle.writing.specs.Laying.{fits-laid, new-laid}
+use Rattle.writing.specs.Laying.{fits-said, new-said}
 use Rattle.writing.proofs.lay.lay_entry.Statement.{statement}
 use Rattle.writing.proofs.lay.lay_entry.Tie as tie
 
@@ -18,7 +17,7 @@ lay-append-requires : tie.Need-lay-append-requires
 unfolding edition1
 lay-append-requires c κs =
     let s = c .before .before .before .before .before in
-    (s .pre .0, sym (c .before .before .fits-head .ensures) ∙ c .before .if1 .taken)
+    (s .pre .0, (sym (c .before .before .fits-head .ensures) ∙ c .before .if1 .taken, s .pre .1 .1))
 
 same-length : tie.Need-same-length
 same-length c = search needs
@@ -27,14 +26,14 @@ returns : tie.Need-returns
 unfolding edition1
 returns c =
     let t = c .before .before .before .before in
-    let a = t .before .before .before .before .args in
-    fits-laid edition1 (a .rec) (entryOf (a .kind) (a .key) (a .rec .next) (now (a .value))) _ _ (t .before .fits-head .ensures) (t .if1 .taken) (c .before .before .lay-append .ensures)
+    let s = t .before .before .before .before in
+    fits-said edition1 (s .args .rec) (s .args .kind) (s .args .key) (now (s .args .value)) (s .pre .1 .1) _ _ (t .before .fits-head .ensures) (t .if1 .taken) (c .before .before .lay-append .ensures)
 
 lay-head-requires : tie.Need-lay-head-requires
 unfolding edition1
 lay-head-requires c κs =
     let s = c .before .before .before .before .before in
-    (s .pre .0, s .pre .1 (sym (c .before .before .fits-head .ensures) ∙ c .before .if1 .left))
+    (s .pre .0, (s .pre .1 .0 (sym (c .before .before .fits-head .ensures) ∙ c .before .if1 .left), s .pre .1 .1))
 
 same-length-2 : tie.Need-same-length-2
 same-length-2 c = search needs
@@ -43,8 +42,8 @@ returns-2 : tie.Need-returns-2
 unfolding edition1
 returns-2 c =
     let t = c .before .before .before .before in
-    let a = t .before .before .before .before .args in
-    new-laid edition1 (a .rec) (entryOf (a .kind) (a .key) (a .rec .next) (now (a .value))) _ _ (t .before .fits-head .ensures) (t .if1 .left) (c .before .before .lay-head .ensures)
+    let s = t .before .before .before .before in
+    new-said edition1 (s .args .rec) (s .args .kind) (s .args .key) (now (s .args .value)) (s .pre .1 .1) _ _ (t .before .fits-head .ensures) (t .if1 .left) (c .before .before .lay-head .ensures)
 
 pub lay-entry-spec : {M : Type 1} → statement M
 lay-entry-spec =

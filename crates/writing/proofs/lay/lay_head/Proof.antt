@@ -6,7 +6,7 @@ use lib.ListN.{length}
 use lib.Seq.{length-sets}
 use Rattle.segment.specs.Layout.{edition1}
 use Rattle.starting.specs.Stores.{head-most}
-use Rattle.writing.specs.Laying.{ready-head, head-laid}
+use Rattle.writing.specs.Laying.{ready-head, head-said}
 use Rattle.writing.proofs.lay.lay_head.Statement.{statement}
 use Rattle.writing.proofs.lay.lay_head.Tie as tie
 
@@ -22,7 +22,7 @@ next-free-requires c κs = search needs
 new-digest-requires : tie.Need-new-digest-requires
 new-digest-requires c κs =
     let s = c .before .before .before .before .before in
-    ready-head edition1 _ _ _ (s .pre .0) (s .pre .1) _ (c .before .next-free .ensures)
+    ready-head edition1 _ _ _ (s .pre .0) (s .pre .1 .0) _ (c .before .next-free .ensures)
 
 write-digest-requires : tie.Need-write-digest-requires
 write-digest-requires c κs = search needs
@@ -61,7 +61,7 @@ returns : tie.Need-returns
 unfolding edition1
 returns c =
     let d = c .before .before .before .before .before .before .before .before .before in
-    head-laid edition1 _ _ _ _ _ _ _ _ _ (c .started .ensures) (d .before .before .before .next-free .ensures) (d .before .new-digest .ensures) (d .write-digest .ensures)
+    head-said edition1 _ _ _ _ (d .before .before .before .before .before .before .before .pre .1 .1) _ _ _ _ _ _ _ (c .started .ensures) (d .before .before .before .next-free .ensures) (d .before .new-digest .ensures) (d .write-digest .ensures)
     (c .before .before .before .before .before .write-entry .ensures) (c .before .head-stores .ensures)
 
 pub lay-head-spec : {M : Type 1} → statement M

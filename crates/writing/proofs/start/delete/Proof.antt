@@ -2,6 +2,7 @@
 use mathlib.Core.Path.{sym, _∙_}
 use denote.Ref.{now}
 use Rattle.segment.specs.Layout.{edition1}
+use Rattle.segment.specs.LayoutLaws.{tombstone-length}
 use Rattle.laws.specs.OperationsKept.{edition1-roomy}
 use Rattle.writing.specs.StartLaws.{delete-refused, delete-ready, delete-number, delete-laid}
 use borrow.Author.Needs.{needs}
@@ -36,7 +37,7 @@ lay-entry-requires c κs =
     let a = t .before .before .before .before .before .before .args in
     let passed = sym (t .enum-told .given .1) ∙ t .before .before .check-delete .ensures in (
       delete-ready edition1 (a .rec) (now (a .area)) (now (a .index)) (now (a .work)) (a .key) passed edition1-roomy,
-      delete-number edition1 (a .rec) (now (a .area)) (now (a .index)) (now (a .work)) (a .key) passed,
+      (delete-number edition1 (a .rec) (now (a .area)) (now (a .index)) (now (a .work)) (a .key) passed, tombstone-length edition1),
     )
 
 returns : tie.Need-returns

@@ -3,7 +3,7 @@ use mathlib.Core.Path.{sym, _∙_}
 use denote.Ref.{now}
 use Rattle.segment.specs.Layout.{edition1}
 use Rattle.laws.specs.OperationsKept.{edition1-roomy}
-use Rattle.writing.specs.StartLaws.{write-refused, write-ready, write-number, write-laid}
+use Rattle.writing.specs.StartLaws.{write-refused, write-ready, write-number, write-known, write-laid}
 use borrow.Author.Needs.{needs}
 use Rattle.writing.proofs.start.write.Statement.{statement}
 use Rattle.writing.proofs.start.write.Tie as tie
@@ -30,7 +30,10 @@ lay-entry-requires c κs =
     let a = t .before .before .before .before .before .before .before .args in
     let passed = sym (t .enum-told .given .1) ∙ t .before .before .check-write .ensures in (
       write-ready edition1 (a .rec) (now (a .area)) (now (a .index)) (now (a .work)) (a .key) (now (a .value)) passed edition1-roomy,
-      write-number edition1 (a .rec) (now (a .area)) (now (a .index)) (now (a .work)) (a .key) (now (a .value)) passed,
+      (
+        write-number edition1 (a .rec) (now (a .area)) (now (a .index)) (now (a .work)) (a .key) (now (a .value)) passed,
+        write-known edition1 (a .rec) (now (a .area)) (now (a .index)) (now (a .work)) (a .key) (now (a .value)) passed _ (c .object-kind .ensures),
+      ),
     )
 
 returns : tie.Need-returns
