@@ -7,7 +7,7 @@ use native.Mathlib.Nat.{mul-le-mul}
 use native.Mathlib.Numerals.{add-one}
 use native.Mathlib.Omega.{arith}
 use lib.Dec.{ltb, leb}
-use lib.ListN.{length, getD, take, drop, set, replicate, length-set, drop-of-length-le}
+use lib.ListN.{length, getD, drop, set, replicate, length-set, drop-of-length-le}
 use lib.Seq.{drop-length, drop-cons}
 use borrow.Author.Fill.{fill-more}
 use borrow.Author.Tests.{ltb-true, ltb-false, leb-true}
