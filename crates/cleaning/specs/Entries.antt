@@ -7,16 +7,14 @@ use lib.Dec.{eqb}
 use lib.ListN.{length}
 use Rattle.segment.specs.Choice.{both, either}
 use Rattle.segment.specs.Layout.{Layout, digestSize}
-use Rattle.segment.specs.Entry.{Entry, Found, entry, end, damage, sizeOf, keyOf, isTombstone}
+use Rattle.segment.specs.Entries.{headerOf}
+use Rattle.segment.specs.declared.Header.{Header}
 use Rattle.segment.specs.declared.Key.{Key}
 use Rattle.slot_map.specs.Bit.{named}
 use Rattle.model.specs.Log.{Item, segmentOf}
 use Rattle.laws.specs.LogLaws.{anyBelow}
 use Rattle.index.specs.Build.{entriesAt}
 use Rattle.cleaning.specs.declared.Split.{Split}
-use Rattle.cleaning.specs.declared.Header.{Header}
-use Rattle.cleaning.specs.declared.Next.{Next}
-use Rattle.cleaning.specs.declared.Next.the-variants as N
 
 -- ---- the slots of an area
 
@@ -35,16 +33,6 @@ pub record SplitFits (split : Split) (area marks : List ℕ) : Type 0 where
 -- the entries of a slot
 abbrev pub slotItems : Layout → List ℕ → ℕ → ℕ → List Item
 slotItems L area S i = entriesAt L (segmentOf area S i) (digestSize L)
-
--- ---- one entry
-
-abbrev pub headerOf : Layout → Entry → Header
-headerOf L e = record { key = keyOf e; tombstone = isTombstone e; length = sizeOf L e }
-
-unfoldable pub nextOf : Layout → Found → Next
-nextOf L (entry e) = N.Entry (headerOf L e)
-nextOf L end = N.Stop
-nextOf L damage = N.Stop
 
 -- ---- an object of a key
 

@@ -1,28 +1,23 @@
 -- The entries of a segment at each test of the code. Premises are the tests as the code has them, and what its callees give.
 use Prim.Native.Nat.{ℕ, _+_, _*_, _≤_, _<_}
-use mathlib.Core.Path.{_≡_, refl, sym, _∙_, ap}
-use mathlib.Core.Bool.{Bool}
+use mathlib.Core.Path.{_≡_, _∙_, ap}
 use mathlib.Core.List.{List, [], _∷_}
 use native.Mathlib.Nat.{mul-le-mul}
 use native.Mathlib.Omega.{arith}
 use lib.ListN.{length}
 use Rattle.segment.specs.Layout.{Layout}
-use Rattle.segment.specs.Entry.{Entry, Found, entry, end, damage, entryAt, sizeOf, answer}
-use Rattle.segment.specs.EntryLaws.{found-fits}
-use Rattle.segment.specs.AnswerLaws.{Tells, tells-end, tells-damage}
-use Rattle.segment.specs.declared.Key.{Key}
-use Rattle.segment.specs.declared.Version.{Version}
-use Rattle.segment.specs.declared.Read.the-variants as R
+use Rattle.segment.specs.Entry.{Entry, entry, entryAt}
+use Rattle.segment.specs.Entries.{headerOf, nextOf, next-entry, next-fits, next-end, next-damage}
+use Rattle.segment.specs.declared.Header.{Header}
+use Rattle.segment.specs.declared.Next.{Next}
+use Rattle.segment.specs.declared.Next.the-variants as N
 use Rattle.model.specs.Log.{segmentOf}
 use Rattle.laws.specs.Scans.{itemAt}
 use Rattle.laws.specs.Stores.{slot-inside, length-segment}
 use Rattle.index.specs.Build.{entriesAt}
 use Rattle.index.specs.Entries.{entries-entry, entries-end, entries-damage}
-use Rattle.cleaning.specs.Entries.{SlotsFit, SplitFits, headerOf, nextOf}
+use Rattle.cleaning.specs.Entries.{SlotsFit, SplitFits}
 use Rattle.cleaning.specs.declared.Split.{Split}
-use Rattle.cleaning.specs.declared.Header.{Header}
-use Rattle.cleaning.specs.declared.Next.{Next}
-use Rattle.cleaning.specs.declared.Next.the-variants as N
 
 -- ---- where slots and entries lie
 
@@ -52,22 +47,6 @@ fits-again marks′ f e = record { slots = f .slots; marks-long = e ∙ f .marks
 
 -- ---- what stands at an offset
 
-module _ (L : Layout) (f : Found) where
-  pub next-entry : {t : Bool} {k : Key} {v : Version} {kind n : ℕ} → Tells L f t k v kind n →
-      N.Entry (record { key = k; tombstone = t; length = n }) ≡ nextOf L f
-  unfolding nextOf
-  next-entry r =
-      rw (r .is)
-      (λ i. N.Entry (record { key = sym (r .its-key) i; tombstone = sym (r .tombstone) i; length = sym (r .its-size) i }))
-
-  pub next-end : answer L f ≡ R.End → N.Stop ≡ nextOf L f
-  unfolding nextOf
-  next-end e = rw (tells-end L f e)
-
-  pub next-damage : answer L f ≡ R.Damage → N.Stop ≡ nextOf L f
-  unfolding nextOf
-  next-damage e = rw (tells-damage L f e)
-
 -- An entry with this header stands at the offset.
 pub record Meets (L : Layout) (s : List ℕ) (at : ℕ) (h : Header) : Type 0 where
   pub met : Entry
@@ -78,25 +57,16 @@ pub record Meets (L : Layout) (s : List ℕ) (at : ℕ) (h : Header) : Type 0 wh
 
 module _ (L : Layout) (s : List ℕ) (at : ℕ) (next : Next) (given : next ≡ nextOf L (entryAt L s at)) where
   pub meets : (h : Header) → next ≡ N.Entry h → Meets L s at h
-  unfolding nextOf
-  meets h e = go (entryAt L s at) refl (sym given ∙ e)
-    where
-      go : (f : Found) → entryAt L s at ≡ f → nextOf L f ≡ N.Entry h → Meets L s at h
-      go (entry x) p q =
-          let its : headerOf L x ≡ h = cc in
-          let size : sizeOf L x ≡ h .length = ap (λ (g : Header). g .length) its in
-          record { met = x; is = p; its = its; fits = omega (arith, found-fits L s at x p); some-byte = omega arith }
-      go end p q = let z : _≡_ {A = ℕ} 0 1 = cc in absurd (omega arith)
-      go damage p q = let z : _≡_ {A = ℕ} 0 1 = cc in absurd (omega arith)
+  meets h e =
+      let (x, p, q) = next-entry L s at next given h e in
+      let fits = next-fits L s at next given h e in
+      record { met = x; is = p; its = q; fits = fits .1; some-byte = fits .0 }
 
-  pub stops : next ≡ N.Stop → entriesAt L s at ≡ []
-  unfolding nextOf
-  stops e = go (entryAt L s at) refl (sym given ∙ e)
-    where
-      go : (f : Found) → entryAt L s at ≡ f → nextOf L f ≡ N.Stop → entriesAt L s at ≡ []
-      go (entry x) p q = let z : _≡_ {A = ℕ} 0 1 = cc in absurd (omega arith)
-      go end p q = entries-end L s at p
-      go damage p q = entries-damage L s at p
+  pub stops-end : next ≡ N.End → entriesAt L s at ≡ []
+  stops-end e = entries-end L s at (next-end L s at next given e)
+
+  pub stops-damage : next ≡ N.Damage → entriesAt L s at ≡ []
+  stops-damage e = entries-damage L s at (next-damage L s at next given e)
 
 pub entries-meets : (L : Layout) (s : List ℕ) (at : ℕ) {h : Header} (m : Meets L s at h) →
     entriesAt L s at ≡ itemAt at (m .met) ∷ entriesAt L s (at + h .length)

@@ -12,6 +12,7 @@ use borrow.Author.Tests.{eq-eqb, ne-eqb}
 use Rattle.segment.specs.Choice.{pick-true, pick-false, both, both-false-left, either}
 use Rattle.segment.specs.Layout.{Layout, digestSize}
 use Rattle.segment.specs.Packed.{length-part}
+use Rattle.segment.specs.declared.Header.{Header}
 use Rattle.segment.specs.declared.Key.{Key}
 use Rattle.slot_map.specs.Bit.{named}
 use Rattle.model.specs.Log.{Item, segmentOf, placedIn}
@@ -22,7 +23,6 @@ use Rattle.cleaning.specs.Marks.{isMarked}
 use Rattle.cleaning.specs.EntriesLaws.{Meets, entries-meets}
 use Rattle.cleaning.specs.Kept.{cellKept, keptAt, keptTest, keptEntry, gathered, keptSlot, keptPart, keptBelow}
 use Rattle.cleaning.specs.declared.Split.{Split}
-use Rattle.cleaning.specs.declared.Header.{Header}
 
 module _ (L : Layout) (area cells marks : List ℕ) where
   -- ---- one entry

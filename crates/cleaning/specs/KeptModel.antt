@@ -13,6 +13,7 @@ use Rattle.word.specs.Number.{Bytes}
 use Rattle.word.specs.Laws.{bytes-take, bytes-drop}
 use Rattle.segment.specs.Choice.{pick, pick-true, pick-false, both, both-left, either}
 use Rattle.segment.specs.Layout.{Layout}
+use Rattle.segment.specs.Entries.{headerOf}
 use Rattle.segment.specs.Packed.{field-at}
 use Rattle.segment.specs.Entry.{Entry, entry, entryAt, encoded, sizeOf, keyOf, isTombstone}
 use Rattle.segment.specs.EntryLaws.{found-fits, found-stands}
@@ -37,7 +38,7 @@ use Rattle.index.specs.Finds.{search-known}
 use Rattle.index.specs.Area.{AllIn, area-picks}
 use Rattle.index.specs.BuildLaws.{log-in-area}
 use Rattle.index.specs.declared.Found.{Found}
-use Rattle.cleaning.specs.Entries.{headerOf, slotItems}
+use Rattle.cleaning.specs.Entries.{slotItems}
 use Rattle.cleaning.specs.Kept.{cellKept, keptAt, keptTest, keptEntry, gathered, keptPart, keptBelow, keptBytes}
 use Rattle.cleaning.specs.KeptLaws.{part-victim, part-other}
 use Rattle.cleaning.specs.Tombstones.{anyTombstone, no-tombstone}

@@ -10,15 +10,16 @@ use lib.Seq.{getD-set-same, getD-set-other}
 use borrow.Author.Tests.{eqb-true, eqb-false}
 use Rattle.segment.specs.Choice.{pick}
 use Rattle.segment.specs.Layout.{Layout}
+use Rattle.segment.specs.Entries.{headerOf}
+use Rattle.segment.specs.declared.Header.{Header}
 use Rattle.slot_map.specs.Bit.{bit, named, withBit}
 use Rattle.slot_map.specs.BitLaws.{bit-of-zero, bit-with-same, bit-with-other, set-named}
 use Rattle.model.specs.Log.{Item}
 use Rattle.index.specs.Search.{searchFor}
 use Rattle.index.specs.declared.Found.{Found}
-use Rattle.cleaning.specs.Entries.{headerOf, slotItems}
+use Rattle.cleaning.specs.Entries.{slotItems}
 use Rattle.cleaning.specs.Tombstones.{anyTombstone}
 use Rattle.cleaning.specs.declared.Split.{Split}
-use Rattle.cleaning.specs.declared.Header.{Header}
 
 -- ---- the mark of a cell
 

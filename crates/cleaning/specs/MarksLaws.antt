@@ -8,6 +8,8 @@ use native.Mathlib.Omega.{arith}
 use lib.ListN.{length}
 use Rattle.segment.specs.Choice.{pick, pick-true, pick-false, both, either}
 use Rattle.segment.specs.Layout.{Layout, digestSize}
+use Rattle.segment.specs.Entries.{headerOf}
+use Rattle.segment.specs.declared.Header.{Header}
 use Rattle.segment.specs.declared.Key.{Key}
 use Rattle.slot_map.specs.Bit.{named}
 use Rattle.model.specs.Log.{Item, segmentOf}
@@ -16,12 +18,11 @@ use Rattle.laws.specs.LogLaws.{anyBelow}
 use Rattle.index.specs.Build.{entriesAt}
 use Rattle.index.specs.Search.{searchFor}
 use Rattle.index.specs.declared.Found.{Found}
-use Rattle.cleaning.specs.Entries.{headerOf, slotItems, isKeyOf, isObject, objectIn, slotHolds}
+use Rattle.cleaning.specs.Entries.{slotItems, isKeyOf, isObject, objectIn, slotHolds}
 use Rattle.cleaning.specs.EntriesLaws.{Meets, entries-meets}
 use Rattle.cleaning.specs.Marks.{isMarked, markedWith, length-marked, mark-own, mark-other, markFound, markEntry, markItems, markSlot, markPart, markBelow, markOutside, markNeeded}
 use Rattle.cleaning.specs.Tombstones.{anyTombstone}
 use Rattle.cleaning.specs.declared.Split.{Split}
-use Rattle.cleaning.specs.declared.Header.{Header}
 
 -- ---- at each test of the code
 

@@ -7,6 +7,7 @@ use mathlib.Core.List.{List, [], _∷_, List·Memᴰ·head, List·Memᴰ·tail}
 use lib.Dec.{eqb}
 use Rattle.segment.specs.Choice.{both, both-left, both-right, both-true, both-false-left, both-false-right, either-false, either-false-left, either-false-right}
 use Rattle.segment.specs.Layout.{Layout}
+use Rattle.segment.specs.Entries.{headerOf}
 use Rattle.segment.specs.declared.Key.{Key}
 use Rattle.segment.specs.Entry.{isTombstone}
 use Rattle.slot_map.specs.Bit.{bit, named, less}
@@ -16,7 +17,7 @@ use Rattle.model.specs.Operations.{objectOutside}
 use Rattle.laws.specs.Members.{fail-together, clash, In, first}
 use Rattle.laws.specs.LogLaws.{AllScanned, InLog, itemOf, placedAt, in-log, log-in, none-below, below-none}
 use Rattle.index.specs.Entries.{entries-scan}
-use Rattle.cleaning.specs.Entries.{headerOf, slotItems, isObject, objectIn, slotHolds, objectBelow}
+use Rattle.cleaning.specs.Entries.{slotItems, isObject, objectIn, slotHolds, objectBelow}
 use Rattle.cleaning.specs.declared.Split.{Split}
 
 -- ---- no object of a key among entries

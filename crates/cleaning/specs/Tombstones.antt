@@ -16,7 +16,7 @@ use Rattle.index.specs.Build.{entriesAt}
 use Rattle.cleaning.specs.Entries.{slotItems}
 use Rattle.cleaning.specs.EntriesLaws.{Meets, entries-meets}
 use Rattle.cleaning.specs.declared.Split.{Split}
-use Rattle.cleaning.specs.declared.Header.{Header}
+use Rattle.segment.specs.declared.Header.{Header}
 
 unfoldable pub tombstoneIn : List Item → Bool
 tombstoneIn [] = false

@@ -1,11 +1,11 @@
 // What is kept, copied to the work buffer.
-use crate::Header;
-use crate::Next;
 use crate::Split;
-use crate::entries::next;
 use crate::kept::is_kept;
 use log::slots::is_named;
+use segment::Header;
+use segment::Next;
 use segment::area::cut;
+use segment::entries::next;
 use segment::layout::DIGEST_SIZE;
 use segment::writer::copy_into;
 ghost use Prim.Native.Nat.{_+_, _≤_, _<_};
@@ -44,7 +44,7 @@ fn copy_entry(
     to + header.length
 }
 
-// What is kept of a slot.
+// What is kept of a slot. Damage, which no log of ours has, ends a segment too.
 fn copy_slot(
     area: &[u8],
     cells: &[u32],
@@ -70,7 +70,10 @@ fn copy_slot(
                 to = copy_entry(area, cells, marks, header, slot * size + at, work, to);
                 at += header.length;
             }
-            Next::Stop => {
+            Next::End => {
+                return to;
+            }
+            Next::Damage => {
                 return to;
             }
         }

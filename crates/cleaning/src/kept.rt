@@ -1,13 +1,13 @@
 // What is kept of the victims' slots, and how long it is.
-use crate::Header;
-use crate::Next;
 use crate::Split;
-use crate::entries::next;
 use crate::marks::is_marked;
 use index::Found;
 use index::search::search;
 use log::slots::is_named;
+use segment::Header;
+use segment::Next;
 use segment::area::cut;
+use segment::entries::next;
 use segment::layout::DIGEST_SIZE;
 ghost use Prim.Native.Nat.{_+_, _*_, _≤_, _<_};
 ghost use mathlib.Core.Path.{_≡_};
@@ -52,7 +52,7 @@ fn kept_length(area: &[u8], cells: &[u32], marks: &[u32], header: Header, place:
     0
 }
 
-// How long what is kept of a slot is.
+// How long what is kept of a slot is. Damage ends a segment too.
 fn measure_slot(area: &[u8], cells: &[u32], marks: &[u32], split: Split, slot: usize) -> usize
     requires { ⌜ SplitFits split (now area) (now marks) ⌝ }
     requires { ⌜ slot < split .slots ⌝ }
@@ -68,7 +68,10 @@ fn measure_slot(area: &[u8], cells: &[u32], marks: &[u32], split: Split, slot: u
                 total += kept_length(area, cells, marks, header, slot * size + at);
                 at += header.length;
             }
-            Next::Stop => {
+            Next::End => {
+                return total;
+            }
+            Next::Damage => {
                 return total;
             }
         }

@@ -1,10 +1,7 @@
 // The start of a cleaning: what is kept of the victims' slots is measured, and then laid out in the work buffer behind the
 // digest of a new head.
-use segment::Key;
-
 pub mod clean;
 pub mod copy;
-pub mod entries;
 pub mod kept;
 pub mod marks;
 pub mod outside;
@@ -16,17 +13,4 @@ pub struct Split {
     pub size: usize,
     pub victims: u32,
     pub outside: u32,
-}
-
-// What a cleaning needs of an entry before it looks at the log.
-pub struct Header {
-    pub key: Key,
-    pub tombstone: bool,
-    pub length: usize,
-}
-
-// An entry of a segment, or nothing more.
-pub enum Next {
-    Entry(Header),
-    Stop,
 }

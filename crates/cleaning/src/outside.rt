@@ -1,16 +1,16 @@
 // One walk over the log outside the victims: the cells of the keys of its objects are marked. A tombstone among the victims is
 // kept if the cell of its key is.
-use crate::Header;
-use crate::Next;
 use crate::Split;
-use crate::entries::next;
 use crate::marks::mark;
 use crate::tombstones::any_tombstone;
 use index::Found;
 use index::search::search;
 use log::slots::is_named;
+use segment::Header;
 use segment::Key;
+use segment::Next;
 use segment::area::cut;
+use segment::entries::next;
 use segment::layout::DIGEST_SIZE;
 ghost use Prim.Native.Nat.{_<_};
 ghost use mathlib.Core.Path.{_≡_};
@@ -46,7 +46,7 @@ fn mark_entry(area: &[u8], cells: &[u32], marks: &mut [u32], header: Header)
     mark_key(area, cells, marks, header.key);
 }
 
-// Marks the cells of the keys of a slot's objects.
+// Marks the cells of the keys of a slot's objects. Damage ends a segment too.
 fn mark_slot(area: &[u8], cells: &[u32], marks: &mut [u32], split: Split, slot: usize)
     requires { ⌜ SplitFits split (now area) (now marks) ⌝ }
     requires { ⌜ slot < split .slots ⌝ }
@@ -60,7 +60,10 @@ fn mark_slot(area: &[u8], cells: &[u32], marks: &mut [u32], split: Split, slot: 
                 mark_entry(area, cells, marks, header);
                 at += header.length;
             }
-            Next::Stop => {
+            Next::End => {
+                return;
+            }
+            Next::Damage => {
                 return;
             }
         }

@@ -1,9 +1,9 @@
 // Whether a victim holds a tombstone: only then it matters which objects stand outside the victims.
-use crate::Next;
 use crate::Split;
-use crate::entries::next;
 use log::slots::is_named;
+use segment::Next;
 use segment::area::cut;
+use segment::entries::next;
 use segment::layout::DIGEST_SIZE;
 ghost use Prim.Native.Nat.{_<_};
 ghost use mathlib.Core.Path.{_≡_};
@@ -12,7 +12,7 @@ ghost use Rattle.index.specs.Build.{entriesAt};
 ghost use Rattle.cleaning.specs.Entries.{SlotsFit};
 ghost use Rattle.cleaning.specs.Tombstones.{tombstoneIn, victimHolds, anyTombstone};
 
-// Whether a tombstone stands in a segment.
+// Whether a tombstone stands in a segment. Damage ends a segment too.
 fn holds_tombstone(s: &[u8]) -> bool
     ensures { λ r. ⌜ r ≡ tombstoneIn (entriesAt edition1 (now (s .entry)) (digestSize edition1)) ⌝ }
 {
@@ -25,7 +25,10 @@ fn holds_tombstone(s: &[u8]) -> bool
                 }
                 at += header.length;
             }
-            Next::Stop => {
+            Next::End => {
+                return false;
+            }
+            Next::Damage => {
                 return false;
             }
         }

@@ -6,20 +6,13 @@ use lib.Dec.{leb}
 use lib.ListN.{length, replicate}
 use Rattle.segment.specs.Choice.{pick, both}
 use Rattle.segment.specs.Layout.{Layout, digestSize}
-use Rattle.segment.specs.Entry.{Found, entry, end, damage, entryAt, sizeOf, keyOf}
+use Rattle.segment.specs.Entry.{entry, end, damage, entryAt, sizeOf}
 use Rattle.slot_map.specs.Bit.{named}
 use Rattle.model.specs.Log.{Item, Placed, segmentOf, placedIn}
 use Rattle.index.specs.Insert.{Tally, counted, over, insertAll}
 use Rattle.index.specs.declared.Built.{Built}
-use Rattle.index.specs.declared.Next.{Next}
 
--- What the index wants of an entry that the reader finds. Damage ends a segment: a log that is recovered has none.
-unfoldable pub nextOf : Layout → Found → Next
-nextOf L (entry e) = Next.Entry (keyOf e) (record { 0 = e .version }) (sizeOf L e)
-nextOf L end = Next.Stop
-nextOf L damage = Next.Stop
-
--- the entries of a segment from an offset on, up to its end or to damage; f bounds how many there can be
+-- the entries of a segment from an offset on, up to its end or to damage, which a log that is recovered does not have; f bounds how many there can be
 unfoldable pub entriesFrom : Layout → List ℕ → ℕ → ℕ → List Item
 entriesFrom L s zero at = []
 entriesFrom L s (suc f) at =

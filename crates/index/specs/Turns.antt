@@ -7,31 +7,30 @@ use native.Mathlib.Nat.{mul-le-mul}
 use native.Mathlib.Numerals.{add-one}
 use native.Mathlib.Omega.{arith}
 use lib.Dec.{ltb, leb}
-use lib.ListN.{length, getD, take, drop, set, replicate, length-set, drop-of-length-le}
+use lib.ListN.{length, getD, drop, set, replicate, length-set, drop-of-length-le}
 use lib.Seq.{drop-length, drop-cons}
 use borrow.Author.Fill.{fill-more}
 use borrow.Author.Tests.{ltb-true, ltb-false, leb-true}
 use Rattle.segment.specs.Choice.{pick-true, pick-false, both, both-right, both-false-left}
 use Rattle.segment.specs.Layout.{Layout}
-use Rattle.segment.specs.Entry.{Entry, Found, entry, end, damage, entryAt, sizeOf, keyOf, answer, isTombstone}
-use Rattle.segment.specs.EntryLaws.{found-fits}
+use Rattle.segment.specs.Entry.{Entry, entry, entryAt, sizeOf, keyOf}
+use Rattle.segment.specs.Entries.{headerOf, nextOf, next-entry, next-fits, next-end, next-damage}
 use Rattle.segment.specs.Packed.{length-part}
-use Rattle.segment.specs.AnswerLaws.{answer-end, answer-damage, answer-tombstone, answer-object}
 use Rattle.segment.specs.declared.Key.{Key}
-use Rattle.segment.specs.declared.Read.{Read}
-use Rattle.segment.specs.declared.Version.{Version}
+use Rattle.segment.specs.declared.Header.{Header}
+use Rattle.segment.specs.declared.Next.{Next}
+use Rattle.segment.specs.declared.Next.the-variants as N
 use Rattle.slot_map.specs.Bit.{named}
 use Rattle.slot_map.specs.BitLaws.{bit-above, clear-named}
 use Rattle.model.specs.Log.{Item, Placed, segmentOf, placeOf, placedIn}
 use Rattle.index.specs.Insert.{Insertion, inserted, Tally, counted, over, tallied, insertOne, insertNext, insertAll}
 use Rattle.index.specs.InsertLaws.{tally-new, tally-over, tally-newer, tally-older, tally-full, insert-newer, insert-older, insert-new, insert-full, insert-over}
-use Rattle.index.specs.Build.{nextOf, entriesAt, inLog, slotEntries, listedSlot, listed, tallyOf, Rebuilt, finished, built}
+use Rattle.index.specs.Build.{entriesAt, inLog, slotEntries, listedSlot, listed, tallyOf, Rebuilt, finished, built}
 use Rattle.index.specs.Entries.{entries-entry, entries-end, entries-damage}
 use Rattle.index.specs.Search.{versionAt, searchFor}
 use Rattle.index.specs.declared.Found.{Found as Searched}
 use Rattle.index.specs.declared.Inserted.{Inserted}
 use Rattle.index.specs.declared.Built.{Built}
-use Rattle.index.specs.declared.Next.{Next}
 
 -- ---- all cells 0
 
@@ -45,28 +44,6 @@ module _ (cells old : List ℕ) (n : ℕ) (e : cells ≡ replicate n 0 ++ drop n
       e ∙ ap (λ (k : ℕ). replicate k 0 ++ drop k old) all
       ∙ ap (λ (l : List ℕ). replicate (length old) 0 ++ l) (drop-length old)
       ∙ append-nil (replicate (length old) 0)
-
--- ---- what the reader's answer is to the index
-
-unfoldable pub nextRead : Read → Next
-nextRead (Read.Object k v kind n) = Next.Entry k v n
-nextRead (Read.Tombstone k v n) = Next.Entry k v n
-nextRead Read.End = Next.Stop
-nextRead Read.Damage = Next.Stop
-
-next-answer : (L : Layout) (f : Found) → nextRead (answer L f) ≡ nextOf L f
-unfolding nextRead nextOf
-next-answer L (entry e) = go (isTombstone e) refl
-  where
-    go : (t : Bool) → isTombstone e ≡ t → nextRead (answer L (entry e)) ≡ nextOf L (entry e)
-    go true t = rw (answer-tombstone L e t)
-    go false t = rw (answer-object L e t)
-next-answer L end = rw (answer-end L)
-next-answer L damage = rw (answer-damage L)
-
--- q is the reader's answer as it was taken apart
-pub next-read : (L : Layout) (f : Found) (r q : Read) → r ≡ answer L f → r ≡ q → nextRead q ≡ nextOf L f
-next-read L f r q is e = ap nextRead (sym e ∙ is) ∙ next-answer L f
 
 -- ---- one entry more
 
@@ -147,58 +124,40 @@ module _ (L : Layout) (area : List ℕ) where
 
 -- ---- a turn over the entries of a slot: going on from here gives the whole tally
 
--- an entry that the index is given is one that stands there
-next-found : (L : Layout) (f : Found) (k : Key) (v : Version) (n : ℕ) → nextOf L f ≡ Next.Entry k v n →
-    (e : Entry) × (f ≡ entry e) × (keyOf e ≡ k) × (e .version ≡ v .0) × (sizeOf L e ≡ n)
-unfolding nextOf
-next-found L (entry e) k v n p = (e, refl, cc, cc, cc)
-next-found L end k v n p = let z : _≡_ {A = ℕ} 0 1 = cc in absurd (omega arith)
-next-found L damage k v n p = let z : _≡_ {A = ℕ} 0 1 = cc in absurd (omega arith)
-
-next-stop : (L : Layout) (s : List ℕ) (at : ℕ) → nextOf L (entryAt L s at) ≡ Next.Stop → entriesAt L s at ≡ []
-unfolding nextOf
-next-stop L s at p = go (entryAt L s at) refl p
-  where
-    go : (f : Found) → entryAt L s at ≡ f → nextOf L f ≡ Next.Stop → entriesAt L s at ≡ []
-    go (entry e) q r = let z : _≡_ {A = ℕ} 0 1 = cc in absurd (omega arith)
-    go end q r = entries-end L s at q
-    go damage q r = entries-damage L s at q
-
--- the segment as the code cuts it
-abbrev pub cut : List ℕ → ℕ → ℕ → List ℕ
-cut area S i = take (i * S + S - i * S) (drop (i * S) area)
-
 module _ (L : Layout) (area : List ℕ) (S i at : ℕ) (cells : List ℕ) (n : ℕ) (whole : Tally)
-    (from : insertAll L area S (placedIn i (entriesAt L (segmentOf area S i) at)) (counted cells n) ≡ whole) (r : Next)
-    (read : r ≡ nextOf L (entryAt L (cut area S i) at)) where
+    (from : insertAll L area S (placedIn i (entriesAt L (segmentOf area S i) at)) (counted cells n) ≡ whole) (s : List ℕ)
+    (cut : s ≡ segmentOf area S i) (r : Next) (read : r ≡ nextOf L (entryAt L s at)) where
   is : r ≡ nextOf L (entryAt L (segmentOf area S i) at)
-  is =
-      let whole-size : i * S + S - i * S ≡ S = omega arith in
-      read ∙ ap (λ (m : ℕ). nextOf L (entryAt L (take m (drop (i * S) area)) at)) whole-size
+  is = read ∙ ap (λ (l : List ℕ). nextOf L (entryAt L l at)) cut
 
-  pub slot-stop : r ≡ Next.Stop → tallyOf (Built.Keys n) cells ≡ whole
+  stops : entriesAt L (segmentOf area S i) at ≡ [] → tallyOf (Built.Keys n) cells ≡ whole
   unfolding tallyOf insertAll placedIn
-  slot-stop e = sym (ap (λ (l : List Item). insertAll L area S (placedIn i l) (counted cells n)) (next-stop L (segmentOf area S i) at (sym is ∙ e))) ∙ from
+  stops none = sym (ap (λ (l : List Item). insertAll L area S (placedIn i l) (counted cells n)) none) ∙ from
 
-  module _ (k : Key) (v : Version) (len : ℕ) (e : r ≡ Next.Entry k v len) where
-    pub slot-fits : i * S + S ≤ length area → (0 < len) × (at + len ≤ S)
+  pub slot-end : r ≡ N.End → tallyOf (Built.Keys n) cells ≡ whole
+  slot-end e = stops (entries-end L (segmentOf area S i) at (next-end L (segmentOf area S i) at r is e))
+
+  pub slot-damage : r ≡ N.Damage → tallyOf (Built.Keys n) cells ≡ whole
+  slot-damage e = stops (entries-damage L (segmentOf area S i) at (next-damage L (segmentOf area S i) at r is e))
+
+  module _ (h : Header) (e : r ≡ N.Entry h) where
+    pub slot-fits : i * S + S ≤ length area → (0 < h .length) × (at + h .length ≤ S)
     slot-fits room =
-        let w = next-found L (entryAt L (segmentOf area S i) at) k v len (sym is ∙ e) in
-        let fits : at + sizeOf L (w .0) ≤ length (segmentOf area S i) = found-fits L (segmentOf area S i) at (w .0) (w .1) in
-        (omega (arith, w .4), omega (arith, w .4, length-part S (i * S) area room))
+        let fits = next-fits L (segmentOf area S i) at r is h e in
+        (fits .0, omega (arith, fits .1, length-part S (i * S) area room))
 
     -- b and after are what one entry more gives
-    module _ (b : Built) (after : List ℕ) (one-more : tallyOf b after ≡ insertOne L area (i * S + at) k (v .0) cells n) where
-      rest : insertAll L area S (placedIn i (entriesAt L (segmentOf area S i) (at + len))) (tallyOf b after) ≡ whole
+    module _ (b : Built) (after : List ℕ) (one-more : tallyOf b after ≡ insertOne L area (i * S + at) (h .key) (h .version .0) cells n) where
+      rest : insertAll L area S (placedIn i (entriesAt L (segmentOf area S i) (at + h .length))) (tallyOf b after) ≡ whole
       unfolding insertAll insertNext placedIn
-      rest = go (next-found L (entryAt L (segmentOf area S i) at) k v len (sym is ∙ e))
+      rest = go (next-entry L (segmentOf area S i) at r is h e)
         where
-          go : (x : Entry) × (entryAt L (segmentOf area S i) at ≡ entry x) × (keyOf x ≡ k) × (x .version ≡ v .0) × (sizeOf L x ≡ len) →
-              insertAll L area S (placedIn i (entriesAt L (segmentOf area S i) (at + len))) (tallyOf b after) ≡ whole
-          go (x, p, pk, pv, pn) =
+          go : (x : Entry) × (entryAt L (segmentOf area S i) at ≡ entry x) × (headerOf L x ≡ h) →
+              insertAll L area S (placedIn i (entriesAt L (segmentOf area S i) (at + h .length))) (tallyOf b after) ≡ whole
+          go (x, p, q) =
               let same : tallyOf b after ≡ insertOne L area (i * S + at) (keyOf x) (x .version) cells n =
-              one-more ∙ λ j. insertOne L area (i * S + at) (sym pk j) (sym pv j) cells n in
-              ap (λ (q : ℕ). insertAll L area S (placedIn i (entriesAt L (segmentOf area S i) (at + q))) (tallyOf b after)) (sym pn)
+              one-more ∙ λ j. insertOne L area (i * S + at) (sym q j .key) (sym q j .version .0) cells n in
+              ap (λ (w : Header). insertAll L area S (placedIn i (entriesAt L (segmentOf area S i) (at + w .length))) (tallyOf b after)) (sym q)
               ∙ ap (insertAll L area S (placedIn i (entriesAt L (segmentOf area S i) (at + sizeOf L x)))) same
               ∙ ap (λ (l : List Item). insertAll L area S (placedIn i l) (counted cells n)) (sym (entries-entry L (segmentOf area S i) at x p))
               ∙ from
@@ -206,19 +165,19 @@ module _ (L : Layout) (area : List ℕ) (S i at : ℕ) (cells : List ℕ) (n : �
       pub slot-over : b ≡ Built.TooMany → tallyOf Built.TooMany after ≡ whole
       unfolding tallyOf
       slot-over p =
-          sym (insert-over L area S (placedIn i (entriesAt L (segmentOf area S i) (at + len))))
-          ∙ ap (λ (j : Built). insertAll L area S (placedIn i (entriesAt L (segmentOf area S i) (at + len))) (tallyOf j after)) (sym p)
+          sym (insert-over L area S (placedIn i (entriesAt L (segmentOf area S i) (at + h .length))))
+          ∙ ap (λ (j : Built). insertAll L area S (placedIn i (entriesAt L (segmentOf area S i) (at + h .length))) (tallyOf j after)) (sym p)
           ∙ rest
 
       module _ (m : ℕ) (p : b ≡ Built.Keys m) where
-        pub slot-next : insertAll L area S (placedIn i (entriesAt L (segmentOf area S i) (at + len))) (counted after m) ≡ whole
+        pub slot-next : insertAll L area S (placedIn i (entriesAt L (segmentOf area S i) (at + h .length))) (counted after m) ≡ whole
         unfolding tallyOf
         slot-next =
-            ap (λ (j : Built). insertAll L area S (placedIn i (entriesAt L (segmentOf area S i) (at + len))) (tallyOf j after)) (sym p) ∙ rest
+            ap (λ (j : Built). insertAll L area S (placedIn i (entriesAt L (segmentOf area S i) (at + h .length))) (tallyOf j after)) (sym p) ∙ rest
 
         pub slot-few : n ≤ length cells → m ≤ length after
         unfolding tallyOf Few
-        slot-few h = subst Few (sym (ap (λ (j : Built). tallyOf j after) (sym p) ∙ one-more)) (few-one L area (i * S + at) k (v .0) cells n h)
+        slot-few f = subst Few (sym (ap (λ (j : Built). tallyOf j after) (sym p) ∙ one-more)) (few-one L area (i * S + at) (h .key) (h .version .0) cells n f)
 
 -- ---- whether a slot is in the log
 

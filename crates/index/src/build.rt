@@ -1,21 +1,20 @@
 // The index rebuilt from the entries of the log, slot by slot in the order of a list.
 use crate::Built;
 use crate::Inserted;
-use crate::Next;
 use crate::put::insert;
 use segment::Key;
-use segment::Read;
+use segment::Next;
 use segment::Version;
+use segment::area::cut;
+use segment::entries::next;
 use segment::layout::DIGEST_SIZE;
-use segment::reader::read;
 use slot_map::has_slot;
 ghost use Prim.Native.Nat.{_+_, _*_, _≤_, _<_};
 ghost use mathlib.Core.Path.{_≡_};
 ghost use lib.ListN.{length, replicate};
 ghost use Rattle.segment.specs.Layout.{edition1};
-ghost use Rattle.segment.specs.Entry.{entryAt};
 ghost use Rattle.index.specs.Insert.{counted, insertOne, insertAll};
-ghost use Rattle.index.specs.Build.{nextOf, inLog, slotEntries, listedSlot, listed, tallyOf, Rebuilt, built};
+ghost use Rattle.index.specs.Build.{inLog, slotEntries, listedSlot, listed, tallyOf, Rebuilt, built};
 
 // Every cell free.
 fn clear(cells: &mut [u32])
@@ -25,35 +24,6 @@ fn clear(cells: &mut [u32])
     while i < cells.len() {
         cells[i] = 0;
         i += 1;
-    }
-}
-
-// The entry at an offset of a segment, if the segment goes on.
-fn next_entry(s: &[u8], at: usize) -> Next
-    ensures { λ r. ⌜ r ≡ nextOf edition1 (entryAt edition1 (now (s .entry)) at) ⌝ }
-{
-    match read(s, at) {
-        Read::Object {
-            key,
-            version,
-            kind: _,
-            length,
-        } => Next::Entry {
-            key,
-            version,
-            length,
-        },
-        Read::Tombstone {
-            key,
-            version,
-            length,
-        } => Next::Entry {
-            key,
-            version,
-            length,
-        },
-        Read::End => Next::Stop,
-        Read::Damage => Next::Stop,
     }
 }
 
@@ -86,7 +56,7 @@ fn index_entry(
     }
 }
 
-// The entries of one slot, whose segment is cut from the area at slot × size.
+// The entries of one slot. Damage, which a log that is recovered does not have, ends a segment too.
 fn index_slot(area: &[u8], cells: &mut [u32], slot: usize, size: usize, keys: usize) -> Built
     requires { ⌜
         (slot * size + size ≤ length (now area))
@@ -99,25 +69,29 @@ fn index_slot(area: &[u8], cells: &mut [u32], slot: usize, size: usize, keys: us
         ≡ insertAll edition1 (now (area .entry)) size (slotEntries edition1 (now (area .entry)) size slot) (counted (now (cells .entry)) keys)
         ⌝ }
 {
+    let s = cut(size, area, slot);
     let start = slot * size;
-    let end = start + size;
-    let s = &area[start..end];
     let mut at = DIGEST_SIZE;
     let mut keys = keys;
     loop {
-        let Next::Entry {
-            key,
-            version,
-            length,
-        } = next_entry(s, at)
-        else {
-            return Built::Keys(keys);
-        };
-        let Built::Keys(n) = index_entry(area, cells, start + at, key, version, keys) else {
-            return Built::TooMany;
-        };
-        keys = n;
-        at += length;
+        match next(s, at) {
+            Next::Entry(header) => {
+                let place = start + at;
+                let key = header.key;
+                let version = header.version;
+                let Built::Keys(n) = index_entry(area, cells, place, key, version, keys) else {
+                    return Built::TooMany;
+                };
+                keys = n;
+                at += header.length;
+            }
+            Next::End => {
+                return Built::Keys(keys);
+            }
+            Next::Damage => {
+                return Built::Keys(keys);
+            }
+        }
     }
 }
 

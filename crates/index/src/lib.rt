@@ -3,9 +3,6 @@ pub mod build;
 pub mod put;
 pub mod search;
 
-use segment::Key;
-use segment::Version;
-
 // What a search for a key meets: the cell that holds it, a free cell, or neither in any cell.
 pub enum Found {
     At(usize),
@@ -26,14 +23,4 @@ pub enum Inserted {
 pub enum Built {
     Keys(usize),
     TooMany,
-}
-
-// An entry that is met in a segment, an object or a tombstone alike, or nothing more.
-pub enum Next {
-    Entry {
-        key: Key,
-        version: Version,
-        length: usize,
-    },
-    Stop,
 }

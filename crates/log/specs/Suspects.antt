@@ -11,6 +11,7 @@ use lib.ListN.{length, getD, set, drop, replicate, length-set, getD-replicate, L
 use lib.Seq.{getD-set-same, getD-set-other, drop-cons}
 use borrow.Author.Tests.{eq-eqb, ne-eqb, eqb-true, eqb-false, lt-ltb, ltb-true, ltb-false}
 use native.Mathlib.Numerals.{add-one}
+use Rattle.word.specs.Fnv.{wrapped}
 use Rattle.segment.specs.Choice.{pick, pick-true, pick-false, either, either-true-left, either-true-right}
 use Rattle.segment.specs.Layout.{Layout}
 use Rattle.segment.specs.Entry.{Entry}
@@ -23,11 +24,16 @@ use Rattle.laws.specs.Versions.{counted, count, count-found, shared-count}
 
 -- ---- the two cells of a version
 
+-- A version's hash, 0 to 255: the highest byte of its product with an odd number, so that versions with one bit in the filter
+-- have different ones.
+abbrev pub hashOf : ℕ → ℕ
+hashOf v = wrapped v 2654435761 / 16777216
+
 abbrev pub cellOf : ℕ → ℕ
-cellOf v = v / 16384 % 256
+cellOf v = hashOf v % 256
 
 abbrev pub nextCell : ℕ → ℕ
-nextCell v = (v / 16384 + 1) % 256
+nextCell v = (hashOf v + 1) % 256
 
 unfoldable pub isSuspect : List ℕ → ℕ → Bool
 isSuspect table v = either (eqb (getD table (cellOf v) 0) v) (eqb (getD table (nextCell v) 0) v)
@@ -35,6 +41,44 @@ isSuspect table v = either (eqb (getD table (cellOf v) 0) v) (eqb (getD table (n
 -- an empty one of them, 256 where there is none
 unfoldable pub roomOf : List ℕ → ℕ → ℕ
 roomOf table v = pick (eqb (getD table (cellOf v) 0) 0) (cellOf v) (pick (eqb (getD table (nextCell v) 0) 0) (nextCell v) 256)
+
+-- the tests of the two cells, h being the version's hash
+module _ (table : List ℕ) (v h : ℕ) (e : h ≡ hashOf v) where
+  at-hash : getD table (h % 256) 0 ≡ getD table (cellOf v) 0
+  at-hash = ap (λ (i : ℕ). getD table (i % 256) 0) e
+
+  after-hash : getD table ((h + 1) % 256) 0 ≡ getD table (nextCell v) 0
+  after-hash = ap (λ (i : ℕ). getD table ((i + 1) % 256) 0) e
+
+  pub suspect-first : getD table (h % 256) 0 ≡ v → true ≡ isSuspect table v
+  unfolding isSuspect
+  suspect-first q = sym (either-true-left (eqb (getD table (cellOf v) 0) v) _ (eq-eqb (getD table (cellOf v) 0) v (sym at-hash ∙ q)))
+
+  pub suspect-second : (getD table (h % 256) 0 ≡ v → ⊥) → eqb (getD table ((h + 1) % 256) 0) v ≡ isSuspect table v
+  unfolding isSuspect either
+  suspect-second n =
+      ap (λ (c : ℕ). eqb c v) after-hash
+      ∙ sym (ap (λ (t : Bool). either t (eqb (getD table (nextCell v) 0) v)) (ne-eqb (getD table (cellOf v) 0) v (λ q. n (at-hash ∙ q))))
+
+  pub room-first : getD table (h % 256) 0 ≡ 0 → h % 256 ≡ roomOf table v
+  unfolding roomOf
+  room-first q =
+      ap (λ (i : ℕ). i % 256) e
+      ∙ sym (pick-true (eqb (getD table (cellOf v) 0) 0) (cellOf v) _ (eq-eqb (getD table (cellOf v) 0) 0 (sym at-hash ∙ q)))
+
+  module _ (n : getD table (h % 256) 0 ≡ 0 → ⊥) where
+    past-first : roomOf table v ≡ pick (eqb (getD table (nextCell v) 0) 0) (nextCell v) 256
+    unfolding roomOf
+    past-first = pick-false (eqb (getD table (cellOf v) 0) 0) (cellOf v) _ (ne-eqb (getD table (cellOf v) 0) 0 (λ q. n (at-hash ∙ q)))
+
+    pub room-second : getD table ((h + 1) % 256) 0 ≡ 0 → (h + 1) % 256 ≡ roomOf table v
+    room-second q =
+        ap (λ (i : ℕ). (i + 1) % 256) e
+        ∙ sym (past-first ∙ pick-true (eqb (getD table (nextCell v) 0) 0) (nextCell v) 256 (eq-eqb (getD table (nextCell v) 0) 0 (sym after-hash ∙ q)))
+
+    pub room-none : (getD table ((h + 1) % 256) 0 ≡ 0 → ⊥) → 256 ≡ roomOf table v
+    room-none m =
+        sym (past-first ∙ pick-false (eqb (getD table (nextCell v) 0) 0) (nextCell v) 256 (ne-eqb (getD table (nextCell v) 0) 0 (λ q. m (after-hash ∙ q))))
 
 -- the cells that are not empty
 unfoldable pub occupied : List ℕ → ℕ

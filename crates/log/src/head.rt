@@ -1,8 +1,8 @@
 // The head of an area, and what cause 17 asks of the digests.
 use crate::HeadFound;
-use crate::slots::cut;
 use crate::slots::is_named;
 use segment::DigestNumber;
+use segment::area::cut;
 use segment::reader::digest;
 use segment::reader::is_digest;
 ghost use Prim.Native.Nat.{_≤_};

@@ -17,13 +17,6 @@ pub enum HeadFound {
     At { slot: usize, digest: Digest },
 }
 
-// What a scan needs of an entry: how far the next one is, and the version.
-pub enum Next {
-    Entry { version: Version, length: usize },
-    End,
-    Damage,
-}
-
 // What a walk of the log has passed: whether it was undamaged, its highest version, 0 where it is empty, and whether the filter
 // told all versions apart.
 pub struct Passed {

@@ -1,12 +1,12 @@
 // The survey of the log in one walk: damage, the highest version, and whether the filter tells all versions apart. Where it does,
 // no two entries share a version, and none of them needs a second look.
-use crate::Next;
 use crate::Passed;
 use crate::filter::mark;
-use crate::scan::next;
-use crate::slots::cut;
 use crate::slots::is_named;
+use segment::Next;
 use segment::Version;
+use segment::area::cut;
+use segment::entries::next;
 use segment::layout::DIGEST_SIZE;
 ghost use Prim.Native.Nat.{_+_, _*_, _≤_, max};
 ghost use mathlib.Core.Path.{_≡_};
@@ -58,7 +58,9 @@ fn survey_slot(
     let mut apart = before.apart;
     loop {
         match next(part, at) {
-            Next::Entry { version, length } => {
+            Next::Entry(header) => {
+                let version = header.version;
+                let length = header.length;
                 highest = higher(highest, version);
                 apart = mark_apart(filter, version, apart);
                 at += length;
@@ -81,7 +83,8 @@ fn survey_slot(
     }
 }
 
-// The log of a map.
+// The log of a map. What is free: the highest version and `apart` where the log is damaged; and where it is not, `apart` may be
+// false though no version is shared, for the filter may take two versions for one.
 pub fn survey(n: usize, s: usize, area: &[u8], map: u32) -> Passed
     requires { ⌜ Shape n s (now area) ⌝ }
     ensures { λ r. ⌜ Surveyed (viewsOf edition1 (now (area .entry)) s) (named map) n (r .sound) (r .highest .0) (r .apart) ⌝ }

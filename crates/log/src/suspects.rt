@@ -1,13 +1,15 @@
 // The suspects of the search for equal versions: those whose bit in the filter was set already, in a table of 256 cells (0:
-// empty). A version has two neighbouring cells, by the bits that the filter does not use. One walk over the log looks at
-// all suspects: each is the version of an entry, so two entries share one exactly if more entries than suspects have one.
-use crate::Next;
-use crate::scan::next;
-use crate::slots::cut;
+// empty). A version has two neighbouring cells, by a hash that scatters versions with one bit in the filter. One walk over the
+// log looks at all suspects: each is the version of an entry, so two entries share one exactly if more entries than suspects
+// have one.
 use crate::slots::is_named;
+use segment::Next;
 use segment::Version;
+use segment::area::cut;
+use segment::entries::next;
 use segment::layout::DIGEST_SIZE;
-ghost use Prim.Native.Nat.{_≤_};
+use word::fnv::wrapping_mul;
+ghost use Prim.Native.Nat.{_≤_, _<_};
 ghost use mathlib.Core.Path.{_≡_};
 ghost use mathlib.Core.Bool.{true};
 ghost use lib.Dec.{ltb};
@@ -18,7 +20,7 @@ ghost use Rattle.slot_map.specs.Bit.{named};
 ghost use Rattle.model.specs.Log.{viewsOf, logOf};
 ghost use Rattle.laws.specs.Versions.{count};
 ghost use Rattle.log.specs.Shape.{Shape};
-ghost use Rattle.log.specs.Suspects.{isSuspect, roomOf, occupied, hits, Empty, Suspects, Suspecting};
+ghost use Rattle.log.specs.Suspects.{hashOf, isSuspect, roomOf, occupied, hits, Empty, Suspects, Suspecting};
 ghost use Rattle.log.specs.Counts.{CountIn};
 
 // 1 for true, 0 for false.
@@ -28,12 +30,19 @@ fn one(told: bool) -> usize
     if told { 1 } else { 0 }
 }
 
+// A version's hash, by which its cells are chosen.
+fn hash(version: Version) -> usize
+    ensures { λ r. ⌜ (r ≡ hashOf (version .0)) × (r < 4294967296) ⌝ }
+{
+    wrapping_mul(version.0, 2654435761) as usize / 16777216
+}
+
 // Whether a version is one of the suspects.
 fn is_suspect(table: &[u32], version: Version) -> bool
     requires { ⌜ length (now table) ≡ 256 ⌝ }
     ensures { λ r. ⌜ r ≡ isSuspect (now (table .entry)) (version .0) ⌝ }
 {
-    let cell = version.0 as usize / 16384;
+    let cell = hash(version);
     if table[cell % 256] == version.0 {
         return true;
     }
@@ -45,7 +54,7 @@ fn room(table: &[u32], version: Version) -> usize
     requires { ⌜ length (now table) ≡ 256 ⌝ }
     ensures { λ r. ⌜ r ≡ roomOf (now (table .entry)) (version .0) ⌝ }
 {
-    let cell = version.0 as usize / 16384;
+    let cell = hash(version);
     if table[cell % 256] == 0 {
         return cell % 256;
     }
@@ -89,7 +98,9 @@ fn count_in(part: &[u8], table: &[u32]) -> usize
     let mut count = 0;
     loop {
         match next(part, at) {
-            Next::Entry { version, length } => {
+            Next::Entry(header) => {
+                let version = header.version;
+                let length = header.length;
                 count += one(is_suspect(table, version));
                 at += length;
             }
@@ -136,7 +147,8 @@ pub fn suspect_shared(n: usize, s: usize, area: &[u8], map: u32, table: &[u32]) 
 }
 
 // Puts the version of an entry among the suspects, and answers whether a version was found to be shared: where both its cells
-// are taken, the suspects are looked at and let go first.
+// are taken, the suspects are looked at and let go first. What is free: which cells hold the suspects, and which of those that
+// no other entry shares are let go.
 pub fn suspect(
     n: usize,
     s: usize,
@@ -162,6 +174,6 @@ pub fn suspect(
         return true;
     }
     clear(table);
-    table[version.0 as usize / 16384 % 256] = version.0;
+    table[hash(version) % 256] = version.0;
     false
 }

@@ -1,14 +1,14 @@
 // Versions that two entries of the log share (cause 19), in one pass over a store's own log and a few where versions are
 // scattered. A filter of bits has one for each version modulo their number. While an entry's bit is not set, no entry
 // passed has its version; where it is set, the version is a suspect. The stack has 2 KiB of filter and 1 KiB of suspects.
-use crate::Next;
 use crate::filter::mark;
-use crate::scan::next;
-use crate::slots::cut;
 use crate::slots::is_named;
 use crate::suspects::suspect;
 use crate::suspects::suspect_shared;
+use segment::Next;
 use segment::Version;
+use segment::area::cut;
+use segment::entries::next;
 use segment::layout::DIGEST_SIZE;
 ghost use Prim.Native.Nat.{_≤_};
 ghost use mathlib.Core.Path.{_≡_};
@@ -21,7 +21,7 @@ ghost use Rattle.model.specs.Recovery.{logDamaged};
 ghost use Rattle.laws.specs.Versions.{count};
 ghost use Rattle.log.specs.Shape.{Shape};
 ghost use Rattle.log.specs.Suspects.{Suspects, Suspecting};
-ghost use Rattle.log.specs.Filter.{isMarked, markedWith, Entering, Sifted};
+ghost use Rattle.log.specs.Filter.{isMarked, markedWith, Entering, SlotFiltered};
 
 // Marks the version of an entry, which is a suspect if its bit was set, and answers whether a version was found to be shared.
 fn pass(
@@ -46,8 +46,9 @@ fn pass(
     suspect(n, s, area, map, table, version)
 }
 
-// Passes the entries of a slot through the filter, and answers whether a version was found to be shared.
-fn sift(
+// Passes the entries of a slot through the filter, and answers whether a version was found to be shared. What is free: filter and
+// table where it was.
+fn filter_slot(
     n: usize,
     s: usize,
     area: &[u8],
@@ -58,13 +59,15 @@ fn sift(
 ) -> bool
     requires { ⌜ Shape n s (now area) ⌝ }
     requires { ⌜ Entering (viewsOf edition1 (now area) s) (named map) slot n (now filter) (now table) ⌝ }
-    ensures { λ r. ⌜ Sifted (viewsOf edition1 (now (area .entry)) s) (named map) slot n r (now (filter .exit)) (now (table .exit)) ⌝ }
+    ensures { λ r. ⌜ SlotFiltered (viewsOf edition1 (now (area .entry)) s) (named map) slot n r (now (filter .exit)) (now (table .exit)) ⌝ }
 {
     let part = cut(s, area, slot);
     let mut at = DIGEST_SIZE;
     loop {
         match next(part, at) {
-            Next::Entry { version, length } => {
+            Next::Entry(header) => {
+                let version = header.version;
+                let length = header.length;
                 if pass(n, s, area, map, filter, table, version) {
                     return true;
                 }
@@ -95,7 +98,7 @@ fn search_shared(n: usize, s: usize, area: &[u8], map: u32) -> bool
         if !is_named(map, slot) {
             continue;
         }
-        if sift(n, s, area, map, slot, &mut filter, &mut table) {
+        if filter_slot(n, s, area, map, slot, &mut filter, &mut table) {
             return true;
         }
     }

@@ -1,13 +1,13 @@
 -- What is looked up on a genuine store is the object that its map has.
-use Prim.Native.Nat.{ℕ, _+_, _*_, _-_, _/_, _%_, _≤_, _<_}
+use Prim.Native.Nat.{ℕ, _+_, _*_, _-_, _≤_, _<_}
 use mathlib.Core.Path.{_≡_, refl, sym, _∙_, ap}
 use mathlib.Core.Bool.{Bool, true, false, not}
 use mathlib.Core.List.{List, [], _∷_}
 use mathlib.Core.Option.{Option, none, some}
-use native.Mathlib.Nat.{mul-add-div-right, mul-add-mod-self-right, mod-eq-of-lt, div-eq-of-lt, div-lt-iff-lt-mul, div-add-mod', add-zero}
 use native.Mathlib.Omega.{arith}
 use lib.ListN.{length, getD, take, drop, length-take}
 use borrow.Author.Tests.{not-true}
+use Rattle.segment.specs.Area.{standsAt, found-within, found-place}
 use Rattle.segment.specs.Choice.{pick, pick-true, pick-false, isNone}
 use Rattle.segment.specs.Layout.{Layout, entrySize}
 use Rattle.segment.specs.Entry.{bytesIn, entry, entryAt, sizeOf, keyOf, answer, isTombstone, kindOf}
@@ -35,7 +35,6 @@ use Rattle.laws.specs.Members.{In}
 use Rattle.laws.specs.Latest.{latest-some}
 use Rattle.laws.specs.LogLaws.{AllScanned, log-in, scan-whole}
 use Rattle.laws.specs.Scans.{scan-scans, scans-found}
-use Rattle.laws.specs.Stores.{length-segment, slots-apart}
 use Rattle.laws.specs.RecoverLaws.{recovered-case, recovered-keys}
 use Rattle.index.specs.Search.{searchFor, cellHas}
 use Rattle.index.specs.SearchLaws.{search-inside}
@@ -43,7 +42,7 @@ use Rattle.index.specs.Area.{area-picks}
 use Rattle.index.specs.Finds.{Picks, search-known, search-new}
 use Rattle.index.specs.BuildLaws.{log-in-area}
 use Rattle.index.specs.declared.Found.{Found as Hit}
-use Rattle.recovery.specs.Lookups.{Reached, standsAt, lookupOf, lookupAt, lookedUp, toldBy, partBy}
+use Rattle.recovery.specs.Lookups.{Reached, lookupOf, lookupAt, lookedUp, toldBy, partBy}
 use Rattle.recovery.specs.declared.Lookup.{Lookup}
 
 -- ---- the lookup at each test of the code
@@ -72,21 +71,12 @@ module _ (L : Layout) (r : Record) (area cells : List ℕ) (k : Key) where
         unfolding lookupAt
         looked-at = looked-fit ∙ ap (lookupAt L (r .size) area cells) e
 
-        -- the slot of the cell's place lies in the area
-        pub slot-room : (getD cells i 0 - 1) / r .size * r .size + r .size ≤ length area
-        slot-room =
-            let l = lent L r (length area) (length cells) fit in
-            let w = search-inside L area cells k i e in
-            let below : (getD cells i 0 - 1) / r .size < r .slots =
-            div-lt-iff-lt-mul {k = r .size} {x = getD cells i 0 - 1} {y = r .slots} (omega arith) .1 (omega arith) in
-            omega (arith, slots-apart (r .size) below)
-
     -- a look at where the search has ended can be made
-    pub reached : (i : ℕ) → searchFor L area cells k ≡ Hit.At i → Reached (r .size) area cells i
+    pub reached : (i : ℕ) → searchFor L area cells k ≡ Hit.At i → Reached (r .size) cells i
     reached i e =
         let l = lent L r (length area) (length cells) fit in
         let w = search-inside L area cells k i e in
-        record { below = w .below; few = omega arith; taken = w .taken; some-size = omega arith; size-most = l .size-high; room = slot-room i e }
+        record { below = w .below; few = omega arith; taken = w .taken; some-size = omega arith; size-most = l .size-high }
 
 -- ---- where an object is found, its entry lies in the area
 
@@ -113,10 +103,7 @@ module _ (L : Layout) (r : Record) (area cells : List ℕ) (k : Key) (p : ℕ) (
   at-inside fit i f =
       let (place, key, there) = object-read (getD cells i 0 - 1) _ p v kind n (sym (looked-at L r area cells k fit i f) ∙ e) in
       let t = tells-object L _ key v kind n there in
-      let fits = found-fits L _ _ (t .told) (t .is) in
-      let room = slot-room L r area cells k fit i f in
-      let long = length-segment area (r .size) ((getD cells i 0 - 1) / r .size) room in
-      let split = div-add-mod' (getD cells i 0 - 1) (r .size) in
+      let within = found-within L (r .size) area (getD cells i 0 - 1) (t .told) (t .is) in
       record { head = omega arith; whole = omega arith }
 
   pub object-inside : ObjectInside L area p n
@@ -143,14 +130,6 @@ log-stands L area S p n scans x m =
 unfoldable pub lookupFor : Layout → ℕ → Option Placed → Lookup
 lookupFor L S none = Lookup.Absent
 lookupFor L S (some x) = Lookup.Object (placeOf S x) (record { 0 = x .entry .version }) (kindOf L (x .entry)) (sizeOf L (x .entry))
-
--- a place and the slot and offset that it stands for
-module _ (S i at : ℕ) (inside : at < S) where
-  pub place-slot : (i * S + at) / S ≡ i
-  place-slot = mul-add-div-right (omega arith) i at ∙ ap (λ (q : ℕ). i + q) (div-eq-of-lt inside) ∙ add-zero i
-
-  place-offset : (i * S + at) % S ≡ at
-  place-offset = mul-add-mod-self-right i S at ∙ mod-eq-of-lt inside
 
 -- an entry at its place, as the lookup takes it
 entry-lookup : (L : Layout) (S : ℕ) (x : Placed) → lookupOf (placeOf S x) (answer L (entry (x .entry))) ≡ lookupFor L S (objectOnly (some x))
@@ -188,9 +167,7 @@ module _ (L : Layout) (r : Record) (area cells : List ℕ) (k : Key) (genuine : 
       let s : List ℕ = segmentOf area S (x .slot) in
       let found = log-stands L area S (named (r .map)) (r .slots) scans x m in
       let inside : x .offset < S = omega (arith, found-fits L s (x .offset) (x .entry) found, length-take S (drop (x .slot * S) area)) in
-      ap (λ (i : ℕ). answer L (entryAt L (segmentOf area S i) (placeOf S x % S))) (place-slot S (x .slot) (x .offset) inside)
-      ∙ ap (λ (o : ℕ). answer L (entryAt L s o)) (place-offset S (x .slot) (x .offset) inside)
-      ∙ ap (answer L) found
+      ap (answer L) (found-place L S area (x .slot) (x .offset) inside ∙ found)
 
   pub genuine-lookup : lookedUp L r area cells k ≡ lookupFor L S (present log k)
   unfolding present

@@ -1,25 +1,20 @@
 -- What a read looks up, as a total function of any record, area and index (01, "Index" and "Read").
-use Prim.Native.Nat.{ℕ, _+_, _-_, _*_, _/_, _%_, _≤_, _<_}
+use Prim.Native.Nat.{ℕ, _+_, _-_, _≤_, _<_}
 use mathlib.Core.List.{List}
 use lib.ListN.{length, getD}
 use Rattle.segment.specs.Choice.{pick}
 use Rattle.segment.specs.Layout.{Layout, entrySize}
-use Rattle.segment.specs.Entry.{entryAt, answer}
+use Rattle.segment.specs.Area.{standsAt}
 use Rattle.segment.specs.declared.Key.{Key}
 use Rattle.segment.specs.declared.Read.{Read}
 use Rattle.record.specs.Range.{fitsLent}
 use Rattle.record.specs.declared.Record.{Record}
 use Rattle.record.specs.declared.ReadAnswer.{ReadAnswer}
 use Rattle.record.specs.declared.Refusal.{Refusal}
-use Rattle.model.specs.Log.{segmentOf}
 use Rattle.model.specs.Promises.{Part, nowhere}
 use Rattle.index.specs.Search.{searchFor}
 use Rattle.index.specs.declared.Found.{Found}
 use Rattle.recovery.specs.declared.Lookup.{Lookup}
-
--- what stands at a place of the area, in its slot's segment
-abbrev pub standsAt : Layout → ℕ → List ℕ → ℕ → Read
-standsAt L S area p = answer L (entryAt L (segmentOf area S (p / S)) (p % S))
 
 unfoldable pub lookupOf : ℕ → Read → Lookup
 lookupOf p (Read.Object k v kind n) = Lookup.Object p v kind n
@@ -27,14 +22,13 @@ lookupOf p (Read.Tombstone k v n) = Lookup.Absent
 lookupOf p Read.End = Lookup.Bad
 lookupOf p Read.Damage = Lookup.Bad
 
--- What a look needs of the cell where a search has ended: it is there and not 0, and the slot of its place lies in the area.
-pub record Reached (S : ℕ) (area cells : List ℕ) (i : ℕ) : Type 0 where
+-- What a look needs of the cell where a search has ended: it is there and not 0.
+pub record Reached (S : ℕ) (cells : List ℕ) (i : ℕ) : Type 0 where
   pub below : i < length cells
   pub few : length cells ≤ 4096
   pub taken : 0 < getD cells i 0
   pub some-size : 0 < S
   pub size-most : S ≤ 2048
-  pub room : (getD cells i 0 - 1) / S * S + S ≤ length area
 
 unfoldable pub lookupAt : Layout → ℕ → List ℕ → List ℕ → Found → Lookup
 lookupAt L S area cells (Found.At i) = lookupOf (getD cells i 0 - 1) (standsAt L S area (getD cells i 0 - 1))

@@ -9,34 +9,22 @@ use record::Refusal;
 use record::range::fits_lent;
 use segment::Key;
 use segment::Read;
+use segment::area::entry_at;
 use segment::layout::HEAD_SIZE;
-use segment::reader;
-use word::remainder::remainder32;
-ghost use Prim.Native.Nat.{ℕ, _+_, _*_, _/_, _%_, _≤_, _<_};
+ghost use Prim.Native.Nat.{ℕ, _≤_, _<_};
 ghost use mathlib.Core.Path.{_≡_};
-ghost use lib.ListN.{length};
 ghost use Rattle.segment.specs.Layout.{edition1};
-ghost use Rattle.model.specs.Log.{segmentOf};
+ghost use Rattle.segment.specs.Area.{standsAt};
 ghost use Rattle.model.specs.Promises.{ReadPromise, ValueReference};
 ghost use Rattle.index.specs.declared.Found.{Found};
-ghost use Rattle.recovery.specs.Lookups.{standsAt, lookupOf, lookupAt, lookedUp, toldBy, Reached};
+ghost use Rattle.recovery.specs.Lookups.{lookupOf, lookupAt, lookedUp, toldBy, Reached};
 
-// The segment in which a place lies, from the place's offset in it: the offset alone needs a division, or none.
-fn around(s: usize, area: &[u8], place: usize, offset: usize) -> &[u8]
-    requires { ⌜ (offset ≡ place % s) × (0 < s) × (place / s * s + s ≤ length (now area)) ⌝ }
-    ensures { λ r. ⌜ now r ≡ segmentOf (now (area .entry)) s (place / s) ⌝ }
-{
-    let start = place - offset;
-    &area[start..start + s]
-}
-
-// What stands at a place of the area, read in its slot's segment.
+// What stands at a place of the area.
 fn look(s: usize, area: &[u8], place: usize) -> Lookup
-    requires { ⌜ (0 < s) × (s ≤ 2048) × (place < 4294967296) × (place / s * s + s ≤ length (now area)) ⌝ }
+    requires { ⌜ (0 < s) × (s ≤ 2048) × (place < 4294967296) ⌝ }
     ensures { λ r. ⌜ r ≡ lookupOf place (standsAt edition1 s (now (area .entry)) place) ⌝ }
 {
-    let offset = remainder32(place as u32, s as u32) as usize;
-    match reader::read(around(s, area, place, offset), offset) {
+    match entry_at(s, area, place) {
         Read::Object {
             key: _,
             version,
@@ -60,7 +48,7 @@ fn look(s: usize, area: &[u8], place: usize) -> Lookup
 
 // What stands where a search has ended. A place at which no entry stands, and a search without an end, are bad.
 pub fn look_at(s: usize, area: &[u8], index: &[u32], found: Found) -> Lookup
-    requires { ⌜ ((i : ℕ) → found ≡ Found.At i → Reached s (now area) (now index) i) ⌝ }
+    requires { ⌜ ((i : ℕ) → found ≡ Found.At i → Reached s (now index) i) ⌝ }
     ensures { λ r. ⌜ r ≡ lookupAt edition1 s (now (area .entry)) (now (index .entry)) found ⌝ }
 {
     match found {

@@ -10,6 +10,7 @@ use lib.ListN.{length, getD, drop, length-take}
 use borrow.Author.Tests.{ne-eqb, eq-eqb}
 use Rattle.word.specs.Number.{Bytes}
 use Rattle.word.specs.Laws.{bytes-take, bytes-drop}
+use Rattle.segment.specs.Area.{standsAt, place-slot}
 use Rattle.segment.specs.Choice.{pick, pick-true, pick-false}
 use Rattle.segment.specs.Layout.{Layout}
 use Rattle.segment.specs.Entry.{entry, entryAt, answer, keyOf, sizeOf, isTombstone, kindOf}
@@ -30,8 +31,7 @@ use Rattle.laws.specs.LogLaws.{log-in}
 use Rattle.laws.specs.Stores.{slot-inside}
 use Rattle.index.specs.Area.{place-back}
 use Rattle.index.specs.Finds.{held}
-use Rattle.recovery.specs.Lookups.{standsAt}
-use Rattle.recovery.specs.LookupLaws.{log-stands, scans, at-place, place-slot}
+use Rattle.recovery.specs.LookupLaws.{log-stands, scans, at-place}
 use Rattle.report.specs.Ascent.{gathered, Gives, GivesOnce, gathered-given, given-gathered, gathered-ascending, ascending-one}
 use Rattle.report.specs.Ordered.{rank, ranks, rank-one, AllTyped, HasObject, present-latest, present-typed, present-ranked}
 use Rattle.report.specs.Listing.{presentKeys}

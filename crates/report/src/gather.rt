@@ -1,7 +1,7 @@
 // The walk over the index that gathers the ranks of the present keys.
 use crate::ranks;
-use log::slots::cut;
 use segment::Read;
+use segment::area::cut;
 use segment::reader::read;
 ghost use Prim.Native.Nat.{_+_, _*_, _-_, _/_, _<_, _≤_};
 ghost use mathlib.Core.Path.{_≡_};

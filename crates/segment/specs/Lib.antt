@@ -12,4 +12,5 @@ pub mod Kinds
 pub mod AnswerLaws
 pub mod ReaderLaws
 pub mod Area
+pub mod Entries
 pub mod Written

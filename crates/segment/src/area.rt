@@ -6,15 +6,20 @@ ghost use Prim.Native.Nat.{_+_, _*_, _≤_, _<_};
 ghost use mathlib.Core.Path.{_≡_};
 ghost use lib.ListN.{length, take, drop};
 ghost use Rattle.segment.specs.Layout.{edition1};
-ghost use Rattle.segment.specs.Entry.{answer};
-ghost use Rattle.segment.specs.Area.{segmentOf, foundAt};
+ghost use Rattle.segment.specs.Area.{segmentOf, standsAt};
 
-// The segment that starts at a place.
-fn cut_from(size: usize, area: &[u8], start: usize) -> &[u8]
-    requires { ⌜ start + size ≤ length (now area) ⌝ }
+// At most `size` bytes from a place on: those that the area has.
+fn part(size: usize, area: &[u8], start: usize) -> &[u8]
+    requires { ⌜ start + size < 18446744073709551616 ⌝ }
     ensures { λ r. ⌜ now r ≡ take size (drop start (now (area .entry))) ⌝ }
 {
-    &area[start..start + size]
+    if start + size <= area.len() {
+        return &area[start..start + size];
+    }
+    if start <= area.len() {
+        return &area[start..area.len()];
+    }
+    &area[0..0]
 }
 
 // A slot's segment.
@@ -22,18 +27,14 @@ pub fn cut(size: usize, area: &[u8], slot: usize) -> &[u8]
     requires { ⌜ slot * size + size ≤ length (now area) ⌝ }
     ensures { λ r. ⌜ now r ≡ segmentOf (now (area .entry)) size slot ⌝ }
 {
-    cut_from(size, area, slot * size)
+    part(size, area, slot * size)
 }
 
-// What stands at a place of the area. Where the place's segment is not in the area, that is damage.
+// What stands at a place of the area.
 pub fn entry_at(size: usize, area: &[u8], place: usize) -> Read
     requires { ⌜ (0 < size) × (size < 4294967296) × (place < 4294967296) ⌝ }
-    ensures { λ r. ⌜ r ≡ answer edition1 (foundAt edition1 size (now (area .entry)) place) ⌝ }
+    ensures { λ r. ⌜ r ≡ standsAt edition1 size (now (area .entry)) place ⌝ }
 {
     let offset = remainder32(place as u32, size as u32) as usize;
-    let start = place - offset;
-    if area.len() < start + size {
-        return Read::Damage;
-    }
-    read(cut_from(size, area, start), offset)
+    read(part(size, area, place - offset), offset)
 }

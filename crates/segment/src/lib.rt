@@ -1,5 +1,6 @@
 // The bytes of one segment: its counters, the entry reader, the digest, and what is written.
 pub mod area;
+pub mod entries;
 pub mod layout;
 pub mod reader;
 pub mod writer;
@@ -29,6 +30,21 @@ pub enum Read {
         version: Version,
         length: usize,
     },
+    End,
+    Damage,
+}
+
+// What an entry has before its value, an object or a tombstone.
+pub struct Header {
+    pub key: Key,
+    pub version: Version,
+    pub tombstone: bool,
+    pub length: usize,
+}
+
+// What a walk over a segment meets.
+pub enum Next {
+    Entry(Header),
     End,
     Damage,
 }

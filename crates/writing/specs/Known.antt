@@ -27,7 +27,6 @@ use Rattle.laws.specs.Members.{In}
 use Rattle.laws.specs.Latest.{latest-some, latest-has, latest-none, key-none}
 use Rattle.laws.specs.LogLaws.{AllScanned, log-in, scan-whole}
 use Rattle.laws.specs.Scans.{scan-scans, scans-found}
-use Rattle.laws.specs.Stores.{slot-inside}
 use Rattle.laws.specs.RecoverLaws.{recovered-case, recovered-keys}
 use Rattle.index.specs.Search.{cellHas, searchFor}
 use Rattle.index.specs.Area.{area-picks}
@@ -67,11 +66,9 @@ module _ (L : Layout) (area : List ℕ) (r : Record) (cells : List ℕ) (g : Gen
   stands-at : (x : Placed) → In x (logNow L area r) → standsAt L (r .size) area (placeOf (r .size) x) ≡ answer L (entry (x .entry))
   stands-at x m =
       let s : List ℕ = segmentOf area (r .size) (x .slot) in
-      let below = log-in (viewsOf L area (r .size)) (named (r .map)) (r .slots) x m .below in
       let inside : x .offset < r .size =
       omega (arith, found-fits L s (x .offset) (x .entry) (stands x m), length-take (r .size) (drop (x .slot * r .size) area)) in
-      ap (answer L)
-      (found-place L (r .size) area (x .slot) (x .offset) inside (slot-inside area (r .slots) (r .size) (x .slot) (h .area-own) below) ∙ stands x m)
+      ap (answer L) (found-place L (r .size) area (x .slot) (x .offset) inside ∙ stands x m)
 
   few : length (keysOf (logNow L area r)) < length cells
   few =

@@ -7,7 +7,7 @@ use denote.Ref.{now}
 use borrow.Author.Needs.{needs}
 use Rattle.segment.specs.Layout.{edition1}
 use Rattle.cleaning.specs.Kept.{keptSlot, keptEntry}
-use Rattle.cleaning.specs.EntriesLaws.{Meets, meets, stops, slot-lies, slot-long, entry-lies, place-short}
+use Rattle.cleaning.specs.EntriesLaws.{Meets, meets, stops-end, stops-damage, slot-lies, slot-long, entry-lies, place-short}
 use Rattle.cleaning.specs.KeptLaws.{keptFrom, from-whole, from-stop, from-entry}
 use Rattle.cleaning.specs.Copied.{Copying, copying-start, copying-room, copying-next, copying-end}
 use Rattle.cleaning.proofs.copy.copy_slot.Statement.{statement}
@@ -89,7 +89,16 @@ same-length : tie.Need-same-length Inv-loop μ-loop
 same-length c = c .before .before .before .loop .inv .long
 
 returns : tie.Need-returns Inv-loop μ-loop
-returns c = copying-end (c .before .before .before .loop .inv) (from-stop edition1 _ _ _ _ _ _ _ (stops edition1 _ _ _ (c .before .before .next .ensures) (c .enum-told .given .1)))
+returns c = copying-end (c .before .before .before .loop .inv) (from-stop edition1 _ _ _ _ _ _ _ (stops-end edition1 _ _ _ (c .before .before .next .ensures) (c .enum-told .given .1)))
+
+enum-told-2 : tie.Need-enum-told-2 Inv-loop μ-loop
+enum-told-2 c = search needs
+
+same-length-2 : tie.Need-same-length-2 Inv-loop μ-loop
+same-length-2 c = c .before .before .before .loop .inv .long
+
+returns-2 : tie.Need-returns-2 Inv-loop μ-loop
+returns-2 c = copying-end (c .before .before .before .loop .inv) (from-stop edition1 _ _ _ _ _ _ _ (stops-damage edition1 _ _ _ (c .before .before .next .ensures) (c .enum-told2 .given .1)))
 
 pub copy-slot-spec : {M : Type 1} → statement M
 copy-slot-spec =
@@ -109,4 +118,7 @@ copy-slot-spec =
     loop-again
     enum-told
     same-length
-    returns)
+    returns
+    enum-told-2
+    same-length-2
+    returns-2)

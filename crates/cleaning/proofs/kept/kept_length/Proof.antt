@@ -10,7 +10,7 @@ is-kept-requires : tie.Need-is-kept-requires
 is-kept-requires c κs = search needs
 
 returns : tie.Need-returns
-returns c = length-kept edition1 _ _ _ _ _ (c .before .before .before .before .before .pre .1 .0) (sym (c .before .is-kept .ensures) ∙ c .if1 .taken)
+returns c = length-kept edition1 _ _ _ (c .before .before .before .before .before .args .header) _ (c .before .before .before .before .before .pre .1 .0) (sym (c .before .is-kept .ensures) ∙ c .if1 .taken)
 
 returns-2 : tie.Need-returns-2
 returns-2 c = length-dropped edition1 _ _ _ (c .before .before .before .before .before .args .header) _ (sym (c .before .is-kept .ensures) ∙ c .if1 .left)

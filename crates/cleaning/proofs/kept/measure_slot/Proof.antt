@@ -7,7 +7,7 @@ use denote.Ref.{now}
 use borrow.Author.Needs.{needs}
 use Rattle.segment.specs.Layout.{edition1}
 use Rattle.cleaning.specs.Kept.{keptSlot}
-use Rattle.cleaning.specs.EntriesLaws.{Meets, meets, stops, slot-lies, slot-long, entry-lies, place-short}
+use Rattle.cleaning.specs.EntriesLaws.{Meets, meets, stops-end, stops-damage, slot-lies, slot-long, entry-lies, place-short}
 use Rattle.cleaning.specs.KeptLaws.{keptFrom, measured-whole, entry-short, measured-stop, measured-entry}
 use Rattle.cleaning.proofs.kept.measure_slot.Statement.{statement}
 use Rattle.cleaning.proofs.kept.measure_slot.Tie as tie
@@ -87,7 +87,16 @@ enum-told c = search needs
 
 returns : tie.Need-returns Inv-loop μ-loop
 returns c = (
-  measured-stop edition1 _ _ _ _ _ _ _ _ _ (c .before .before .before .loop .inv .0) (stops edition1 _ _ _ (c .before .before .next .ensures) (c .enum-told .given .1)),
+  measured-stop edition1 _ _ _ _ _ _ _ _ _ (c .before .before .before .loop .inv .0) (stops-end edition1 _ _ _ (c .before .before .next .ensures) (c .enum-told .given .1)),
+  omega (arith, c .before .before .before .loop .inv .1, c .before .before .before .loop .inv .2, long (c .before .before .before .before), c .before .before .before .before .before .before .before .before .pre .0 .slots .size-high),
+)
+
+enum-told-2 : tie.Need-enum-told-2 Inv-loop μ-loop
+enum-told-2 c = search needs
+
+returns-2 : tie.Need-returns-2 Inv-loop μ-loop
+returns-2 c = (
+  measured-stop edition1 _ _ _ _ _ _ _ _ _ (c .before .before .before .loop .inv .0) (stops-damage edition1 _ _ _ (c .before .before .next .ensures) (c .enum-told2 .given .1)),
   omega (arith, c .before .before .before .loop .inv .1, c .before .before .before .loop .inv .2, long (c .before .before .before .before), c .before .before .before .before .before .before .before .before .pre .0 .slots .size-high),
 )
 
@@ -109,4 +118,6 @@ measure-slot-spec =
     loop-less
     loop-again
     enum-told
-    returns)
+    returns
+    enum-told-2
+    returns-2)

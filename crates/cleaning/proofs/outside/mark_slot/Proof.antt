@@ -8,7 +8,7 @@ use Rattle.segment.specs.Layout.{edition1, digestSize}
 use Rattle.index.specs.Build.{entriesAt}
 use Rattle.cleaning.specs.Marks.{markItems}
 use Rattle.cleaning.specs.MarksLaws.{marks-stop, marks-entry, length-entry, slot-whole}
-use Rattle.cleaning.specs.EntriesLaws.{Meets, meets, stops, slot-lies, slot-long}
+use Rattle.cleaning.specs.EntriesLaws.{Meets, meets, stops-end, stops-damage, slot-lies, slot-long}
 use borrow.Author.Needs.{needs}
 use Rattle.cleaning.proofs.outside.mark_slot.Statement.{statement}
 use Rattle.cleaning.proofs.outside.mark_slot.Tie as tie
@@ -78,7 +78,20 @@ returns : tie.Need-returns Inv-loop μ-loop
 returns c =
     let k = c .before .before .before .before in
     let a = k .before .before .before .before .args in
-    marks-stop edition1 _ _ _ _ _ _ (c .before .before .before .loop .inv .0) (stops edition1 _ _ _ (c .before .before .next .ensures) (c .enum-told .given .1))
+    marks-stop edition1 _ _ _ _ _ _ (c .before .before .before .loop .inv .0) (stops-end edition1 _ _ _ (c .before .before .next .ensures) (c .enum-told .given .1))
+    ∙ slot-whole edition1 (now (a .area)) (now (a .cells)) (now (a .marks)) (a .split) (a .slot) _ (k .cut .ensures)
+
+enum-told-2 : tie.Need-enum-told-2 Inv-loop μ-loop
+enum-told-2 c = search needs
+
+same-length-2 : tie.Need-same-length-2 Inv-loop μ-loop
+same-length-2 c = c .before .before .before .loop .inv .1
+
+returns-2 : tie.Need-returns-2 Inv-loop μ-loop
+returns-2 c =
+    let k = c .before .before .before .before in
+    let a = k .before .before .before .before .args in
+    marks-stop edition1 _ _ _ _ _ _ (c .before .before .before .loop .inv .0) (stops-damage edition1 _ _ _ (c .before .before .next .ensures) (c .enum-told2 .given .1))
     ∙ slot-whole edition1 (now (a .area)) (now (a .cells)) (now (a .marks)) (a .split) (a .slot) _ (k .cut .ensures)
 
 pub mark-slot-spec : {M : Type 1} → statement M
@@ -97,4 +110,7 @@ mark-slot-spec =
     loop-again
     enum-told
     same-length
-    returns)
+    returns
+    enum-told-2
+    same-length-2
+    returns-2)

@@ -6,7 +6,7 @@ use lib.ListN.{length}
 use borrow.Author.Needs.{needs}
 use Rattle.segment.specs.Layout.{edition1, digestSize}
 use Rattle.index.specs.Build.{entriesAt}
-use Rattle.cleaning.specs.EntriesLaws.{Meets, meets, stops}
+use Rattle.cleaning.specs.EntriesLaws.{Meets, meets, stops-end, stops-damage}
 use Rattle.cleaning.specs.Tombstones.{tombstoneIn, tombstone-none, tombstone-found, tombstone-next}
 use Rattle.cleaning.proofs.tombstones.holds_tombstone.Statement.{statement}
 use Rattle.cleaning.proofs.tombstones.holds_tombstone.Tie as tie
@@ -48,7 +48,13 @@ enum-told : tie.Need-enum-told Inv-loop μ-loop
 enum-told c = search needs
 
 returns-2 : tie.Need-returns-2 Inv-loop μ-loop
-returns-2 c = tombstone-none edition1 _ _ _ (c .before .before .before .loop .inv) (stops edition1 _ _ _ (c .before .before .next .ensures) (c .enum-told .given .1))
+returns-2 c = tombstone-none edition1 _ _ _ (c .before .before .before .loop .inv) (stops-end edition1 _ _ _ (c .before .before .next .ensures) (c .enum-told .given .1))
+
+enum-told-2 : tie.Need-enum-told-2 Inv-loop μ-loop
+enum-told-2 c = search needs
+
+returns-3 : tie.Need-returns-3 Inv-loop μ-loop
+returns-3 c = tombstone-none edition1 _ _ _ (c .before .before .before .loop .inv) (stops-damage edition1 _ _ _ (c .before .before .next .ensures) (c .enum-told2 .given .1))
 
 pub holds-tombstone-spec : {M : Type 1} → statement M
 holds-tombstone-spec =
@@ -64,4 +70,6 @@ holds-tombstone-spec =
     loop-less
     loop-again
     enum-told
-    returns-2)
+    returns-2
+    enum-told-2
+    returns-3)

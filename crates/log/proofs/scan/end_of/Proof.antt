@@ -5,8 +5,9 @@ use native.Mathlib.Omega.{arith}
 use lib.ListN.{length}
 use borrow.Author.Needs.{needs}
 use Rattle.segment.specs.Layout.{edition1}
+use Rattle.segment.specs.Entries.{next-end, next-damage}
 use Rattle.model.specs.Log.{scan, endOf}
-use Rattle.log.specs.Extents.{restOf, rest-whole, Meets, meets, meets-end, meets-damage, end-turn, end-here, end-damage}
+use Rattle.log.specs.Extents.{restOf, rest-whole, Meets, meets, end-turn, end-here, end-damage}
 use Rattle.log.proofs.scan.end_of.Statement.{statement}
 use Rattle.log.proofs.scan.end_of.Tie as tie
 
@@ -23,34 +24,34 @@ loop-holds c = ap endOf (rest-whole edition1 _)
 next-requires : tie.Need-next-requires Inv-loop μ-loop
 next-requires c κs = search needs
 
-enum-known-length : tie.Need-enum-known-length Inv-loop μ-loop
-enum-known-length c = search needs
+enum-known-header : tie.Need-enum-known-header Inv-loop μ-loop
+enum-known-header c = search needs
 
 -- the entry that the turn passes
-met : (c : tie.After-length Inv-loop μ-loop)
-    → Meets edition1 (c .before .before .before .before .before .args .part .now) (c .before .before .before .loop .at) (c .length .given .0 .0 .0) (c .length .given .0 .1 .0)
-met c = meets edition1 _ _ _ (c .before .before .next .ensures) _ _ (c .length .given .1)
+met : (c : tie.After-header Inv-loop μ-loop)
+    → Meets edition1 (c .before .before .before .before .before .args .part .now) (c .before .before .before .loop .at) (c .header .given .0 .0 .version .0) (c .header .given .0 .0 .length)
+met c = meets edition1 _ _ _ (c .before .before .next .ensures) _ (c .header .given .1)
 
 add-at : tie.Need-add-at Inv-loop μ-loop
-add-at c = omega (arith, met (c .before))
+add-at c = omega (arith, met (c .before .before))
 
 loop-less : tie.Need-loop-less Inv-loop μ-loop
-loop-less c = omega (arith, met (c .before))
+loop-less c = omega (arith, met (c .before .before))
 
 loop-again : tie.Need-loop-again Inv-loop μ-loop
-loop-again c = end-turn edition1 _ _ _ (c .before .before .before .before .loop .inv) (met (c .before))
+loop-again c = end-turn edition1 _ _ _ (c .before .before .before .before .before .loop .inv) (met (c .before .before))
 
 enum-told : tie.Need-enum-told Inv-loop μ-loop
 enum-told c = search needs
 
 returns : tie.Need-returns Inv-loop μ-loop
-returns c = end-here edition1 _ _ _ (c .before .before .before .loop .inv) (meets-end edition1 _ _ _ (c .before .before .next .ensures) (c .enum-told .given .1))
+returns c = end-here edition1 _ _ _ (c .before .before .before .loop .inv) (next-end edition1 _ _ _ (c .before .before .next .ensures) (c .enum-told .given .1))
 
 enum-told-2 : tie.Need-enum-told-2 Inv-loop μ-loop
 enum-told-2 c = search needs
 
 returns-2 : tie.Need-returns-2 Inv-loop μ-loop
-returns-2 c = end-damage edition1 _ _ _ (c .before .before .before .loop .inv) (meets-damage edition1 _ _ _ (c .before .before .next .ensures) (c .enum-told2 .given .1))
+returns-2 c = end-damage edition1 _ _ _ (c .before .before .before .loop .inv) (next-damage edition1 _ _ _ (c .before .before .next .ensures) (c .enum-told2 .given .1))
 
 pub end-of-spec : {M : Type 1} → statement M
 end-of-spec =
@@ -60,7 +61,7 @@ end-of-spec =
     μ-loop
     loop-holds
     next-requires
-    enum-known-length
+    enum-known-header
     add-at
     loop-less
     loop-again

@@ -5,9 +5,10 @@ use native.Mathlib.Omega.{arith}
 use borrow.Author.Needs.{needs}
 use lib.ListN.{length}
 use Rattle.segment.specs.Layout.{edition1}
+use Rattle.segment.specs.Entries.{next-end, next-damage}
 use Rattle.slot_map.specs.Bit.{named}
 use Rattle.model.specs.Log.{viewsOf, scan, logOf}
-use Rattle.log.specs.Extents.{Meets, meets, meets-end, meets-damage}
+use Rattle.log.specs.Extents.{Meets, meets}
 use Rattle.log.specs.Surveys.{Telling, telling-start, telling-turn, telling-end, telling-damage}
 use Rattle.log.proofs.survey.survey_slot.Statement.{statement}
 use Rattle.log.proofs.survey.survey_slot.Tie as tie
@@ -28,29 +29,29 @@ loop-holds c = telling-start edition1 _ _ _ _ _ _ (c .before .before .before .be
 next-requires : tie.Need-next-requires Inv-loop μ-loop
 next-requires c κs = search needs
 
-enum-known-version : tie.Need-enum-known-version Inv-loop μ-loop
-enum-known-version c = search needs
+enum-known-header : tie.Need-enum-known-header Inv-loop μ-loop
+enum-known-header c = search needs
 
 higher-requires : tie.Need-higher-requires Inv-loop μ-loop
 higher-requires c κs = search needs
 
 mark-apart-requires : tie.Need-mark-apart-requires Inv-loop μ-loop
-mark-apart-requires c κs = c .before .before .before .before .before .before .loop .inv .told .size
+mark-apart-requires c κs = c .before .before .before .before .before .before .before .loop .inv .told .size
 
 -- the entry that the turn passes
-met : (c : tie.After-version Inv-loop μ-loop)
-    → Meets edition1 (c .before .before .before .before .before .cut .result .now) (c .before .before .before .loop .at) (c .version .given .0 .0 .0) (c .version .given .0 .1 .0)
-met c = meets edition1 _ _ _ (c .before .before .next .ensures) _ _ (c .version .given .1)
+met : (c : tie.After-header Inv-loop μ-loop)
+    → Meets edition1 (c .before .before .before .before .before .cut .result .now) (c .before .before .before .loop .at) (c .header .given .0 .0 .version .0) (c .header .given .0 .0 .length)
+met c = meets edition1 _ _ _ (c .before .before .next .ensures) _ (c .header .given .1)
 
 add-at : tie.Need-add-at Inv-loop μ-loop
-add-at c = omega (arith, met (c .before .before .before .before .before .before))
+add-at c = omega (arith, met (c .before .before .before .before .before .before .before))
 
 loop-less : tie.Need-loop-less Inv-loop μ-loop
-loop-less c = omega (arith, met (c .before .before .before .before .before .before))
+loop-less c = omega (arith, met (c .before .before .before .before .before .before .before))
 
 loop-again : tie.Need-loop-again Inv-loop μ-loop
 loop-again c =
-    telling-turn edition1 _ _ _ _ _ _ _ (c .before .before .before .before .before .before .before .before .before .loop .inv) (met (c .before .before .before .before .before .before)) _ (c .before .before .before .before .higher .ensures) _ (c .before .before .mark-apart .ensures .0) _
+    telling-turn edition1 _ _ _ _ _ _ _ (c .before .before .before .before .before .before .before .before .before .before .loop .inv) (met (c .before .before .before .before .before .before .before)) _ (c .before .before .before .before .higher .ensures) _ (c .before .before .mark-apart .ensures .0) _
     (c .before .before .mark-apart .ensures .1)
 
 enum-told : tie.Need-enum-told Inv-loop μ-loop
@@ -62,7 +63,7 @@ same-length c = c .before .before .before .loop .inv .told .size ∙ sym (c .bef
 returns : tie.Need-returns Inv-loop μ-loop
 returns c =
     telling-end edition1 _ _ _ _ _ _ _ (c .before .before .before .loop .inv) _ _ (ap (scan edition1) (sym (c .before .before .before .before .before .cut .ensures))) refl (c .before .before .before .before .before .before .before .before .pre .1 .0)
-    (meets-end edition1 _ _ _ (c .before .before .next .ensures) (c .enum-told .given .1))
+    (next-end edition1 _ _ _ (c .before .before .next .ensures) (c .enum-told .given .1))
 
 enum-told-2 : tie.Need-enum-told-2 Inv-loop μ-loop
 enum-told-2 c = search needs
@@ -73,7 +74,7 @@ same-length-2 c = c .before .before .before .loop .inv .told .size ∙ sym (c .b
 returns-2 : tie.Need-returns-2 Inv-loop μ-loop
 returns-2 c =
     telling-damage edition1 _ _ _ _ _ _ _ (c .before .before .before .loop .inv) _ _ (ap (scan edition1) (sym (c .before .before .before .before .before .cut .ensures)))
-    (meets-damage edition1 _ _ _ (c .before .before .next .ensures) (c .enum-told2 .given .1))
+    (next-damage edition1 _ _ _ (c .before .before .next .ensures) (c .enum-told2 .given .1))
 
 pub survey-slot-spec : {M : Type 1} → statement M
 survey-slot-spec =
@@ -84,7 +85,7 @@ survey-slot-spec =
     cut-requires
     loop-holds
     next-requires
-    enum-known-version
+    enum-known-header
     higher-requires
     mark-apart-requires
     add-at

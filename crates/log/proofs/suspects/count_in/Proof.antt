@@ -5,7 +5,8 @@ use native.Mathlib.Omega.{arith}
 use borrow.Author.Needs.{needs}
 use lib.ListN.{length}
 use Rattle.segment.specs.Layout.{edition1}
-use Rattle.log.specs.Extents.{Meets, meets, meets-end, meets-damage, rest-whole}
+use Rattle.segment.specs.Entries.{next-end, next-damage}
+use Rattle.log.specs.Extents.{Meets, meets, rest-whole}
 use Rattle.log.specs.Counts.{countFrom, Counting, count-turn, count-end, count-damage}
 use Rattle.log.proofs.suspects.count_in.Statement.{statement}
 use Rattle.log.proofs.suspects.count_in.Tie as tie
@@ -23,8 +24,8 @@ loop-holds c = record { whole = ap (countFrom _ 0) (rest-whole edition1 _); pass
 next-requires : tie.Need-next-requires Inv-loop μ-loop
 next-requires c κs = search needs
 
-enum-known-version : tie.Need-enum-known-version Inv-loop μ-loop
-enum-known-version c = search needs
+enum-known-header : tie.Need-enum-known-header Inv-loop μ-loop
+enum-known-header c = search needs
 
 is-suspect-requires : tie.Need-is-suspect-requires Inv-loop μ-loop
 is-suspect-requires c κs = search needs
@@ -33,23 +34,23 @@ one-requires : tie.Need-one-requires Inv-loop μ-loop
 one-requires c κs = search needs
 
 -- the entry that the turn passes, and the count with it
-met : (c : tie.After-version Inv-loop μ-loop)
-    → Meets edition1 (c .before .before .before .before .before .before .args .part .now) (c .before .before .before .loop .at) (c .version .given .0 .0 .0) (c .version .given .0 .1 .0)
-met c = meets edition1 _ _ _ (c .before .before .next .ensures) _ _ (c .version .given .1)
+met : (c : tie.After-header Inv-loop μ-loop)
+    → Meets edition1 (c .before .before .before .before .before .before .args .part .now) (c .before .before .before .loop .at) (c .header .given .0 .0 .version .0) (c .header .given .0 .0 .length)
+met c = meets edition1 _ _ _ (c .before .before .next .ensures) _ (c .header .given .1)
 
 turned : (c : tie.After-one Inv-loop μ-loop)
-    → Counting edition1 (c .before .before .before .before .before .before .before .before .before .args .part .now) (c .before .before .before .before .before .before .before .before .before .args .table .now) (c .before .before .before .before .before .before .loop .at + c .before .before .before .version .given .0 .1 .0)
-    (c .before .before .before .before .before .before .loop .count + c .one .result)
-turned c = count-turn edition1 _ _ _ _ (c .before .before .before .before .before .before .loop .inv) (met (c .before .before .before)) _ (c .before .is-suspect .ensures) _ (c .one .ensures)
+    → Counting edition1 (c .before .before .before .before .before .before .before .before .before .before .args .part .now) (c .before .before .before .before .before .before .before .before .before .before .args .table .now) (c .before .before .before .before .before .before .before .loop .at + c .before .before .before .before .header .given .0 .0 .length)
+    (c .before .before .before .before .before .before .before .loop .count + c .one .result)
+turned c = count-turn edition1 _ _ _ _ (c .before .before .before .before .before .before .before .loop .inv) (met (c .before .before .before .before)) _ (c .before .is-suspect .ensures) _ (c .one .ensures)
 
 add-count : tie.Need-add-count Inv-loop μ-loop
-add-count c = omega (arith, met (c .before .before .before), turned c)
+add-count c = omega (arith, met (c .before .before .before .before), turned c)
 
 add-at : tie.Need-add-at Inv-loop μ-loop
-add-at c = omega (arith, met (c .before .before .before))
+add-at c = omega (arith, met (c .before .before .before .before))
 
 loop-less : tie.Need-loop-less Inv-loop μ-loop
-loop-less c = omega (arith, met (c .before .before .before))
+loop-less c = omega (arith, met (c .before .before .before .before))
 
 loop-again : tie.Need-loop-again Inv-loop μ-loop
 loop-again c = turned c
@@ -58,13 +59,13 @@ enum-told : tie.Need-enum-told Inv-loop μ-loop
 enum-told c = search needs
 
 returns : tie.Need-returns Inv-loop μ-loop
-returns c = count-end edition1 _ _ _ _ (c .before .before .before .loop .inv) (meets-end edition1 _ _ _ (c .before .before .next .ensures) (c .enum-told .given .1))
+returns c = count-end edition1 _ _ _ _ (c .before .before .before .loop .inv) (next-end edition1 _ _ _ (c .before .before .next .ensures) (c .enum-told .given .1))
 
 enum-told-2 : tie.Need-enum-told-2 Inv-loop μ-loop
 enum-told-2 c = search needs
 
 returns-2 : tie.Need-returns-2 Inv-loop μ-loop
-returns-2 c = count-damage edition1 _ _ _ _ (c .before .before .before .loop .inv) (meets-damage edition1 _ _ _ (c .before .before .next .ensures) (c .enum-told2 .given .1))
+returns-2 c = count-damage edition1 _ _ _ _ (c .before .before .before .loop .inv) (next-damage edition1 _ _ _ (c .before .before .next .ensures) (c .enum-told2 .given .1))
 
 pub count-in-spec : {M : Type 1} → statement M
 count-in-spec =
@@ -74,7 +75,7 @@ count-in-spec =
     μ-loop
     loop-holds
     next-requires
-    enum-known-version
+    enum-known-header
     is-suspect-requires
     one-requires
     add-count

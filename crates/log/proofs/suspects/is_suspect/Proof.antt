@@ -1,13 +1,11 @@
 -- `log::suspects::is_suspect` meets its contract.
 use borrow.Author.Needs.{needs}
-use borrow.Author.Tests.{eq-eqb, ne-eqb}
-use Rattle.segment.specs.Choice.{either}
-use Rattle.log.specs.Suspects.{isSuspect}
+use Rattle.log.specs.Suspects.{suspect-first, suspect-second}
 use Rattle.log.proofs.suspects.is_suspect.Statement.{statement}
 use Rattle.log.proofs.suspects.is_suspect.Tie as tie
 
-cast-cell : tie.Need-cast-cell
-cast-cell c = search needs
+hash-requires : tie.Need-hash-requires
+hash-requires c κs = search needs
 
 mul-if1 : tie.Need-mul-if1
 mul-if1 c = search needs
@@ -16,8 +14,7 @@ shared-slice-read-if1 : tie.Need-shared-slice-read-if1
 shared-slice-read-if1 c = search needs
 
 returns : tie.Need-returns
-unfolding isSuspect either
-returns c = rw (eq-eqb _ _ (c .if1 .taken))
+returns c = suspect-first _ _ _ (c .before .before .before .hash .ensures .0) (c .if1 .taken)
 
 add-result : tie.Need-add-result
 add-result c = search needs
@@ -29,14 +26,13 @@ shared-slice-read-result : tie.Need-shared-slice-read-result
 shared-slice-read-result c = search needs
 
 returns-2 : tie.Need-returns-2
-unfolding isSuspect either
-returns-2 c = rw (ne-eqb _ _ (c .before .before .if1 .left))
+returns-2 c = suspect-second _ _ _ (c .before .before .before .before .before .hash .ensures .0) (c .before .before .if1 .left)
 
 pub is-suspect-spec : {M : Type 1} → statement M
 is-suspect-spec =
     tie.close
     (tie.spec
-    cast-cell
+    hash-requires
     mul-if1
     shared-slice-read-if1
     returns

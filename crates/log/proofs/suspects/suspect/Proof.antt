@@ -57,8 +57,8 @@ returns-3 c = suspect-told _ _ (held (c .before .before .before .before .before 
 clear-requires : tie.Need-clear-requires
 clear-requires c κs = search needs
 
-cast-table : tie.Need-cast-table
-cast-table c = search needs
+hash-requires : tie.Need-hash-requires
+hash-requires c κs = search needs
 
 mul-table-2 : tie.Need-mul-table-2
 mul-table-2 c = search needs
@@ -70,7 +70,7 @@ same-length-4 : tie.Need-same-length-4
 same-length-4 c = search needs
 
 returns-4 : tie.Need-returns-4
-returns-4 c = suspect-anew _ _ (held (c .before .before .before .before .before .before .before .before .before .before .before .before .before .before .before .before)) _ (stands (c .before .before .before .before .before .before .before .before .before .before .before .before .before .before .before .before)) (look-alone _ _ (held (c .before .before .before .before .before .before .before .before .before .before .before .before .before .before .before .before)) _ (c .before .before .before .before .before .before .suspect-shared .ensures) (c .before .before .before .before .before .if3 .left)) _ (c .before .before .before .clear .ensures)
+returns-4 c = rw (c .hash .ensures .0) (suspect-anew _ _ (held (c .before .before .before .before .before .before .before .before .before .before .before .before .before .before .before .before)) _ (stands (c .before .before .before .before .before .before .before .before .before .before .before .before .before .before .before .before)) (look-alone _ _ (held (c .before .before .before .before .before .before .before .before .before .before .before .before .before .before .before .before)) _ (c .before .before .before .before .before .before .suspect-shared .ensures) (c .before .before .before .before .before .if3 .left)) _ (c .before .before .before .clear .ensures))
 
 pub suspect-spec : {M : Type 1} → statement M
 suspect-spec =
@@ -88,7 +88,7 @@ suspect-spec =
     same-length-3
     returns-3
     clear-requires
-    cast-table
+    hash-requires
     mul-table-2
     slice-write-table-2
     same-length-4

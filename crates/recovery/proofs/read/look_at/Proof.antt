@@ -8,7 +8,7 @@ use Rattle.recovery.proofs.read.look_at.Statement.{statement}
 use Rattle.recovery.proofs.read.look_at.Tie as tie
 
 reach : (c : tie.After-found)
-    → let a = c .before .before .before .before .args in Reached (a .s) (a .area .now) (a .index .now) (c .found .given .0 .0)
+    → let a = c .before .before .before .before .args in Reached (a .s) (a .index .now) (c .found .given .0 .0)
 reach c = c .before .before .before .before .pre (c .found .given .0 .0) (c .found .given .1)
 
 enum-told : tie.Need-enum-told
@@ -35,7 +35,7 @@ cast-look c = omega (arith, c .shared-slice-known3 .given (c .before .before .fo
 look-requires : tie.Need-look-requires
 look-requires c κs =
     let r = reach (c .before .before) in
-    (r .some-size, r .size-most, omega (arith, c .shared-slice-known3 .given (c .before .before .found .given .0 .0)), r .room)
+    (r .some-size, r .size-most, omega (arith, c .shared-slice-known3 .given (c .before .before .found .given .0 .0)))
 
 returns : tie.Need-returns
 unfolding lookupAt

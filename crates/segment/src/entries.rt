@@ -1,38 +1,40 @@
-// The entries of a segment.
+// The reader for walks over a segment: what an entry has before its value, an object and a tombstone alike.
 use crate::Header;
 use crate::Next;
-use segment::Read;
-use segment::reader::read;
+use crate::Read;
+use crate::reader::read;
 ghost use mathlib.Core.Path.{_≡_};
 ghost use Rattle.segment.specs.Layout.{edition1};
 ghost use Rattle.segment.specs.Entry.{entryAt};
-ghost use Rattle.cleaning.specs.Entries.{nextOf};
+ghost use Rattle.segment.specs.Entries.{nextOf};
 
-// The entry at an offset of a segment. Damage, which no log of ours has, ends a segment too.
+// The entry at an offset of a segment, or how the segment goes no further.
 pub fn next(s: &[u8], at: usize) -> Next
     ensures { λ r. ⌜ r ≡ nextOf edition1 (entryAt edition1 (now (s .entry)) at) ⌝ }
 {
     match read(s, at) {
         Read::Object {
             key,
-            version: _,
+            version,
             kind: _,
             length,
         } => Next::Entry(Header {
             key,
+            version,
             tombstone: false,
             length,
         }),
         Read::Tombstone {
             key,
-            version: _,
+            version,
             length,
         } => Next::Entry(Header {
             key,
+            version,
             tombstone: true,
             length,
         }),
-        Read::End => Next::Stop,
-        Read::Damage => Next::Stop,
+        Read::End => Next::End,
+        Read::Damage => Next::Damage,
     }
 }

@@ -1,9 +1,9 @@
--- `index::build::next_entry` meets its contract.
+-- `segment::entries::next` meets its contract.
 use Rattle.segment.specs.Layout.{edition1}
-use Rattle.index.specs.Turns.{nextRead, next-read}
+use Rattle.segment.specs.Entries.{nextRead, next-read}
 use borrow.Author.Needs.{needs}
-use Rattle.index.proofs.build.next_entry.Statement.{statement}
-use Rattle.index.proofs.build.next_entry.Tie as tie
+use Rattle.segment.proofs.entries.next.Statement.{statement}
+use Rattle.segment.proofs.entries.next.Tie as tie
 
 read-requires : tie.Need-read-requires
 read-requires c κs = search needs
@@ -36,8 +36,8 @@ returns-4 : tie.Need-returns-4
 unfolding nextRead
 returns-4 c = next-read edition1 _ _ _ (c .before .before .read .ensures) (c .enum-told2 .given .1)
 
-pub next-entry-spec : {M : Type 1} → statement M
-next-entry-spec =
+pub next-spec : {M : Type 1} → statement M
+next-spec =
     tie.close
     (tie.spec
     read-requires
