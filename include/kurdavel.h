@@ -11,7 +11,7 @@
  * kurdavel_store_.. at the end, which take all that is lent as one struct.
  *
  * MEMORY THAT THE CALLER LENDS
- *   area    N slots of S bytes each, exactly N * S bytes; N from 4 to 32, S from 256 to 2,048.
+ *   area    exactly N * S bytes, N slots of S each: 4 to 32 slots of 256 to 2,048 bytes.
  *           It alone has to survive a cut.
  *   index   M words; M from 16 to 4,096.
  *   work    at least S bytes.

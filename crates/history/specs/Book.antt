@@ -62,7 +62,7 @@ pub record Book : Type 0 where
   pub next : ℕ
   pub pending : Option Awaited
 
--- After format of any area: no keys, next version 1, nothing pending.
+-- The book of an area that was just formatted is empty, and the first version is 1.
 abbrev pub freshBook : Book
 freshBook = record { keys = λ k. none; next = 1; pending = none }
 
@@ -73,8 +73,8 @@ withKey keys k x j = pick (sameKeys j k) x (keys j)
 abbrev pub withoutPending : Book → Book
 withoutPending b = record { keys = b .keys; next = b .next; pending = none }
 
--- The last store of an operation. A write sets its key's value and version, a delete drops its key, either at the next version,
--- which goes up by 1; a cleaning changes neither. Nothing then is pending.
+-- The last store of an operation. A write and a delete take a version, and change what the book holds of their key; a cleaning takes
+-- none and changes nothing. No operation is pending then.
 unfoldable pub finish : Book → Operation → Book
 finish b (write k value) =
     record { keys = withKey (b .keys) k (some (record { version = b .next; value = value })); next = b .next + 1; pending = none }

@@ -1,6 +1,5 @@
--- Demand 2, three theorems at the layout of 01. Once finished, a write, a delete and a cleaning leave bytes that the rule of versions
--- reads as the old map with that one key set, with it gone, or unchanged; in a cleaning for every set of victims within the map, the
--- head included. For other layouts the same facts are `finish-recovers` and `finish-map` of their laws.
+-- Demand 2, three theorems at the layout of 01: the map that the rule of versions reads after the last store of a write, a delete and a
+-- cleaning, from the one that it read before the start. A cleaning may have any victims of the log, the head among them. For other layouts the same facts are `finish-recovers` and `finish-map` of their laws.
 use Prim.Native.Nat.{ℕ}
 use mathlib.Core.Path.{_≡_}
 use mathlib.Core.List.{List}

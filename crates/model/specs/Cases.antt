@@ -84,7 +84,7 @@ case5 =
     ∷ row 5 (reads cleaned nine) (refusedBy 8)
     ∷ []
 
--- Case 6: two objects of 67, four of 19 and two tombstones; a third tombstone then ends at S, and no kind 0 follows it.
+-- Case 6: objects and tombstones that leave room for one tombstone more, which ends at S with nothing behind it.
 abbrev filling : List Operation
 filling =
     write (keyed 1 1) (replicate 56 1)
@@ -124,7 +124,7 @@ case7 =
     ∷ row 7 (starts fresh (write nine (replicate 8 0x11))) (toCome 20 ++ holds (record { head = 0; end = 13; digest = 1; map = 1; next = 1; keys = 0; left = 20 }))
     ∷ []
 
--- Case 8: version 1 of a key in slot 0, version 2 and tombstone 3 in slot 1, which is the head.
+-- Case 8: an old object of a key in slot 0, a newer one and its tombstone in the head, slot 1.
 abbrev spread : List ℕ
 spread =
     slotWith 255 (segmentWith 1 1 1 (object nine 1 (replicate 8 0x11) ∷ [])) ++

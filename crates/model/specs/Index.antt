@@ -32,7 +32,7 @@ pub record Met (cells : List ℕ) (start i : ℕ) : Type 0 where
 abbrev pub IsLatest : List Placed → Placed → Type 0
 IsLatest log x = latest log (keyOf (x .entry)) ≡ some x
 
--- A cell is 0, or 1 plus the place of the highest-version entry of a key.
+-- A cell is free (0) or holds, one higher, the place of some key's entry with the highest version.
 abbrev pub CellGood : ℕ → List Placed → ℕ → Type 0
 CellGood S log c = (c ≡ 0) ⊎ ((x : Placed) × IsLatest log x × (c ≡ placeOf S x + 1))
 
@@ -43,7 +43,7 @@ pub record HasCell (S : ℕ) (cells : List ℕ) (x : Placed) : Type 0 where
   pub holds : getD cells cell 0 ≡ placeOf S x + 1
   pub met : Met cells (startCell (length cells) (keyOf (x .entry))) cell
 
--- The rule: every cell is good, every key with any entry in the log has a cell where a search finds it, and only one.
+-- The rule: every cell is good, and each key that the log has an entry of has one cell, where a search finds it.
 pub record IndexRule (S : ℕ) (log : List Placed) (cells : List ℕ) : Type 0 where
   pub good : (i : ℕ) → i < length cells → CellGood S log (getD cells i 0)
   pub found : (x : Placed) → IsLatest log x → HasCell S cells x

@@ -13,7 +13,7 @@ use Rattle.segment.specs.Digest.{isDigest, digestOf}
 use Rattle.segment.specs.declared.Digest.{Digest}
 use Rattle.segment.specs.declared.Key.{Key}
 
--- A segment is its own S bytes, cut from the area at slot × S.
+-- The segment of a slot, as a part of the area.
 abbrev pub segmentOf : List ℕ → ℕ → ℕ → List ℕ
 segmentOf area S i = take S (drop (i * S) area)
 
@@ -139,7 +139,7 @@ unfoldable pub objectOnly : Option Placed → Option Placed
 objectOnly none = none
 objectOnly (some x) = pick (isTombstone (x .entry)) none (some x)
 
--- A key is present exactly if its highest-version entry is an object, which then gives its value.
+-- Whether a key is present is decided by its entry with the highest version: an object makes it so, and has its value.
 unfoldable pub present : List Placed → Key → Option Placed
 present log k = objectOnly (latest log k)
 
@@ -167,6 +167,6 @@ unfoldable pub highest : List Placed → ℕ
 highest [] = 0
 highest (x ∷ xs) = max (x .entry .version) (highest xs)
 
--- The next version: the greater of the head digest's field and one more than the highest version in the log.
+-- The next version is above every version in the log, and not below what the head's digest says.
 abbrev pub nextVersion : Digest → List Placed → ℕ
 nextVersion d log = max (d .next .0) (highest log + 1)

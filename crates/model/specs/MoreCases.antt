@@ -317,7 +317,7 @@ cutRows =
     ∷ row 23 (starts (crowded 3 3 1) (oldKey 8)) (toCome 34 ++ holds (record { head = 0; end = 245; digest = 3; map = 3; next = 17; keys = 15; left = 34 }))
     ∷ row 23 (ends (crowded 3 3 1) (oldKey 8)) (done 17 ++ holds (record { head = 2; end = 32; digest = 4; map = 7; next = 18; keys = 15; left = 0 }))
     ∷ row 23 (recovers (played (crowded 3 3 1) (oldKey 8))) (gives (record { head = 2; end = 32; digest = 4; map = 7; next = 18; keys = 15; left = 0 }))
-    -- its digest has the next version before the operation, which is the entry's own
+    -- the version in its digest is that of the entry written behind it
     ∷ row 24 (take 33 (drop 512 (played (crowded 3 3 1) (oldKey 8)))) (segmentWith 4 7 17 (object b 17 (replicate 8 1) ∷ []) ++ 0 ∷ [])
     ∷ []
 

@@ -55,11 +55,11 @@ tombstoneEntry r k = record { table = k .table; key = k .key; version = r .next 
 abbrev pub fitsHead : Layout → Record → Entry → Bool
 fitsHead L r e = leb (r .end + sizeOf L e) (r .size)
 
--- A new head takes the first free slot after the old head, going round.
+-- The slot of a new head: from the old head upwards, and from slot 0 on again, the first that is free.
 abbrev pub newSlot : Record → ℕ
 newSlot r = nextFree (r .slots) (r .map) (r .head)
 
--- Its digest: the number plus 1, the old map less the victims plus its own bit, and the next version as it stood.
+-- Its digest has the next number, names the new slot and no victim, and has the next version that the record had.
 abbrev pub newDigest : Record → ℕ → Digest
 newDigest r victims =
     record { number = record { 0 = r .digest .0 + 1 }; map = r .map - victims + 2 ^ newSlot r; next = r .next }
@@ -79,8 +79,8 @@ objectOutside victims (x ∷ xs) k =
     either (both (both (not (named victims (x .slot))) (sameKey k (x .entry))) (not (isTombstone (x .entry))))
     (objectOutside victims xs k)
 
--- A victim's object is kept if it is its key's highest version, and a tombstone if besides an object of the key stands
--- outside the victims.
+-- A victim's entry stays only where no entry of its key has a higher version; a tombstone must besides have an object of its key
+-- outside the victims to hide.
 abbrev pub isKept : ℕ → List Placed → Placed → Bool
 isKept victims log x =
     both (named victims (x .slot))
@@ -137,8 +137,8 @@ unfoldable pub storesFrom : ℕ → List ℕ → List (ℕ × ℕ)
 storesFrom p [] = []
 storesFrom p (b ∷ bs) = (p, b) ∷ storesFrom (p + 1) bs
 
--- Bytes that come to stand at an offset of a slot: from the second on, ascending; 0 after the last if it ends before S;
--- the first, the kind byte, which makes them count.
+-- Bytes that come to stand at an offset of a slot: all but the first, one after the other; then an end behind them where the slot
+-- has room; then the first, the kind byte, which makes them count.
 abbrev pub commit : ℕ → ℕ → ℕ → List ℕ → List (ℕ × ℕ)
 commit S slot offset bytes =
     storesFrom (slot * S + offset + 1) (drop 1 bytes) ++
@@ -235,7 +235,7 @@ unfoldable pub cleared : ℕ → ℕ → List ℕ → List ℕ
 cleared S zero area = area
 cleared S (suc n) area = set (cleared S n area) (n * S) 0
 
--- Slot 0 then gets number 1, map 1, next version 1, and a kind 0 behind its digest; every other byte stays.
+-- Slot 0 then gets the first digest, which names slot 0 alone, and an end behind it. No other byte changes.
 abbrev pub firstDigest : Digest
 firstDigest = record { number = record { 0 = 1 }; map = 1; next = record { 0 = 1 } }
 

@@ -47,8 +47,8 @@ pub record Genuine (L : Layout) (area : List ℕ) (r : Record) (cells : List ℕ
   pub recovers : recovered L (r .slots) (r .size) (r .cells) area ≡ some (withPending r Idle)
   pub rule : IndexRule (r .size) (logNow L area r) cells
 
--- The pending operation, its work bytes and its stores left are what a start on this store and the steps since then give:
--- `idle` was the record and `before` the area, and `since` stores of the plan are done.
+-- The pending operation is one that was started on this store, and steps alone were made since: `idle` was the record and `before` the
+-- area, `since` stores of the plan are done, and the work buffer still begins with the operation's bytes.
 pub record Started (L : Layout) (area : List ℕ) (r : Record) (work : List ℕ) : Type 0 where
   pub operation : Operation
   pub before : List ℕ
@@ -139,12 +139,12 @@ pub record Part : Type 0 where
 abbrev pub partOf : List ℕ → Part → List ℕ
 partOf area p = take (p .bytes) (drop (p .place) area)
 
--- the empty part at the area's start
+-- no bytes, at place 0
 abbrev pub nowhere : Part
 nowhere = record { place = 0; bytes = 0 }
 
--- An object's value is the part of the area behind what comes before it in its entry; where read refuses it is the empty part at the
--- area's start.
+-- An object's value is the part of the area behind what comes before it in its entry. Beside a refusal stands the part of no bytes at
+-- place 0.
 unfoldable pub valuePart : Layout → ℕ → Option Placed → Part
 valuePart L S none = nowhere
 valuePart L S (some x) = record { place = placeOf S x + entrySize L 0; bytes = length (bytesIn (x .entry .value)) }

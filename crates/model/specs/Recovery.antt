@@ -25,7 +25,7 @@ use Rattle.model.specs.Causes.{Cause, when, firstCause}
 abbrev pub geometryBad : ℕ → ℕ → ℕ → Bool
 geometryBad n s areaLength = not (both (both (slotsGood n) (sizeGood s)) (eqb areaLength (n * s)))
 
--- 15: the order list is not N bytes that name each of 0 to N - 1 once
+-- 15: the order list is not an order of the N slots
 unfoldable pub lists : List ℕ → ℕ → Bool
 lists [] i = false
 lists (x ∷ xs) i = either (eqb x i) (lists xs i)
@@ -55,12 +55,12 @@ sharing v k (suc n) = sharing v k n + hasNumber (v n .digest) k
 abbrev pub numberBad : (ℕ → View) → ℕ → Head → Bool
 numberBad v n h = either (eqb (h .digest .number .0) 0) (ltb 1 (sharing v (h .digest .number .0) n))
 
--- the map names a slot not below N, lacks the head, or leaves none free
+-- a map with a slot that is not there, without the head, or of all slots
 abbrev pub mapBad : ℕ → Head → Bool
 mapBad n h =
     either (not (ltb (h .digest .map) (2 ^ n))) (either (not (named (h .digest .map) (h .slot))) (not (ltb (used n (h .digest .map)) n)))
 
--- the map names a slot whose byte 0 is not the digest's kind
+-- a slot of the map does not begin with a digest
 unfoldable pub namesNoDigest : (ℕ → View) → (ℕ → Bool) → ℕ → Bool
 namesNoDigest v p zero = false
 namesNoDigest v p (suc n) = either (namesNoDigest v p n) (both (p n) (isNone (v n .digest)))

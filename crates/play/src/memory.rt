@@ -88,7 +88,7 @@ pub fn fresh(area: &mut [u8; 1024], index: &mut [u32; 16]) -> Played
     power_on(area, index, book::empty(Version(1)))
 }
 
-// Case 8: version 1 of a key in slot 0; version 2 and tombstone 3 in slot 1, which is the head. The contract leaves free what
+// Case 8: an old object of a key in slot 0, a newer one and its tombstone in the head, slot 1. The contract leaves free what
 // the area then holds.
 pub fn spread(area: &mut [u8; 1024], index: &mut [u32; 16]) -> Played
     ensures { λ r. ⌜ r ≡ poweredOn (now (area .exit)) (emptyBook (record { 0 = 4 })) ⌝ }

@@ -32,9 +32,9 @@ pub enum Pending {
     },
 }
 
-// The store record of 01, "Memory the caller lends": N, S, M, head slot, end of the head's entries, digest number, slot
-// map, next version, number of keys with any entry in the log, and the pending operation. A value of it is named `rec`, since
-// `record` is a word of the proofs' language.
+// The store record of 01, "Memory the caller lends": geometry and index size, what the head's digest says with the end of its
+// entries, the next version, how many keys the log has entries of, and the pending operation. A value of it is named `rec`,
+// since `record` is a word of the proofs' language.
 pub struct Record {
     pub slots: u32,
     pub size: u32,

@@ -64,7 +64,7 @@ fn slots_seen(n: u32, order: &[u8]) -> u32
     seen
 }
 
-// Whether the order list is not N bytes that name each of 0 to N-1 once.
+// Whether the order list is anything but an order of the N slots.
 fn order_bad(n: u32, order: &[u8]) -> bool
     requires { ⌜ (1 ≤ n) × (n ≤ 32) ⌝ }
     ensures { λ r. ⌜ r ≡ orderBad n (now (order .entry)) ⌝ }
@@ -159,7 +159,7 @@ fn look_at(n: usize, s: usize, area: &[u8]) -> Image
     }
 }
 
-// The next version: the greater of the digest's field and one more than the highest version in the log.
+// The next version: what the digest says, unless the log has a version that is as high.
 fn next_version(next: Version, highest: Version) -> Version
     requires { ⌜ highest .0 < 4294967295 ⌝ }
     ensures { λ r. ⌜ r ≡ record { 0 = max (next .0) (highest .0 + 1) } ⌝ }

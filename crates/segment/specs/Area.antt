@@ -11,7 +11,7 @@ use Rattle.segment.specs.Entry.{Entry, Found, entry, entryAt, sizeOf, an
 use Rattle.segment.specs.EntryLaws.{found-fits}
 use Rattle.segment.specs.declared.Read.{Read}
 
--- A segment is its own S bytes, cut from the area at slot × S.
+-- The segment of a slot, as a part of the area (01, "Bytes of a segment").
 abbrev pub segmentOf : List ℕ → ℕ → ℕ → List ℕ
 segmentOf area S i = take S (drop (i * S) area)
 

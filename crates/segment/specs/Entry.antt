@@ -84,7 +84,7 @@ entryAt L s at =
     pick (ltb at (length s)) (pick (eqb (getD s at 0) 0) end (ofLength L s at (valueLength L (getD s at 0))))
     (pick (eqb at (length s)) end damage)
 
--- The reader's enum for it: 01 names the form, an object, a tombstone, the end, or damage, with fields and length as data.
+-- The same as the enum that the reader answers, whose form 01 names.
 unfoldable pub answer : Layout → Found → Read
 answer L (entry e) =
     pick (isTombstone e) (Tombstone (keyOf e) (record { 0 = e .version }) (sizeOf L e))

@@ -1,4 +1,4 @@
--- The slot map of 01, "Bytes of a segment": bit i, counted from the lowest, stands for slot i.
+-- The slot map of 01, "Bytes of a segment": a number whose binary digits say which slots it names, slot 0 by the lowest.
 use Prim.Native.Nat.{ℕ, _+_, _-_, _*_, _/_, _%_, _^_}
 use mathlib.Core.Bool.{Bool}
 use lib.Dec.{eqb, ltb}

@@ -1,4 +1,4 @@
--- How many slots a map names. 01, "The log and its map": free slots are N less the ones in the slot map.
+-- How many slots a map names, and how many it leaves free (01, "The log and its map").
 use Prim.Native.Nat.{ℕ, zero, suc, _+_, _-_, _^_}
 use Rattle.slot_map.specs.Bit.{bit}
 

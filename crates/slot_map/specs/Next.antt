@@ -1,4 +1,4 @@
--- The slot that a new head takes. 01, "Operations, store by store": the first free slot after the old head, going round.
+-- The slot that a new head takes (01, "Operations, store by store"): the search for a free one goes up from the old head and on from slot 0.
 use Prim.Native.Nat.{ℕ, zero, suc, _+_}
 use mathlib.Core.Bool.{true, false}
 use lib.Dec.{ltb}

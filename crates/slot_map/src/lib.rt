@@ -1,5 +1,5 @@
-// Slot maps: bit i of a map, counted from the lowest, stands for slot i. The definitions say a bit by
-// division and remainder, and the code goes by shifts and masks.
+// Slot maps: a word with one bit for each slot, the lowest for slot 0. The definitions say a bit by division and remainder,
+// and the code goes by shifts and masks.
 ghost use mathlib.Core.Path.{_≡_};
 ghost use Prim.Native.Nat.{_^_, _≤_, _<_};
 ghost use lib.Dec.{ltb};

@@ -8,7 +8,7 @@ ghost use mathlib.Core.Path.{_≡_};
 ghost use Rattle.model.specs.Operations.{newDigest};
 ghost use Rattle.starting.specs.NewHead.{HeadReady};
 
-// The digest of a new head in `slot`: the old map less the victims plus its own bit, and the next version as it stands.
+// The digest of a new head in `slot`. Its map drops the victims and names the slot; the record's next version goes in unchanged.
 pub fn new_digest(rec: Record, victims: u32, slot: u32) -> Digest
     requires { ⌜ HeadReady rec victims slot ⌝ }
     ensures { λ r. ⌜ r ≡ newDigest rec victims ⌝ }

@@ -1,5 +1,4 @@
--- The store record as 14 words of 32 bits: N, S, M, head slot, end of the head's entries, digest number, slot map, next
--- version, number of keys; then the pending operation: a tag, the new head's slot, the victims, the length of what the work
+-- The store record as 14 words of 32 bits: its nine numbers in the order of its fields, then the pending operation: a tag, the new head's slot, the victims, the length of what the work
 -- buffer holds, and the stores left. A word that an operation has no use for is 0.
 use Prim.Native.Nat.{ℕ}
 use mathlib.Core.Bool.{Bool, true, false}
