@@ -32,7 +32,7 @@ use Rattle.words.specs.declared.Decoded.{Decoded}
 use Rattle.history.specs.Book.{reads, readsValue, starts, steps, asks, recovers, saying, giving, Event, called}
 use Rattle.history.specs.Runs as Store
 use Rattle.history.specs.Runs.{World, recoveredWorld, Run}
-use Rattle.kurdavel.specs.Crossing.{keptWords, wordsAfter, RecoverCrossed, ReadCrossed, ValueCrossed, storesAfter, StartCrossed, leftAfter, toldAfter, StepCrossed}
+use Rattle.kurdavel.specs.Crossing.{keptWords, wordsAfter, RecoverCrossed, ReadCrossed, ValueCrossed, storesAfter, StartCrossed, leftTold, toldAfter, StepCrossed}
 use Rattle.exported.specs.Runs.{HeldWords, Memory, heldBy, worldOf, KeyArgument, Arguments, numberSaid, stepTold, readTold, recoveredMemory, Exports, start, step, read, readValue, recover, short, cuts, ExportedRun, stop, go}
 
 -- ---- arguments: whatever has its C type is typed
@@ -61,9 +61,9 @@ start-said (StartAnswer.Started k) stores stores′ number e f = ap takenWith (s
 start-said (StartAnswer.Refused c) stores stores′ number e f = refused-said c number (takenWith stores′) e
 
 step-said :
-    (a : StepAnswer) (left left′ version version′ number : ℕ) → number ≡ stepSaid a .refused → left′ ≡ leftAfter a left →
+    (a : StepAnswer) (left left′ version version′ number : ℕ) → number ≡ stepSaid a .refused → left′ ≡ leftTold a left →
     version′ ≡ toldAfter a version → stepSaid a ≡ numberSaid number (stepTold left′ version′)
-unfolding leftAfter toldAfter
+unfolding leftTold toldAfter
 step-said (StepAnswer.Left k) left left′ version version′ number e f g =
     ap₂ stepTold (sym f) (sym g) ∙ taken-said number (stepTold left′ version′) e
 step-said (StepAnswer.Done v) left left′ version version′ number e f g =

@@ -96,10 +96,10 @@ pub record StartCrossed (o : Operation) (words words′ area cells work work′ 
 
 -- ---- step
 
-unfoldable pub leftAfter : StepAnswer → ℕ → ℕ
-leftAfter (StepAnswer.Left n) old = n
-leftAfter (StepAnswer.Done v) old = 0
-leftAfter (StepAnswer.Refused c) old = old
+unfoldable pub leftTold : StepAnswer → ℕ → ℕ
+leftTold (StepAnswer.Left n) old = n
+leftTold (StepAnswer.Done v) old = 0
+leftTold (StepAnswer.Refused c) old = old
 
 unfoldable pub toldAfter : StepAnswer → ℕ → ℕ
 toldAfter (StepAnswer.Left n) old = 0
@@ -110,6 +110,6 @@ pub record StepCrossed (words words′ area area′ cells cells′ work : List �
   pub stepped : Stepped
   pub promised : StepPromise edition1 (decoded words .rec) area area′ cells cells′ work stepped
   pub numbered : number ≡ stepSaid (stepped .answer) .refused
-  pub left-told : left′ ≡ leftAfter (stepped .answer) left
+  pub left-told : left′ ≡ leftTold (stepped .answer) left
   pub version-told : version′ ≡ toldAfter (stepped .answer) version
   pub says : words′ ≡ keptWords (decoded words .ok) words (stepped .rec)

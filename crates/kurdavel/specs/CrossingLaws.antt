@@ -34,7 +34,7 @@ use Rattle.recovery.specs.declared.Lookup.{Lookup}
 use Rattle.words.specs.Words.{recordWords, wordsOf, isRecord, decoded}
 use Rattle.words.specs.WordLaws.{record-long, decoded-record, decoded-none}
 use Rattle.words.specs.declared.Decoded.{Decoded}
-use Rattle.kurdavel.specs.Crossing.{FormatCrossed, RecoverCrossed, wordsAfter, ReadCrossed, ValueCrossed, Handed, storesAfter, StartCrossed, keptWords, StepCrossed, leftAfter, toldAfter}
+use Rattle.kurdavel.specs.Crossing.{FormatCrossed, RecoverCrossed, wordsAfter, ReadCrossed, ValueCrossed, Handed, storesAfter, StartCrossed, keptWords, StepCrossed, leftTold, toldAfter}
 
 -- words that decode to a record are enough of them
 pub ok-long : (words : List ℕ) {d : Decoded} → d ≡ decoded words → d .ok ≡ true → recordWords ≤ length words
@@ -181,14 +181,14 @@ start-crossed {x = x} f p h =
 pub step-crossed : {words words′ area area′ cells cells′ work : List ℕ} {left left′ version version′ number : ℕ} {d : Decoded} {x : Stepped}
     {b : StepAnswer} → d ≡ decoded words → StepPromise edition1 (d .rec) area area′ cells cells′ work x
     → words′ ≡ keptWords (d .ok) words (x .rec) → x .answer ≡ b → number ≡ stepSaid b .refused
-    → left′ ≡ leftAfter b left → version′ ≡ toldAfter b version
+    → left′ ≡ leftTold b left → version′ ≡ toldAfter b version
     → StepCrossed words words′ area area′ cells cells′ work left left′ version version′ number
 step-crossed {words = words} {left = left} {version = version} {x = x} f p w e m l v =
     record {
       stepped = x;
       promised = rw (ap (λ (a : Decoded). a .rec) f) at p;
       numbered = m ∙ ap (λ (a : StepAnswer). stepSaid a .refused) (sym e);
-      left-told = l ∙ ap (λ (a : StepAnswer). leftAfter a left) (sym e);
+      left-told = l ∙ ap (λ (a : StepAnswer). leftTold a left) (sym e);
       version-told = v ∙ ap (λ (a : StepAnswer). toldAfter a version) (sym e);
       says = w ∙ ap (λ (a : Decoded). keptWords (a .ok) words (x .rec)) f;
     }

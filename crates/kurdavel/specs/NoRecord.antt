@@ -24,7 +24,7 @@ use Rattle.laws.specs.CauseLaws.{cause-first}
 use Rattle.words.specs.Words.{recordWords, isRecord, decoded}
 use Rattle.words.specs.WordLaws.{decoded-none}
 use Rattle.words.specs.declared.Decoded.{Decoded}
-use Rattle.kurdavel.specs.Crossing.{RecoverCrossed, ReadCrossed, ValueCrossed, storesAfter, StartCrossed, keptWords, StepCrossed, leftAfter, toldAfter}
+use Rattle.kurdavel.specs.Crossing.{RecoverCrossed, ReadCrossed, ValueCrossed, storesAfter, StartCrossed, keptWords, StepCrossed, leftTold, toldAfter}
 
 -- such words say the blank record, which fails the tests of 4 whatever is lent
 not-ok : (words : List ℕ) → isRecord words ≡ false → decoded words .ok ≡ false
@@ -77,7 +77,7 @@ start-none {words = words} {words′ = words′} {stores = stores} f x =
 pub step-none : {words words′ area area′ cells cells′ work : List ℕ} {left left′ version version′ number : ℕ} → isRecord words ≡ false
     → StepCrossed words words′ area area′ cells cells′ work left left′ version version′ number
     → (number ≡ 4) × (words′ ≡ words) × (area′ ≡ area) × (cells′ ≡ cells) × (left′ ≡ left) × (version′ ≡ version)
-unfolding leftAfter toldAfter
+unfolding leftTold toldAfter
 step-none {words = words} {words′ = words′} {left = left} {version = version} f x =
     let t = x .promised .refused BadRecord (cause-first _ _ (unfit words f _ _)) in
     let e : x .stepped .answer ≡ StepAnswer.Refused BadRecord = ap (λ (y : Stepped). y .answer) (t .answers) in (
@@ -85,6 +85,6 @@ step-none {words = words} {words′ = words′} {left = left} {version = version
       kept-none words words′ (x .stepped .rec) f (x .says),
       t .area-same,
       t .index-same,
-      x .left-told ∙ ap (λ (a : StepAnswer). leftAfter a left) e,
+      x .left-told ∙ ap (λ (a : StepAnswer). leftTold a left) e,
       x .version-told ∙ ap (λ (a : StepAnswer). toldAfter a version) e,
     )

@@ -54,16 +54,6 @@ pub record Sound (v : ℕ → View) (n m : ℕ) (h : Head) : Type 0 where
   pub versions : versionShared (logUnder v n h) ≡ false
   pub keys : length (keysOf (logUnder v n h)) ≤ m - 1
 
--- a map is bad exactly if it is not good
-pub map-bad-good : (n : ℕ) (h : Head) → mapBad n h ≡ not (mapGood n (h .slot) (h .digest .map))
-unfolding mapGood both either
-map-bad-good n h = go (ltb (h .digest .map) (2 ^ n)) (named (h .digest .map) (h .slot)) (ltb (used n (h .digest .map)) n)
-  where
-    go : (a b c : Bool) → either (not a) (either (not b) (not c)) ≡ not (both a (both b c))
-    go true true c = refl
-    go true false c = refl
-    go false b c = refl
-
 module _ (v : ℕ → View) (n m : ℕ) where
   -- 16 to 20, as tests of a head that was found
   abbrev pub headCauses : Head → List Cause
@@ -81,7 +71,7 @@ module _ (v : ℕ → View) (n m : ℕ) where
             is-top v n h (head-is v n h e)
             (ltb-false 1 (sharing v (h .digest .number .0) n) (either-false-right _ _ number));
         numbered = eqb-false (h .digest .number .0) 0 (either-false-left _ _ number);
-        map-good = not-false _ (sym (map-bad-good n h) ∙ either-false-left _ _ rest);
+        map-good = not-false _ (either-false-left _ _ rest);
         digests = names-digests v (logSlots h) n (either-false-left _ _ others);
         next-set = eqb-false (h .digest .next .0) 0 (either-false-right _ _ others);
         scans = undamaged-scans v (logSlots h) n (f .1 .1 .0);
@@ -95,7 +85,7 @@ module _ (v : ℕ → View) (n m : ℕ) where
       let number =
       either-false _ _ (ne-eqb (h .digest .number .0) 0 (s .numbered))
       (le-ltb 1 (sharing v (h .digest .number .0) n) (omega (arith, top-alone v n h (s .top)))) in
-      let map : mapBad n h ≡ false = map-bad-good n h ∙ ap not (s .map-good) in
+      let map : mapBad n h ≡ false = ap not (s .map-good) in
       let others = either-false _ _ (digests-named v (logSlots h) n (s .digests)) (ne-eqb (h .digest .next .0) 0 (s .next-set)) in (
         refl,
         (

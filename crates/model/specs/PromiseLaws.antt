@@ -1,14 +1,26 @@
 -- What the promises leave no freedom in, where a weaker one could pass unnoticed.
 use Prim.Native.Nat.{ℕ}
-use mathlib.Core.Path.{_≡_, sym, _∙_, ap}
+use mathlib.Core.Path.{_≡_, refl, sym, _∙_, ap}
+use mathlib.Core.Bool.{true}
 use mathlib.Core.List.{List}
+use mathlib.Core.Option.{none, some}
 use native.Mathlib.Decide.{ℕ-discrete}
 use lib.ListN.{getD, set}
 use lib.Seq.{getD-set-other}
 use Rattle.segment.specs.Layout.{Layout}
 use Rattle.segment.specs.declared.Key.{Key}
+use Rattle.record.specs.Answers.{formatSaid, recoverSaid, readSaid, startSaid, stepSaid}
+use Rattle.record.specs.declared.FormatAnswer.{FormatAnswer}
+use Rattle.record.specs.declared.Reading.{Reading}
 use Rattle.record.specs.declared.Record.{Record}
-use Rattle.model.specs.Promises.{Genuine, Part, ValuePromise, OneByte}
+use Rattle.record.specs.declared.Recovery.{Recovery}
+use Rattle.record.specs.declared.Refusal.{Refusal}
+use Rattle.record.specs.declared.Start.{Start}
+use Rattle.record.specs.declared.Stepped.{Stepped}
+use Rattle.model.specs.Causes.{firstCause}
+use Rattle.model.specs.Operations.{Operation}
+use Rattle.model.specs.Refused.{stepCauses, recordBad}
+use Rattle.model.specs.Promises.{Genuine, Settled, Started, FormatPromise, RecoverPromise, ReadPromise, readLengths, Part, nowhere, ValuePromise, Begun, lentLengths, StartPromise, StepPromise, OneByte}
 
 -- Two places at which the area after a step differs from the one before are one place.
 pub one-place :
@@ -27,3 +39,95 @@ pub value-fixed :
     (L : Layout) (r : Record) (area cells : List ℕ) (k : Key) (p q : Part) → Genuine L area r cells → ValuePromise L r area cells k p →
     ValuePromise L r area cells k q → p ≡ q
 value-fixed L r area cells k p q g x y = x .exact g ∙ sym (y .exact g)
+
+-- ---- two answers to the same input, wherever the whole answer is promised, are one, and so is what they leave and what they say
+
+-- Format.
+pub record FormatSame (area′ area″ : List ℕ) (a b : FormatAnswer) : Type 0 where
+  pub answer : a ≡ b
+  pub said : formatSaid a ≡ formatSaid b
+  pub left : area′ ≡ area″
+
+pub format-fixed :
+    (L : Layout) (n s : ℕ) (area area′ area″ : List ℕ) (a b : FormatAnswer) → FormatPromise L n s area area′ a →
+    FormatPromise L n s area area″ b → FormatSame area′ area″ a b
+format-fixed L n s area area′ area″ a b x y =
+    record { answer = x .answers ∙ sym (y .answers); said = x .says ∙ sym (y .says); left = x .leaves ∙ sym (y .leaves) }
+
+-- Recovery: its answer and record, whatever the cells.
+pub record RecoverSame (r q : Recovery) : Type 0 where
+  pub answer : r ≡ q
+  pub said : recoverSaid (r .answer) ≡ recoverSaid (q .answer)
+
+pub recover-fixed :
+    (L : Layout) (n s : ℕ) (order area cells cells′ cells″ : List ℕ) (r q : Recovery) → RecoverPromise L n s order area cells cells′ r →
+    RecoverPromise L n s order area cells cells″ q → RecoverSame r q
+recover-fixed L n s order area cells cells′ cells″ r q x y = record { answer = x .answers ∙ sym (y .answers); said = x .says ∙ sym (y .says) }
+
+-- Read: the record always, the answer on genuine stores, and what it says also of a record that is unfit.
+pub record ReadSame (L : Layout) (r : Record) (area cells : List ℕ) (a b : Reading) : Type 0 where
+  pub record-same : a .rec ≡ b .rec
+  pub unfit-same : recordBad L r (readLengths area cells) ≡ true → a .answer ≡ b .answer
+  pub answer-same : Genuine L area r cells → a .answer ≡ b .answer
+  pub said : Settled L area r cells (readLengths area cells) → readSaid (a .answer) ≡ readSaid (b .answer)
+
+pub read-fixed :
+    (L : Layout) (r : Record) (area cells : List ℕ) (k : Key) (a b : Reading) → ReadPromise L r area cells k a → ReadPromise L r area cells k b →
+    ReadSame L r area cells a b
+read-fixed L r area cells k a b x y =
+    record {
+      record-same = x .hands-back ∙ sym (y .hands-back);
+      unfit-same = λ u. x .unfit u ∙ sym (y .unfit u);
+      answer-same = λ g. x .exact g ∙ sym (y .exact g);
+      said = λ g. x .says g ∙ sym (y .says g);
+    }
+
+-- A value beside a record that is unfit is no bytes at place 0.
+pub value-unfit :
+    (L : Layout) (r : Record) (area cells : List ℕ) (k : Key) (p : Part) → recordBad L r (readLengths area cells) ≡ true →
+    ValuePromise L r area cells k p → p ≡ nowhere
+value-unfit L r area cells k p u x = x .unfit u
+
+-- A start: its answer, its record and the work buffer.
+pub record StartSame (L : Layout) (r : Record) (area cells work work′ work″ : List ℕ) (a b : Start) : Type 0 where
+  pub unfit-same :
+      recordBad L r (lentLengths area cells work) ≡ true →
+      _≡_ {A = Begun} (record { start = a; work = work′ }) (record { start = b; work = work″ })
+  pub left-same : Genuine L area r cells → _≡_ {A = Begun} (record { start = a; work = work′ }) (record { start = b; work = work″ })
+  pub said : Settled L area r cells (lentLengths area cells work) → startSaid (a .answer) ≡ startSaid (b .answer)
+
+pub start-fixed :
+    (L : Layout) (o : Operation) (r : Record) (area cells work work′ work″ : List ℕ) (a b : Start) →
+    StartPromise L o r area cells work work′ a → StartPromise L o r area cells work work″ b → StartSame L r area cells work work′ work″ a b
+start-fixed L o r area cells work work′ work″ a b x y =
+    record {
+      unfit-same = λ u. x .unfit u ∙ sym (y .unfit u);
+      left-same = λ g. x .exact g ∙ sym (y .exact g);
+      said = λ g. x .says g ∙ sym (y .says g);
+    }
+
+-- A step: where a cause holds, and where a started operation goes on.
+pub record StepSame (area′ area″ : List ℕ) (a b : Stepped) : Type 0 where
+  pub answer : a ≡ b
+  pub said : stepSaid (a .answer) ≡ stepSaid (b .answer)
+  pub left : area′ ≡ area″
+
+pub step-refused-fixed :
+    (L : Layout) (r : Record) (area area′ area″ cells cells′ cells″ work : List ℕ) (a b : Stepped) (c : Refusal) →
+    firstCause (stepCauses L r (lentLengths area cells work)) ≡ some c → StepPromise L r area area′ cells cells′ work a →
+    StepPromise L r area area″ cells cells″ work b → StepSame area′ area″ a b × (cells′ ≡ cells″)
+step-refused-fixed L r area area′ area″ cells cells′ cells″ work a b c e x y =
+    let p = x .refused c e in
+    let q = y .refused c e in (
+      record { answer = p .answers ∙ sym (q .answers); said = p .says ∙ sym (q .says); left = p .area-same ∙ sym (q .area-same) },
+      p .index-same ∙ sym (q .index-same),
+    )
+
+pub step-fixed :
+    (L : Layout) (r : Record) (area area′ area″ cells cells′ cells″ work : List ℕ) (a b : Stepped) →
+    firstCause (stepCauses L r (lentLengths area cells work)) ≡ none → Genuine L area r cells → Started L area r work →
+    StepPromise L r area area′ cells cells′ work a → StepPromise L r area area″ cells cells″ work b → StepSame area′ area″ a b
+step-fixed L r area area′ area″ cells cells′ cells″ work a b e g s x y =
+    let p = x .exact e g s in
+    let q = y .exact e g s in
+    record { answer = p .answers ∙ sym (q .answers); said = p .says ∙ sym (q .says); left = p .stores ∙ sym (q .stores) }

@@ -1,5 +1,5 @@
 -- 01, "The log and its map" and "Refused calls": what recovery gives for an image, and the causes 1, 2 and 15 to 20.
-use Prim.Native.Nat.{ℕ, zero, suc, _+_, _*_, _-_, _^_}
+use Prim.Native.Nat.{ℕ, zero, suc, _+_, _*_, _-_}
 use mathlib.Core.Bool.{Bool, true, false, not}
 use mathlib.Core.List.{List, [], _∷_, _++_}
 use mathlib.Core.Option.{Option, none, some}
@@ -9,9 +9,8 @@ use Rattle.segment.specs.Choice.{pick, both, either, isNone}
 use Rattle.segment.specs.Layout.{Layout}
 use Rattle.segment.specs.declared.Digest.{Digest}
 use Rattle.slot_map.specs.Bit.{named}
-use Rattle.slot_map.specs.Count.{used}
 use Rattle.record.specs.Answers.{blank}
-use Rattle.record.specs.Range.{slotsGood, sizeGood, cellsGood}
+use Rattle.record.specs.Range.{slotsGood, sizeGood, cellsGood, mapGood}
 use Rattle.record.specs.declared.Refusal.{Refusal}
 use Rattle.record.specs.declared.Refusal.the-variants.{Geometry, Cells, BadOrder, NoDigest, BadDigest, DamagedLog, SharedVersion, TooManyKeys}
 use Rattle.record.specs.declared.Pending.the-variants.{Idle}
@@ -57,8 +56,7 @@ numberBad v n h = either (eqb (h .digest .number .0) 0) (ltb 1 (sharing v (h .di
 
 -- a map with a slot that is not there, without the head, or of all slots
 abbrev pub mapBad : ℕ → Head → Bool
-mapBad n h =
-    either (not (ltb (h .digest .map) (2 ^ n))) (either (not (named (h .digest .map) (h .slot))) (not (ltb (used n (h .digest .map)) n)))
+mapBad n h = not (mapGood n (h .slot) (h .digest .map))
 
 -- a slot of the map does not begin with a digest
 unfoldable pub namesNoDigest : (ℕ → View) → (ℕ → Bool) → ℕ → Bool

@@ -20,7 +20,6 @@ use Rattle.model.specs.Recovery.{geometryBad, orderBad, headElse, mapBad, diges
 use Rattle.laws.specs.CauseLaws.{cause-first, cause-skip, cause-none}
 use Rattle.laws.specs.Scans.{scan-scans, scans-high}
 use Rattle.laws.specs.Stores.{length-segment}
-use Rattle.laws.specs.RecoverLaws.{map-bad-good}
 use Rattle.recovery.specs.Recovering.{lentFirst, checkedAs, imageFor, imageOf, imageUnder, recordWith}
 use Rattle.recovery.specs.declared.Checked.{Checked}
 use Rattle.recovery.specs.declared.Image.{Image}
@@ -82,7 +81,7 @@ module _ {t x : Bool} (b : Bool) (e : t ≡ x) where
 
 -- the test of the map, by that of a record's map
 pub map-bad : (n : ℕ) (h : Head) (t : Bool) → t ≡ mapGood n (h .slot) (h .digest .map) → not t ≡ mapBad n h
-map-bad n h t e = ap not e ∙ sym (map-bad-good n h)
+map-bad n h t e = ap not e
 
 -- ---- the image
 

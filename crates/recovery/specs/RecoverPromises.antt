@@ -33,7 +33,6 @@ use Rattle.laws.specs.CauseLaws.{cause-first, cause-none, NoCause, no-cause, fi
 use Rattle.laws.specs.SaidLaws.{recover-says}
 use Rattle.laws.specs.Versions.{highest-below}
 use Rattle.laws.specs.LogLaws.{AllScanned, undamaged-scans}
-use Rattle.laws.specs.RecoverLaws.{map-bad-good}
 use Rattle.log.specs.Shape.{Shape}
 use Rattle.index.specs.Build.{Rebuilt, built}
 use Rattle.index.specs.BuildLaws.{Holds, built-rule, built-over}
@@ -95,7 +94,7 @@ module _ (v : ℕ → View) (n i : ℕ) (d : Digest) (top : Version) (s : SoundI
   image-map : mapGood n i (d .map) ≡ true
   image-map =
       let digest = subst (λ (h : Head). digestBad v n h ≡ false) (s .head) (none-holds .1 .0) in
-      not-false _ (sym (map-bad-good n own) ∙ either-false-left _ _ (either-false-right _ _ digest))
+      not-false _ (either-false-left _ _ (either-false-right _ _ digest))
 
   image-scans : AllScanned v (named (d .map)) n
   image-scans =

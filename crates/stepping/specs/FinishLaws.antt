@@ -90,14 +90,9 @@ module _ (L : Layout) (r : Record) (done : Commit) (area cells : List ℕ) (plac
   found-entry f e is key h =
       h ∙ sym (ap (entryIn L r done area cells place) key) ∙ sym (ap (foundIn L r done area cells place) is)
 
--- the slot's segment as the code cuts it, with what the reader gives for it
+-- what the reader gives in the slot's segment
 module _ (L : Layout) (r : Record) (done : Commit) (area cells : List ℕ) (slot offset : ℕ) {t : Read}
-    (read : t ≡ answer L (entryAt L (take (slot * r .size + r .size - slot * r .size) (drop (slot * r .size) area)) offset)) where
-  given : t ≡ answer L (entryAt L (segmentOf area (r .size) slot) offset)
-  given =
-      let whole : slot * r .size + r .size - slot * r .size ≡ r .size = omega arith in
-      read ∙ ap (λ (m : ℕ). answer L (entryAt L (take m (drop (slot * r .size) area)) offset)) whole
-
+    (given : t ≡ answer L (entryAt L (segmentOf area (r .size) slot) offset)) where
   pub entry-object :
       {k : Key} {v : Version} {kind n : ℕ} → t ≡ Read.Object k v kind n → {a : After} →
       a ≡ entryIn L r done area cells (slot * r .size + offset) k → a ≡ finishEntry L r done area cells slot offset

@@ -16,6 +16,7 @@ use segment::DigestNumber;
 use segment::Key;
 use segment::Read;
 use segment::Version;
+use segment::area::cut;
 use segment::layout::DIGEST_SIZE;
 use segment::reader::read;
 use slot_map::with_slot;
@@ -25,6 +26,8 @@ ghost use mathlib.Core.Bool.{true};
 ghost use mathlib.Core.Path.{_≡_};
 ghost use lib.ListN.{length, take};
 ghost use Rattle.index.specs.Build.{Rebuilt, built};
+ghost use Rattle.segment.specs.Area.{segmentOf};
+ghost use Rattle.segment.specs.Entry.{entryAt, answer};
 ghost use Rattle.segment.specs.Layout.{edition1};
 ghost use Rattle.model.specs.Operations.{appendCommit, headCommit};
 ghost use Rattle.stepping.specs.Finish.{refusedStep, keysAfter, answeredWith, entryIn, finishEntry, finishAppend, finishHead, finishClean, oneLess, finishWith, advanced};
@@ -121,6 +124,14 @@ fn put_entry(
     answered(rec, done, version, keys)
 }
 
+// What stands at an offset of a slot's segment.
+fn stands_in(size: usize, area: &[u8], slot: usize, offset: usize) -> Read
+    requires { ⌜ slot * size + size ≤ length (now area) ⌝ }
+    ensures { λ r. ⌜ r ≡ answer edition1 (entryAt edition1 (segmentOf (now (area .entry)) size slot) offset) ⌝ }
+{
+    read(cut(size, area, slot), offset)
+}
+
 // The entry at an offset of a slot goes into the index. The reader gets the slot's segment, which is cut from the area at
 // slot × size.
 fn finish_entry(
@@ -135,10 +146,8 @@ fn finish_entry(
     ensures { λ r. ⌜ record { stepped = r; cells = now (index .exit) } ≡ finishEntry edition1 rec done (now (area .entry)) (now (index .entry)) slot offset ⌝ }
 {
     let size = rec.size as usize;
-    let start = slot as usize * size;
-    let end = start + size;
-    let place = start + offset;
-    match read(&area[start..end], offset) {
+    let place = slot as usize * size + offset;
+    match stands_in(size, area, slot as usize, offset) {
         Read::Object {
             key,
             version: _,

@@ -1,6 +1,6 @@
 -- `kurdavel::kurdavel_step` meets its contract.
 use mathlib.Core.Path.{refl}
-use Rattle.kurdavel.specs.Crossing.{leftAfter, toldAfter}
+use Rattle.kurdavel.specs.Crossing.{leftTold, toldAfter}
 use Rattle.kurdavel.specs.CrossingLaws.{ok-long, step-crossed}
 use borrow.Author.Needs.{needs}
 use Rattle.kurdavel.proofs.kurdavel_step.Statement.{statement}
@@ -37,7 +37,7 @@ same-length-3 : tie.Need-same-length-3
 same-length-3 c = search needs
 
 returns : tie.Need-returns
-unfolding leftAfter toldAfter
+unfolding leftTold toldAfter
 returns c =
     step-crossed (c .before .before .before .before .before .before .before .before .before .before .before .before .before .before .before .before .before .decode .ensures) (c .before .before .before .before .before .before .before .before .before .before .before .before .before .step-held .ensures) (c .before .before .before .before .before .before .keep .ensures) (c .before .before .answer .given .1) (c .number .ensures) refl refl
 
@@ -51,7 +51,7 @@ same-length-6 : tie.Need-same-length-6
 same-length-6 c = search needs
 
 returns-2 : tie.Need-returns-2
-unfolding leftAfter toldAfter
+unfolding leftTold toldAfter
 returns-2 c =
     step-crossed (c .before .before .before .before .before .before .before .before .before .before .before .before .before .before .before .before .decode .ensures) (c .before .before .before .before .before .before .before .before .before .before .before .before .step-held .ensures) (c .before .before .before .before .before .keep .ensures) (c .before .answer2 .given .1) refl refl refl
 
@@ -65,7 +65,7 @@ same-length-9 : tie.Need-same-length-9
 same-length-9 c = search needs
 
 returns-3 : tie.Need-returns-3
-unfolding leftAfter toldAfter
+unfolding leftTold toldAfter
 returns-3 c =
     step-crossed (c .before .before .before .before .before .before .before .before .before .before .before .before .before .before .before .before .decode .ensures) (c .before .before .before .before .before .before .before .before .before .before .before .before .step-held .ensures) (c .before .before .before .before .before .keep .ensures) (c .before .answer3 .given .1) refl refl refl
 

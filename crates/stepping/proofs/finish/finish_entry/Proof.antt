@@ -7,31 +7,27 @@ use Rattle.stepping.proofs.finish.finish_entry.Statement.{statement}
 use Rattle.stepping.proofs.finish.finish_entry.Tie as tie
 
 put-entry-requires : tie.Need-put-entry-requires
-put-entry-requires c κs = let a = c .before .before .before .before .before .before .before .before .before .args in place-fits (a .slot) (a .rec .size) (a .offset) (omega arith) (omega arith) (omega arith)
+put-entry-requires c κs = let a = c .before .before .before .before .before .before .before .before .args in place-fits (a .slot) (a .rec .size) (a .offset) (omega arith) (omega arith) (omega arith)
 
 put-entry-requires-2 : tie.Need-put-entry-requires-2
-put-entry-requires-2 c κs = let a = c .before .before .before .before .before .before .before .before .before .args in place-fits (a .slot) (a .rec .size) (a .offset) (omega arith) (omega arith) (omega arith)
+put-entry-requires-2 c κs = let a = c .before .before .before .before .before .before .before .before .args in place-fits (a .slot) (a .rec .size) (a .offset) (omega arith) (omega arith) (omega arith)
 
 returns : tie.Need-returns
-returns c = entry-object edition1 _ _ _ _ _ _ (c .before .before .before .before .before .before .before .read .ensures) (c .before .before .before .before .before .key .given .1) (c .before .before .put-entry .ensures)
+returns c = entry-object edition1 _ _ _ _ _ _ (c .before .before .before .before .before .before .before .stands-in .ensures) (c .before .before .before .before .before .key .given .1) (c .before .before .put-entry .ensures)
 
 returns-2 : tie.Need-returns-2
-returns-2 c = entry-tombstone edition1 _ _ _ _ _ _ (c .before .before .before .before .before .before .before .read .ensures) (c .before .before .before .before .before .key2 .given .1) (c .before .before .put-entry2 .ensures)
+returns-2 c = entry-tombstone edition1 _ _ _ _ _ _ (c .before .before .before .before .before .before .before .stands-in .ensures) (c .before .before .before .before .before .key2 .given .1) (c .before .before .put-entry2 .ensures)
 
 returns-3 : tie.Need-returns-3
-returns-3 c = entry-end edition1 _ _ _ _ _ _ (c .before .before .before .read .ensures) (c .refused .ensures) (c .before .enum-told .given .1)
+returns-3 c = entry-end edition1 _ _ _ _ _ _ (c .before .before .before .stands-in .ensures) (c .refused .ensures) (c .before .enum-told .given .1)
 
 returns-4 : tie.Need-returns-4
-returns-4 c = entry-damage edition1 _ _ _ _ _ _ (c .before .before .before .read .ensures) (c .refused2 .ensures) (c .before .enum-told2 .given .1)
+returns-4 c = entry-damage edition1 _ _ _ _ _ _ (c .before .before .before .stands-in .ensures) (c .refused2 .ensures) (c .before .enum-told2 .given .1)
 
 pub finish-entry-spec : {M : Type 1} → statement M
 finish-entry-spec =
     tie.close
     (tie.spec
-    (λ c. search needs)
-    (λ c. search needs)
-    (λ c. search needs)
-    (λ c. search needs)
     (λ c. search needs)
     (λ c. search needs)
     (λ c. search needs)
