@@ -137,7 +137,7 @@ extern "C" {
 #define KURDAVEL_STACK_WRITE 512u
 #define KURDAVEL_STACK_DELETE 512u
 #define KURDAVEL_STACK_CLEAN 1024u
-#define KURDAVEL_STACK_STEP 768u
+#define KURDAVEL_STACK_STEP 896u
 
 /* The words of a record. The store is the library's to change: read these, and write none. */
 enum kurdavel_word {

@@ -99,7 +99,7 @@ impl Lent {
 fn forged_stores() {
     let mut rng = Rng::new(21);
     let (mut starts, mut steps) = (0, 0);
-    for _ in 0..4000 {
+    for _ in 0..5000 {
         let mut shape = Shape::random(&mut rng);
         shape.slot_bytes = rng.within(256, 700);
         shape.slots = rng.within(4, 12);

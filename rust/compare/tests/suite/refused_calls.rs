@@ -36,16 +36,18 @@ fn refuse_all(words: &[u32], area: &[u8], index: &[u32], work_bytes: usize) {
     let (mut first, mut second) = (71, 72);
     let (table, key) = (KEY.table, KEY.key);
     let record = &mut record;
+    let read = slices::read(
+        record,
+        &lent_area,
+        &lent_index,
+        table,
+        key,
+        &mut first,
+        &mut second,
+    );
+    assert_eq!((read, first, second), (4, 0, 0));
+    (first, second) = (71, 72);
     let answers = [
-        slices::read(
-            record,
-            &lent_area,
-            &lent_index,
-            table,
-            key,
-            &mut first,
-            &mut second,
-        ),
         slices::write(
             record,
             &lent_area,
@@ -75,7 +77,7 @@ fn refuse_all(words: &[u32], area: &[u8], index: &[u32], work_bytes: usize) {
             &mut second,
         ),
     ];
-    assert_eq!(answers, [4; 5], "{words:?}");
+    assert_eq!(answers, [4; 4], "{words:?}");
     assert_eq!((first, second), (71, 72));
     let value = slices::read_value(
         record,
