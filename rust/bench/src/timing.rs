@@ -5,10 +5,14 @@ use std::time::{Duration, Instant};
 
 /// How long one sample lasts at least: short, so that nothing else runs during some.
 const SAMPLE: Duration = Duration::from_micros(300);
-/// How many samples each gets.
-const ROUNDS: usize = 400;
+/// How many rounds of one sample each there are: the most, and the least where they take longer than `LIMIT`.
+const ROUNDS: usize = 800;
+const LEAST_ROUNDS: usize = 16;
+/// How long the rounds of one case may take.
+const LIMIT: Duration = Duration::from_millis(1000);
 
 /// What timing the two gave. A time is the least of all samples: what else runs only adds to a sample.
+#[derive(Clone, Copy)]
 pub struct Timing {
     /// Nanoseconds of the proved one.
     pub proved: f64,
@@ -19,29 +23,36 @@ pub struct Timing {
 }
 
 /// Times both in turns, so that what slows the machine slows both.
-pub fn compare(mut proved: impl FnMut(), mut reference: impl FnMut()) -> Timing {
-    let times = calibrate(&mut reference);
-    let mut least = [f64::INFINITY; 2];
+pub fn compare<S>(
+    state: &mut S,
+    mut proved: impl FnMut(&mut S),
+    mut reference: impl FnMut(&mut S),
+) -> Timing {
+    let times = calibrate(state, &mut reference);
+    let mut least = f64::INFINITY;
     let mut base = [f64::INFINITY; 2];
-    for round in 0..2 * ROUNDS {
-        let turn = round % 2;
-        least[turn] = sample(&mut proved, times).min(least[turn]);
-        base[turn] = sample(&mut reference, times).min(base[turn]);
+    let begun = Instant::now();
+    for round in 0..ROUNDS {
+        if round >= LEAST_ROUNDS && begun.elapsed() >= LIMIT {
+            break;
+        }
+        least = sample(state, &mut proved, times).min(least);
+        base[round % 2] = sample(state, &mut reference, times).min(base[round % 2]);
     }
     let reference = base[0].min(base[1]);
     Timing {
-        proved: least[0].min(least[1]),
+        proved: least,
         reference,
         noise: base[0].max(base[1]) / reference - 1.0,
     }
 }
 
 /// How often to run it for a sample.
-fn calibrate(run: &mut impl FnMut()) -> u32 {
+fn calibrate<S>(state: &mut S, run: &mut impl FnMut(&mut S)) -> u32 {
     let mut times = 1;
     loop {
         let start = Instant::now();
-        repeat(run, times);
+        repeat(state, run, times);
         if start.elapsed() >= SAMPLE {
             return times;
         }
@@ -49,16 +60,16 @@ fn calibrate(run: &mut impl FnMut()) -> u32 {
     }
 }
 
-fn repeat(run: &mut impl FnMut(), times: u32) {
+fn repeat<S>(state: &mut S, run: &mut impl FnMut(&mut S), times: u32) {
     for _ in 0..times {
-        run();
+        run(state);
         black_box(());
     }
 }
 
 /// Nanoseconds of one run.
-fn sample(run: &mut impl FnMut(), times: u32) -> f64 {
+fn sample<S>(state: &mut S, run: &mut impl FnMut(&mut S), times: u32) -> f64 {
     let start = Instant::now();
-    repeat(run, times);
+    repeat(state, run, times);
     start.elapsed().as_nanos() as f64 / f64::from(times)
 }

@@ -1,0 +1,78 @@
+//! Reads, writes and cleanings in a store of objects.
+
+use std::hint::black_box;
+
+use crate::image::{full, At, Entry, SLOT_BYTES};
+use crate::report::{Call, Keys, Report};
+use crate::store::{Operation, Store, CELLS, SLOTS};
+use crate::timing::compare;
+
+/// The cases.
+pub fn cases(report: &mut Report) {
+    reads(report);
+    writes(report);
+    cleanings(report);
+}
+
+/// Reads of keys all over a full store.
+fn reads(report: &mut Report) {
+    let store = Store::new(full(SLOTS, |at| at.object(at.count % 2000)), CELLS);
+    for (case, table) in [("read of a present key", 1), ("read of an absent key", 2)] {
+        let next = |key: &mut u32| std::mem::replace(key, (*key + 7) % 2000);
+        let timing = compare(
+            &mut (0, 0),
+            |(proved, _)| {
+                let key = kurdavel::Key {
+                    table,
+                    key: next(proved),
+                };
+                let _ = black_box(store.proved.read(&store.area, &store.index, key));
+            },
+            |(_, reference)| {
+                let key = reference::Key {
+                    table,
+                    key: next(reference),
+                };
+                let record = black_box(&store.reference);
+                let _ = black_box(reference::read(record, &store.area, &store.index, key));
+            },
+        );
+        report.call(Call::Read, Keys::Plain, case, timing);
+    }
+}
+
+/// A write of 8 bytes with all its steps: into a head with room, and into a new head.
+fn writes(report: &mut Report) {
+    for (case, room) in [
+        ("write with its steps, appended", true),
+        ("write with its steps, new head", false),
+    ] {
+        let mut area = full(3, |at| at.object(at.count % 60));
+        area.resize(SLOTS * SLOT_BYTES, 0);
+        if room {
+            area[SLOT_BYTES + 13] = 0;
+        }
+        let timing = Store::new(area, 256).time_whole(Operation::Write(5, &[9; 8]));
+        report.line(case, timing);
+    }
+}
+
+/// Objects of which, in the first two slots, every second one is overwritten later.
+fn half_overwritten(at: At) -> Entry {
+    let count = at.count;
+    let overwritten = count < 214 && count % 2 == 1 || count == 300;
+    at.object(if overwritten { 0 } else { count + 1 })
+}
+
+/// Cleaning with all its steps: one slot that is all kept, and two of which half is.
+fn cleanings(report: &mut Report) {
+    for (case, victims) in [
+        ("cleaning of one slot", 0b100),
+        ("cleaning of two slots", 0b11),
+    ] {
+        let mut area = full(8, half_overwritten);
+        area.resize(SLOTS * SLOT_BYTES, 0);
+        let timing = Store::new(area, CELLS).time_whole(Operation::Clean(victims));
+        report.line(case, timing);
+    }
+}

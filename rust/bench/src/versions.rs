@@ -1,0 +1,41 @@
+//! Versions chosen against the search for equal versions at recovery, as crates/log has it in filter.rt and suspects.rt.
+//!
+//! The search has a filter with a bit for each version modulo 2^14. A version whose bit is set already is a suspect and
+//! goes to a table of 256 cells: to the one that the highest 8 bits of its product with an odd number name, or to the
+//! next. Where both are taken, one walk over the log looks at all suspects, and the table is emptied. A change of the
+//! filter's size or of the product needs one here.
+
+use crate::image::TOMBSTONES;
+use crate::store::LOG;
+
+/// As many versions as a full area has entries at the most, and one for the entry that no longer fits.
+const VERSIONS: usize = LOG * TOMBSTONES + 1;
+
+/// Versions in steps of a power of two. After the last that fits 32 bits they go on one above the first.
+pub fn in_steps(power: u32) -> Vec<u32> {
+    (1..)
+        .flat_map(|first| row(power, first))
+        .take(VERSIONS)
+        .collect()
+}
+
+/// Versions of which all but a few find their bit set, and all of which have the same two cells. No versions need more
+/// walks: each leaves one suspect in the table, and the next suspect always finds a cell, so that there is at most one walk
+/// for every two entries.
+pub fn meeting() -> Vec<u32> {
+    (1..)
+        .flat_map(|first| row(14, first))
+        .filter(|&version| cell(version) == 0)
+        .take(VERSIONS)
+        .collect()
+}
+
+/// The versions from `first` on in steps of a power of two.
+fn row(power: u32, first: u32) -> impl Iterator<Item = u32> {
+    (0..1u32 << (32 - power)).map(move |step| (step << power) + first)
+}
+
+/// The cell of a suspect.
+fn cell(version: u32) -> u32 {
+    version.wrapping_mul(2_654_435_761) >> 24
+}
