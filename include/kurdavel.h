@@ -47,6 +47,14 @@
  *   The bytes stored so far stay in the area, where they do not count and the next operation overwrites what it needs.
  *   The rules of use leave no other way: a record kept from before the start is not the newest one.
  *
+ * WHAT THE CALLS COST
+ *   A step before the last does the same little work whatever the store holds. A read, the start of a write or delete
+ *   and the last step of either search the index once. Recovery, the start of a cleaning of slots that hold tombstones
+ *   and the last step of every cleaning look at each entry of the log (at most (N - 1) * ((S - 13) / 11) of them), with a
+ *   search for each; recovery and that last step also write all M words of the index. A search looks at few words while
+ *   M is well above the number of keys, and never at more than the keys and one more. docs/PERFORMANCE.md has bounds and
+ *   measured worst cases.
+ *
  * THE PROMISE ABOUT CUTS, AND THE RULES OF USE THAT IT RESTS ON
  *   Wherever the power fails, the next recovery is accepted and gives exactly what the finished operations left,
  *   and a next version above every version told, if
