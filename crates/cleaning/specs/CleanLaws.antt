@@ -28,7 +28,7 @@ use Rattle.record.specs.declared.Start.{Start}
 use Rattle.record.specs.declared.Record.{Record}
 use Rattle.model.specs.Causes.{Cause, firstCause}
 use Rattle.model.specs.Operations.{clean, newSlot, newDigest}
-use Rattle.model.specs.Refused.{Lengths, victimsBad}
+use Rattle.model.specs.Refused.{Lengths, recordBad, workShort, victimsBad}
 use Rattle.model.specs.Promises.{Begun, lentLengths, StartPromise}
 use Rattle.laws.specs.CauseLaws.{cause-false, cause-rest, no-cause, first-some, first-none}
 use Rattle.starting.specs.declared.Check.{Check}
@@ -159,6 +159,16 @@ module _ (L : Layout) (area cells : List ℕ) (r : Record) (victims : ℕ) (work
   abbrev front : List Cause
   front = frontCauses L r (lentLengths area cells work) victims
 
+  -- what is known once none of the first tests holds
+  record FrontPassed : Type 0 where
+    record-good : recordBad L r (lentLengths area cells work) ≡ false
+    work-long : workShort r (lentLengths area cells work) ≡ false
+    victims-good : victimsBad r victims ≡ false
+
+  first-passed : firstCause front ≡ none → FrontPassed
+  unfolding frontCauses idleCauses
+  first-passed e = let t = no-cause front e in record { record-good = t .0; work-long = t .1 .0; victims-good = t .1 .1 .1 .0 }
+
   pub front-refused : Bytes area → (c : Refusal) → Check.Refused c ≡ checked (firstCause front) → (a : Start) → a ≡ refusedStart r c →
       StartPromise L (clean victims) r area cells work work a
   unfolding begunWith causesWith frontCauses keptCauses idleCauses
@@ -172,23 +182,21 @@ module _ (L : Layout) (area cells : List ℕ) (r : Record) (victims : ℕ) (work
 
   module _ (e : Check.Passed ≡ checked (firstCause front)) where
     in-range : Lent L r (length area) (length cells)
-    unfolding frontCauses
-    in-range = lent L r (length area) (length cells) (not-false _ (cause-false _ _ (checked-none (firstCause front) e)))
+    in-range = lent L r (length area) (length cells) (not-false _ (first-passed (checked-none (firstCause front) e) .record-good))
 
     pub front-shape : (marks : List ℕ) (split : Split) → split ≡ splitOf r victims → length marks ≡ 128 → SplitFits split area marks
     front-shape marks split is long = split-shape L r (length cells) victims area marks split in-range is long
 
     pub front-fits : (marks : List ℕ) (split : Split) → split ≡ splitOf r victims → length marks ≡ 128 → CleanFits L r victims split area marks work
-    unfolding frontCauses idleCauses
     front-fits marks split is long =
-        let t = no-cause front (checked-none (firstCause front) e) in
+        let t : FrontPassed = first-passed (checked-none (firstCause front) e) in
         record {
           areaLength = length area;
           indexLength = length cells;
           lent = in-range;
-          all-named = not-false _ (either-false-right (eqb victims 0) (not (within victims (r .map))) (t .1 .1 .1 .0));
+          all-named = not-false _ (either-false-right (eqb victims 0) (not (within victims (r .map))) (t .victims-good));
           shape = front-shape marks split is long;
-          long = ltb-false (length work) (r .size) (t .1 .0);
+          long = ltb-false (length work) (r .size) (t .work-long);
         }
 
     pub marked-promise : Bytes area → (marks : List ℕ) (split : Split) → split ≡ splitOf r victims → marks ≡ marksOf L area cells split →

@@ -3,13 +3,17 @@
 use Prim.Native.Nat.{ℕ}
 use mathlib.Core.Path.{_≡_}
 use mathlib.Core.Bool.{Bool, false, not}
-use mathlib.Core.List.{List}
+use mathlib.Core.List.{List, [], _∷_, _++_}
 use mathlib.Core.Option.{Option, none}
 use lib.ListN.{length}
+use Rattle.segment.specs.Choice.{isNone}
 use Rattle.segment.specs.Layout.{Layout, entrySize}
+use Rattle.record.specs.Range.{cellsGood}
+use Rattle.record.specs.declared.Refusal.the-variants.{BadOrder}
 use Rattle.record.specs.declared.Record.{Record}
-use Rattle.model.specs.Log.{Placed}
-use Rattle.model.specs.Causes.{Cause, firstCause}
+use Rattle.model.specs.Log.{View, Head, Placed, versionShared}
+use Rattle.model.specs.Causes.{Cause, when, firstCause}
+use Rattle.model.specs.Recovery.{geometryBad, orderBad, headElse, digestBad, logDamaged, logSlots, logUnder, lentCauses, imageCauses}
 use Rattle.model.specs.Operations.{Operation, write, delete, clean}
 use Rattle.model.specs.Refused.{Lengths, KeyFacts, keyFacts, keptLength, recordBad, workShort, isPending, valueBad, versionsSpent, numbersSpent, keysFull, noRoom, noNumber, victimsBad, keptTooLong, writeCauses, deleteCauses, cleanCauses, startCauses, stepCauses}
 use Rattle.laws.specs.CauseLaws.{NoCause, no-cause}
@@ -108,3 +112,28 @@ pub step-passed : (L : Layout) (r : Record) (l : Lengths) → firstCause (stepCa
 step-passed L r l e =
     let t : NoCause (stepCauses L r l) = no-cause (stepCauses L r l) e in
     record { record-good = t .0; work-long = t .1 .0; some-pending = t .1 .1 .0 }
+
+-- What recovery has tested of what it is lent,
+pub record LentPassed (n s m areaLength : ℕ) (order : List ℕ) : Type 0 where
+  pub geometry-good : geometryBad n s areaLength ≡ false
+  pub cells-within : not (cellsGood m) ≡ false
+  pub order-good : orderBad n order ≡ false
+
+pub lent-passed :
+    (n s m areaLength : ℕ) (order : List ℕ) → firstCause (lentCauses n s m areaLength ++ (when (orderBad n order) BadOrder ∷ [])) ≡ none →
+    LentPassed n s m areaLength order
+lent-passed n s m areaLength order e =
+    let t : NoCause (lentCauses n s m areaLength ++ (when (orderBad n order) BadOrder ∷ [])) = no-cause _ e in
+    record { geometry-good = t .0; cells-within = t .1 .0; order-good = t .1 .1 .0 }
+
+-- and of the image before it counts keys.
+pub record ImagePassed (v : ℕ → View) (n : ℕ) (h : Option Head) : Type 0 where
+  pub has-head : isNone h ≡ false
+  pub digest-good : digestBad v n (headElse h) ≡ false
+  pub undamaged : logDamaged v (logSlots (headElse h)) n ≡ false
+  pub versions-apart : versionShared (logUnder v n (headElse h)) ≡ false
+
+pub image-passed : (v : ℕ → View) (n : ℕ) (h : Option Head) → firstCause (imageCauses v n h) ≡ none → ImagePassed v n h
+image-passed v n h e =
+    let t : NoCause (imageCauses v n h) = no-cause (imageCauses v n h) e in
+    record { has-head = t .0; digest-good = t .1 .0; undamaged = t .1 .1 .0; versions-apart = t .1 .1 .1 .0 }

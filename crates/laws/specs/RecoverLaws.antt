@@ -2,7 +2,7 @@
 use Prim.Native.Nat.{ℕ, _*_, _-_, _^_, _≤_, _<_}
 use mathlib.Core.Path.{_≡_, refl, sym, ap, subst, _∙_}
 use mathlib.Core.Bool.{Bool, true, false, not}
-use mathlib.Core.List.{List, _++_}
+use mathlib.Core.List.{List, [], _∷_, _++_}
 use mathlib.Core.Option.{Option, none, some}
 use native.Mathlib.Decide.{ℕ-discrete}
 use native.Mathlib.Omega.{arith}
@@ -32,7 +32,8 @@ use Rattle.model.specs.Log.{View, Head, Placed, scanned, itemsOf, scan, digestI
 use Rattle.model.specs.Causes.{Cause, when, firstCause}
 use Rattle.model.specs.Recovery.{headElse, sharing, mapBad, logSlots, logUnder, recordUnder, imageCauses, keyCauses, lentCauses, areaCauses, ifNone, recordFrom, recovered, orderBad, recoveryFor, recovery, recoverCauses}
 use Rattle.model.specs.Operations.{logNow}
-use Rattle.laws.specs.CauseLaws.{NoCause, no-cause, causes-none, cause-passed}
+use Rattle.laws.specs.CauseLaws.{NoCause, no-cause, none-left, causes-none, cause-passed}
+use Rattle.laws.specs.Passed.{lent-passed}
 use Rattle.laws.specs.Members.{clash, In}
 use Rattle.laws.specs.Latest.{Apart}
 use Rattle.laws.specs.Versions.{shared-apart, highest-below, below-highest}
@@ -212,7 +213,9 @@ module _ (L : Layout) (n s m : ℕ) (area : List ℕ) where
       → orderBad n order ≡ false
   unfolding recovery
   recovery-order order r e =
-      no-cause (recoverCauses L n s m order area) (recovery-none (firstCause (recoverCauses L n s m order area)) (recordFrom L n s m area) r e .0) .1 .1 .0
+      lent-passed n s m (length area) order
+      (none-left (lentCauses n s m (length area) ++ (when (orderBad n order) BadOrder ∷ [])) (imageCauses v n (headOf v n) ++ keyCauses v n m (headOf v n))
+      (recovery-none (firstCause (recoverCauses L n s m order area)) (recordFrom L n s m area) r e .0)) .order-good
 
   pub recovery-recovered : (order : List ℕ) (r : Record) → recovery L n s m order area ≡ record { answer = RecoverAnswer.Recovered; rec = r }
       → recovered L n s m area ≡ some r

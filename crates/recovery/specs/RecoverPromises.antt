@@ -29,7 +29,8 @@ use Rattle.model.specs.Recovery.{orderBad, headElse, digestBad, logDamaged, log
 use Rattle.model.specs.Index.{IndexRule}
 use Rattle.model.specs.Operations.{logNow}
 use Rattle.model.specs.Promises.{RecoverPromise, IndexAfter}
-use Rattle.laws.specs.CauseLaws.{cause-first, cause-none, NoCause, no-cause, first-some, first-none}
+use Rattle.laws.specs.CauseLaws.{cause-first, cause-none, first-some, first-none}
+use Rattle.laws.specs.Passed.{LentPassed, lent-passed, ImagePassed, image-passed}
 use Rattle.laws.specs.SaidLaws.{recover-says}
 use Rattle.laws.specs.Versions.{highest-below}
 use Rattle.laws.specs.LogLaws.{AllScanned, undamaged-scans}
@@ -88,20 +89,20 @@ module _ (v : ℕ → View) (n i : ℕ) (d : Digest) (top : Version) (s : SoundI
   abbrev own : Head
   own = record { slot = i; digest = d }
 
-  none-holds : NoCause (imageCauses v n (headOf v n))
-  none-holds = no-cause (imageCauses v n (headOf v n)) (s .clear)
+  passed : ImagePassed v n (headOf v n)
+  passed = image-passed v n (headOf v n) (s .clear)
 
   image-map : mapGood n i (d .map) ≡ true
   image-map =
-      let digest = subst (λ (h : Head). digestBad v n h ≡ false) (s .head) (none-holds .1 .0) in
+      let digest = subst (λ (h : Head). digestBad v n h ≡ false) (s .head) (passed .digest-good) in
       not-false _ (either-false-left _ _ (either-false-right _ _ digest))
 
   image-scans : AllScanned v (named (d .map)) n
   image-scans =
-      undamaged-scans v (named (d .map)) n (subst (λ (h : Head). logDamaged v (logSlots h) n ≡ false) (s .head) (none-holds .1 .1 .0))
+      undamaged-scans v (named (d .map)) n (subst (λ (h : Head). logDamaged v (logSlots h) n ≡ false) (s .head) (passed .undamaged))
 
   image-versions : versionShared (logOf v (named (d .map)) n) ≡ false
-  image-versions = subst (λ (h : Head). versionShared (logUnder v n h) ≡ false) (s .head) (none-holds .1 .1 .1 .0)
+  image-versions = subst (λ (h : Head). versionShared (logUnder v n h) ≡ false) (s .head) (passed .versions-apart)
 
 -- ---- the promise
 
@@ -141,11 +142,11 @@ module _ (L : Layout) (n s : ℕ) (order area cells : List ℕ) where
     on-image : cause ≡ firstCause rest
     on-image = first-none (lentCauses n s m (length area) ++ (when (orderBad n order) BadOrder ∷ [])) rest passed
 
-    lent-clear : NoCause (lentCauses n s m (length area) ++ (when (orderBad n order) BadOrder ∷ []))
-    lent-clear = no-cause (lentCauses n s m (length area) ++ (when (orderBad n order) BadOrder ∷ [])) passed
+    lent-tested : LentPassed n s m (length area) order
+    lent-tested = lent-passed n s m (length area) order passed
 
     pub lent-fits : Fits n s (length area)
-    lent-fits = geometry-fits n s (length area) (lent-clear .0)
+    lent-fits = geometry-fits n s (length area) (lent-tested .geometry-good)
 
     pub lent-shape : Shape n s area
     lent-shape =
@@ -159,7 +160,7 @@ module _ (L : Layout) (n s : ℕ) (order area cells : List ℕ) where
         }
 
     cells-good : cellsGood m ≡ true
-    cells-good = not-false (cellsGood m) (lent-clear .1 .0)
+    cells-good = not-false (cellsGood m) (lent-tested .cells-within)
 
     pub cells-some : 0 < m
     cells-some = omega (arith, between-low 16 4096 m cells-good)
@@ -201,12 +202,12 @@ module _ (L : Layout) (n s : ℕ) (order area cells : List ℕ) where
       rebuilt : keysBad m log ≡ false → Holds s m log (built L area s (d .map) order m)
       rebuilt few =
           built-rule L area s (d .map) n m order (lent-fits .area-own) (map-in n i (d .map) (image-map v n i d top image) .below)
-          (image-scans v n i d top image) (image-versions v n i d top image) (lent-clear .1 .1 .0) cells-some few
+          (image-scans v n i d top image) (image-versions v n i d top image) (lent-tested .order-good) cells-some few
 
       overfull : keysBad m log ≡ true → built L area s (d .map) order m ≡ record { answer = Built.TooMany; cells = replicate m 0 }
       overfull many =
           built-over L area s (d .map) n m order (lent-fits .area-own) (map-in n i (d .map) (image-map v n i d top image) .below)
-          (image-scans v n i d top image) (image-versions v n i d top image) (lent-clear .1 .1 .0) cells-some many
+          (image-scans v n i d top image) (image-versions v n i d top image) (lent-tested .order-good) cells-some many
 
       -- the highest version in the log, and so the next, fits
       pub highest-fits : 0 < versionLimit L → top .0 < versionLimit L
