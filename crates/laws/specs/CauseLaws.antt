@@ -58,10 +58,6 @@ unfolding firstCause
 none-left [] b e = refl
 none-left (c ∷ cs) b e = cause-none c cs (cause-false c (cs ++ b) e) (none-left cs b (cause-rest c (cs ++ b) e))
 
-pub none-right : (a b : List Cause) → firstCause (a ++ b) ≡ none → firstCause b ≡ none
-none-right [] b e = e
-none-right (c ∷ cs) b e = none-right cs b (cause-rest c (cs ++ b) e)
-
 -- all the tests of a list are false
 abbrev pub NoCause : List Cause → Type 0
 NoCause [] = Unit {0}

@@ -5,17 +5,14 @@ use mathlib.Core.Bool.{Bool, true, false, not}
 use mathlib.Core.List.{List, [], _∷_, _++_}
 use mathlib.Core.Option.{Option, none, some}
 use lib.Dec.{eqb, ltb}
-use lib.ListN.{length, take, drop}
+use lib.ListN.{length}
 use Rattle.segment.specs.Choice.{pick, both, either}
 use Rattle.segment.specs.Layout.{Layout, digestSize}
 use Rattle.segment.specs.Entry.{Entry, Found, entry, end, damage, entryAt, isTombstone, sizeOf, keyOf}
+pub use Rattle.segment.specs.Area.{segmentOf}
 use Rattle.segment.specs.Digest.{isDigest, digestOf}
 use Rattle.segment.specs.declared.Digest.{Digest}
 use Rattle.segment.specs.declared.Key.{Key}
-
--- The segment of a slot, as a part of the area.
-abbrev pub segmentOf : List ℕ → ℕ → ℕ → List ℕ
-segmentOf area S i = take S (drop (i * S) area)
 
 -- ---- the entries of one segment
 
