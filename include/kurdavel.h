@@ -38,14 +38,18 @@
  * HOW THE CALLS GO TOGETHER
  *   kurdavel_format once, for a new area. After that, and after each cut, kurdavel_recover: it gives the record and
  *   the index that the other calls take. Then reads at any time; and operations, one at a time: a start
- *   (kurdavel_write, kurdavel_delete, kurdavel_clean) checks all and leaves the area alone, and each
- *   kurdavel_step after it stores one byte, until none is left. The operation takes effect with its last store: a cut
- *   before it leaves the store as it was before the start, a cut after it loses nothing. Between a start and its last
- *   step the work buffer must not change. Reads meanwhile show the store before the operation.
+ *   (kurdavel_write, kurdavel_write_expecting, kurdavel_delete, kurdavel_clean) checks all and leaves the area alone,
+ *   and each kurdavel_step after it stores one byte, until none is left. The operation takes effect with its last store:
+ *   a cut before it leaves the store as it was before the start, a cut after it loses nothing. Between a start and its
+ *   last step the work buffer must not change. Reads meanwhile show the store before the operation.
  *
  *   An operation that is not to be finished is given up by kurdavel_recover, without a cut: it drops what is pending.
  *   The bytes stored so far stay in the area, where they do not count and the next operation overwrites what it needs.
  *   The rules of use leave no other way: a record kept from before the start is not the newest one.
+ *
+ *   Where several parts of a firmware change the same value, let each write with kurdavel_write_expecting the version
+ *   that it read. The one that comes too late is then refused with 21 and loses nothing of the other's: it reads again
+ *   and decides anew.
  *
  * WHAT THE CALLS COST
  *   A step before the last does the same little work whatever the store holds. A read, the start of a write or delete
@@ -105,6 +109,7 @@
  *       help a store full of live objects; there even a delete, whose tombstone needs 11 bytes, may be refused with
  *       12. So leave room from the start.
  *   14  Name fewer victims. What a single one holds always fits.
+ *   21  Read the key again: another write or a delete came between. The value to be written may rest on an old one.
  */
 #ifndef KURDAVEL_H
 #define KURDAVEL_H
@@ -121,7 +126,7 @@ extern "C" {
  * written by an earlier one may be refused; MINOR when something is added.
  */
 #define KURDAVEL_VERSION_MAJOR 1u
-#define KURDAVEL_VERSION_MINOR 0u
+#define KURDAVEL_VERSION_MINOR 1u
 #define KURDAVEL_VERSION (KURDAVEL_VERSION_MAJOR * 1000u + KURDAVEL_VERSION_MINOR)
 
 /* Sizes. */
@@ -143,6 +148,7 @@ extern "C" {
 #define KURDAVEL_STACK_READ 256u
 #define KURDAVEL_STACK_READ_VALUE 256u
 #define KURDAVEL_STACK_WRITE 512u
+#define KURDAVEL_STACK_WRITE_EXPECTING 512u
 #define KURDAVEL_STACK_DELETE 512u
 #define KURDAVEL_STACK_CLEAN 1024u
 #define KURDAVEL_STACK_STEP 896u
@@ -196,7 +202,8 @@ enum kurdavel_answer {
     KURDAVEL_REFUSED_BAD_DIGEST = 17,      /* the highest digest number is 0 or shared, or that digest is impossible */
     KURDAVEL_REFUSED_DAMAGED_LOG = 18,     /* an entry of unknown kind, past its slot, or with an impossible version */
     KURDAVEL_REFUSED_SHARED_VERSION = 19,  /* a version stands twice in the log */
-    KURDAVEL_REFUSED_TOO_MANY_KEYS = 20    /* more than M - 1 keys have entries in the log */
+    KURDAVEL_REFUSED_TOO_MANY_KEYS = 20,   /* more than M - 1 keys have entries in the log */
+    KURDAVEL_REFUSED_OTHER_VERSION = 21    /* the key has another version than the caller expects */
 };
 
 /*
@@ -245,6 +252,17 @@ uint32_t kurdavel_read_value(const uint32_t *record, size_t record_words, const 
 uint32_t kurdavel_write(uint32_t *record, size_t record_words, const uint8_t *area, size_t area_bytes,
                         const uint32_t *index, size_t index_words, uint8_t *work, size_t work_bytes, uint16_t table,
                         uint32_t key, const uint8_t *value, size_t value_bytes, uint32_t *stores);
+
+/*
+ * Starts to write a value under a key that has the expected version, as kurdavel_read tells it; 0 expects that the key
+ * is absent, never written or deleted. Once accepted it is the operation of kurdavel_write, and nothing can come between
+ * the comparison and its last step: what it replaces is what the caller expected.
+ * Refused: 4, 3, 5, 7, 21, 9, 11, 12, 10, in this order.
+ */
+uint32_t kurdavel_write_expecting(uint32_t *record, size_t record_words, const uint8_t *area, size_t area_bytes,
+                                  const uint32_t *index, size_t index_words, uint8_t *work, size_t work_bytes,
+                                  uint16_t table, uint32_t key, uint32_t expected, const uint8_t *value,
+                                  size_t value_bytes, uint32_t *stores);
 
 /*
  * Starts to delete a key. Tells how many stores are to come.
@@ -356,6 +374,14 @@ static inline uint32_t kurdavel_store_write(struct kurdavel_store *store, struct
     return kurdavel_write(store->record.words, KURDAVEL_RECORD_WORDS, store->area.bytes, store->area.length,
                           store->index.cells, store->index.length, store->work.bytes, store->work.length, key.table,
                           key.key, value, value_bytes, stores);
+}
+
+static inline uint32_t kurdavel_store_write_expecting(struct kurdavel_store *store, struct kurdavel_key key,
+                                                      uint32_t expected, const uint8_t *value, size_t value_bytes,
+                                                      uint32_t *stores) {
+    return kurdavel_write_expecting(store->record.words, KURDAVEL_RECORD_WORDS, store->area.bytes, store->area.length,
+                                    store->index.cells, store->index.length, store->work.bytes, store->work.length,
+                                    key.table, key.key, expected, value, value_bytes, stores);
 }
 
 static inline uint32_t kurdavel_store_delete(struct kurdavel_store *store, struct kurdavel_key key, uint32_t *stores) {

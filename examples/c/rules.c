@@ -1,6 +1,7 @@
 /*
- * The edges of the interface: refusals and what they leave, an operation that is given up, and an index that is too
- * small for the log. Prints what is answered; `rules.stdout` beside this file is what it must print.
+ * The edges of the interface: refusals and what they leave, an operation that is given up, an index that is too small
+ * for the log, and two passes that write over what they read. Prints what is answered; `rules.stdout` beside this file
+ * is what it must print.
  */
 #include "kurdavel.h"
 
@@ -108,9 +109,37 @@ static void too_few_cells(struct kurdavel_store *store) {
     printf(", %u keys present\n", present(store));
 }
 
+/* Starts a write of eight equal bytes over the version that the caller expects; gives the answer. */
+static uint32_t start_over(struct kurdavel_store *store, uint32_t number, uint32_t expected, int byte,
+                           uint32_t *stores) {
+    uint8_t value[8];
+    memset(value, byte, sizeof value);
+    return kurdavel_store_write_expecting(store, key_of(number), expected, value, sizeof value, stores);
+}
+
+/*
+ * Two passes read the value of a key, and each writes over the version that it read. The second one comes too late: it
+ * is refused, and has to read again. A deleted key has version 0, whatever version its delete took.
+ */
+static void two_passes(struct kurdavel_store *store, uint32_t deleted, uint32_t version_of_delete) {
+    uint32_t version = 0, kind = 0, stores = 0;
+    expect_accepted("read", kurdavel_store_read(store, key_of(0), &version, &kind));
+    expect_accepted("first pass", start_over(store, 0, version, 0xa1, &stores));
+    printf("first pass, over version %u: version %u\n", (unsigned)version, (unsigned)finish(store, stores));
+    printf("second pass, over version %u: %u\n", (unsigned)version,
+           (unsigned)start_over(store, 0, version, 0xa2, &stores));
+    expect_accepted("read", kurdavel_store_read(store, key_of(0), &version, &kind));
+    expect_accepted("second pass", start_over(store, 0, version, 0xa2, &stores));
+    printf("second pass, over version %u: version %u\n", (unsigned)version, (unsigned)finish(store, stores));
+    printf("deleted key, over version %u: %u\n", (unsigned)version_of_delete,
+           (unsigned)start_over(store, deleted, version_of_delete, 0xa3, &stores));
+    expect_accepted("write of a deleted key", start_over(store, deleted, 0, 0xa3, &stores));
+    printf("deleted key, over version 0: version %u\n", (unsigned)finish(store, stores));
+}
+
 int main(void) {
     struct kurdavel_store store;
-    uint32_t number, stores = 0;
+    uint32_t number, stores = 0, version;
     lend(&store);
     expect_accepted("format", kurdavel_store_format(&store.area));
     printf("cleaning before a recovery: %u\n", (unsigned)kurdavel_store_clean(&store, 1, &stores));
@@ -123,10 +152,13 @@ int main(void) {
     too_few_cells(&store);
 
     expect_accepted("delete", kurdavel_store_delete(&store, key_of(3), &stores));
-    printf("deleted with version %u\n", (unsigned)finish(&store, stores));
+    version = finish(&store, stores);
+    printf("deleted with version %u\n", (unsigned)version);
     expect_accepted("clean", kurdavel_store_clean(&store, 1, &stores));
     finish(&store, stores);
     printf("slot 0 cleaned: %u keys present, slots of the log %u\n", present(&store),
            (unsigned)store.record.words[KURDAVEL_WORD_MAP]);
+    two_passes(&store, 3, version);
+    printf("%u keys present\n", present(&store));
     return 0;
 }

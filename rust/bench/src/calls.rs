@@ -106,13 +106,17 @@ impl Chosen {
         }
     }
 
-    /// Starts and steps of a write of 56 bytes and the start of a delete, of the key found last.
+    /// Starts and steps of writes of 56 bytes and the start of a delete, of the key found last.
     fn writes(&self, report: &mut Report) {
         let mut store = self.one_entry_each();
         let key = self.last_present(&store);
         let (write, delete) = (Operation::Write(key, &VALUE), Operation::Delete(key));
         let timing = store.time_start(write, Ok(68));
         self.call(report, Call::WriteStart, "start of a write", timing);
+        let conditional = Operation::WriteExpecting(key, store.version(key), &VALUE);
+        let timing = store.time_start(conditional, Ok(68));
+        let case = "start of a conditional write";
+        self.call(report, Call::ConditionalWriteStart, case, timing);
         let timing = store.time_start(delete, Ok(12));
         self.call(report, Call::DeleteStart, "start of a delete", timing);
         let timing = self.one_entry_each().time_step(write, 34);

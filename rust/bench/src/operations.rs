@@ -41,20 +41,30 @@ fn reads(report: &mut Report) {
     }
 }
 
-/// A write of 8 bytes with all its steps: into a head with room, and into a new head.
+/// A store with two slots in the log, whose head has room or none.
+fn two_slots(room: bool) -> Store {
+    let mut area = full(3, |at| at.object(at.count % 60));
+    area.resize(SLOTS * SLOT_BYTES, 0);
+    if room {
+        area[SLOT_BYTES + 13] = 0;
+    }
+    Store::new(area, 256)
+}
+
+/// A write of 8 bytes with all its steps, into a head with room and into a new head; and the start of a conditional one.
 fn writes(report: &mut Report) {
     for (case, room) in [
         ("write with its steps, appended", true),
         ("write with its steps, new head", false),
     ] {
-        let mut area = full(3, |at| at.object(at.count % 60));
-        area.resize(SLOTS * SLOT_BYTES, 0);
-        if room {
-            area[SLOT_BYTES + 13] = 0;
-        }
-        let timing = Store::new(area, 256).time_whole(Operation::Write(5, &[9; 8]));
+        let timing = two_slots(room).time_whole(Operation::Write(5, &[9; 8]));
         report.line(case, timing);
     }
+    let mut store = two_slots(true);
+    let write = Operation::WriteExpecting(5, store.version(5), &[9; 8]);
+    let timing = store.time_start(write, Ok(20));
+    let case = "start of a conditional write";
+    report.call(Call::ConditionalWriteStart, Keys::Plain, case, timing);
 }
 
 /// Objects of which, in the first two slots, every second one is overwritten later.

@@ -17,6 +17,8 @@ pub const CELLS: usize = 4096;
 pub enum Operation<'a> {
     /// A write of a value.
     Write(u32, &'a [u8]),
+    /// A write of a value under a key that has this version.
+    WriteExpecting(u32, u32, &'a [u8]),
     /// A delete.
     Delete(u32),
     /// A cleaning of a map of victims.
@@ -48,6 +50,10 @@ pub fn start(
     match operation {
         Operation::Write(key, value) => {
             reference::write(record, area, index, work, reference_key(key), value)
+        }
+        Operation::WriteExpecting(key, version, value) => {
+            let (key, expected) = (reference_key(key), reference::Version(version));
+            reference::write_expecting(record, area, index, work, key, expected, value)
         }
         Operation::Delete(key) => reference::delete(record, area, index, work, reference_key(key)),
         Operation::Clean(map) => {
@@ -91,6 +97,12 @@ impl Store {
         }
     }
 
+    /// The version of a present key.
+    pub fn version(&self, key: u32) -> u32 {
+        let found = reference::read(&self.reference, &self.area, &self.index, reference_key(key));
+        found.expect("a present key").version.0
+    }
+
     /// Starts an operation of the proved store, whose own record stays.
     #[inline(always)]
     pub fn start_proved(&mut self, operation: Operation) -> (kurdavel::Record, Answer) {
@@ -98,6 +110,10 @@ impl Store {
         let (area, index, work) = (&self.area, &self.index, &mut self.work);
         let answer = match operation {
             Operation::Write(key, value) => record.write(area, index, work, proved_key(key), value),
+            Operation::WriteExpecting(key, version, value) => {
+                let (key, expected) = (proved_key(key), kurdavel::Version(version));
+                record.write_expecting(area, index, work, key, expected, value)
+            }
             Operation::Delete(key) => record.delete(area, index, work, proved_key(key)),
             Operation::Clean(map) => record.clean(area, index, work, kurdavel::SlotMap(map)),
         };

@@ -53,6 +53,12 @@
 //! An operation that is not to be finished is given up by a [`recover`], without a cut. The rules leave no other way: a
 //! copy of the record from before the start is not the newest one.
 //!
+//! # Several writers of one value
+//!
+//! Where several parts of a firmware change the same value, each writes with
+//! [`write_expecting`](Record::write_expecting) over the version that it read. The one that comes too late is refused
+//! with [`OtherVersion`](Refusal::OtherVersion) (21), reads again and decides anew, so that no update is lost.
+//!
 //! # The medium
 //!
 //! The area is memory that is addressed byte by byte. A cut during a store leaves that byte either as it was or as

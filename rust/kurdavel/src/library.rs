@@ -64,6 +64,23 @@ extern "C" {
         stores: *mut u32,
     ) -> u32;
 
+    pub(crate) fn kurdavel_write_expecting(
+        record: *mut u32,
+        record_words: usize,
+        area: *const u8,
+        area_bytes: usize,
+        index: *const u32,
+        index_words: usize,
+        work: *mut u8,
+        work_bytes: usize,
+        table: u16,
+        key: u32,
+        expected: u32,
+        value: *const u8,
+        value_bytes: usize,
+        stores: *mut u32,
+    ) -> u32;
+
     pub(crate) fn kurdavel_delete(
         record: *mut u32,
         record_words: usize,

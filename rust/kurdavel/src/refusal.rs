@@ -50,11 +50,13 @@ pub enum Refusal {
     /// The log has more keys than the index takes. The index is then all 0, and a recovery has to be accepted before a
     /// record is used again.
     TooManyKeys = 20,
+    /// The key has another version than the caller expects. Read it again, and decide anew what to write.
+    OtherVersion = 21,
 }
 
 impl Refusal {
     /// All causes, by number.
-    pub const ALL: [Refusal; 20] = [
+    pub const ALL: [Refusal; 21] = [
         Refusal::Geometry,
         Refusal::Cells,
         Refusal::WorkShort,
@@ -75,6 +77,7 @@ impl Refusal {
         Refusal::DamagedLog,
         Refusal::SharedVersion,
         Refusal::TooManyKeys,
+        Refusal::OtherVersion,
     ];
 
     /// The number of the cause.

@@ -147,6 +147,41 @@ pub fn write(
     }
 }
 
+/// Starts to write a value under a key that has the expected version, 0 if it is absent; tells the stores to come.
+#[inline]
+#[allow(clippy::too_many_arguments)]
+pub fn write_expecting(
+    record: &mut [u32],
+    area: &[u8],
+    index: &[u32],
+    work: &mut [u8],
+    table: u16,
+    key: u32,
+    expected: u32,
+    value: &[u8],
+    stores: &mut u32,
+) -> u32 {
+    // SAFETY: each pointer and length are those of one slice; `record`, `work` and `stores` are exclusive.
+    unsafe {
+        kurdavel_write_expecting(
+            record.as_mut_ptr(),
+            record.len(),
+            area.as_ptr(),
+            area.len(),
+            index.as_ptr(),
+            index.len(),
+            work.as_mut_ptr(),
+            work.len(),
+            table,
+            key,
+            expected,
+            value.as_ptr(),
+            value.len(),
+            stores,
+        )
+    }
+}
+
 /// Starts to delete a key; tells the stores to come.
 #[inline]
 pub fn delete(

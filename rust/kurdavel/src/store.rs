@@ -1,4 +1,4 @@
-//! The seven calls and the value read, with types.
+//! The calls and the value read, with types.
 
 use crate::record::{Record, WORDS};
 use crate::refusal::Refusal;
@@ -144,6 +144,60 @@ impl Record {
             work,
             key.table,
             key.key,
+            value,
+            &mut stores,
+        );
+        Refusal::unless_accepted(answer).map(|()| stores)
+    }
+
+    /// Starts to write a value under a key that has the expected version: the one that a read told, or
+    /// [`Version::NONE`] where the key is to be absent, never written or deleted. Answers how many stores are to come.
+    ///
+    /// Once accepted it is the operation of [`write`](Record::write). Nothing can come between the comparison and the last
+    /// step, so that what it replaces is what the caller expected.
+    ///
+    /// ```
+    /// # let mut area = [0; 1024];
+    /// # kurdavel::format(4, 256, &mut area)?;
+    /// # let (mut index, mut work) = ([0; 16], [0; 256]);
+    /// # let mut record = kurdavel::recover(4, 256, &[0, 1, 2, 3], &area, &mut index)?;
+    /// use kurdavel::{Key, Refusal, Version};
+    /// let head = Key { table: 1, key: 2 };
+    /// record.write_expecting(&area, &index, &mut work, head, Version::NONE, &[7; 8])?;
+    /// while record.left() > 0 {
+    ///     record.step(&mut area, &mut index, &work)?;
+    /// }
+    ///
+    /// // Two passes read the value. The first one to write replaces it; the other has read an old one.
+    /// let read = record.read(&area, &index, head)?.version;
+    /// record.write_expecting(&area, &index, &mut work, head, read, &[8; 8])?;
+    /// while record.left() > 0 {
+    ///     record.step(&mut area, &mut index, &work)?;
+    /// }
+    /// let late = record.write_expecting(&area, &index, &mut work, head, read, &[9; 8]);
+    /// assert_eq!(late, Err(Refusal::OtherVersion));
+    /// assert_eq!(record.read_value(&area, &index, head), &[8; 8]);
+    /// # Ok::<(), Refusal>(())
+    /// ```
+    #[inline]
+    pub fn write_expecting(
+        &mut self,
+        area: &[u8],
+        index: &[u32],
+        work: &mut [u8],
+        key: Key,
+        expected: Version,
+        value: &[u8],
+    ) -> Result<u32, Refusal> {
+        let mut stores = 0;
+        let answer = slices::write_expecting(
+            &mut self.words,
+            area,
+            index,
+            work,
+            key.table,
+            key.key,
+            expected.0,
             value,
             &mut stores,
         );

@@ -4,6 +4,11 @@
 #[derive(Clone, Copy, PartialEq, Eq, PartialOrd, Ord, Hash, Debug)]
 pub struct Version(pub u32);
 
+impl Version {
+    /// What an absent key has, for a write that expects absence; also what the last step of a cleaning tells.
+    pub const NONE: Version = Version(0);
+}
+
 /// The number of a digest.
 #[derive(Clone, Copy, PartialEq, Eq, PartialOrd, Ord, Hash, Debug)]
 pub struct DigestNumber(pub u32);

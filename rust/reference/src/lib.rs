@@ -1,4 +1,5 @@
-//! The drive parameter store of document 01, as a plain library on borrowed memory.
+//! The drive parameter store of document 01 with the requests of 02 that have landed, as a
+//! plain library on borrowed memory.
 //!
 //! Every call is a function on slices and a [`Record`] that is copied in and handed
 //! back. None of the calls allocates, and none panics: what it cannot accept it
@@ -35,7 +36,7 @@ mod versions;
 pub use cleaning::clean;
 pub use counters::{DigestNumber, Version};
 pub use dump::dump;
-pub use operations::{delete, format, write, Started};
+pub use operations::{delete, format, write, write_expecting, Started};
 pub use read::{read, read_value, Found};
 pub use record::{Pending, Record};
 pub use recovery::recover;

@@ -1,10 +1,10 @@
 //! Read and the value read (01, "Read").
 
 use crate::counters::Version;
-use crate::index::{search, Search};
+use crate::index::{object_at, search};
 use crate::record::Record;
 use crate::refusal::Refusal;
-use crate::segment::{read_entry, Entry, Fields, Key, TOMBSTONE_BYTES};
+use crate::segment::{Fields, Key, TOMBSTONE_BYTES};
 
 /// What a read tells of a present key besides its value.
 #[derive(Clone, Copy, PartialEq, Eq, Debug)]
@@ -37,13 +37,5 @@ pub fn read_value<'a>(record: &Record, area: &'a [u8], index: &[u32], key: Key) 
 #[inline]
 fn find(record: &Record, area: &[u8], index: &[u32], key: Key) -> Result<(usize, Fields), Refusal> {
     record.check(area, index)?;
-    match search(area, index, key) {
-        Search::Found { place, .. } => match read_entry(area, place) {
-            Entry::Object(fields) => Ok((place, fields)),
-            Entry::Tombstone(_) => Err(Refusal::Absent),
-            Entry::End | Entry::Damage => Err(Refusal::Record),
-        },
-        Search::Free { .. } => Err(Refusal::Absent),
-        Search::Broken => Err(Refusal::Record),
-    }
+    object_at(area, search(area, index, key))?.ok_or(Refusal::Absent)
 }

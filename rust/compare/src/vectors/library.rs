@@ -4,7 +4,7 @@ use kurdavel::{DigestNumber, Fields, Pending, Refusal, SlotMap, Version};
 
 use super::event::{Field, Geometry, Key, Record};
 use super::subject::{
-    part_of, without_edition, without_expected, without_range, Answer, Asked, Memory, No, Progress,
+    narrow_expected, part_of, without_edition, without_range, Answer, Asked, Memory, No, Progress,
     Start, Subject,
 };
 
@@ -42,8 +42,13 @@ impl Subject for Library {
         let Memory { area, index, work } = memory;
         let stores = match start {
             Start::Write(writing) => {
-                let (key, value) = without_expected(writing)?;
-                record.write(area, index, work, key_of(key), value)
+                let key = key_of(without_range(writing.asked)?);
+                match narrow_expected(writing)?.map(Version) {
+                    None => record.write(area, index, work, key, writing.value),
+                    Some(expected) => {
+                        record.write_expecting(area, index, work, key, expected, writing.value)
+                    }
+                }
             }
             Start::Delete(asked) => record.delete(area, index, work, key_of(without_range(asked)?)),
             Start::Clean(victims) => record.clean(area, index, work, SlotMap(victims)),

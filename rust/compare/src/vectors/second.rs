@@ -4,7 +4,7 @@ use reference::{DigestNumber, Pending, Refusal, SlotMap, Version};
 
 use super::event::{Field, Geometry, Key, Record};
 use super::subject::{
-    part_of, without_edition, without_expected, without_range, Answer, Asked, Memory, No, Progress,
+    narrow_expected, part_of, without_edition, without_range, Answer, Asked, Memory, No, Progress,
     Start, Subject,
 };
 
@@ -42,8 +42,13 @@ impl Subject for Second {
         let Memory { area, index, work } = memory;
         let (after, stores) = match start {
             Start::Write(writing) => {
-                let (key, value) = without_expected(writing)?;
-                reference::write(*record, area, index, work, key_of(key), value)
+                let (key, value) = (key_of(without_range(writing.asked)?), writing.value);
+                match narrow_expected(writing)?.map(Version) {
+                    None => reference::write(*record, area, index, work, key, value),
+                    Some(expected) => {
+                        reference::write_expecting(*record, area, index, work, key, expected, value)
+                    }
+                }
             }
             Start::Delete(asked) => {
                 let key = key_of(without_range(asked)?);

@@ -1,6 +1,7 @@
 //! The proved store beside the reference. The tests print how much they ran.
 
 mod damaged_images;
+mod expected_versions;
 mod images_in_use;
 mod not_genuine;
 mod random_histories;

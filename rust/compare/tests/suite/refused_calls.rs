@@ -58,6 +58,17 @@ fn refuse_all(words: &[u32], area: &[u8], index: &[u32], work_bytes: usize) {
             &[3; 8],
             &mut first,
         ),
+        slices::write_expecting(
+            record,
+            &lent_area,
+            &lent_index,
+            &mut work,
+            table,
+            key,
+            1,
+            &[3; 8],
+            &mut first,
+        ),
         slices::delete(
             record,
             &lent_area,
@@ -77,7 +88,7 @@ fn refuse_all(words: &[u32], area: &[u8], index: &[u32], work_bytes: usize) {
             &mut second,
         ),
     ];
-    assert_eq!(answers, [4; 4], "{words:?}");
+    assert_eq!(answers, [4; 5], "{words:?}");
     assert_eq!((first, second), (71, 72));
     let value = slices::read_value(
         record,

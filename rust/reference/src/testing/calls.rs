@@ -2,7 +2,7 @@
 
 use crate::book::Operation;
 use crate::rng::Rng;
-use crate::{Key, Record, SlotMap};
+use crate::{Key, Record, SlotMap, Version};
 
 /// A key, often one whose numbers are at their limits.
 pub fn any_key(rng: &mut Rng) -> Key {
@@ -44,8 +44,61 @@ pub fn operation(rng: &mut Rng, keys: &[Key], record: Record, clean_rarity: u32)
     Operation::Write(key, value)
 }
 
+/// What a start is given besides its operation. The book is not told of it.
+#[derive(Clone, Copy, PartialEq, Eq, Debug)]
+pub struct Given {
+    /// The version that a write expects its key to have, if it expects one.
+    pub expected: Option<Version>,
+    /// How many bytes of the work buffer are lent.
+    pub work_bytes: usize,
+}
+
+impl Given {
+    /// No expectation, and so much of the work buffer.
+    pub fn plain(work_bytes: usize) -> Given {
+        Given {
+            expected: None,
+            work_bytes,
+        }
+    }
+
+    /// Anything for an operation on a store with this record, whose keys have the versions told.
+    pub fn random(
+        rng: &mut Rng,
+        operation: &Operation,
+        record: Record,
+        version: impl Fn(Key) -> Version,
+        whole: usize,
+    ) -> Given {
+        Given {
+            expected: match operation {
+                Operation::Write(key, _) => expected(rng, version(*key), record.next),
+                Operation::Delete(_) | Operation::Clean(_) => None,
+            },
+            work_bytes: lent(rng, record.slot_bytes, whole),
+        }
+    }
+}
+
+/// What a write expects of a key with this version: nothing, the version itself, absence, or
+/// another number, such as that of an older entry or of the next one.
+fn expected(rng: &mut Rng, version: Version, next: Version) -> Option<Version> {
+    match rng.below(12) {
+        0..=5 => None,
+        6..=8 => Some(version),
+        9 => Some(Version::NONE),
+        10 => Some(Version(next.0.wrapping_sub(rng.below(4)))),
+        _ => Some(Version(match rng.below(4) {
+            0 => version.0.wrapping_add(1),
+            1 => version.0.wrapping_sub(1),
+            2 => u32::MAX - rng.below(2),
+            _ => rng.bits() as u32,
+        })),
+    }
+}
+
 /// How much of a work buffer to lend: sometimes too little, sometimes just enough.
-pub fn lent(rng: &mut Rng, slot_bytes: u32, whole: usize) -> usize {
+fn lent(rng: &mut Rng, slot_bytes: u32, whole: usize) -> usize {
     match rng.below(30) {
         0 => rng.below(slot_bytes) as usize,
         1 => slot_bytes as usize,

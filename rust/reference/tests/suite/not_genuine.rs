@@ -5,7 +5,8 @@ use reference::rng::Rng;
 use reference::testing::forged;
 use reference::testing::images::Shape;
 use reference::{
-    clean, delete, next_store, read, read_value, recover, step, write, Key, Record, SlotMap,
+    clean, delete, next_store, read, read_value, recover, step, write, write_expecting, Key,
+    Record, SlotMap, Version,
 };
 
 /// Every call once on what was forged.
@@ -18,6 +19,8 @@ fn call_all(rng: &mut Rng, record: Record, area: &mut [u8], index: &mut [u32], w
     let _ = read(&record, area, index, key);
     assert!(read_value(&record, area, index, key).len() <= 56);
     let _ = write(record, area, index, work, key, &value);
+    let expected = Version(*rng.pick(&[0, 1, record.next.0, u32::MAX]));
+    let _ = write_expecting(record, area, index, work, key, expected, &value);
     let _ = delete(record, area, index, work, key);
     let victims = match rng.below(3) {
         0 => record.map,

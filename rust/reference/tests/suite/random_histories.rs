@@ -3,15 +3,18 @@
 
 use reference::rng::Rng;
 use reference::rules::AsWritten;
+use reference::testing::calls::Given;
 use reference::testing::{calls, forged};
-use reference::{clean, delete, format, read, step, write, Pending, Refusal, Version};
+use reference::{
+    clean, delete, format, read, step, write, write_expecting, Pending, Refusal, Version,
+};
 
 use crate::rig::{same, Fault, Rig};
 
 /// Which refusals and how many operations a run met.
 #[derive(Default)]
 struct Tally {
-    refused: [u32; 21],
+    refused: [u32; 22],
     operations: u32,
     cuts: u32,
 }
@@ -110,8 +113,9 @@ impl Player {
     fn start(&mut self) -> Result<(), Fault> {
         let (rng, record) = (&mut self.rng, self.rig.record());
         let operation = calls::operation(rng, &self.rig.keys, record, self.clean_rarity);
-        let lent = calls::lent(rng, self.rig.slot_bytes, self.rig.work.len());
-        let answer = self.rig.start_with(&operation, lent)?;
+        let (book, whole) = (&self.rig.book, self.rig.work.len());
+        let given = Given::random(rng, &operation, record, |key| book.version(key), whole);
+        let answer = self.rig.start_with(&operation, given)?;
         self.tally.count(answer);
         Ok(())
     }
@@ -172,6 +176,15 @@ impl Player {
         let mut work = self.rig.work.clone();
         let starts = [
             write(record, &area, &index, &mut work, key, &[0; 8]),
+            write_expecting(
+                record,
+                &area,
+                &index,
+                &mut work,
+                key,
+                Version::NONE,
+                &[0; 8],
+            ),
             delete(record, &area, &index, &mut work, key),
             clean(record, &area, &index, &mut work, genuine.map),
         ];
@@ -220,7 +233,7 @@ fn play_all(seeds: std::ops::Range<u64>, actions: u32) {
         "{} operations, {} cuts, refused {:?}",
         total.operations, total.cuts, total.refused
     );
-    for cause in (2..=15).chain([20]) {
+    for cause in (2..=15).chain([20, 21]) {
         assert!(total.refused[cause] > 0, "{:?}", total.refused);
     }
 }

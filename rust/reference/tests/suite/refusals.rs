@@ -4,7 +4,8 @@
 use reference::book::Operation;
 use reference::rules::AsWritten;
 use reference::{
-    clean, delete, format, read, read_value, recover, step, write, Key, Pending, Refusal, SlotMap,
+    clean, delete, format, read, read_value, recover, step, write, write_expecting, Key, Pending,
+    Refusal, SlotMap, Started, Version,
 };
 
 use crate::rig::Rig;
@@ -42,14 +43,22 @@ fn run(rig: &mut Rig<AsWritten>, operations: &[Operation]) {
 
 /// The number with which a start is refused; it must leave all as it was.
 fn refused_with(rig: &Rig<AsWritten>, operation: &Operation, work_bytes: usize) -> u32 {
+    let (record, area, index) = (rig.record(), &rig.area, &rig.index);
+    refused_start(rig, work_bytes, |work| match operation {
+        Operation::Write(key, value) => write(record, area, index, work, *key, value),
+        Operation::Delete(key) => delete(record, area, index, work, *key),
+        Operation::Clean(victims) => clean(record, area, index, work, *victims),
+    })
+}
+
+fn refused_start(
+    rig: &Rig<AsWritten>,
+    work_bytes: usize,
+    start: impl FnOnce(&mut [u8]) -> Started,
+) -> u32 {
     let record = rig.record();
     let mut work = rig.work[..work_bytes].to_vec();
-    let (area, index) = (&rig.area, &rig.index);
-    let (after, answer) = match operation {
-        Operation::Write(key, value) => write(record, area, index, &mut work, *key, value),
-        Operation::Delete(key) => delete(record, area, index, &mut work, *key),
-        Operation::Clean(victims) => clean(record, area, index, &mut work, *victims),
-    };
+    let (after, answer) = start(&mut work);
     assert_eq!(after.pending == record.pending, answer.is_err());
     let Err(refusal) = answer else { return 0 };
     assert_eq!(after, record);
@@ -59,6 +68,36 @@ fn refused_with(rig: &Rig<AsWritten>, operation: &Operation, work_bytes: usize) 
 
 fn refused(rig: &Rig<AsWritten>, operation: &Operation) -> u32 {
     refused_with(rig, operation, rig.work.len())
+}
+
+/// The number with which a write of so many bytes is refused that expects a version.
+fn refused_expecting(rig: &Rig<AsWritten>, number: u32, expected: u32, bytes: usize) -> u32 {
+    let (record, area, index) = (rig.record(), &rig.area, &rig.index);
+    let (key, expected, value) = (key(number), Version(expected), vec![0x11; bytes]);
+    refused_start(rig, rig.work.len(), |work| {
+        write_expecting(record, area, index, work, key, expected, &value)
+    })
+}
+
+/// The one version that a write of 8 bytes may expect, of all that are worth a try; the others
+/// are refused with 21.
+fn accepted_expectation(rig: &Rig<AsWritten>, number: u32) -> u32 {
+    let next = rig.record().next.0;
+    let accepted: Vec<u32> = (0..20)
+        .chain(next.saturating_sub(3)..=next)
+        .chain([u32::MAX - 1, u32::MAX])
+        .filter(
+            |&expected| match refused_expecting(rig, number, expected, 8) {
+                0 => true,
+                cause => {
+                    assert_eq!(cause, 21, "{expected}");
+                    false
+                }
+            },
+        )
+        .collect();
+    assert!(accepted.windows(2).all(|pair| pair[0] == pair[1]));
+    accepted[0]
 }
 
 fn refused_read(rig: &Rig<AsWritten>, key: Key) -> u32 {
@@ -127,7 +166,7 @@ fn numbers_and_causes_agree() {
         assert_eq!(Refusal::from_number(place as u32 + 1), Some(refusal));
     }
     assert_eq!(Refusal::from_number(0), None);
-    assert_eq!(Refusal::from_number(21), None);
+    assert_eq!(Refusal::from_number(22), None);
 }
 
 #[test]
@@ -410,6 +449,73 @@ fn causes_18_19_and_20_in_order_over_the_whole_log() {
     assert_eq!(refused_recovery(4, 256, &area, 16, &[1, 0, 2, 3]), 18);
     let first = two_slots(&[&[9]], &[&shared, &shared]);
     assert_eq!(refused_recovery(4, 256, &first, 16, &[1, 2, 3, 0]), 18);
+}
+
+/// A key's version is that of its object, and 0 where it was never written or is deleted.
+#[test]
+fn cause_21_other_version() {
+    let mut rig = fresh();
+    assert_eq!(accepted_expectation(&rig, 1), 0);
+    run(&mut rig, &[write_of(1, 8), write_of(2, 8), write_of(1, 24)]);
+    assert_eq!(accepted_expectation(&rig, 1), 3);
+    assert_eq!(accepted_expectation(&rig, 2), 2);
+    run(&mut rig, &[Operation::Delete(key(1))]);
+    assert_eq!(accepted_expectation(&rig, 1), 0, "not its tombstone's 4");
+    run(&mut rig, &[Operation::Clean(SlotMap(1))]);
+    assert_eq!(accepted_expectation(&rig, 1), 0);
+    assert_eq!(accepted_expectation(&rig, 2), 2);
+    // Nothing is compared in a write that expects nothing.
+    assert_eq!(refused(&rig, &write_of(2, 8)), 0);
+    rig.cut();
+    rig.must_recover(&ORDER).unwrap();
+    assert_eq!(accepted_expectation(&rig, 2), 2);
+}
+
+/// 21 after 3, 5 and 7, and before 9, 11, 12 and 10.
+#[test]
+fn cause_21_in_order() {
+    let mut rig = fresh();
+    assert_eq!(refused_expecting(&rig, 1, 5, 9), 7);
+    rig.start(&write_of(1, 8)).unwrap().unwrap();
+    assert_eq!(refused_expecting(&rig, 1, 5, 9), 5);
+
+    let mut spent = store(16, 1, u32::MAX - 1);
+    run(&mut spent, &[write_of(1, 8)]);
+    for (expected, cause) in [(u32::MAX - 1, 9), (u32::MAX, 21), (0, 21)] {
+        assert_eq!(refused_expecting(&spent, 1, expected, 8), cause);
+    }
+    assert_eq!(refused_expecting(&spent, 2, 0, 8), 9);
+    assert_eq!(refused_expecting(&spent, 2, 1, 8), 21);
+
+    let mut full = Rig::<AsWritten>::new(32, 256, 16, vec![0; 32 * 256]);
+    for number in 0..15 {
+        run(&mut full, &[write_of(number, 8)]);
+    }
+    assert_eq!(refused_expecting(&full, 99, 0, 8), 11);
+    assert_eq!(refused_expecting(&full, 99, 1, 8), 21);
+    assert_eq!(accepted_expectation(&full, 3), 4);
+}
+
+/// An expectation counts also where the entry needs a new head: 21 before 12 and 10.
+#[test]
+fn cause_21_with_a_new_head() {
+    let mut rig = store(16, u32::MAX - 2, 1);
+    for _ in 0..3 {
+        run(&mut rig, &[write_of(1, 56)]);
+    }
+    assert_eq!(refused_expecting(&rig, 1, 2, 56), 21);
+    assert_eq!(refused_expecting(&rig, 1, 3, 56), 0);
+    for _ in 0..6 {
+        run(&mut rig, &[write_of(1, 56)]);
+    }
+    assert_eq!(refused_expecting(&rig, 1, 8, 56), 21);
+    assert_eq!(refused_expecting(&rig, 1, 9, 56), 12);
+    let mut last = store(16, u32::MAX, 1);
+    for _ in 0..3 {
+        run(&mut last, &[write_of(1, 56)]);
+    }
+    assert_eq!(refused_expecting(&last, 1, 0, 56), 21);
+    assert_eq!(refused_expecting(&last, 1, 3, 56), 10);
 }
 
 /// A recovery that is refused with 15 leaves a pending operation pending; one that is
