@@ -111,13 +111,13 @@ module _ (L : Layout) (laws : OperationLaws L) (n s : ℕ) where
             is-accepted = refl;
             next-version = inv .agrees .next-same;
             answers =
-                λ k ty a q.
+                λ t k ty held a q.
                 q .exact genuine ∙
-                read-answer L laws n s (w .area) cells′ rec (inv .bytes) recovers fits k (b .keys k) (inv .agrees .map-same k);
+                read-answer L laws n s (w .area) cells′ rec (inv .bytes) recovers fits t k (b .keys k) (inv .agrees .map-same k) held;
             values =
-                λ k ty v q.
+                λ t k ty held v q.
                 ap (partOf (w .area)) (q .exact genuine) ∙
-                value-answer L laws n s (w .area) cells′ rec (inv .bytes) recovers fits k (b .keys k) (inv .agrees .map-same k);
+                value-answer L laws n s (w .area) cells′ rec (inv .bytes) recovers fits t k (b .keys k) (inv .agrees .map-same k) held;
           }
 
   -- ---- the fresh store
