@@ -146,7 +146,7 @@ module _ (n s : ℕ) (area₀ area : List ℕ) (ab : Bytes area₀) (format : Fo
       bookOf before .pending ≡ some (record { operation = delete k; left = 1 }) → accepted a ≡ true →
       noWrite (feed (bookOf before) (called steps l a)) k after ≡ true → (order cells cells′ : List ℕ) (r : Recovery) → orderBad n order ≡ false →
       LargeEnough (w .cells) (length cells) → RecoverPromise edition1 n s order (w .area) cells cells′ r → TypedKey k → (t : Tables) →
-      holdsTable t k ≡ true → ((x : Reading) → ReadPromise edition1 (r .rec) (w .area) cells′ t k x → x .answer ≡ ReadAnswer.Refused Refusal.Absent)
+      holdsTable t (k .table) ≡ true → ((x : Reading) → ReadPromise edition1 (r .rec) (w .area) cells′ t k x → x .answer ≡ ReadAnswer.Refused Refusal.Absent)
       × ((p : Part) → ValuePromise edition1 (r .rec) (w .area) cells′ t k p → partOf (w .area) p ≡ [])
   unfolding bookAnswer bookValue bookAfter
   deleted-stays-gone before after l a k w run deleting done none-written order cells cells′ r good large promise typed t held = (
@@ -164,7 +164,7 @@ module _ (n s : ℕ) (area₀ area : List ℕ) (ab : Bytes area₀) (format : Fo
 
   -- And no read of it meanwhile: it answers 8, and the value is empty, whether an operation is pending or not.
   pub deleted-reads-gone :
-      (before between after : List Event) (l lent : Lengths) (a x : Answer) (t : Tables) (k : Key) (q : Question) (w : World) → holdsTable t k ≡ true →
+      (before between after : List Event) (l lent : Lengths) (a x : Answer) (t : Tables) (k : Key) (q : Question) (w : World) → holdsTable t (k .table) ≡ true →
       Leads (before ++ called steps l a ∷ (between ++ called (asks q) lent x ∷ after)) w →
       bookOf before .pending ≡ some (record { operation = delete k; left = 1 }) → accepted a ≡ true →
       noWrite (feed (bookOf before) (called steps l a)) k between ≡ true →
@@ -172,10 +172,10 @@ module _ (n s : ℕ) (area₀ area : List ℕ) (ab : Bytes area₀) (format : Fo
   unfolding EventAgrees QuestionAgrees bookAnswer bookValue
   deleted-reads-gone before between after l lent a x t k q w held run deleting done none-written = (
     λ e. subst (λ (y : Question). QuestionAgrees edition1 now y x) e agrees
-        ∙ ap saying (pick-true (holdsTable t k) (readSaid (bookAnswer edition1 (now .keys k))) (refusal 22) held)
+        ∙ ap saying (pick-true (holdsTable t (k .table)) (readSaid (bookAnswer edition1 (now .keys k))) (refusal 22) held)
         ∙ ap (λ (y : Option Kept). saying (readSaid (bookAnswer edition1 y))) gone,
     λ e. subst (λ (y : Question). QuestionAgrees edition1 now y x) e agrees
-        ∙ ap giving (pick-true (holdsTable t k) (bookValue (now .keys k)) [] held)
+        ∙ ap giving (pick-true (holdsTable t (k .table)) (bookValue (now .keys k)) [] held)
         ∙ ap (λ (y : Option Kept). giving (bookValue y)) gone,
   )
     where

@@ -337,7 +337,7 @@ module _ (n s : ℕ) (area₀ area : List ℕ) (ab : Bytes area₀) (format : Fo
 
           told : Told (bookOf first .next) (r .said .version) (bookOf first .keys k)
           told =
-              within-told (holdsTable v k) (bookOf first .next) (bookOf first .keys k) r (book-versioned first .versions k)
+              within-told (holdsTable v (k .table)) (bookOf first .next) (bookOf first .keys k) r (book-versioned first .versions k)
               (agree-at freshBook first (called (asks (reads v k)) j r) mid agree) read-done
 
           later : Book

@@ -135,22 +135,22 @@ module _ (L : Layout) (laws : OperationLaws L) (n s : ℕ) where
       abbrev cause : Option Refusal
       cause = firstCause (readCauses L r (logNow L area r) (readLengths area cells) v k)
 
-      only-absent : holdsTable v k ≡ true → cause ≡ firstCause (when (keyAbsent (logNow L area r) k) Absent ∷ [])
+      only-absent : holdsTable v (k .table) ≡ true → cause ≡ firstCause (when (keyAbsent (logNow L area r) k) Absent ∷ [])
       only-absent held =
           cause-skip (when (recordBad L r (readLengths area cells)) BadRecord) _ (ap not fits) ∙
           cause-skip (when (outsideTables v k) OutsideTables) (when (keyAbsent (logNow L area r) k) Absent ∷ []) (ap not held)
 
-      only-outside : holdsTable v k ≡ false → cause ≡ some OutsideTables
+      only-outside : holdsTable v (k .table) ≡ false → cause ≡ some OutsideTables
       only-outside out =
           cause-skip (when (recordBad L r (readLengths area cells)) BadRecord) _ (ap not fits) ∙
           cause-first (when (outsideTables v k) OutsideTables) (when (keyAbsent (logNow L area r) k) Absent ∷ []) (ap not out)
 
-      pub read-answer : holdsTable v k ≡ true → readAnswer L cause (present (logNow L area r) k) ≡ bookAnswer L x
+      pub read-answer : holdsTable v (k .table) ≡ true → readAnswer L cause (present (logNow L area r) k) ≡ bookAnswer L x
       read-answer held =
           ap (λ (c : Option Refusal). readAnswer L c (present (logNow L area r) k)) (only-absent held) ∙
           present-answer k (present (logNow L area r) k) x same
 
-      pub value-answer : holdsTable v k ≡ true → partOf area (valueAnswer L (r .size) cause (present (logNow L area r) k)) ≡ bookValue x
+      pub value-answer : holdsTable v (k .table) ≡ true → partOf area (valueAnswer L (r .size) cause (present (logNow L area r) k)) ≡ bookValue x
       value-answer held =
           ap (λ (c : Option Refusal). partOf area (valueAnswer L (r .size) c (present (logNow L area r) k))) (only-absent held) ∙
           present-value area (r .size) k (present (logNow L area r) k) x same
@@ -158,21 +158,21 @@ module _ (L : Layout) (laws : OperationLaws L) (n s : ℕ) where
 
       -- what is said and given, within reach and out of it
       pub read-said :
-          readSaid (readAnswer L cause (present (logNow L area r) k)) ≡ pick (holdsTable v k) (readSaid (bookAnswer L x)) (refusal 22)
+          readSaid (readAnswer L cause (present (logNow L area r) k)) ≡ pick (holdsTable v (k .table)) (readSaid (bookAnswer L x)) (refusal 22)
       unfolding pick readAnswer
-      read-said = go (holdsTable v k) refl
+      read-said = go (holdsTable v (k .table)) refl
         where
-          go : (t : Bool) → holdsTable v k ≡ t →
+          go : (t : Bool) → holdsTable v (k .table) ≡ t →
               readSaid (readAnswer L cause (present (logNow L area r) k)) ≡ pick t (readSaid (bookAnswer L x)) (refusal 22)
           go true e = ap readSaid (read-answer e)
           go false e = ap (λ (c : Option Refusal). readSaid (readAnswer L c (present (logNow L area r) k))) (only-outside e)
 
       pub value-given :
-          partOf area (valueAnswer L (r .size) cause (present (logNow L area r) k)) ≡ pick (holdsTable v k) (bookValue x) []
+          partOf area (valueAnswer L (r .size) cause (present (logNow L area r) k)) ≡ pick (holdsTable v (k .table)) (bookValue x) []
       unfolding pick valueAnswer
-      value-given = go (holdsTable v k) refl
+      value-given = go (holdsTable v (k .table)) refl
         where
-          go : (t : Bool) → holdsTable v k ≡ t → partOf area (valueAnswer L (r .size) cause (present (logNow L area r) k)) ≡ pick t (bookValue x) []
+          go : (t : Bool) → holdsTable v (k .table) ≡ t → partOf area (valueAnswer L (r .size) cause (present (logNow L area r) k)) ≡ pick t (bookValue x) []
           go true e = value-answer e
           go false e = ap (λ (c : Option Refusal). partOf area (valueAnswer L (r .size) c (present (logNow L area r) k))) (only-outside e)
 

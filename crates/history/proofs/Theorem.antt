@@ -41,7 +41,7 @@ use Rattle.history.proofs.Recoveries.{recover-keeps, cut-keeps}
 module _ (L : Layout) (laws : OperationLaws L) (n s : ℕ) where
   -- ---- one event
 
-  move-keeps :
+  pub move-keeps :
       {w x : World} {e : Event} (b : Book) (t : ℕ) → Moves L n s w e x → Inv L n s w b t →
       Inv L n s x (feed b e) (max t (versionTold e)) × EventAgrees L b e
   unfolding EventAgrees
@@ -122,7 +122,7 @@ module _ (L : Layout) (laws : OperationLaws L) (n s : ℕ) where
 
   -- ---- the fresh store
 
-  fresh : (area₀ area : List ℕ) → Bytes area₀ → FormatPromise L n s area₀ area FormatAnswer.Formatted → Inv L n s (freshWorld area) freshBook 0
+  pub fresh : (area₀ area : List ℕ) → Bytes area₀ → FormatPromise L n s area₀ area FormatAnswer.Formatted → Inv L n s (freshWorld area) freshBook 0
   unfolding formatAnswer areaUnless baseCells HeldGood between both present latest objectOnly unplaced bookEntry
   fresh area₀ area ab p = subst⁻¹ (λ (x : List ℕ). Inv L n s (freshWorld x) freshBook 0) left start′
     where

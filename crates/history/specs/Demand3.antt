@@ -53,10 +53,10 @@ pub record GivesBook (L : Layout) (area cells′ : List ℕ) (r : Recovery) (b :
   -- "the keys, versions and values left by the operations whose last store was done": for each key what a read then answers, whose
   -- tables hold the key's (02, R-2)
   pub answers :
-      (t : Tables) (k : Key) → TypedKey k → holdsTable t k ≡ true → (a : Reading) → ReadPromise L (r .rec) area cells′ t k a →
+      (t : Tables) (k : Key) → TypedKey k → holdsTable t (k .table) ≡ true → (a : Reading) → ReadPromise L (r .rec) area cells′ t k a →
       a .answer ≡ bookAnswer L (b .keys k)
   pub values :
-      (t : Tables) (k : Key) → TypedKey k → holdsTable t k ≡ true → (p : Part) → ValuePromise L (r .rec) area cells′ t k p →
+      (t : Tables) (k : Key) → TypedKey k → holdsTable t (k .table) ≡ true → (p : Part) → ValuePromise L (r .rec) area cells′ t k p →
       partOf area p ≡ bookValue (b .keys k)
 
 -- "Each accepted step answers the stores left in the book, and an operation's last step also the book's version for it"
@@ -67,8 +67,8 @@ StepAgrees b a (some p) = (a .stores ≡ p .left - 1) × (p .left ≡ 1 → a .v
 -- A read answers version and kind of what the book holds of its key, or 8, and a read of the value that value; also while an
 -- operation is pending. A key whose table the caller may not reach is answered with 22 and no value, whatever the book holds (02, R-2).
 unfoldable pub QuestionAgrees : Layout → Book → Question → Answer → Type 0
-QuestionAgrees L b (reads t k) a = a ≡ saying (pick (holdsTable t k) (readSaid (bookAnswer L (b .keys k))) (refusal 22))
-QuestionAgrees L b (readsValue t k) a = a ≡ giving (pick (holdsTable t k) (bookValue (b .keys k)) [])
+QuestionAgrees L b (reads t k) a = a ≡ saying (pick (holdsTable t (k .table)) (readSaid (bookAnswer L (b .keys k))) (refusal 22))
+QuestionAgrees L b (readsValue t k) a = a ≡ giving (pick (holdsTable t (k .table)) (bookValue (b .keys k)) [])
 
 -- 02, R-1: what a write expected of its key, where it was accepted, is the version that the book has of it.
 unfoldable pub Expects : Expected → ℕ → Type 0

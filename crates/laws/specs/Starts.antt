@@ -6,12 +6,13 @@ use mathlib.Core.List.{List, [], _∷_}
 use mathlib.Core.Option.{Option, none, some}
 use lib.ListN.{length}
 use lib.Seq.{length-sets}
+use borrow.Author.Tests.{not-false}
 use Rattle.segment.specs.Layout.{Layout}
 use Rattle.segment.specs.declared.Key.{Key}
 use Rattle.record.specs.declared.Refusal.{Refusal}
 use Rattle.record.specs.declared.Refusal.the-variants.{BadRecord, Absent}
 use Rattle.record.specs.declared.Tables.{Tables}
-use Rattle.record.specs.Reach.{all-hold}
+use Rattle.record.specs.Reach.{holdsTable, all-hold}
 use Rattle.record.specs.declared.Record.{Record}
 use Rattle.model.specs.Log.{Placed}
 use Rattle.model.specs.Causes.{when, firstCause}
@@ -54,8 +55,23 @@ unfolding startCauses expectsOther
 freely-accepted L r log l t (write k value) typed e =
     let x : NoCause (writeCauses L r l t k (keyFacts log k) (length value)) = no-cause (writeCauses L r l t k (keyFacts log k) (length value)) e in
     causes-none (writeCauses L r l freely k (keyFacts log k) (length value))
-    (x .0, (ap not (all-hold k (typed .0 .0)), (x .1 .1 .0, (x .1 .1 .1 .0, (x .1 .1 .1 .1 .0, (x .1 .1 .1 .1 .1 .0, (refl, x .1 .1 .1 .1 .1 .1 .1)))))))
+    (x .0, (ap not (all-hold (k .table) (typed .0 .0)), (x .1 .1 .0, (x .1 .1 .1 .0, (x .1 .1 .1 .1 .0, (x .1 .1 .1 .1 .1 .0, (refl, x .1 .1 .1 .1 .1 .1 .1)))))))
 freely-accepted L r log l t (delete k) typed e =
     let x : NoCause (deleteCauses L r l t k (keyFacts log k)) = no-cause (deleteCauses L r l t k (keyFacts log k)) e in
-    causes-none (deleteCauses L r l freely k (keyFacts log k)) (x .0, (ap not (all-hold k (typed .0)), x .1 .1))
+    causes-none (deleteCauses L r l freely k (keyFacts log k)) (x .0, (ap not (all-hold (k .table) (typed .0)), x .1 .1))
 freely-accepted L r log l t (clean victims) typed e = e
+
+-- whether the tables of a start hold its key's
+unfoldable pub StartInside : Terms → Operation → Type 0
+StartInside t (write k value) = holdsTable (t .tables) (k .table) ≡ true
+StartInside t (delete k) = holdsTable (t .tables) (k .table) ≡ true
+StartInside t (clean victims) = Unit
+
+-- where it is accepted they do
+pub start-inside :
+    (L : Layout) (r : Record) (log : List Placed) (l : Lengths) (t : Terms) (o : Operation) → firstCause (startCauses L r log l t o) ≡ none →
+    StartInside t o
+unfolding startCauses StartInside
+start-inside L r log l t (write k value) e = not-false _ (no-cause (writeCauses L r l t k (keyFacts log k) (length value)) e .1 .0)
+start-inside L r log l t (delete k) e = not-false _ (no-cause (deleteCauses L r l t k (keyFacts log k)) e .1 .0)
+start-inside L r log l t (clean victims) e = tt

@@ -40,6 +40,10 @@ pub record Terms : Type 0 where
 abbrev pub freely : Terms
 freely = record { tables = allTables; expected = Any }
 
+-- these tables alone
+abbrev pub reaching : Tables → Terms
+reaching t = record { tables = t; expected = Any }
+
 -- 4, as far as it needs no look at the log
 abbrev pub recordBad : Layout → Record → Lengths → Bool
 recordBad L r l = not (fitsLent L r (l .area) (l .index))
@@ -88,7 +92,7 @@ expectsOther (Only e) v = not (eqb (e .0) v)
 
 -- 22 (02, R-2): the caller may not reach the key's table
 abbrev pub outsideTables : Tables → Key → Bool
-outsideTables t k = not (holdsTable t k)
+outsideTables t k = not (holdsTable t (k .table))
 
 -- 9
 abbrev pub versionsSpent : Layout → Record → Bool

@@ -6,12 +6,12 @@ use lib.ListN.{replicate}
 use Rattle.segment.specs.Layout.{edition1}
 use Rattle.segment.specs.declared.Key.{Key}
 use Rattle.record.specs.Reach.{allTables}
-use Rattle.record.specs.declared.Expected.the-variants.{Any, Only}
+use Rattle.record.specs.declared.Expected.the-variants.{Only}
 use Rattle.record.specs.declared.Pending.the-variants.{Append}
 use Rattle.record.specs.declared.Record.{Record}
 use Rattle.record.specs.declared.Tables.{Tables}
 use Rattle.model.specs.Operations.{Operation, write, delete, clean}
-use Rattle.model.specs.Refused.{Terms, freely, readCauses, startCauses}
+use Rattle.model.specs.Refused.{Terms, freely, reaching, readCauses, startCauses}
 use Rattle.model.specs.Play.{opened, keyed, first, lentWith, numberOn, readsWithin}
 use Rattle.model.specs.Expected.{refusedBy, shows}
 use Rattle.model.specs.MoreCases.{idle, busy, crowded, limit}
@@ -63,13 +63,10 @@ expected-hold = rows-hold expectedRows computed-expected
 abbrev tables : ℕ → ℕ → Tables
 tables a b = record { first = a; last = b }
 
-abbrev within : Tables → Terms
-within t = record { tables = t; expected = Any }
-
 -- a write and a delete of 7 bytes or none under key 1 of table 1, and a cleaning of no slot, with a record and a work buffer so long
 abbrev starting : Tables → Record → ℕ → List ℕ
 starting t r work =
-    map (λ o. first (startCauses edition1 r [] (lentWith work) (within t) o))
+    map (λ o. first (startCauses edition1 r [] (lentWith work) (reaching t) o))
     (write (keyed 1 1) (replicate 7 1) ∷ delete (keyed 1 1) ∷ clean 0 ∷ [])
 
 abbrev reading : Tables → Record → ℕ

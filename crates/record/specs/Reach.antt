@@ -6,17 +6,24 @@ use native.Mathlib.Omega.{arith}
 use lib.Dec.{leb}
 use borrow.Author.Tests.{le-leb}
 use Rattle.segment.specs.Choice.{both, both-true}
-use Rattle.segment.specs.declared.Key.{Key}
 use Rattle.record.specs.declared.Tables.{Tables}
 
--- A key's table lies from the first to the last of them. Where the first is above the last none does.
-unfoldable pub holdsTable : Tables → Key → Bool
-holdsTable t k = both (leb (t .first) (k .table)) (leb (k .table) (t .last))
+-- A table lies from the first to the last of them. Where the first is above the last none does.
+unfoldable pub holdsTable : Tables → ℕ → Bool
+holdsTable t n = both (leb (t .first) n) (leb n (t .last))
 
 -- every table there is
 abbrev pub allTables : Tables
 allTables = record { first = 0; last = 65535 }
 
-pub all-hold : (k : Key) → k .table < 65536 → holdsTable allTables k ≡ true
+pub all-hold : (n : ℕ) → n < 65536 → holdsTable allTables n ≡ true
 unfolding holdsTable
-all-hold k h = both-true (leb 0 (k .table)) (leb (k .table) 65535) (le-leb 0 (k .table) (omega arith)) (le-leb (k .table) 65535 (omega (arith, h)))
+all-hold n h = both-true (leb 0 n) (leb n 65535) (le-leb 0 n (omega arith)) (le-leb n 65535 (omega (arith, h)))
+
+-- one table alone
+abbrev pub tableAlone : ℕ → Tables
+tableAlone n = record { first = n; last = n }
+
+pub alone-holds : (n : ℕ) → holdsTable (tableAlone n) n ≡ true
+unfolding holdsTable
+alone-holds n = both-true (leb n n) (leb n n) (le-leb n n (omega arith)) (le-leb n n (omega arith))
