@@ -5,7 +5,9 @@ use std::hint::black_box;
 use crate::image::{full, lay_out, At, Entry};
 use crate::recoveries::recovery;
 use crate::report::{Call, Keys, Report};
-use crate::store::{proved_key, reference_key, Operation, Store, CELLS, LOG, SLOTS};
+use crate::store::{
+    proved_key, reference_key, Operation, Store, ALL, CELLS, LOG, PROVED_ALL, SLOTS,
+};
 use crate::timing::{compare, Timing};
 use crate::versions::meeting;
 
@@ -94,12 +96,17 @@ impl Chosen {
                 &mut store,
                 |store| {
                     let key = proved_key(black_box(key));
-                    let _ = black_box(store.proved.read(&store.area, &store.index, key));
+                    let _ = black_box(store.proved.read(
+                        &store.area,
+                        &store.index,
+                        PROVED_ALL,
+                        key,
+                    ));
                 },
                 |store| {
                     let key = reference_key(black_box(key));
                     let record = black_box(&store.reference);
-                    let _ = black_box(reference::read(record, &store.area, &store.index, key));
+                    let _ = black_box(reference::read(record, &store.area, &store.index, ALL, key));
                 },
             );
             self.call(report, Call::Read, case, timing);

@@ -4,7 +4,7 @@ use std::hint::black_box;
 
 use crate::image::{full, At, Entry, SLOT_BYTES};
 use crate::report::{Call, Keys, Report};
-use crate::store::{Operation, Store, CELLS, SLOTS};
+use crate::store::{Operation, Store, ALL, CELLS, PROVED_ALL, SLOTS};
 use crate::timing::compare;
 
 /// The cases.
@@ -26,7 +26,11 @@ fn reads(report: &mut Report) {
                     table,
                     key: next(proved),
                 };
-                let _ = black_box(store.proved.read(&store.area, &store.index, key));
+                let _ = black_box(
+                    store
+                        .proved
+                        .read(&store.area, &store.index, PROVED_ALL, key),
+                );
             },
             |(_, reference)| {
                 let key = reference::Key {
@@ -34,7 +38,7 @@ fn reads(report: &mut Report) {
                     key: next(reference),
                 };
                 let record = black_box(&store.reference);
-                let _ = black_box(reference::read(record, &store.area, &store.index, key));
+                let _ = black_box(reference::read(record, &store.area, &store.index, ALL, key));
             },
         );
         report.call(Call::Read, Keys::Plain, case, timing);

@@ -6,7 +6,7 @@ use reference::book::Operation;
 use reference::index::rule_holds;
 use reference::rng::Rng;
 use reference::testing::calls::Given;
-use reference::{Key, SlotMap, Started, Version};
+use reference::{Key, SlotMap, Started, Tables, Version};
 
 use crate::guarded::Guarded;
 use crate::{same, translate, Fault};
@@ -14,6 +14,9 @@ use crate::{same, translate, Fault};
 /// What a cut leaves in memory that it loses.
 const LOST_CELL: u32 = 0xDEAD_BEEF;
 const LOST_BYTE: u8 = 0x5A;
+
+/// What a read tells: version and kind, or the refusal.
+pub type Told = Result<(u32, u8), u32>;
 
 /// One implementation's memory.
 #[derive(Clone, Debug)]
@@ -45,17 +48,20 @@ impl Memory {
     ) -> (kurdavel::Record, Result<u32, kurdavel::Refusal>) {
         let Memory { area, index, work } = self;
         let work = &mut work[..given.work_bytes];
+        let tables = translate::tables(given.tables);
         let answer = match operation {
             Operation::Write(key, value) => {
                 let key = translate::key(*key);
                 match given.expected.map(|version| kurdavel::Version(version.0)) {
-                    None => record.write(area, index, work, key, value),
+                    None => record.write(area, index, work, tables, key, value),
                     Some(expected) => {
-                        record.write_expecting(area, index, work, key, expected, value)
+                        record.write_expecting(area, index, work, tables, key, expected, value)
                     }
                 }
             }
-            Operation::Delete(key) => record.delete(area, index, work, translate::key(*key)),
+            Operation::Delete(key) => {
+                record.delete(area, index, work, tables, translate::key(*key))
+            }
             Operation::Clean(victims) => {
                 record.clean(area, index, work, kurdavel::SlotMap(victims.0))
             }
@@ -71,15 +77,15 @@ impl Memory {
         given: Given,
     ) -> Started {
         let Memory { area, index, work } = self;
-        let work = &mut work[..given.work_bytes];
+        let (work, tables) = (&mut work[..given.work_bytes], given.tables);
         match operation {
             Operation::Write(key, value) => match given.expected {
-                None => reference::write(record, area, index, work, *key, value),
-                Some(expected) => {
-                    reference::write_expecting(record, area, index, work, *key, expected, value)
-                }
+                None => reference::write(record, area, index, work, tables, *key, value),
+                Some(expected) => reference::write_expecting(
+                    record, area, index, work, tables, *key, expected, value,
+                ),
             },
-            Operation::Delete(key) => reference::delete(record, area, index, work, *key),
+            Operation::Delete(key) => reference::delete(record, area, index, work, tables, *key),
             Operation::Clean(victims) => reference::clean(record, area, index, work, *victims),
         }
     }
@@ -327,7 +333,7 @@ impl Pair {
     /// The version of a key, as the reference reads it; none where it is absent.
     pub fn version(&self, key: Key) -> Version {
         let Memory { area, index, .. } = &self.reference;
-        let found = reference::read(&self.record(), area, index, key);
+        let found = reference::read(&self.record(), area, index, Tables::ALL, key);
         found.map_or(Version::NONE, |found| found.version)
     }
 
@@ -362,16 +368,22 @@ impl Pair {
         Ok(())
     }
 
-    /// Reads a key from both. Version, kind, value and the value's place are the same.
-    pub fn read(&self, key: Key) -> Result<Result<(u32, u8), u32>, Fault> {
+    /// Reads a key from both, for a caller of all tables.
+    pub fn read(&self, key: Key) -> Result<Told, Fault> {
+        self.read_in(Tables::ALL, key).map(|(found, _)| found)
+    }
+
+    /// Reads a key from both, for a caller with these tables. Version, kind, value and the value's place are the same.
+    pub fn read_in(&self, tables: Tables, key: Key) -> Result<(Told, &[u8]), Fault> {
         let (record, owed) = self.records.expect("an accepted recovery came before");
         let Memory { area, index, .. } = &self.proved;
-        let found = record.read(area, index, translate::key(key));
-        let value = record.read_value(area, index, translate::key(key));
+        let (proved_tables, proved_key) = (translate::tables(tables), translate::key(key));
+        let found = record.read(area, index, proved_tables, proved_key);
+        let value = record.read_value(area, index, proved_tables, proved_key);
         let place = value.as_ptr() as usize - area.as_ptr() as usize;
         let Memory { area, index, .. } = &self.reference;
-        let owed_found = reference::read(&owed, area, index, key);
-        let owed_value = reference::read_value(&owed, area, index, key);
+        let owed_found = reference::read(&owed, area, index, tables, key);
+        let owed_value = reference::read_value(&owed, area, index, tables, key);
         let owed_place = owed_value.as_ptr() as usize - area.as_ptr() as usize;
         let found = translate::proved(found.map(|found| (found.version.0, found.kind)));
         let owed_found = owed_found.map(|found| (found.version.0, found.kind));
@@ -382,7 +394,7 @@ impl Pair {
         );
         same!(format!("value of {key:?}"), value, owed_value);
         same!(format!("place of {key:?}"), place, owed_place);
-        Ok(found)
+        Ok((found, value))
     }
 }
 

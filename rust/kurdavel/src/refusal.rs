@@ -52,11 +52,13 @@ pub enum Refusal {
     TooManyKeys = 20,
     /// The key has another version than the caller expects. Read it again, and decide anew what to write.
     OtherVersion = 21,
+    /// The key's table is not one that the caller may use.
+    OutsideTables = 22,
 }
 
 impl Refusal {
     /// All causes, by number.
-    pub const ALL: [Refusal; 21] = [
+    pub const ALL: [Refusal; 22] = [
         Refusal::Geometry,
         Refusal::Cells,
         Refusal::WorkShort,
@@ -78,6 +80,7 @@ impl Refusal {
         Refusal::SharedVersion,
         Refusal::TooManyKeys,
         Refusal::OtherVersion,
+        Refusal::OutsideTables,
     ];
 
     /// The number of the cause.

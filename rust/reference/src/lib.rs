@@ -30,6 +30,7 @@ pub mod rules;
 pub mod segment;
 pub mod slot_map;
 pub mod step;
+pub mod tables;
 pub mod testing;
 mod versions;
 
@@ -44,3 +45,4 @@ pub use refusal::Refusal;
 pub use segment::Key;
 pub use slot_map::SlotMap;
 pub use step::{next_store, step, step_kept, Progress, Stepped, Store};
+pub use tables::Tables;

@@ -48,11 +48,13 @@ pub enum Refusal {
     TooManyKeys = 20,
     /// The key has another version than the caller expects.
     OtherVersion = 21,
+    /// The key's table is not one of those that the caller may use.
+    OutsideTables = 22,
 }
 
 impl Refusal {
     /// All causes, by number.
-    pub const ALL: [Refusal; 21] = [
+    pub const ALL: [Refusal; 22] = [
         Refusal::Geometry,
         Refusal::IndexLength,
         Refusal::WorkLength,
@@ -74,6 +76,7 @@ impl Refusal {
         Refusal::VersionShared,
         Refusal::TooManyKeys,
         Refusal::OtherVersion,
+        Refusal::OutsideTables,
     ];
 
     /// The number in 01's table.

@@ -108,12 +108,12 @@ pub fn part_of(buffer: &[u8], part: &[u8]) -> (usize, usize) {
     (place, part.len())
 }
 
-/// Refuses a range for an implementation that takes none.
-pub fn without_range(asked: Asked) -> Answer<Key> {
-    match asked.range {
-        None => Ok(asked.key),
-        Some(_) => Err(No::Missing("a range of tables with read, write and delete")),
-    }
+/// The tables that the caller may use: all where the level has no ranges.
+pub fn range_of(asked: Asked) -> Range {
+    asked.range.unwrap_or(Range {
+        first: 0,
+        last: u16::MAX,
+    })
 }
 
 /// Refuses an expected version that is too wide for an implementation with versions of 32 bits.

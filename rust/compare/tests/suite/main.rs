@@ -8,6 +8,7 @@ mod random_histories;
 mod refused_calls;
 mod replay_program;
 mod short_histories;
+mod two_owners;
 mod vectors;
 mod vectors_changed;
 mod vectors_faulty;

@@ -5,8 +5,8 @@
 use compare::guarded::Guarded;
 use compare::translate;
 use reference::rng::Rng;
-use reference::testing::forged;
 use reference::testing::images::Shape;
+use reference::testing::{calls, forged};
 use reference::{Key, Pending, Record};
 
 /// What is lent to the calls of one round.
@@ -35,14 +35,15 @@ impl Lent {
             table: rng.below(3) as u16,
             key: rng.below(20),
         };
+        let tables = translate::tables(calls::tables(rng, key.table));
         let key = translate::key(key);
         let before = (self.area.to_vec(), self.index.to_vec(), self.work.to_vec());
         let record = translate::record(self.record);
         let Lent {
             area, index, work, ..
         } = self;
-        let found = translate::proved(record.read(area, index, key).map(|_| 0));
-        let value = record.read_value(area, index, key);
+        let found = translate::proved(record.read(area, index, tables, key).map(|_| 0));
+        let value = record.read_value(area, index, tables, key);
         assert!(value.len() <= 56);
         assert!(area.as_ptr_range().contains(&value.as_ptr()));
         let mut records = [record; 4];
@@ -54,9 +55,9 @@ impl Lent {
         });
         let expected = kurdavel::Version(*rng.pick(&[0, 1, self.record.next.0, u32::MAX]));
         let starts = [
-            records[0].write(area, index, work, key, &value),
-            records[1].write_expecting(area, index, work, key, expected, &value),
-            records[2].delete(area, index, work, key),
+            records[0].write(area, index, work, tables, key, &value),
+            records[1].write_expecting(area, index, work, tables, key, expected, &value),
+            records[2].delete(area, index, work, tables, key),
             records[3].clean(area, index, work, victims),
         ];
         assert_eq!((&area[..], &index[..]), (&before.0[..], &before.1[..]));

@@ -35,11 +35,15 @@ fn refuse_all(words: &[u32], area: &[u8], index: &[u32], work_bytes: usize) {
     let mut work = Guarded::new(&vec![0x77; work_bytes], 5);
     let (mut first, mut second) = (71, 72);
     let (table, key) = (KEY.table, KEY.key);
+    // Tables that do not hold the key's: 4 comes before 22.
+    let (low, high) = (table + 1, table - 1);
     let record = &mut record;
     let read = slices::read(
         record,
         &lent_area,
         &lent_index,
+        low,
+        high,
         table,
         key,
         &mut first,
@@ -53,6 +57,8 @@ fn refuse_all(words: &[u32], area: &[u8], index: &[u32], work_bytes: usize) {
             &lent_area,
             &lent_index,
             &mut work,
+            low,
+            high,
             table,
             key,
             &[3; 8],
@@ -63,6 +69,8 @@ fn refuse_all(words: &[u32], area: &[u8], index: &[u32], work_bytes: usize) {
             &lent_area,
             &lent_index,
             &mut work,
+            low,
+            high,
             table,
             key,
             1,
@@ -74,6 +82,8 @@ fn refuse_all(words: &[u32], area: &[u8], index: &[u32], work_bytes: usize) {
             &lent_area,
             &lent_index,
             &mut work,
+            low,
+            high,
             table,
             key,
             &mut first,
@@ -94,6 +104,8 @@ fn refuse_all(words: &[u32], area: &[u8], index: &[u32], work_bytes: usize) {
         record,
         &lent_area,
         &lent_index,
+        low,
+        high,
         table,
         key,
         &mut first,
@@ -161,6 +173,8 @@ fn longer_records() {
         &area,
         &index,
         &mut work,
+        7,
+        7,
         7,
         9,
         &[1; 8],

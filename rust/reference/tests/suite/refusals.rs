@@ -5,7 +5,7 @@ use reference::book::Operation;
 use reference::rules::AsWritten;
 use reference::{
     clean, delete, format, read, read_value, recover, step, write, write_expecting, Key, Pending,
-    Refusal, SlotMap, Started, Version,
+    Record, Refusal, SlotMap, Started, Tables, Version,
 };
 
 use crate::rig::Rig;
@@ -43,10 +43,20 @@ fn run(rig: &mut Rig<AsWritten>, operations: &[Operation]) {
 
 /// The number with which a start is refused; it must leave all as it was.
 fn refused_with(rig: &Rig<AsWritten>, operation: &Operation, work_bytes: usize) -> u32 {
+    refused_in(rig, Tables::ALL, operation, work_bytes)
+}
+
+/// The same for a caller with these tables.
+fn refused_in(
+    rig: &Rig<AsWritten>,
+    tables: Tables,
+    operation: &Operation,
+    work_bytes: usize,
+) -> u32 {
     let (record, area, index) = (rig.record(), &rig.area, &rig.index);
     refused_start(rig, work_bytes, |work| match operation {
-        Operation::Write(key, value) => write(record, area, index, work, *key, value),
-        Operation::Delete(key) => delete(record, area, index, work, *key),
+        Operation::Write(key, value) => write(record, area, index, work, tables, *key, value),
+        Operation::Delete(key) => delete(record, area, index, work, tables, *key),
         Operation::Clean(victims) => clean(record, area, index, work, *victims),
     })
 }
@@ -72,10 +82,21 @@ fn refused(rig: &Rig<AsWritten>, operation: &Operation) -> u32 {
 
 /// The number with which a write of so many bytes is refused that expects a version.
 fn refused_expecting(rig: &Rig<AsWritten>, number: u32, expected: u32, bytes: usize) -> u32 {
+    refused_expecting_in(rig, Tables::ALL, number, expected, bytes)
+}
+
+/// The same for a caller with these tables.
+fn refused_expecting_in(
+    rig: &Rig<AsWritten>,
+    tables: Tables,
+    number: u32,
+    expected: u32,
+    bytes: usize,
+) -> u32 {
     let (record, area, index) = (rig.record(), &rig.area, &rig.index);
     let (key, expected, value) = (key(number), Version(expected), vec![0x11; bytes]);
     refused_start(rig, rig.work.len(), |work| {
-        write_expecting(record, area, index, work, key, expected, &value)
+        write_expecting(record, area, index, work, tables, key, expected, &value)
     })
 }
 
@@ -101,9 +122,13 @@ fn accepted_expectation(rig: &Rig<AsWritten>, number: u32) -> u32 {
 }
 
 fn refused_read(rig: &Rig<AsWritten>, key: Key) -> u32 {
+    refused_read_in(rig, Tables::ALL, key)
+}
+
+fn refused_read_in(rig: &Rig<AsWritten>, tables: Tables, key: Key) -> u32 {
     let record = rig.record();
-    let value = read_value(&record, &rig.area, &rig.index, key);
-    match read(&record, &rig.area, &rig.index, key) {
+    let value = read_value(&record, &rig.area, &rig.index, tables, key);
+    match read(&record, &rig.area, &rig.index, tables, key) {
         Ok(_) => 0,
         Err(refusal) => {
             assert_eq!(value.len(), 0);
@@ -166,7 +191,7 @@ fn numbers_and_causes_agree() {
         assert_eq!(Refusal::from_number(place as u32 + 1), Some(refusal));
     }
     assert_eq!(Refusal::from_number(0), None);
-    assert_eq!(Refusal::from_number(22), None);
+    assert_eq!(Refusal::from_number(23), None);
 }
 
 #[test]
@@ -516,6 +541,74 @@ fn cause_21_with_a_new_head() {
     }
     assert_eq!(refused_expecting(&last, 1, 0, 56), 21);
     assert_eq!(refused_expecting(&last, 1, 3, 56), 10);
+}
+
+const fn tables(first: u16, last: u16) -> Tables {
+    Tables { first, last }
+}
+
+/// Both ends are allowed; a range whose first table is above its last has none.
+#[test]
+fn cause_22_outside_tables() {
+    let mut rig = fresh();
+    let lowest = Key { table: 0, key: 1 };
+    let highest = Key {
+        table: u16::MAX,
+        key: 1,
+    };
+    for key in [lowest, key(1), highest] {
+        run(&mut rig, &[Operation::Write(key, vec![1; 8])]);
+        let table = key.table;
+        let write = Operation::Write(key, vec![2; 8]);
+        let (above, below) = (table.saturating_add(1), table.saturating_sub(1));
+        for range in [
+            (table, table),
+            (0, table),
+            (table, u16::MAX),
+            (below, above),
+        ] {
+            let range = tables(range.0, range.1);
+            assert_eq!(refused_read_in(&rig, range, key), 0);
+            assert_eq!(refused_in(&rig, range, &write, 256), 0);
+            assert_eq!(refused_in(&rig, range, &Operation::Delete(key), 256), 0);
+        }
+    }
+    for range in [(0, 6), (8, u16::MAX), (8, 6), (7, 6), (8, 7), (u16::MAX, 0)] {
+        let range = tables(range.0, range.1);
+        assert_eq!(refused_read_in(&rig, range, key(1)), 22);
+        assert_eq!(refused_in(&rig, range, &write_of(1, 8), 256), 22);
+        assert_eq!(refused_expecting_in(&rig, range, 1, 2, 8), 22);
+        assert_eq!(refused_in(&rig, range, &Operation::Delete(key(1)), 256), 22);
+        assert_eq!(
+            refused_in(&rig, range, &Operation::Clean(SlotMap(1)), 256),
+            0
+        );
+    }
+}
+
+/// 22 after 4, and before all else: before 3, 5, 7, 21, 9 and 8.
+#[test]
+fn cause_22_in_order() {
+    let other = tables(8, 9);
+    let mut rig = store(16, 1, u32::MAX);
+    assert_eq!(refused_read_in(&rig, other, key(1)), 22);
+    for operation in [write_of(1, 7), Operation::Delete(key(1))] {
+        assert_eq!(refused_in(&rig, other, &operation, 256), 22);
+        assert_eq!(refused_in(&rig, other, &operation, 255), 22);
+    }
+    assert_eq!(refused_expecting_in(&rig, other, 1, 5, 7), 22);
+    let genuine = rig.record();
+    for (left, cause) in [(20, 22), (0, 4)] {
+        let pending = Pending::Append { length: 19, left };
+        rig.record = Some(Record { pending, ..genuine });
+        assert_eq!(refused_read_in(&rig, other, key(1)), cause);
+        assert_eq!(refused_in(&rig, other, &write_of(1, 7), 0), cause);
+        assert_eq!(
+            refused_in(&rig, other, &Operation::Delete(key(1)), 0),
+            cause
+        );
+        assert_eq!(refused_expecting_in(&rig, other, 1, 5, 7), cause);
+    }
 }
 
 /// A recovery that is refused with 15 leaves a pending operation pending; one that is

@@ -12,7 +12,9 @@ use reference::recovery::recover_by;
 use reference::rules::Rules;
 use reference::step::step_by;
 use reference::testing::calls::Given;
-use reference::{format, read, read_value, Key, Pending, Progress, Record, Refusal, Started};
+use reference::{
+    format, read, read_value, Key, Pending, Progress, Record, Refusal, Started, Tables,
+};
 
 use crate::naive::{view, Plan, View};
 
@@ -122,12 +124,19 @@ impl<R: Rules> Rig<R> {
     fn call(&mut self, operation: &Operation, given: Given) -> Started {
         let record = self.record();
         let (area, index) = (&self.area, &self.index);
-        let work = &mut self.work[..given.work_bytes];
+        let (work, tables) = (&mut self.work[..given.work_bytes], given.tables);
         match operation {
-            Operation::Write(key, value) => {
-                write_by::<R>(record, area, index, work, *key, given.expected, value)
-            }
-            Operation::Delete(key) => delete_by::<R>(record, area, index, work, *key),
+            Operation::Write(key, value) => write_by::<R>(
+                record,
+                area,
+                index,
+                work,
+                tables,
+                *key,
+                given.expected,
+                value,
+            ),
+            Operation::Delete(key) => delete_by::<R>(record, area, index, work, tables, *key),
             Operation::Clean(victims) => clean_by::<R>(record, area, index, work, *victims),
         }
     }
@@ -162,6 +171,9 @@ impl<R: Rules> Rig<R> {
 
     /// What a start must answer by the naive reading.
     fn plan(&self, operation: &Operation, given: Given, before: Record) -> Result<Expected, Fault> {
+        if !may_use(given.tables, operation) {
+            return Ok(Err(22));
+        }
         if given.work_bytes < self.slot_bytes as usize {
             return Ok(Err(3));
         }
@@ -378,9 +390,27 @@ impl<R: Rules> Rig<R> {
 
     /// Holds one read to the book.
     pub fn check_read(&self, key: Key) -> Result<(), Fault> {
+        self.check_read_in(Tables::ALL, key)
+    }
+
+    /// Holds one read to the book, and to the tables of its caller.
+    pub fn check_read_in(&self, tables: Tables, key: Key) -> Result<(), Fault> {
         let record = self.record();
-        let found = read(&record, &self.area, &self.index, key);
-        let value = read_value(&record, &self.area, &self.index, key);
+        let found = read(&record, &self.area, &self.index, tables, key);
+        let value = read_value(&record, &self.area, &self.index, tables, key);
+        if !(tables.first..=tables.last).contains(&key.table) {
+            same!(
+                format!("read of {key:?}"),
+                found,
+                Err(Refusal::OutsideTables)
+            );
+            same!(
+                "value outside the tables",
+                value.as_ptr_range(),
+                self.area[..0].as_ptr_range()
+            );
+            return Ok(());
+        }
         match self.book.keys.get(&key) {
             None => {
                 same!(format!("read of {key:?}"), found, Err(Refusal::Absent));
@@ -414,6 +444,16 @@ impl<R: Rules> Rig<R> {
         }
         tell_steps(&mut text, &mut steps);
         text
+    }
+}
+
+/// Whether the operation has no key, or one in a table of the caller.
+fn may_use(tables: Tables, operation: &Operation) -> bool {
+    match operation {
+        Operation::Write(key, _) | Operation::Delete(key) => {
+            (tables.first..=tables.last).contains(&key.table)
+        }
+        Operation::Clean(_) => true,
     }
 }
 
