@@ -55,7 +55,7 @@ fn two_slots(room: bool) -> Store {
     Store::new(area, 256)
 }
 
-/// A write of 8 bytes with all its steps, into a head with room and into a new head; and the start of a conditional one.
+/// A write of 8 bytes with all its steps: into a head with room, into a new head, and over the version that the key has.
 fn writes(report: &mut Report) {
     for (case, room) in [
         ("write with its steps, appended", true),
@@ -66,9 +66,8 @@ fn writes(report: &mut Report) {
     }
     let mut store = two_slots(true);
     let write = Operation::WriteExpecting(5, store.version(5), &[9; 8]);
-    let timing = store.time_start(write, Ok(20));
-    let case = "start of a conditional write";
-    report.call(Call::ConditionalWriteStart, Keys::Plain, case, timing);
+    let case = "conditional write with its steps, appended";
+    report.line(case, store.time_whole(write));
 }
 
 /// Objects of which, in the first two slots, every second one is overwritten later.
