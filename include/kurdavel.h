@@ -56,9 +56,9 @@
  *   and decides anew.
  *
  * TWO OWNERS OF ONE STORE
- *   Parts of a firmware whose tables have none in common, and which give no others with their calls, can neither read
- *   nor change each other's values. What one gets (answers, versions, places, values) does not depend on the bytes that
- *   the other writes. It does depend on the other's keys, the lengths of its values and the number of its calls, which
+ *   Parts of a firmware whose tables have none in common, and which give no others with their calls, can by them neither
+ *   read nor change each other's values. What one gets (answers, versions, places, values) does not depend on the bytes
+ *   that the other writes. It does depend on the other's keys, the lengths of its values and the number of its calls, which
  *   show through the refusals 5, 6, 9 to 14, 20 and 21, the numbers of stores, the versions and the places.
  *
  * WHAT THE CALLS COST
