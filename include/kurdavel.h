@@ -105,8 +105,8 @@
  *   slot has an object of the key. So M is to be above the number of live keys and of deleted ones not yet cleaned
  *   away, together. (N - 1) * ((S - 13) / 11) + 1 cells, in whole numbers, are enough for any log, where that is no
  *   more than 4,096. A search is shorter where more cells are free, and faster where M is a power of two.
- *   One slot is always kept free for cleaning. An entry takes 11 bytes and its value (19, 35 or 67), a tombstone 11,
- *   and a slot holds S - 13 bytes of them.
+ *   One slot is always kept free for cleaning. An entry takes 11 bytes and its value (19, 35, 67 or 131), a tombstone
+ *   11, and a slot holds S - 13 bytes of them.
  *
  *   What helps after a refusal
  *    9  Only a format, which empties the store: no version is left. Reads and cleanings go on.
@@ -137,7 +137,7 @@ extern "C" {
  * written by an earlier one may be refused; MINOR when something is added.
  */
 #define KURDAVEL_VERSION_MAJOR 2u
-#define KURDAVEL_VERSION_MINOR 0u
+#define KURDAVEL_VERSION_MINOR 1u
 #define KURDAVEL_VERSION (KURDAVEL_VERSION_MAJOR * 1000u + KURDAVEL_VERSION_MINOR)
 
 /* Sizes. */
@@ -147,7 +147,7 @@ extern "C" {
 #define KURDAVEL_SLOT_BYTES_MAX 2048u
 #define KURDAVEL_CELLS_MIN 16u      /* M */
 #define KURDAVEL_CELLS_MAX 4096u
-#define KURDAVEL_VALUE_MAX 56u      /* a value is 8, 24 or 56 bytes */
+#define KURDAVEL_VALUE_MAX 120u     /* a value is 8, 24, 56 or 120 bytes */
 #define KURDAVEL_RECORD_WORDS 14u
 
 /*
@@ -200,7 +200,7 @@ enum kurdavel_answer {
                                               index not as long as it says; or a byte in the log that no store makes */
     KURDAVEL_REFUSED_BUSY = 5,             /* another operation is under way */
     KURDAVEL_REFUSED_NONE_PENDING = 6,     /* no operation is under way */
-    KURDAVEL_REFUSED_VALUE_LENGTH = 7,     /* a value is 8, 24 or 56 bytes long, and this is not */
+    KURDAVEL_REFUSED_VALUE_LENGTH = 7,     /* a value is 8, 24, 56 or 120 bytes long, and this is not */
     KURDAVEL_REFUSED_ABSENT = 8,           /* the key was never written, or is deleted */
     KURDAVEL_REFUSED_VERSIONS_SPENT = 9,   /* no version is left to give */
     KURDAVEL_REFUSED_NUMBERS_SPENT = 10,   /* a new head is needed, and no digest number is left for it */
@@ -237,8 +237,8 @@ uint32_t kurdavel_recover(uint32_t slots, uint32_t slot_bytes, const uint8_t *or
                           uint32_t *record, size_t record_words);
 
 /*
- * Tells the version and the kind (1, 2 or 3: a value of 8, 24 or 56 bytes) of a key's object. Where it is refused, both
- * are 0.
+ * Tells the version and the kind (1, 2, 3 or 7: a value of 8, 24, 56 or 120 bytes) of a key's object. Where it is
+ * refused, both are 0.
  * Refused: 4, 22, 8, in this order.
  */
 uint32_t kurdavel_read(const uint32_t *record, size_t record_words, const uint8_t *area, size_t area_bytes,

@@ -1,7 +1,7 @@
 /*
  * The edges of the interface: refusals and what they leave, an operation that is given up, an index that is too small
- * for the log, two passes that write over what they read, and two owners with tables of their own. Prints what is
- * answered; `rules.stdout` beside this file is what it must print.
+ * for the log, two passes that write over what they read, two owners with tables of their own, and the longest value.
+ * Prints what is answered; `rules.stdout` beside this file is what it must print.
  */
 #include "kurdavel.h"
 
@@ -173,6 +173,22 @@ static void two_owners(struct kurdavel_store *store) {
     printf("media deletes servo's key: %u\n", (unsigned)kurdavel_store_delete(store, media, key_of(0), &stores));
 }
 
+/* A value of the longest kind, in a store that is formatted anew; one byte more is no value. */
+static void longest_value(struct kurdavel_store *store) {
+    static const uint8_t adaptives[KURDAVEL_VALUE_MAX + 1] = {0x78};
+    uint32_t stores = 0, version = 0, kind = 0;
+    expect_accepted("format", kurdavel_store_format(&store->area));
+    expect_accepted("recover", kurdavel_store_recover(store, order, sizeof order));
+    printf("a value of %u bytes: %u\n", KURDAVEL_VALUE_MAX + 1,
+           (unsigned)kurdavel_store_write(store, servo, key_of(0), adaptives, KURDAVEL_VALUE_MAX + 1, &stores));
+    expect_accepted("write",
+                    kurdavel_store_write(store, servo, key_of(0), adaptives, KURDAVEL_VALUE_MAX, &stores));
+    printf("a value of %u bytes: %u stores", KURDAVEL_VALUE_MAX, (unsigned)stores);
+    finish(store, stores);
+    expect_accepted("read", kurdavel_store_read(store, servo, key_of(0), &version, &kind));
+    printf(", version %u, kind %u\n", (unsigned)version, (unsigned)kind);
+}
+
 int main(void) {
     struct kurdavel_store store;
     uint32_t number, stores = 0, version;
@@ -197,5 +213,6 @@ int main(void) {
     two_passes(&store, 3, version);
     printf("%u keys present\n", present(&store));
     two_owners(&store);
+    longest_value(&store);
     return 0;
 }

@@ -3,13 +3,13 @@ use Prim.Native.Nat.{ℕ, _+_, _-_, _*_, _^_, _≤_, _<_}
 use native.Mathlib.Omega.{arith}
 use mathlib.Core.Path.{_≡_, refl, sym, ap, _∙_, subst}
 use mathlib.Core.Bool.{Bool, true, false}
-use mathlib.Core.List.{List, List·Memᴰ}
+use mathlib.Core.List.{List, [], _∷_, List·Memᴰ}
 use mathlib.Core.Option.{Option, none, some}
-use lib.Dec.{eqb, lit<, lit≤}
+use lib.Dec.{eqb, ltb, lit<}
 use lib.ListN.{length, take, drop}
 use lib.Seq.{take-length}
-use borrow.Author.Tests.{not-false, ltb-false, eqb-false}
-use Rattle.segment.specs.Choice.{pick, pick-true, pick-false, isNone, either-false-left, either-false-right}
+use borrow.Author.Tests.{not-false, ltb-true, ltb-false, eqb-false}
+use Rattle.segment.specs.Choice.{pick, pick-true, pick-false, both, both-left, both-right, isNone, either-false-left, either-false-right}
 use Rattle.segment.specs.Packed.{field-at}
 use Rattle.segment.specs.Layout.{Layout, edition1, lookup, valueLength, digestSize, entrySize, numberLimit}
 use Rattle.segment.specs.Entry.{Entry, WellFormed, isTombstone, bytesIn, sizeOf, entryAt, entry}
@@ -225,24 +225,41 @@ operation-laws L roomy =
       format-log = λ n s m area g. format-log L roomy n s area g m;
     }
 
+-- ---- a table of kinds
+
+-- whether a value of each length in a table has room in the smallest segment behind so many other bytes
+unfoldable fitting : ℕ → List (ℕ × ℕ) → Bool
+fitting before [] = true
+fitting before (p ∷ ps) = both (ltb (before + p .1) 257) (fitting before ps)
+
+table-fits : (before : ℕ) (ps : List (ℕ × ℕ)) → fitting before ps ≡ true → (k n : ℕ) → lookup k ps ≡ some n → before + n ≤ 256
+unfolding fitting lookup pick
+table-fits before [] f k n e = let z : _≡_ {A = ℕ} 0 1 = cc in absurd (omega arith)
+table-fits before (p ∷ ps) f k n e = go (eqb k (p .0)) e (table-fits before ps (both-right (ltb (before + p .1) 257) (fitting before ps) f) k n)
+  where
+    first : before + p .1 < 257
+    first = ltb-true (before + p .1) 257 (both-left (ltb (before + p .1) 257) (fitting before ps) f)
+
+    go : (t : Bool) → pick t (some (p .1)) (lookup k ps) ≡ some n → (lookup k ps ≡ some n → before + n ≤ 256) → before + n ≤ 256
+    go true q rest = let same : p .1 ≡ n = cc in omega (arith, first)
+    go false q rest = rest q
+
+-- a tombstone's value has no bytes
+table-roomy : (L : Layout) → 0 < L .width → fitting (digestSize L + entrySize L 0) ((L .tombstoneKind, 0) ∷ L .objects) ≡ true → Roomy L
+unfolding valueLength lookup
+table-roomy L w f =
+    record {
+      wide = w;
+      room =
+          λ k n e. let h = table-fits (digestSize L + entrySize L 0) ((L .tombstoneKind, 0) ∷ L .objects) f k n e in omega (arith, h);
+    }
+
 -- ---- the first edition
 
--- its longest entry, 67 bytes, fits behind a digest in the smallest segment
+-- its longest entry, 131 bytes, fits behind a digest in the smallest segment
 pub edition1-roomy : Roomy edition1
-unfolding edition1 valueLength lookup pick
-edition1-roomy = record { wide = lit< tt; room = λ k n e. go (eqb k 4) (eqb k 1) (eqb k 2) (eqb k 3) n e }
-  where
-    short : (a n : ℕ) → _≡_ {A = Option ℕ} (some a) (some n) → a ≤ 56 → 13 + (11 + n) ≤ 256
-    short a n e h = let same : a ≡ n = cc in omega arith
-
-    go :
-        (t o w h : Bool) (n : ℕ) → pick t (some 0) (pick o (some 8) (pick w (some 24) (pick h (some 56) none))) ≡ some n →
-        digestSize edition1 + entrySize edition1 n ≤ 256
-    go true o w h n e = short 0 n e (lit≤ tt)
-    go false true w h n e = short 8 n e (lit≤ tt)
-    go false false true h n e = short 24 n e (lit≤ tt)
-    go false false false true n e = short 56 n e (lit≤ tt)
-    go false false false false n e = let z : _≡_ {A = ℕ} 0 1 = cc in absurd (omega arith)
+unfolding edition1 fitting both
+edition1-roomy = table-roomy edition1 (lit< tt) refl
 
 pub edition1-laws : OperationLaws edition1
 edition1-laws = operation-laws edition1 edition1-roomy

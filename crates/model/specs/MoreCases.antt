@@ -17,12 +17,15 @@ use Rattle.model.specs.Play.{opened, freshOver, keyed, object, tombstone
 use Rattle.model.specs.Expected.{holds, gives, refusedBy, toCome, remaining, done, shows}
 use Rattle.model.specs.Table.{Row, row, failing, Hold, joined, rows-hold}
 
--- an object of 8 bytes, and one of 56
+-- an object of 8 bytes, one of 56 and one of 120
 abbrev small : Key → ℕ → Entry
 small k v = object k v (replicate 8 v)
 
 abbrev large : Key → ℕ → Entry
 large k v = object k v (replicate 56 v)
+
+abbrev long : Key → ℕ → Entry
+long k v = object k v (replicate 120 v)
 
 -- tombstones of n keys of table 1, at the versions 1 to n
 abbrev tombstones : ℕ → List Entry
@@ -91,17 +94,19 @@ recoveryRefusals =
     (17 ∷ 17 ∷ 17 ∷ 17 ∷ 17 ∷ 17 ∷ 17 ∷ [])
     -- a lower number may be shared, and the other digests' maps and next versions say nothing
     ∷ row 17 (refuses (seg 2 3 1 [] ++ bare 1 ++ bare 1 ++ bare 1) ∷ []) (0 ∷ [])
-    -- kinds 5, 6 and 255; a version of 0 and one at the limit; an entry past the end by one byte; each in the last slot of the log
+    -- kinds 5, 6, 8 and 255; a version of 0 and one at the limit; an entry past the end by one byte; each in the last slot of the log
     ∷ row 18
     (map (λ bytes. refuses (sharedAnd bytes))
     ((5 ∷ [])
     ∷ (6 ∷ [])
+    ∷ (8 ∷ [])
     ∷ (255 ∷ [])
     ∷ allEncoded edition1 (small (keyed 1 3) 0 ∷ [])
     ∷ allEncoded edition1 (tombstone (keyed 1 3) 4294967295 ∷ [])
     ∷ allEncoded edition1 (tombstones 10 ++ large (keyed 2 1) 11 ∷ large (keyed 2 2) 12 ∷ [])
+    ∷ allEncoded edition1 (large (keyed 2 1) 11 ∷ object (keyed 2 2) 12 (replicate 24 12) ∷ tombstone (keyed 2 3) 13 ∷ long (keyed 2 4) 14 ∷ [])
     ∷ []))
-    (18 ∷ 18 ∷ 18 ∷ 18 ∷ 18 ∷ 18 ∷ [])
+    (replicate 8 18)
     ∷ row 19 (map (λ bytes. refuses (sharedAnd bytes)) ([] ∷ allEncoded edition1 (tombstone (keyed 1 3) 4294967294 ∷ []) ∷ [])) (19 ∷ 19 ∷ [])
     ∷ row 19 (refuses (sixteenKeys 15) ∷ []) (19 ∷ [])
     -- damage and a shared version in a free slot are nothing
@@ -221,18 +226,18 @@ callRefusals =
     ∷ row 4 (steps (busy (Append 19 0)) 255 ∷ map (startsOf (busy (Append 19 258)) 255) badOnes) (4 ∷ 4 ∷ 4 ∷ 4 ∷ [])
     ∷ row 5 (map (startsOf (busy (Append 19 20)) 256) badOnes) (5 ∷ 5 ∷ 5 ∷ [])
     ∷ row 6 (steps idle 256 ∷ steps (busy (Append 19 20)) 256 ∷ []) (6 ∷ 0 ∷ [])
-    ∷ row 7 (map (λ n. startNumber (crowded limit 7 limit) (newKey n)) (0 ∷ 7 ∷ 9 ∷ 23 ∷ 25 ∷ 55 ∷ 57 ∷ [])) (replicate 7 7)
+    ∷ row 7 (map (λ n. startNumber (crowded limit 7 limit) (newKey n)) (0 ∷ 7 ∷ 9 ∷ 23 ∷ 25 ∷ 55 ∷ 57 ∷ 119 ∷ 121 ∷ [])) (replicate 9 7)
     ∷ row 8 (map (startNumber (crowded limit 7 limit)) (delete (keyed 1 2) ∷ delete (keyed 2 1) ∷ [])) (8 ∷ 8 ∷ [])
-    ∷ row 9 (map (startNumber (crowded limit 7 limit)) (newKey 8 ∷ oldKey 8 ∷ delete (keyed 1 1) ∷ [])) (9 ∷ 9 ∷ 9 ∷ [])
+    ∷ row 9 (map (startNumber (crowded limit 7 limit)) (newKey 8 ∷ newKey 120 ∷ oldKey 8 ∷ delete (keyed 1 1) ∷ [])) (9 ∷ 9 ∷ 9 ∷ 9 ∷ [])
     ∷ row 9 (map (startNumber (filled limit 7 limit)) (delete (keyed 1 1) ∷ delete (keyed 1 2) ∷ [])) (9 ∷ 8 ∷ [])
     -- with the next version at its limit cleaning works
     ∷ row 9 (startNumber (crowded 3 7 limit) (clean 1) ∷ []) (0 ∷ [])
-    ∷ row 10 (map (startNumber (crowded limit 3 1)) (oldKey 8 ∷ oldKey 24 ∷ oldKey 56 ∷ clean 1 ∷ [])) (10 ∷ 10 ∷ 10 ∷ 10 ∷ [])
+    ∷ row 10 (map (startNumber (crowded limit 3 1)) (oldKey 8 ∷ oldKey 24 ∷ oldKey 56 ∷ oldKey 120 ∷ clean 1 ∷ [])) (replicate 5 10)
     -- with the digest number at its limit an entry that fits is taken; one below the limit a new head is
     ∷ row 10 (startNumber (crowded limit 3 1) (delete (keyed 1 1)) ∷ startNumber (crowded 4294967294 3 1) (oldKey 8) ∷ []) (0 ∷ 0 ∷ [])
     ∷ row 10 (startNumber (filled limit 3 1) (delete (keyed 1 1)) ∷ startNumber (filled 4294967294 3 1) (delete (keyed 1 1)) ∷ []) (10 ∷ 0 ∷ [])
-    ∷ row 11 (map (startNumber (crowded limit 7 1)) (newKey 8 ∷ newKey 56 ∷ [])) (11 ∷ 11 ∷ [])
-    ∷ row 12 (map (startNumber (crowded limit 7 1)) (oldKey 8 ∷ oldKey 56 ∷ [])) (12 ∷ 12 ∷ [])
+    ∷ row 11 (map (startNumber (crowded limit 7 1)) (newKey 8 ∷ newKey 120 ∷ [])) (11 ∷ 11 ∷ [])
+    ∷ row 12 (map (startNumber (crowded limit 7 1)) (oldKey 8 ∷ oldKey 120 ∷ [])) (12 ∷ 12 ∷ [])
     ∷ row 12 (startNumber (filled limit 7 1) (delete (keyed 1 1)) ∷ []) (12 ∷ [])
     -- two free slots are enough, and an entry that fits needs none
     ∷ row 12 (startNumber (crowded 3 3 1) (oldKey 8) ∷ startNumber (crowded 3 7 1) (delete (keyed 1 1)) ∷ []) (0 ∷ 0 ∷ [])
@@ -373,6 +378,53 @@ limitRows =
     ∷ row 34 (recoveryNumbers (recovery edition1 5 300 20 (4 ∷ 3 ∷ 2 ∷ 1 ∷ 0 ∷ []) (formatted edition1 5 300 (replicate 1500 9)))) (0 ∷ 5 ∷ 300 ∷ 20 ∷ 0 ∷ 13 ∷ 1 ∷ 1 ∷ 1 ∷ 0 ∷ 0 ∷ [])
     ∷ []
 
+-- ---- R-3, kind 7: rows 35 and on
+
+abbrev lengthy : Operation
+lengthy = write (keyed 7 9) (replicate 120 0x11)
+
+abbrev lengthyBytes : List ℕ
+lengthyBytes = 0x07 ∷ 0x07 ∷ 0x00 ∷ 0x09 ∷ 0x00 ∷ 0x00 ∷ 0x00 ∷ 0x01 ∷ 0x00 ∷ 0x00 ∷ 0x00 ∷ replicate 120 0x11
+
+-- a head alone, with these bytes behind its digest
+abbrev headBytes : List ℕ → List ℕ
+headBytes bytes = slotWith 255 (segmentWith 1 1 1 [] ++ bytes) ++ vacant ++ vacant ++ vacant
+
+-- a head with room for one entry of 131 bytes
+abbrev roomForOne : List ℕ
+roomForOne = headAlone 1 (tombstones 7 ++ object (keyed 2 1) 8 (replicate 24 8) ∷ [])
+
+-- three live objects of 120 bytes, each in a slot of its own; slot 2 is the head
+abbrev threeLong : List ℕ
+threeLong = seg 1 1 1 (long a 1 ∷ []) ++ seg 2 3 2 (long b 2 ∷ []) ++ seg 3 7 3 (long c 3 ∷ []) ++ vacant
+
+abbrev longRows : List Row
+longRows =
+    row 35 (starts (freshOver 4) lengthy) (toCome 132 ++ holds (record { head = 0; end = 13; digest = 1; map = 1; next = 1; keys = 0; left = 132 }))
+    ∷ row 35 (take 145 (played (freshOver 4) lengthy)) (segmentWith 1 1 1 [] ++ lengthyBytes ++ 0 ∷ [])
+    ∷ row 35 (ends (freshOver 4) lengthy) (done 1 ++ holds (record { head = 0; end = 144; digest = 1; map = 1; next = 2; keys = 1; left = 0 }))
+    ∷ row 35 (reads (cutAfter 131 (freshOver 4) lengthy) (keyed 7 9)) (refusedBy 8)
+    ∷ row 35 (recovers (cutAfter 132 (freshOver 4) lengthy)) (gives (record { head = 0; end = 144; digest = 1; map = 1; next = 2; keys = 1; left = 0 }))
+    ∷ row 35 (reads (cutAfter 132 (freshOver 4) lengthy) (keyed 7 9)) (shows 1 7 (replicate 120 0x11))
+    -- the same bytes behind another kind that is no entry's
+    ∷ row 36 (map (λ k. refuses (headBytes (k ∷ drop 1 lengthyBytes))) (5 ∷ 6 ∷ 7 ∷ 8 ∷ 9 ∷ 13 ∷ 255 ∷ [])) (18 ∷ 18 ∷ 0 ∷ 18 ∷ 18 ∷ 18 ∷ 18 ∷ [])
+    -- its version is tested like any entry's
+    ∷ row 36 (map (λ v. refuses (headBytes (allEncoded edition1 (object a v (replicate 120 1) ∷ [])))) (0 ∷ 1 ∷ limit ∷ [])) (18 ∷ 0 ∷ 18 ∷ [])
+    -- one that ends at S
+    ∷ row 37 (stores roomForOne (write a (replicate 120 9)) ∷ []) (131 ∷ [])
+    ∷ row 37 (ends roomForOne (write a (replicate 120 9))) (done 9 ++ holds (record { head = 0; end = 256; digest = 1; map = 1; next = 10; keys = 8; left = 0 }))
+    ∷ row 37 (reads (played roomForOne (write a (replicate 120 9))) a) (shows 9 7 (replicate 120 9))
+    -- two do not fit a slot, so the second takes a new head; with one slot free a shorter one still fits the head
+    ∷ row 38 (stores (headAlone 1 (long a 1 ∷ [])) (write b (replicate 120 2)) ∷ []) (146 ∷ [])
+    ∷ row 38 (take 257 (drop 256 (played (headAlone 1 (long a 1 ∷ [])) (write b (replicate 120 2))))) (slotWith 255 (segmentWith 2 3 2 (long b 2 ∷ [])) ++ 0 ∷ [])
+    ∷ row 38 (map (λ n. startNumber threeLong (write d (replicate n 4))) (8 ∷ 56 ∷ 120 ∷ [])) (0 ∷ 0 ∷ 12 ∷ [])
+    -- cleaning: any one victim fits, two do not
+    ∷ row 39 (map (λ v. startNumber threeLong (clean v)) (1 ∷ 2 ∷ 4 ∷ 3 ∷ 7 ∷ [])) (0 ∷ 0 ∷ 0 ∷ 14 ∷ 14 ∷ [])
+    ∷ row 39 (keeps threeLong 2) (allEncoded edition1 (long b 2 ∷ []))
+    ∷ row 39 (ends threeLong (clean 2)) (done 0 ++ holds (record { head = 3; end = 144; digest = 4; map = 13; next = 4; keys = 3; left = 0 }))
+    ∷ row 39 (reads (played threeLong (clean 2)) b) (shows 2 7 (replicate 120 2))
+    ∷ []
+
 -- ---- each part computed, and the table
 
 computed-recovery : failing recoveryRefusals ≡ []
@@ -395,13 +447,17 @@ computed-limits : failing limitRows ≡ []
 unfolding opened
 computed-limits = refl
 
+computed-long : failing longRows ≡ []
+unfolding opened
+computed-long = refl
+
 abbrev pub moreCases : List Row
-moreCases = recoveryRefusals ++ (callRefusals ++ (cutRows ++ (cleaningRows ++ limitRows)))
+moreCases = recoveryRefusals ++ (callRefusals ++ (cutRows ++ (cleaningRows ++ (limitRows ++ longRows))))
 
 computed : failing moreCases ≡ []
 computed =
     joined recoveryRefusals _ computed-recovery (joined callRefusals _ computed-calls
-    (joined cutRows _ computed-cuts (joined cleaningRows limitRows computed-cleaning computed-limits)))
+    (joined cutRows _ computed-cuts (joined cleaningRows _ computed-cleaning (joined limitRows longRows computed-limits computed-long))))
 
 pub more-cases-hold : Hold moreCases
 more-cases-hold = rows-hold moreCases computed

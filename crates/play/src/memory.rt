@@ -46,14 +46,17 @@ pub fn at_most(limit: usize, n: usize) -> usize
     limit
 }
 
-// The bytes of a value, and more where it has fewer than 56.
-pub fn value_bytes(value: Value) -> [u8; 56]
-    ensures { λ r. ⌜ r ≡ rising 56 (value .first) (value .rise) ⌝ }
+// How many bytes the longest value has.
+pub const LONGEST: usize = 120;
+
+// The bytes of a value, and more where it is not the longest.
+pub fn value_bytes(value: Value) -> [u8; LONGEST]
+    ensures { λ r. ⌜ r ≡ rising 120 (value .first) (value .rise) ⌝ }
 {
-    let mut bytes = [0; 56];
+    let mut bytes = [0; LONGEST];
     let mut byte = value.first;
     let mut i = 0;
-    while i < 56 {
+    while i < LONGEST {
         bytes[i] = byte;
         byte = std::num::wrapping_add_u8(byte, value.rise);
         i += 1;

@@ -226,7 +226,7 @@ pub fn write_key(
     let before = played.book;
     let key = book::key(number);
     let bytes = memory::value_bytes(value);
-    let length = memory::at_most(56, value.length);
+    let length = memory::at_most(memory::LONGEST, value.length);
     lines::operation(b"write", key);
     let tables = Tables {
         first: 0,

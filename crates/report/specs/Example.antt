@@ -22,6 +22,11 @@ case-2 : after (write (keyed 7 9) (replicate 8 0x11) ∷ []) ≡ ascii "next 2 d
 unfolding opened digitsIn before inOrder ascending presentOf lineOf linesOf textUnless areaText dumpText
 case-2 = refl
 
+-- R-3: kind 7 is printed like any other.
+kind-7 : after (write (keyed 7 9) (replicate 120 0x11) ∷ []) ≡ ascii "next 2 digest 1 keys 1\n7 9 1 7\n"
+unfolding opened digitsIn before inOrder ascending presentOf lineOf linesOf textUnless areaText dumpText
+kind-7 = refl
+
 -- A key that is written anew stands once, and one that is deleted does not stand.
 in-order :
     after

@@ -46,7 +46,8 @@ pub record Layout : Type 0 where
   pub sound-tombstone : both (not (eqb tombstoneKind 0)) (ltb tombstoneKind 256) ≡ true
   pub sound-objects : soundObjects tombstoneKind objects objects ≡ true
 
--- 01's table of kinds: versions of 4 bytes; objects of 8, 24 and 56 bytes are kinds 1, 2 and 3; a tombstone is 4, a digest 5
+-- 01's table of kinds, with R-3's: versions of 4 bytes; objects of 8, 24, 56 and 120 bytes are kinds 1, 2, 3 and 7; a tombstone
+-- is 4, a digest 5
 unfoldable pub edition1 : Layout
 unfolding both lookup lookBack soundObjects isSome pick
 edition1 =
@@ -54,7 +55,7 @@ edition1 =
       width = 4;
       digestKind = 5;
       tombstoneKind = 4;
-      objects = (1, 8) ∷ (2, 24) ∷ (3, 56) ∷ [];
+      objects = (1, 8) ∷ (2, 24) ∷ (3, 56) ∷ (7, 120) ∷ [];
       sound-digest = refl;
       sound-tombstone = refl;
       sound-objects = refl;

@@ -9,6 +9,7 @@ pub mod DigestLaws
 pub mod ValueLaws
 pub mod EntryLaws
 pub mod Kinds
+pub mod KindTable
 pub mod AnswerLaws
 pub mod ReaderLaws
 pub mod Area

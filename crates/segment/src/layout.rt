@@ -30,6 +30,7 @@ pub fn kind_size(kind: u8) -> usize
         2 => 35,
         3 => 67,
         4 => 11,
+        7 => 131,
         _ => 0,
     }
 }
@@ -42,6 +43,7 @@ pub fn object_kind(length: usize) -> u8
         8 => 1,
         24 => 2,
         56 => 3,
+        120 => 7,
         _ => 0,
     }
 }

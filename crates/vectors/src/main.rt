@@ -7,4 +7,5 @@ fn main() {
     hashes::keys();
     readers::worked();
     readers::ends_and_damage();
+    readers::kinds();
 }

@@ -124,3 +124,29 @@ pub fn ends_and_damage() {
         b"\x04\x07\x00\x09\x00\x00\x00\xff\xff\xff\xff",
     );
 }
+
+// A kind before as many bytes as the longest entry has.
+fn kind_line(kind: u8) {
+    let mut entry = [0x11; 131];
+    entry[0] = kind;
+    field(b"kind ", kind as u64);
+    found(&entry, 0);
+}
+
+// The table of kinds, and the kinds beside those that it has; the longest entry without its last byte.
+pub fn kinds() {
+    io::write_all(1, b"Kinds\n");
+    kind_line(0);
+    kind_line(1);
+    kind_line(2);
+    kind_line(3);
+    kind_line(4);
+    kind_line(5);
+    kind_line(6);
+    kind_line(7);
+    kind_line(8);
+    kind_line(255);
+    let mut entry = [0x11; 131];
+    entry[0] = 7;
+    named_line(b"kind 7, a byte short", &entry[..130]);
+}

@@ -14,7 +14,7 @@ use crate::versions::meeting;
 /// As many keys as the index takes.
 const KEYS: usize = CELLS - 1;
 /// A value of the longest kind.
-const VALUE: [u8; 56] = [9; 56];
+const VALUE: [u8; 120] = [9; 120];
 
 /// Keys that fill the index, and how a case names them.
 struct Chosen {
@@ -113,20 +113,20 @@ impl Chosen {
         }
     }
 
-    /// Starts and steps of writes of 56 bytes and the start of a delete, of the key found last.
+    /// Starts and steps of writes of 120 bytes and the start of a delete, of the key found last.
     fn writes(&self, report: &mut Report) {
         let mut store = self.one_entry_each();
         let key = self.last_present(&store);
         let (write, delete) = (Operation::Write(key, &VALUE), Operation::Delete(key));
-        let timing = store.time_start(write, Ok(68));
+        let timing = store.time_start(write, Ok(132));
         self.call(report, Call::WriteStart, "start of a write", timing);
         let conditional = Operation::WriteExpecting(key, store.version(key), &VALUE);
-        let timing = store.time_start(conditional, Ok(68));
+        let timing = store.time_start(conditional, Ok(132));
         let case = "start of a conditional write";
         self.call(report, Call::ConditionalWriteStart, case, timing);
         let timing = store.time_start(delete, Ok(12));
         self.call(report, Call::DeleteStart, "start of a delete", timing);
-        let timing = self.one_entry_each().time_step(write, 34);
+        let timing = self.one_entry_each().time_step(write, 66);
         self.call(report, Call::MiddleStep, "a middle step of a write", timing);
         let timing = store.time_step(write, 1);
         self.call(

@@ -18,7 +18,7 @@ pub enum Refusal {
     Busy = 5,
     /// No operation is under way.
     NonePending = 6,
-    /// No value has this length: it is 8, 24 or 56 bytes.
+    /// No value has this length: it is 8, 24, 56 or 120 bytes.
     ValueLength = 7,
     /// The key was never written, or is deleted.
     Absent = 8,

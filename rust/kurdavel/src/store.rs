@@ -10,7 +10,7 @@ use crate::values::{Key, SlotMap, Tables, Version};
 pub struct Found {
     /// The version.
     pub version: Version,
-    /// The kind of the object: 1, 2 or 3, for a value of 8, 24 or 56 bytes.
+    /// The kind of the object: 1, 2, 3 or 7, for a value of 8, 24, 56 or 120 bytes.
     pub kind: u8,
 }
 

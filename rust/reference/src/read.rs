@@ -12,7 +12,7 @@ use crate::tables::Tables;
 pub struct Found {
     /// The version.
     pub version: Version,
-    /// The kind of the object: 1, 2 or 3.
+    /// The kind of the object: 1, 2, 3 or 7.
     pub kind: u8,
 }
 

@@ -1,4 +1,4 @@
-//! The bytes of one segment (01, "Bytes of a segment"): its digest and its entries.
+//! The bytes of one segment (01, "Bytes of a segment"; 02, R-3): its digest and its entries.
 //!
 //! Nothing here knows more than a single segment.
 
@@ -67,6 +67,7 @@ pub fn object_kind(value_bytes: usize) -> Option<u8> {
         8 => Some(1),
         24 => Some(2),
         56 => Some(3),
+        120 => Some(7),
         _ => None,
     }
 }
@@ -78,6 +79,7 @@ pub fn entry_bytes(kind: u8) -> Option<usize> {
         1 => Some(19),
         2 => Some(35),
         3 => Some(67),
+        7 => Some(131),
         TOMBSTONE => Some(TOMBSTONE_BYTES),
         _ => None,
     }
@@ -99,7 +101,7 @@ pub struct Fields {
 /// What the reader of an entry finds.
 #[derive(Clone, Copy, PartialEq, Eq, Debug)]
 pub enum Entry {
-    /// An object of kind 1, 2 or 3.
+    /// An object of kind 1, 2, 3 or 7.
     Object(Fields),
     /// A tombstone.
     Tombstone(Fields),

@@ -35,7 +35,7 @@ fn try_all(pair: &Pair, tally: &mut Tally) -> Result<(), Fault> {
         .chain(near)
         .chain([u32::MAX / 2, u32::MAX - 1, u32::MAX]);
     for (expected, key) in numbers.flat_map(|number| [A, B, NEVER].map(|key| (number, key))) {
-        for bytes in [7, 8, 24, 56] {
+        for bytes in [7, 8, 24, 56, 120] {
             let write = Operation::Write(key, vec![3; bytes]);
             let given = Given {
                 expected: Some(Version(expected)),

@@ -44,10 +44,10 @@ impl Lent {
         } = self;
         let found = translate::proved(record.read(area, index, tables, key).map(|_| 0));
         let value = record.read_value(area, index, tables, key);
-        assert!(value.len() <= 56);
+        assert!(value.len() <= 120);
         assert!(area.as_ptr_range().contains(&value.as_ptr()));
         let mut records = [record; 4];
-        let value = vec![3; *rng.pick(&[8, 24, 56, 0, 70])];
+        let value = vec![3; *rng.pick(&[8, 24, 56, 120, 0, 130])];
         let victims = kurdavel::SlotMap(match rng.below(3) {
             0 => self.record.map.0,
             1 => self.record.map.0 & rng.bits() as u32,

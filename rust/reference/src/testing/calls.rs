@@ -36,8 +36,8 @@ pub fn operation(rng: &mut Rng, keys: &[Key], record: Record, clean_rarity: u32)
         return Operation::Delete(key);
     }
     let bytes = match rng.below(20) {
-        0 => rng.below(70) as usize,
-        _ => *rng.pick(&[8, 24, 56]),
+        0 => rng.below(135) as usize,
+        _ => *rng.pick(&[8, 24, 56, 120]),
     };
     let mut value = vec![0; bytes];
     rng.fill(&mut value);

@@ -17,8 +17,8 @@ fn pending(rng: &mut Rng, slots: u32) -> Pending {
     let slot = number(rng, slots);
     let length = match rng.below(3) {
         0 => number(rng, 2048),
-        1 => *rng.pick(&[11, 19, 35, 67]),
-        _ => 13 + *rng.pick(&[0, 11, 19, 35, 67]),
+        1 => *rng.pick(&[11, 19, 35, 67, 131]),
+        _ => 13 + *rng.pick(&[0, 11, 19, 35, 67, 131]),
     };
     let left = match rng.below(4) {
         0 => 1,

@@ -63,7 +63,7 @@ impl Shape {
                 Versions::Stride(1024),
             ]),
             kinds: rng
-                .pick(&[vec![1, 2, 3, 4], vec![4], vec![1], vec![1, 4]])
+                .pick(&[vec![1, 2, 3, 4, 7], vec![4], vec![1], vec![1, 4], vec![7]])
                 .clone(),
             full: rng.one_in(3),
         }
@@ -125,7 +125,7 @@ impl Shape {
         };
         loop {
             let kind = *rng.pick(&self.kinds);
-            let length = [0, 19, 35, 67, 11][usize::from(kind)];
+            let length = [0, 19, 35, 67, 11, 0, 0, 131][usize::from(kind)];
             if at + length > end.min(stop) {
                 break;
             }
@@ -218,7 +218,7 @@ impl Image {
             _ => rng.below(self.area.len() as u32) as usize,
         };
         self.area[at] = match rng.below(4) {
-            0 => rng.below(7) as u8,
+            0 => rng.below(9) as u8,
             1 => 0,
             2 => 0xFF,
             _ => rng.bits() as u8,

@@ -111,6 +111,34 @@ fn case_7_value_lengths() {
     assert_eq!(run(&mut rig, &write(KEY, 8)), Ok(20));
 }
 
+/// A value of 120 bytes, of kind 7 (02, R-3): 131 bytes that may end exactly at S.
+#[test]
+fn longest_value() {
+    let mut rig = fresh();
+    assert_eq!(run(&mut rig, &write(KEY, 119)), Err(Refusal::ValueLength));
+    assert_eq!(run(&mut rig, &write(KEY, 120)), Ok(132));
+    let entry = [7, 7, 0, 9, 0, 0, 0, 1, 0, 0, 0];
+    assert_eq!(rig.area[13..24], entry);
+    assert_eq!(rig.area[24..144], [0x11; 120]);
+    assert_eq!(rig.area[144..146], [0, 0xEE]);
+    // 112 bytes are left, and 131 need a new head.
+    assert_eq!(run(&mut rig, &write(OTHER, 120)), Ok(13 + 131 + 2));
+    assert_eq!(rig.record().map, SlotMap(0b11));
+    assert_eq!(run(&mut rig, &Operation::Clean(SlotMap(0b01))), Ok(146));
+    assert_eq!(run(&mut rig, &Operation::Clean(SlotMap(0b10))), Ok(146));
+    assert_eq!(run(&mut rig, &Operation::Delete(KEY)), Ok(12));
+    rig.cut();
+    rig.must_recover(&[2, 3, 0, 1]).unwrap();
+
+    let mut filled = Rig::<AsWritten>::new(4, 265, 16, vec![0xEE; 4 * 265]);
+    filled.strict = true;
+    for bytes in [56, 24, 8] {
+        run(&mut filled, &write(OTHER, bytes)).unwrap();
+    }
+    assert_eq!(run(&mut filled, &write(KEY, 120)), Ok(131));
+    assert_eq!(filled.record().end, 265);
+}
+
 /// Slots 0 and 1 in the log, slot 1 the head, with these entries in them.
 fn two_slots(first: &[&[u8]], second: &[&[u8]]) -> Rig<AsWritten> {
     let mut area = vec![0; 1024];

@@ -92,7 +92,7 @@ fn random_bytes() {
         let (slots, slot_bytes) = (rng.within(4, 32), rng.within(256, 2048));
         let mut area = vec![0; (slots * slot_bytes) as usize];
         for byte in &mut area {
-            *byte = rng.below(6) as u8;
+            *byte = rng.below(8) as u8;
         }
         let image = Image {
             slots,

@@ -40,11 +40,12 @@ fn sorted_by_table_then_key_without_the_deleted() {
         (0, 3, 8),
         (65535, 0, 56),
         (0, 3, 24),
+        (8, 8, 120),
     ]);
     rig.run(&Operation::Delete(Key { table: 9, key: 1 }))
         .unwrap()
         .unwrap();
-    let expected = "next 7 digest 1 keys 3\n0 3 5 2\n0 4294967295 2 2\n65535 0 4 3\n";
+    let expected = "next 8 digest 2 keys 4\n0 3 5 2\n0 4294967295 2 2\n8 8 6 7\n65535 0 4 3\n";
     assert_eq!(dump(&input(4, 256, &rig.area)), expected);
 }
 

@@ -54,6 +54,7 @@ fn lines_of(area: &[u8], slot_bytes: u32, slot: u32) -> Result<(Vec<Line>, u32),
             1 => 19,
             2 => 35,
             3 => 67,
+            7 => 131,
             4 => 11,
             _ => return Err(18),
         };
@@ -216,6 +217,7 @@ impl View {
             8 => 1,
             24 => 2,
             56 => 3,
+            120 => 7,
             _ => return Err(7),
         };
         let newest = self.newest();

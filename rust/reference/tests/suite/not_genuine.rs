@@ -16,9 +16,9 @@ fn call_all(rng: &mut Rng, record: Record, area: &mut [u8], index: &mut [u32], w
         key: rng.below(20),
     };
     let tables = calls::tables(rng, key.table);
-    let value = vec![3; *rng.pick(&[8, 24, 56, 0, 70])];
+    let value = vec![3; *rng.pick(&[8, 24, 56, 120, 0, 130])];
     let _ = read(&record, area, index, tables, key);
-    assert!(read_value(&record, area, index, tables, key).len() <= 56);
+    assert!(read_value(&record, area, index, tables, key).len() <= 120);
     let _ = write(record, area, index, work, tables, key, &value);
     let expected = Version(*rng.pick(&[0, 1, record.next.0, u32::MAX]));
     let _ = write_expecting(record, area, index, work, tables, key, expected, &value);

@@ -280,10 +280,10 @@ fn cause_4_comes_first() {
 #[test]
 fn cause_7_value_length() {
     let rig = store(16, 1, u32::MAX);
-    for bytes in [0, 7, 9, 23, 25, 55, 57, 300] {
+    for bytes in [0, 7, 9, 23, 25, 55, 57, 119, 121, 131, 300] {
         assert_eq!(refused(&rig, &write_of(1, bytes)), 7);
     }
-    for bytes in [8, 24, 56] {
+    for bytes in [8, 24, 56, 120] {
         assert_eq!(refused(&rig, &write_of(1, bytes)), 9);
         assert_eq!(refused(&fresh(), &write_of(1, bytes)), 0);
     }
@@ -446,6 +446,11 @@ fn cause_17_head_digest() {
 fn cause_18_entries() {
     for kind in 5..=255 {
         assert_eq!(refused_image(&two_slots(&[&[kind]], &[])), 18);
+        let mut entry = tombstone(1, 1);
+        entry[0] = kind;
+        entry.resize(131, 0);
+        let cause = if kind == 7 { 0 } else { 18 };
+        assert_eq!(refused_image(&two_slots(&[&entry], &[])), cause);
     }
     let version_0 = tombstone(1, 0);
     let version_last = tombstone(1, u32::MAX);

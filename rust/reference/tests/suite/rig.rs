@@ -420,7 +420,8 @@ impl<R: Rules> Rig<R> {
                 let kind = match written.len() {
                     8 => 1,
                     24 => 2,
-                    _ => 3,
+                    56 => 3,
+                    _ => 7,
                 };
                 let found = found.map(|found| (found.version, found.kind));
                 same!(format!("read of {key:?}"), found, Ok((*version, kind)));

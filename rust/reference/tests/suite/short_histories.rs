@@ -110,3 +110,8 @@ fn large_values_over_tombstone_kinds() {
 fn large_and_small_values_over_digest_kinds() {
     explore_all(257, 5, [56, 8]);
 }
+
+#[test]
+fn longest_values_over_their_own_kind() {
+    explore_all(256, 7, [120, 8]);
+}

@@ -11,17 +11,17 @@ use Rattle.play.proofs.memory.value_bytes.Tie as tie
 
 abbrev Inv-loop : tie.InvT-loop
 Inv-loop value bytes₀ byte₀ i₀ bytes byte i =
-    (i ≤ 56) × (length bytes ≡ 56) × (take i bytes ++ rising (56 - i) byte (value .rise) ≡ rising 56 (value .first) (value .rise))
+    (i ≤ 120) × (length bytes ≡ 120) × (take i bytes ++ rising (120 - i) byte (value .rise) ≡ rising 120 (value .first) (value .rise))
 
 abbrev μ-loop : tie.MeasureT-loop
-μ-loop value bytes₀ byte₀ i₀ bytes byte i = 56 - i
+μ-loop value bytes₀ byte₀ i₀ bytes byte i = 120 - i
 
 loop-again : tie.Need-loop-again Inv-loop μ-loop
 loop-again c =
     let l = c .before .before .loop in (
       omega arith,
       length-set (l .bytes) (l .i) (l .byte) ∙ l .inv .1,
-      filled-turn _ _ _ 56 _ _ (c .before .loop-test .taken) (omega (arith, l .inv .1)) (l .inv .2) _ (c .wrapping-add-u8 .ensures),
+      filled-turn _ _ _ 120 _ _ (c .before .loop-test .taken) (omega (arith, l .inv .1)) (l .inv .2) _ (c .wrapping-add-u8 .ensures),
     )
 
 pub value-bytes-spec : {M : Type 1} → statement M
@@ -36,4 +36,4 @@ value-bytes-spec =
     (λ c. search needs)
     (λ c. search needs)
     loop-again
-    (λ c. filled-end _ _ _ 56 _ _ (c .before .loop .inv .1) (c .loop-test .left) (c .before .loop .inv .2)))
+    (λ c. filled-end _ _ _ 120 _ _ (c .before .loop .inv .1) (c .loop-test .left) (c .before .loop .inv .2)))

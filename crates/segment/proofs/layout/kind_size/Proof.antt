@@ -24,9 +24,14 @@ returns-4 c = rw (c .match .keys4)
 
 returns-5 : tie.Need-returns-5
 unfolding edition1 lookup valueLength sizeOrZero pick
-returns-5 c =
+returns-5 c = rw (c .match .keys5)
+
+returns-6 : tie.Need-returns-6
+unfolding edition1 lookup valueLength sizeOrZero pick
+returns-6 c =
     let none-of = c .match .rest in
-    simp (ne-eqb _ 1 (none-of .0 .0 .0 .1), ne-eqb _ 2 (none-of .0 .0 .1), ne-eqb _ 3 (none-of .0 .1), ne-eqb _ 4 (none-of .1))
+    simp
+    (ne-eqb _ 1 (none-of .0 .0 .0 .0 .1), ne-eqb _ 2 (none-of .0 .0 .0 .1), ne-eqb _ 3 (none-of .0 .0 .1), ne-eqb _ 4 (none-of .0 .1), ne-eqb _ 7 (none-of .1))
 
 pub kind-size-spec : {M : Type 1} → statement M
-kind-size-spec = tie.close (tie.spec returns returns-2 returns-3 returns-4 returns-5)
+kind-size-spec = tie.close (tie.spec returns returns-2 returns-3 returns-4 returns-5 returns-6)

@@ -19,9 +19,13 @@ returns-3 c = rw (c .match .keys3)
 
 returns-4 : tie.Need-returns-4
 unfolding edition1 lookBack orZero pick
-returns-4 c =
+returns-4 c = rw (c .match .keys4)
+
+returns-5 : tie.Need-returns-5
+unfolding edition1 lookBack orZero pick
+returns-5 c =
     let none-of = c .match .rest in
-    simp (ne-eqb _ 8 (none-of .0 .0 .1), ne-eqb _ 24 (none-of .0 .1), ne-eqb _ 56 (none-of .1))
+    simp (ne-eqb _ 8 (none-of .0 .0 .0 .1), ne-eqb _ 24 (none-of .0 .0 .1), ne-eqb _ 56 (none-of .0 .1), ne-eqb _ 120 (none-of .1))
 
 pub object-kind-spec : {M : Type 1} → statement M
-object-kind-spec = tie.close (tie.spec returns returns-2 returns-3 returns-4)
+object-kind-spec = tie.close (tie.spec returns returns-2 returns-3 returns-4 returns-5)

@@ -83,6 +83,7 @@ pub fn entry_length(kind: u8) -> usize {
         1 => 19,
         2 => 35,
         3 => 67,
+        7 => 131,
         _ => 11,
     }
 }

@@ -60,35 +60,37 @@ fn ending_at(offset: usize, kind: u8) -> Vec<Vec<u8>> {
     entries
 }
 
+/// The kinds that entries have.
+const KINDS: [u8; 5] = [1, 2, 3, 4, 7];
+
 /// Entries that end exactly at S, in the head and before the next slot's digest.
 fn ends() -> Vec<Item> {
-    let head = (1..=4).map(|kind| {
+    let head = KINDS.map(|kind| {
         let image = one_slot(&ending_at(256, kind));
         Item::new(format!("kind {kind} ends at S"), &image)
     });
-    let other = (1..=4).map(|kind| {
+    let other = KINDS.map(|kind| {
         let image = two_slots(&ending_at(256, kind), &[object(OTHER, 9)]);
         let image = image.slot(1, digest(0, 0), &[object(KEY, 6)]);
         Item::new(format!("kind {kind} ends at S of another slot"), &image)
     });
-    head.chain(other).collect()
+    [head, other].concat()
 }
 
 /// Entries that would end one byte past S.
 fn past_the_end() -> Vec<Item> {
-    (1..=4)
-        .map(|kind| {
-            let mut bytes = ending_at(257, kind).concat();
-            bytes.pop();
-            let image = one_slot(&[bytes]);
-            Item::new(format!("kind {kind} ends one past S"), &image)
-        })
-        .collect()
+    let item = |kind| {
+        let mut bytes = ending_at(257, kind).concat();
+        bytes.pop();
+        let image = one_slot(&[bytes]);
+        Item::new(format!("kind {kind} ends one past S"), &image)
+    };
+    KINDS.map(item).to_vec()
 }
 
 /// The last byte of a slot as a kind.
 fn last_bytes() -> Vec<Item> {
-    [0, 1, 4, 5]
+    [0, 1, 4, 5, 7]
         .into_iter()
         .map(|kind| {
             let mut entries = filling(242);
@@ -99,10 +101,10 @@ fn last_bytes() -> Vec<Item> {
         .collect()
 }
 
-/// Kinds that no entry has.
+/// Kinds that no entry has, and kind 7 beside them.
 fn kinds() -> Vec<Item> {
     let mut items = Vec::new();
-    for kind in [5, 6, 255] {
+    for kind in [5, 6, 7, 8, 255] {
         let first = one_slot(&[entry(kind, KEY, 1)]);
         items.push(Item::new(format!("kind {kind} first"), &first));
         let second = one_slot(&[object(KEY, 1), entry(kind, OTHER, 2)]);
@@ -110,6 +112,14 @@ fn kinds() -> Vec<Item> {
     }
     let other = two_slots(&[object(KEY, 1), vec![6]], &[object(OTHER, 2)]);
     items.push(Item::new("kind 6 in another slot of the log", &other));
+    for kind in [5, 6, 8] {
+        let mut long = entry(7, KEY, 1);
+        long[0] = kind;
+        let image = one_slot(&[long, object(OTHER, 2)]);
+        items.push(Item::new(format!("kind {kind} as long as kind 7"), &image));
+    }
+    let before = one_slot(&[entry(7, KEY, 1), object(OTHER, 2)]);
+    items.push(Item::new("kind 7 before an object", &before));
     items
 }
 

@@ -15,6 +15,7 @@ pub fn items() -> Vec<Item> {
         case_8(),
         new_head(),
         cleanings(),
+        long_values(),
         odd_sizes(),
     ]
     .concat()
@@ -67,14 +68,19 @@ fn case_6() -> Vec<Item> {
     cuts("case 6, last tombstone", &drive, &Delete(KEY), &[10, 11])
 }
 
-/// Case 7: a value of 7 bytes is refused, and those of 8, 24 and 56 are not.
+/// Case 7: a value of 7 bytes is refused, and those of 8, 24, 56 and 120 are not.
 fn case_7() -> Vec<Item> {
     let mut drive = Drive::fresh(4, 256);
     let refused = drive.start(&write(KEY, 1, 7));
     assert_eq!(refused, Err(Refusal::ValueLength));
-    let drive = drive.after(&[write(KEY, 2, 8), write(OTHER, 3, 24), write(key(1), 4, 56)]);
-    let item = Item::new("case 7, values of 8, 24 and 56 bytes", &drive.image());
-    vec![item.reading(&[KEY, OTHER, key(1)])]
+    let drive = drive.after(&[
+        write(KEY, 2, 8),
+        write(OTHER, 3, 24),
+        write(key(1), 4, 56),
+        write(key(2), 5, 120),
+    ]);
+    let item = Item::new("case 7, values of 8, 24, 56 and 120 bytes", &drive.image());
+    vec![item.reading(&[KEY, OTHER, key(1), key(2)])]
 }
 
 /// Case 8: a tombstone in slot 1 over an object in slot 0.
@@ -139,6 +145,21 @@ fn cleanings() -> Vec<Item> {
         &written.image(),
     ));
     items
+}
+
+/// Cuts of writes of 120 bytes, appended and into a new head, and of a cleaning that keeps one.
+fn long_values() -> Vec<Item> {
+    let fresh = Drive::fresh(4, 256);
+    let (first, second) = (write(KEY, 1, 120), write(OTHER, 2, 120));
+    let written = fresh.clone().after(std::slice::from_ref(&first));
+    let both = written.clone().after(std::slice::from_ref(&second));
+    let clean = Clean(SlotMap(0b01));
+    [
+        cuts("120 bytes", &fresh, &first, &[1, 131, 132]),
+        cuts("120 bytes, new head", &written, &second, &[14, 145, 146]),
+        cuts("120 bytes, cleaning", &both, &clean, &[1, 145, 146]),
+    ]
+    .concat()
 }
 
 /// N 5 and S 300, with an index of an odd length and the slots in another order.
