@@ -5,6 +5,7 @@ use crate::lay::lay_entry;
 use record::Expected;
 use record::Record;
 use record::Start;
+use record::Tables;
 use segment::Key;
 use segment::layout::TOMBSTONE;
 use segment::layout::object_kind;
@@ -12,7 +13,7 @@ use starting::Check;
 use starting::answer::refused;
 ghost use Rattle.segment.specs.Layout.{edition1};
 ghost use Rattle.model.specs.Operations.{write, delete};
-ghost use Rattle.model.specs.Refused.{freely};
+ghost use Rattle.model.specs.Refused.{reaching};
 ghost use Rattle.model.specs.Promises.{StartPromise};
 
 // A value is to come under a key, if the key has the version that is expected.
@@ -21,17 +22,27 @@ pub fn write_expecting(
     area: &[u8],
     index: &[u32],
     work: &mut [u8],
+    tables: Tables,
     expected: Expected,
     key: Key,
     value: &[u8],
 ) -> Start
     ensures { λ r.
         ⌜
-        StartPromise edition1 (record { expected = expected }) (write key (now (value .entry))) rec (now (area .entry))
-        (now (index .entry)) (now (work .entry)) (now (work .exit)) r
+        StartPromise edition1 (record { tables = tables; expected = expected }) (write key (now (value .entry))) rec
+        (now (area .entry)) (now (index .entry)) (now (work .entry)) (now (work .exit)) r
         ⌝ }
 {
-    match check_write(rec, area, index, work.len(), expected, key, value.len()) {
+    match check_write(
+        rec,
+        area,
+        index,
+        work.len(),
+        tables,
+        expected,
+        key,
+        value.len(),
+    ) {
         Check::Refused(c) => refused(rec, c),
         Check::Passed => lay_entry(rec, work, object_kind(value.len()), key, value),
     }
@@ -43,26 +54,35 @@ pub fn write(
     area: &[u8],
     index: &[u32],
     work: &mut [u8],
+    tables: Tables,
     key: Key,
     value: &[u8],
 ) -> Start
     ensures { λ r.
         ⌜
-        StartPromise edition1 freely (write key (now (value .entry))) rec (now (area .entry)) (now (index .entry)) (now (work .entry))
-        (now (work .exit)) r
+        StartPromise edition1 (reaching tables) (write key (now (value .entry))) rec (now (area .entry)) (now (index .entry))
+        (now (work .entry)) (now (work .exit)) r
         ⌝ }
 {
-    write_expecting(rec, area, index, work, Expected::Any, key, value)
+    write_expecting(rec, area, index, work, tables, Expected::Any, key, value)
 }
 
 // A key is to go: a tombstone, which has no value, takes the next version.
-pub fn delete(rec: Record, area: &[u8], index: &[u32], work: &mut [u8], key: Key) -> Start
+pub fn delete(
+    rec: Record,
+    area: &[u8],
+    index: &[u32],
+    work: &mut [u8],
+    tables: Tables,
+    key: Key,
+) -> Start
     ensures { λ r.
         ⌜
-        StartPromise edition1 freely (delete key) rec (now (area .entry)) (now (index .entry)) (now (work .entry)) (now (work .exit)) r
+        StartPromise edition1 (reaching tables) (delete key) rec (now (area .entry)) (now (index .entry)) (now (work .entry))
+        (now (work .exit)) r
         ⌝ }
 {
-    match check_delete(rec, area, index, work.len(), key) {
+    match check_delete(rec, area, index, work.len(), tables, key) {
         Check::Refused(c) => refused(rec, c),
         Check::Passed => lay_entry(rec, work, TOMBSTONE, key, &area[0..0]),
     }

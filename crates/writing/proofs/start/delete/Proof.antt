@@ -36,13 +36,13 @@ lay-entry-requires c κs =
     let t = c .before .before in
     let a = t .before .before .before .before .before .before .args in
     let passed = sym (t .enum-told .given .1) ∙ t .before .before .check-delete .ensures in (
-      delete-ready edition1 (a .rec) (now (a .area)) (now (a .index)) (now (a .work)) (a .key) passed edition1-roomy,
-      (delete-number edition1 (a .rec) (now (a .area)) (now (a .index)) (now (a .work)) (a .key) passed, tombstone-length edition1),
+      delete-ready edition1 (a .tables) (a .rec) (now (a .area)) (now (a .index)) (now (a .work)) (a .key) passed edition1-roomy,
+      (delete-number edition1 (a .tables) (a .rec) (now (a .area)) (now (a .index)) (now (a .work)) (a .key) passed, tombstone-length edition1),
     )
 
 returns : tie.Need-returns
 returns c =
-    delete-refused edition1 _ _ _ _ _ _ (sym (c .before .before .c .given .1) ∙ c .before .before .before .before .check-delete .ensures) _
+    delete-refused edition1 _ _ _ _ _ _ _ (sym (c .before .before .c .given .1) ∙ c .before .before .before .before .check-delete .ensures) _
     (c .refused .ensures)
 
 same-length : tie.Need-same-length
@@ -52,7 +52,7 @@ returns-2 : tie.Need-returns-2
 unfolding edition1
 returns-2 c =
     let t = c .before .before .before .before .before in
-    delete-laid edition1 _ _ _ _ _ (sym (t .enum-told .given .1) ∙ t .before .before .check-delete .ensures) _ _
+    delete-laid edition1 _ _ _ _ _ _ (sym (t .enum-told .given .1) ∙ t .before .before .check-delete .ensures) _ _
     (c .before .before .lay-entry .ensures)
 
 pub delete-spec : {M : Type 1} → statement M
