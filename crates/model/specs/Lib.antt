@@ -15,3 +15,4 @@ pub mod Expected
 pub mod Play
 pub mod Cases
 pub mod MoreCases
+pub mod FullCases
