@@ -51,7 +51,6 @@ pub record DeletePassed (L : Layout) (r : Record) (l : Lengths) (k : KeyFacts) :
   pub log-sound : k .forbidden ≡ false
   pub present : k .absent ≡ false
   pub versions-left : versionsSpent L r ≡ false
-  pub room : noRoom r (entrySize L 0) ≡ false
   pub number-left : noNumber r (entrySize L 0) ≡ false
 
 pub delete-passed : (L : Layout) (r : Record) (l : Lengths) (k : KeyFacts) → firstCause (deleteCauses L r l k) ≡ none → DeletePassed L r l k
@@ -64,8 +63,7 @@ delete-passed L r l k e =
       log-sound = t .1 .1 .1 .0;
       present = t .1 .1 .1 .1 .0;
       versions-left = t .1 .1 .1 .1 .1 .0;
-      room = t .1 .1 .1 .1 .1 .1 .0;
-      number-left = t .1 .1 .1 .1 .1 .1 .1 .0;
+      number-left = t .1 .1 .1 .1 .1 .1 .0;
     }
 
 pub record CleanPassed (L : Layout) (r : Record) (l : Lengths) (n victims : ℕ) : Type 0 where

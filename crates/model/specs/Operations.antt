@@ -144,7 +144,8 @@ laidClean L r log victims =
 -- the log with an entry in the place of the one that has version v
 unfoldable pub replaced : ℕ → Entry → List Placed → List Placed
 replaced v e [] = []
-replaced v e (x ∷ xs) = pick (eqb (x .entry .version) v) (record { slot = x .slot; offset = x .offset; entry = e }) x ∷ replaced v e xs
+replaced v e (x ∷ xs) =
+    record { slot = x .slot; offset = x .offset; entry = pick (eqb (x .entry .version) v) e (x .entry) } ∷ replaced v e xs
 
 -- the log with an entry in the place of a live object, and the slot of the object
 unfoldable pub replacedBy : Entry → List Placed → Option Placed → List Placed
