@@ -25,7 +25,7 @@ use Rattle.record.specs.declared.Record.{Record}
 use Rattle.model.specs.Log.{Placed}
 use Rattle.model.specs.Causes.{Cause, when, firstCause}
 use Rattle.model.specs.Operations.{clean, logNow, newSlot, newDigest, kept, allEncoded, laid, planOf}
-use Rattle.model.specs.Refused.{Lengths, recordBad, workShort, isPending, victimsBad, keptTooLong, numbersSpent, cleanCauses, startCauses}
+use Rattle.model.specs.Refused.{Lengths, freely, recordBad, workShort, isPending, victimsBad, keptTooLong, numbersSpent, cleanCauses, startCauses}
 use Rattle.model.specs.Promises.{Begun, begun, Genuine, lentLengths, StartPromise}
 use Rattle.laws.specs.CauseLaws.{cause-first}
 use Rattle.laws.specs.SaidLaws.{start-settled}
@@ -117,7 +117,7 @@ module _ (L : Layout) (r : Record) (log : List Placed) (victims : ℕ) (work : L
       λ i. record { start = startedWith r (Clean (newSlot r) victims n (e i)) (e i); work = sets work 0 bytes }
 
   cleaned-same : (l : Lengths) → cleanedWith L r victims l work model-bytes ≡
-      begun L r log (clean victims) work (firstCause (startCauses L r log l (clean victims)))
+      begun L r log (clean victims) work (firstCause (startCauses L r log l freely (clean victims)))
   unfolding startCauses causesWith
   cleaned-same l = begun-same (firstCause (causesWith L r l model-bytes victims))
 
@@ -170,7 +170,7 @@ module _ (L : Layout) (area cells : List ℕ) (r : Record) (victims : ℕ) (work
           (omega (arith, f .cells-high, f .index-own)) bytes)
 
   pub cleaned-promise : Bytes area → record { start = a; work = work′ } ≡ cleanedWith L r victims lengths work code-bytes →
-      StartPromise L (clean victims) r area cells work work′ a
+      StartPromise L freely (clean victims) r area cells work work′ a
   unfolding begunWith begun causesWith
   cleaned-promise bytes e =
       record {
@@ -178,7 +178,7 @@ module _ (L : Layout) (area cells : List ℕ) (r : Record) (victims : ℕ) (work
             ap (λ (b : Begun). length (b .work)) e ∙ begun-long L r victims lengths work code-bytes (firstCause (causesWith L r lengths code-bytes victims));
         unfit = unfit;
         exact = exact;
-        says = start-settled L (clean victims) r area cells work work′ a unfit exact;
+        says = start-settled L freely (clean victims) r area cells work work′ a unfit exact;
       }
     where
       unfit : recordBad L r lengths ≡ true → record { start = a; work = work′ } ≡ begun L r [] (clean victims) work (some BadRecord)
@@ -186,5 +186,5 @@ module _ (L : Layout) (area cells : List ℕ) (r : Record) (victims : ℕ) (work
 
       exact :
           Genuine L area r cells → record { start = a; work = work′ } ≡
-          begun L r (logNow L area r) (clean victims) work (firstCause (startCauses L r (logNow L area r) lengths (clean victims)))
+          begun L r (logNow L area r) (clean victims) work (firstCause (startCauses L r (logNow L area r) lengths freely (clean victims)))
       exact g = e ∙ same-bytes bytes g ∙ cleaned-same L r (logNow L area r) victims work lengths

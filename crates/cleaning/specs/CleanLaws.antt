@@ -28,7 +28,7 @@ use Rattle.record.specs.declared.Start.{Start}
 use Rattle.record.specs.declared.Record.{Record}
 use Rattle.model.specs.Causes.{Cause, firstCause}
 use Rattle.model.specs.Operations.{clean, newSlot, newDigest}
-use Rattle.model.specs.Refused.{Lengths, recordBad, workShort, victimsBad}
+use Rattle.model.specs.Refused.{Lengths, freely, recordBad, workShort, victimsBad}
 use Rattle.model.specs.Promises.{Begun, lentLengths, StartPromise}
 use Rattle.laws.specs.CauseLaws.{cause-false, cause-rest, no-cause, first-some, first-none}
 use Rattle.starting.specs.declared.Check.{Check}
@@ -170,7 +170,7 @@ module _ (L : Layout) (area cells : List ℕ) (r : Record) (victims : ℕ) (work
   first-passed e = let t = no-cause front e in record { record-good = t .0; work-long = t .1 .0; victims-good = t .1 .1 .1 .0 }
 
   pub front-refused : Bytes area → (c : Refusal) → Check.Refused c ≡ checked (firstCause front) → (a : Start) → a ≡ refusedStart r c →
-      StartPromise L (clean victims) r area cells work work a
+      StartPromise L freely (clean victims) r area cells work work a
   unfolding begunWith causesWith frontCauses keptCauses idleCauses
   front-refused bytes c e a is =
       cleaned-promise L area cells r victims work work a bytes
@@ -201,7 +201,7 @@ module _ (L : Layout) (area cells : List ℕ) (r : Record) (victims : ℕ) (work
 
     pub marked-promise : Bytes area → (marks : List ℕ) (split : Split) → split ≡ splitOf r victims → marks ≡ marksOf L area cells split →
         (work′ : List ℕ) (a : Start) → record { start = a; work = work′ } ≡ markedWith L r victims work (keptBytes L area cells marks split) →
-        StartPromise L (clean victims) r area cells work work′ a
+        StartPromise L freely (clean victims) r area cells work work′ a
     unfolding causesWith frontCauses keptCauses idleCauses markedWith
     marked-promise bytes marks split is its work′ a h =
         cleaned-promise L area cells r victims work work′ a bytes

@@ -26,7 +26,7 @@ ghost use mathlib.Core.Option.{none};
 ghost use Rattle.segment.specs.Layout.{edition1};
 ghost use Rattle.model.specs.Causes.{firstCause};
 ghost use Rattle.model.specs.Operations.{Operation, clean};
-ghost use Rattle.model.specs.Refused.{victimsBad};
+ghost use Rattle.model.specs.Refused.{freely, victimsBad};
 ghost use Rattle.model.specs.Promises.{StartPromise};
 ghost use Rattle.starting.specs.Checks.{checked};
 ghost use Rattle.cleaning.specs.Kept.{keptBytes};
@@ -151,7 +151,7 @@ fn clean_marked(
 pub fn clean(rec: Record, area: &[u8], index: &[u32], work: &mut [u8], victims: u32) -> Start
     ensures { λ r.
         ⌜
-        StartPromise edition1 (Operation.clean victims) rec (now (area .entry)) (now (index .entry)) (now (work .entry)) (now (work .exit)) r
+        StartPromise edition1 freely (Operation.clean victims) rec (now (area .entry)) (now (index .entry)) (now (work .entry)) (now (work .exit)) r
         ⌝ }
 {
     match check_victims(rec, area.len(), index.len(), work.len(), victims) {

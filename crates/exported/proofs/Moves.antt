@@ -23,7 +23,7 @@ use Rattle.record.specs.declared.Stepped.{Stepped}
 use Rattle.record.specs.declared.StepAnswer.{StepAnswer}
 use Rattle.model.specs.Arguments.{typed-key, typed-write, typed-delete, typed-clean}
 use Rattle.model.specs.Operations.{Operation, write, delete, clean, Typed}
-use Rattle.model.specs.Refused.{isPending}
+use Rattle.model.specs.Refused.{Terms, isPending}
 use Rattle.model.specs.Promises.{Begun, begun, readLengths, lentLengths}
 use Rattle.laws.specs.CauseLaws.{cause-first, refusal-number}
 use Rattle.words.specs.Words.{recordWords, isRecord, decoded}
@@ -118,17 +118,17 @@ module _ (n s : ℕ) where
   Runs w es x = Run edition1 n s w es x
 
   start-runs :
-      (area work work′ words′ : List ℕ) (h : HeldWords) (m : Option ℕ) (o : Operation) (stores stores′ number : ℕ) → Arguments o →
-      StartCrossed o (h .words) words′ area (h .cells) work work′ stores stores′ number →
+      (area work work′ words′ : List ℕ) (h : HeldWords) (m : Option ℕ) (t : Terms) (o : Operation) (stores stores′ number : ℕ) → Arguments o →
+      StartCrossed t o (h .words) words′ area (h .cells) work work′ stores stores′ number →
       Runs (worldOf (record { area = area; held = some h; cells = m }))
-      (called (starts o) (lentLengths area (h .cells) work) (saying (numberSaid number (takenWith stores′))) ∷ [])
+      (called (starts t o) (lentLengths area (h .cells) work) (saying (numberSaid number (takenWith stores′))) ∷ [])
       (worldOf (record { area = area; held = some (record { words = words′; cells = h .cells; work = pick (eqb number 0) work′ (h .work) }); cells = m }))
   unfolding begun
-  start-runs area work work′ words′ h m o stores stores′ number p c =
+  start-runs area work work′ words′ h m t o stores stores′ number p c =
       subst
       (λ (x : World).
       Runs (worldOf (record { area = area; held = some h; cells = m }))
-      (called (starts o) (lentLengths area (h .cells) work) (saying (numberSaid number (takenWith stores′))) ∷ []) x)
+      (called (starts t o) (lentLengths area (h .cells) work) (saying (numberSaid number (takenWith stores′))) ∷ []) x)
       (λ i.
       record {
         area = area;
@@ -138,7 +138,7 @@ module _ (n s : ℕ) where
       (subst
       (λ (a : Said).
       Runs (worldOf (record { area = area; held = some h; cells = m }))
-      (called (starts o) (lentLengths area (h .cells) work) (saying a) ∷ [])
+      (called (starts t o) (lentLengths area (h .cells) work) (saying a) ∷ [])
       (record { area = area; held = some (Store.heldAfter (heldBy h) work′ (c .start)); cells = m }))
       (start-said (c .start .answer) stores stores′ number (c .handed .numbered) (c .handed .told))
       (Store.go (Store.start {h = heldBy h} (arguments-typed o p) (c .promised)) Store.stop))
@@ -243,8 +243,8 @@ module _ (n s : ℕ) where
   -- ---- together
 
   pub exports-run : {m x : Memory} {es : List Event} → Exports n s m es x → Runs (worldOf m) es (worldOf x)
-  exports-run (start {area} {work} {work′} {words′} {h} {m} {o} {stores} {stores′} {number} p c) =
-      start-runs area work work′ words′ h m o stores stores′ number p c
+  exports-run (start {area} {work} {work′} {words′} {h} {m} {t} {o} {stores} {stores′} {number} p c) =
+      start-runs area work work′ words′ h m t o stores stores′ number p c
   exports-run (step {area} {area′} {cells′} {work} {words′} {h} {m} {left} {left′} {version} {version′} {number} own c) =
       step-runs area area′ cells′ work words′ h m left left′ version version′ number own c
   exports-run (read {area} {h} {m} {k} {version} {kind} {number} p c) =

@@ -13,7 +13,7 @@ use Rattle.segment.specs.Choice.{pick}
 use Rattle.segment.specs.declared.Key.{Key}
 use Rattle.record.specs.Answers.{Said, refusal, taken, takenWith, readSaid}
 use Rattle.model.specs.Operations.{Operation, write, delete, clean}
-use Rattle.model.specs.Refused.{isPending}
+use Rattle.model.specs.Refused.{Terms, isPending}
 use Rattle.model.specs.Promises.{readLengths, lentLengths}
 use Rattle.words.specs.Words.{recordWords, decoded}
 use Rattle.history.specs.Book.{reads, readsValue, starts, steps, asks, recovers, saying, giving, Event, called, cut}
@@ -82,12 +82,12 @@ recoveredMemory m cells′ words′ number =
 
 -- One exported call, or a cut, with the events that it stands for.
 pub data Exports (n s : ℕ) : Memory → List Event → Memory → Type 0 where
-  -- kurdavel_write, kurdavel_delete and kurdavel_clean, with any work buffer
+  -- kurdavel_write, kurdavel_write_expecting, kurdavel_delete and kurdavel_clean, with any work buffer
   start :
-      {area work work′ words′ : List ℕ} {h : HeldWords} {m : Option ℕ} {o : Operation} {stores stores′ number : ℕ} → Arguments o →
-      StartCrossed o (h .words) words′ area (h .cells) work work′ stores stores′ number →
+      {area work work′ words′ : List ℕ} {h : HeldWords} {m : Option ℕ} {t : Terms} {o : Operation} {stores stores′ number : ℕ} → Arguments o →
+      StartCrossed t o (h .words) words′ area (h .cells) work work′ stores stores′ number →
       Exports n s (record { area = area; held = some h; cells = m })
-      (called (starts o) (lentLengths area (h .cells) work) (saying (numberSaid number (takenWith stores′))) ∷ [])
+      (called (starts t o) (lentLengths area (h .cells) work) (saying (numberSaid number (takenWith stores′))) ∷ [])
       (record { area = area; held = some (record { words = words′; cells = h .cells; work = pick (eqb number 0) work′ (h .work) }); cells = m })
   -- kurdavel_step; while an operation is pending it gets the work buffer that the start filled
   step :

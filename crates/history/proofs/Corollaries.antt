@@ -84,9 +84,9 @@ gone-event b k (called steps l a) g h = go (accepted a) h
     go : (t : Bool) → both t (lastOfWrite k (b .pending)) ≡ false → pick t (feedCall b steps (a .said .stores)) b .keys k ≡ none
     go true q = gone-step b k (b .pending) g q
     go false q = g
-gone-event b k (called (starts o) l a) g h = go (accepted a)
+gone-event b k (called (starts t o) l a) g h = go (accepted a)
   where
-    go : (t : Bool) → pick t (feedCall b (starts o) (a .said .stores)) b .keys k ≡ none
+    go : (x : Bool) → pick x (feedCall b (starts t o) (a .said .stores)) b .keys k ≡ none
     go true = g
     go false = g
 gone-event b k (called (asks q) l a) g h = go (accepted a)
@@ -110,7 +110,7 @@ gone-after b k (e ∷ es) g h =
     (both-right (not (finishesWrite b e k)) (noWrite (feed b e) k es) h)
 
 -- the last step of a delete drops its key
-sameKeys-own : (k : Key) → sameKeys k k ≡ true
+pub sameKeys-own : (k : Key) → sameKeys k k ≡ true
 unfolding sameKeys
 sameKeys-own k = both-true (eqb (k .table) (k .table)) (eqb (k .key) (k .key)) (eq-eqb (k .table) (k .table) refl) (eq-eqb (k .key) (k .key) refl)
 
@@ -132,10 +132,10 @@ module _ (before : List Event) (l : Lengths) (a : Answer) (k : Key) (deleting : 
 
 module _ (n s : ℕ) (area₀ area : List ℕ) (ab : Bytes area₀) (format : FormatPromise edition1 n s area₀ area FormatAnswer.Formatted) where
   -- a list of events from the fresh store to a world, and what demand 3 says of it
-  abbrev Leads : List Event → World → Type 0
+  abbrev pub Leads : List Event → World → Type 0
   Leads es w = Run edition1 n s (freshWorld area) es w
 
-  demanded : (es : List Event) (w : World) → Leads es w → Demand3Of edition1 n s w es
+  pub demanded : (es : List Event) (w : World) → Leads es w → Demand3Of edition1 n s w es
   demanded es w run = demand-3 n s area₀ area ab format es w run
 
   -- Once the last store of a delete is done, no later recovery gives the key a version or a value until a write of it is finished.
@@ -220,14 +220,14 @@ unfolding feed feedCall pick
 event-rises b (called c l a) = go (accepted a) c
   where
     go : (t : Bool) (c : Call) → b .next ≤ pick t (feedCall b c (a .said .stores)) b .next
-    go true (starts o) = omega arith
+    go true (starts t o) = omega arith
     go true steps = step-rises b (b .pending)
     go true (asks q) = omega arith
     go true (recovers n s order) = omega arith
     go false c = omega arith
 event-rises b cut = omega arith
 
-list-rises : (b : Book) (es : List Event) → b .next ≤ bookAfter b es .next
+pub list-rises : (b : Book) (es : List Event) → b .next ≤ bookAfter b es .next
 unfolding bookAfter
 list-rises b [] = omega arith
 list-rises b (e ∷ es) = omega (arith, event-rises b e, list-rises (feed b e) es)
@@ -240,13 +240,13 @@ told-is b (delete k) h = (refl, omega arith)
 told-is b (clean victims) h = absurd (h refl)
 
 -- what a finished operation was told, at the book of the list before it
-told-at :
+pub told-at :
     (b : Book) (l : Lengths) (a : Answer) → EventAgrees edition1 b (called steps l a) → (f : Finishes b a) →
     a .said .version ≡ versionFor b (f .awaited .operation)
 unfolding EventAgrees StepAgrees
 told-at b l a h f = subst (λ (x : Option Awaited). StepAgrees b (a .said) x) (f .pending) (h (f .is-accepted)) .1 (f .one-left)
 
-book-at : (b : Book) (l : Lengths) (a : Answer) (f : Finishes b a) → feed b (called steps l a) ≡ finish b (f .awaited .operation)
+pub book-at : (b : Book) (l : Lengths) (a : Answer) (f : Finishes b a) → feed b (called steps l a) ≡ finish b (f .awaited .operation)
 unfolding feed feedCall takeOne oneOff
 book-at b l a f =
     pick-true (accepted a) (takeOne b (b .pending)) b (f .is-accepted) ∙ ap (takeOne b) (f .pending) ∙

@@ -7,3 +7,4 @@ pub mod Readings
 pub mod Recoveries
 pub mod Theorem
 pub mod Corollaries
+pub mod Expecting

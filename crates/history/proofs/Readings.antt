@@ -43,6 +43,9 @@ unfolding pick
 pick-same true a = refl
 pick-same false a = refl
 
+pub some-same : {u v : Entry} → _≡_ {A = Option Entry} (some u) (some v) → u ≡ v
+some-same q = cc
+
 -- a question changes nothing in the book
 pub feed-asks : (b : Book) (q : Question) (l : Lengths) (a : Answer) → feed b (called (asks q) l a) ≡ b
 unfolding feed feedCall
@@ -102,9 +105,6 @@ module _ (L : Layout) (laws : OperationLaws L) (n s : ℕ) where
 
   -- ---- what the log holds of a key is what the book holds of it
 
-  some-same : {u v : Entry} → _≡_ {A = Option Entry} (some u) (some v) → u ≡ v
-  some-same q = cc
-
   present-answer :
       (k : Key) (p : Option Placed) (x : Option Kept) → unplaced p ≡ bookEntry k x →
       readAnswer L (firstCause (when (isNone p) Absent ∷ [])) p ≡ bookAnswer L x
@@ -162,7 +162,7 @@ module _ (L : Layout) (laws : OperationLaws L) (n s : ℕ) where
       next-now : h .rec .next .0 ≡ b .next
       next-now = sym (next-of L n s (h .rec .cells) area (withPending (h .rec) Idle) idle-recovers) ∙ inv .agrees .next-same
 
-      map-now : valueAt (logNow L area (h .rec)) k ≡ bookEntry k (b .keys k)
+      pub map-now : valueAt (logNow L area (h .rec)) k ≡ bookEntry k (b .keys k)
       map-now =
           ap (λ (log : List Placed). valueAt log k) (sym (log-of L n s (h .rec .cells) area (withPending (h .rec) Idle) idle-recovers)) ∙
           inv .agrees .map-same k

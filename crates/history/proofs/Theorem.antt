@@ -45,7 +45,7 @@ module _ (L : Layout) (laws : OperationLaws L) (n s : ℕ) where
       {w x : World} {e : Event} (b : Book) (t : ℕ) → Moves L n s w e x → Inv L n s w b t →
       Inv L n s x (feed b e) (max t (versionTold e)) × EventAgrees L b e
   unfolding EventAgrees
-  move-keeps b t (start {area} {work} {work′} {h} {m} {o} {a} ty p) inv = start-keeps L laws n s area work work′ h m o a b t ty p inv
+  move-keeps b t (start {area} {work} {work′} {h} {m} {q} {o} {a} ty p) inv = start-keeps L laws n s area work work′ h m q o a b t ty p inv
   move-keeps b t (step {area} {area′} {cells′} {work} {h} {m} {a} own p) inv = step-keeps L laws n s area area′ cells′ work h m a b t own p inv
   move-keeps b t (ask p) inv = ask-keeps L laws n s b t p inv
   move-keeps b t (recover {w} {order} {cells} {cells′} {r} p) inv =

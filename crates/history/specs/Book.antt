@@ -9,17 +9,17 @@ use Rattle.segment.specs.declared.Key.{Key}
 use Rattle.record.specs.Answers.{Said, taken}
 use Rattle.model.specs.Log.{sameKeys}
 use Rattle.model.specs.Operations.{Operation, write, delete, clean}
-use Rattle.model.specs.Refused.{Lengths}
+use Rattle.model.specs.Refused.{Lengths, Terms}
 
 -- A call that changes nothing: a read, and a read of the value.
 pub data Question : Type 0 where
   reads : Key → Question
   readsValue : Key → Question
 
--- A call on the store with its arguments: a start (write, delete or clean), a step, a question, a recovery with N, S and the order
--- list.
+-- A call on the store with its arguments: a start (write, delete or clean) on some terms, a step, a question, a recovery with N, S
+-- and the order list.
 pub data Call : Type 0 where
-  starts : Operation → Call
+  starts : Terms → Operation → Call
   steps : Call
   asks : Question → Call
   recovers : ℕ → ℕ → List ℕ → Call
@@ -50,6 +50,11 @@ accepted a = eqb (a .said .refused) 0
 pub record Kept : Type 0 where
   pub version : ℕ
   pub value : List ℕ
+
+-- the version that the book has of a key, 0 where it holds nothing of it
+unfoldable pub bookVersion : Option Kept → ℕ
+bookVersion none = 0
+bookVersion (some x) = x .version
 
 -- A pending operation with its stores left.
 pub record Awaited : Type 0 where
@@ -96,10 +101,10 @@ unfoldable pub takeOne : Book → Option Awaited → Book
 takeOne b none = b
 takeOne b (some p) = oneOff b (p .operation) (p .left - 1)
 
--- What an accepted call does to the book, given a start's number of stores: a start is pending with its stores, a step takes one off,
--- a recovery drops what is pending. Questions change nothing.
+-- What an accepted call does to the book, given a start's number of stores: a start is pending with its stores, whatever its terms
+-- were; a step takes one off; a recovery drops what is pending. Questions change nothing.
 unfoldable pub feedCall : Book → Call → ℕ → Book
-feedCall b (starts o) stores = record { keys = b .keys; next = b .next; pending = some (record { operation = o; left = stores }) }
+feedCall b (starts t o) stores = record { keys = b .keys; next = b .next; pending = some (record { operation = o; left = stores }) }
 feedCall b steps stores = takeOne b (b .pending)
 feedCall b (asks q) stores = b
 feedCall b (recovers n s order) stores = withoutPending b

@@ -11,16 +11,19 @@ use Rattle.segment.specs.declared.Key.{Key}
 use Rattle.segment.specs.Entry.{kindFor}
 use Rattle.record.specs.Answers.{Said, readSaid}
 use Rattle.record.specs.Range.{cellsGood}
+use Rattle.record.specs.declared.Expected.{Expected}
+use Rattle.record.specs.declared.Expected.the-variants.{Any, Only}
 use Rattle.record.specs.declared.FormatAnswer.{FormatAnswer}
 use Rattle.record.specs.declared.Reading.{Reading}
 use Rattle.record.specs.declared.ReadAnswer.{ReadAnswer}
 use Rattle.record.specs.declared.Recovery.{Recovery}
 use Rattle.record.specs.declared.RecoverAnswer.{RecoverAnswer}
 use Rattle.record.specs.declared.Refusal.{Refusal}
-use Rattle.model.specs.Operations.{TypedKey}
+use Rattle.model.specs.Operations.{Operation, write, delete, clean, TypedKey}
 use Rattle.model.specs.Recovery.{orderBad}
+use Rattle.model.specs.Refused.{Terms}
 use Rattle.model.specs.Promises.{FormatPromise, RecoverPromise, ReadPromise, Part, partOf, ValuePromise}
-use Rattle.history.specs.Book.{Question, reads, readsValue, starts, steps, asks, recovers, Answer, saying, giving, Event, called, cut, accepted, Kept, Awaited, Book, freshBook, feed, bookOf, versionFor, highestTold}
+use Rattle.history.specs.Book.{Question, reads, readsValue, starts, steps, asks, recovers, Answer, saying, giving, Event, called, cut, accepted, Kept, Awaited, Book, bookVersion, freshBook, feed, bookOf, versionFor, highestTold}
 use Rattle.history.specs.Runs.{World, freshWorld, Run}
 
 -- "its index as large as at the last accepted one": within the limits, and no smaller; before the first, any within the limits
@@ -59,8 +62,18 @@ unfoldable pub QuestionAgrees : Layout → Book → Question → Answer → Type
 QuestionAgrees L b (reads k) a = a ≡ saying (readSaid (bookAnswer L (b .keys k)))
 QuestionAgrees L b (readsValue k) a = a ≡ giving (bookValue (b .keys k))
 
+-- 02, R-1: what a write expected of its key, where it was accepted, is the version that the book has of it.
+unfoldable pub Expects : Expected → ℕ → Type 0
+Expects Any v = Unit
+Expects (Only e) v = e .0 ≡ v
+
+unfoldable pub StartAgrees : Book → Terms → Operation → Type 0
+StartAgrees b t (write k value) = Expects (t .expected) (bookVersion (b .keys k))
+StartAgrees b t (delete k) = Unit
+StartAgrees b t (clean victims) = Unit
+
 unfoldable pub EventAgrees : Layout → Book → Event → Type 0
-EventAgrees L b (called (starts o) lent a) = Unit
+EventAgrees L b (called (starts t o) lent a) = accepted a ≡ true → StartAgrees b t o
 EventAgrees L b (called steps lent a) = accepted a ≡ true → StepAgrees b (a .said) (b .pending)
 EventAgrees L b (called (asks q) lent a) = QuestionAgrees L b q a
 EventAgrees L b (called (recovers n s order) lent a) = Unit
@@ -80,7 +93,7 @@ pub record Demand3Of (L : Layout) (n s : ℕ) (w : World) (es : List Event) : Ty
       RecoverPromise L n s order (w .area) cells cells′ r → GivesBook L (w .area) cells′ r (bookOf es)
   -- "above every version told to a caller since that format"
   pub above-told : highestTold es < bookOf es .next
-  -- every step and every question answers what the book of the list before it says
+  -- every step and every question answers what the book of the list before it says, and an accepted write found what it expected
   pub agrees : EventsAgree L freshBook es
 
 -- "For every list of calls on one store ... and cuts, from an accepted format on"

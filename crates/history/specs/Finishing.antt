@@ -24,7 +24,7 @@ lastOfWrite k (some p) = both (eqb (p .left - 1) 0) (isWriteOf k (p .operation))
 
 -- an event at that book is the accepted last step of a write of that key
 unfoldable pub finishesWrite : Book → Event → Key → Bool
-finishesWrite b (called (starts o) lent a) k = false
+finishesWrite b (called (starts t o) lent a) k = false
 finishesWrite b (called steps lent a) k = both (accepted a) (lastOfWrite k (b .pending))
 finishesWrite b (called (asks q) lent a) k = false
 finishesWrite b (called (recovers n s order) lent a) k = false
@@ -41,3 +41,15 @@ pub record Finishes (b : Book) (a : Answer) : Type 0 where
   pub pending : b .pending ≡ some awaited
   pub one-left : awaited .left ≡ 1
   pub is-accepted : accepted a ≡ true
+
+-- What is pending goes on over an event: no cut, no other operation accepted, no recovery accepted.
+unfoldable pub goesOn : Event → Bool
+goesOn (called (starts t o) lent a) = not (accepted a)
+goesOn (called steps lent a) = true
+goesOn (called (asks q) lent a) = true
+goesOn (called (recovers n s order) lent a) = not (accepted a)
+goesOn cut = false
+
+unfoldable pub allGoOn : List Event → Bool
+allGoOn [] = true
+allGoOn (e ∷ es) = both (goesOn e) (allGoOn es)

@@ -17,7 +17,7 @@ use Rattle.record.specs.declared.Reading.{Reading}
 use Rattle.record.specs.declared.Start.{Start}
 use Rattle.record.specs.declared.Stepped.{Stepped}
 use Rattle.model.specs.Operations.{Operation, Typed, TypedKey}
-use Rattle.model.specs.Refused.{Lengths, isPending}
+use Rattle.model.specs.Refused.{Lengths, Terms, isPending}
 use Rattle.model.specs.Promises.{RecoverPromise, readLengths, ReadPromise, Part, partOf, ValuePromise, lentLengths, StartPromise, StepPromise}
 use Rattle.history.specs.Book.{Question, reads, readsValue, starts, steps, asks, recovers, Answer, saying, giving, Event, called, cut, accepted}
 
@@ -63,12 +63,12 @@ pub data Asked (L : Layout) : World → Question → Lengths → Answer → Type
 -- one, each by a step, and no other call stores anything; so a cut during a call is one before it, or one after it once its store
 -- is done, and a list with a cut at every place between events covers every single store before or after which the power fails.
 pub data Moves (L : Layout) (n s : ℕ) : World → Event → World → Type 0 where
-  -- a write, delete or clean with the newest record and its index, and any work buffer
+  -- a write, delete or clean, on any terms, with the newest record and its index, and any work buffer
   start :
-      {area work work′ : List ℕ} {h : Held} {m : Option ℕ} {o : Operation} {a : Start} → Typed o →
-      StartPromise L o (h .rec) area (h .cells) work work′ a →
+      {area work work′ : List ℕ} {h : Held} {m : Option ℕ} {q : Terms} {o : Operation} {a : Start} → Typed o →
+      StartPromise L q o (h .rec) area (h .cells) work work′ a →
       Moves L n s (record { area = area; held = some h; cells = m })
-      (called (starts o) (lentLengths area (h .cells) work) (saying (startSaid (a .answer))))
+      (called (starts q o) (lentLengths area (h .cells) work) (saying (startSaid (a .answer))))
       (record { area = area; held = some (heldAfter h work′ a); cells = m })
   -- a step; while an operation is pending it gets the work buffer that the start filled
   step :

@@ -21,6 +21,7 @@ use Rattle.record.specs.declared.StartAnswer.{StartAnswer}
 use Rattle.record.specs.declared.Stepped.{Stepped}
 use Rattle.record.specs.declared.StepAnswer.{StepAnswer}
 use Rattle.model.specs.Operations.{Operation}
+use Rattle.model.specs.Refused.{Terms}
 use Rattle.model.specs.Promises.{FormatPromise, RecoverPromise, ReadPromise, ValuePromise, StartPromise, StepPromise}
 use Rattle.words.specs.Words.{recordWords, wordsOf, decoded}
 
@@ -89,9 +90,9 @@ pub record Handed (ok : Bool) (start : Start) (words words′ : List ℕ) (store
   pub told : stores′ ≡ storesAfter (start .answer) stores
   pub says : words′ ≡ keptWords ok words (start .rec)
 
-pub record StartCrossed (o : Operation) (words words′ area cells work work′ : List ℕ) (stores stores′ number : ℕ) : Type 0 where
+pub record StartCrossed (t : Terms) (o : Operation) (words words′ area cells work work′ : List ℕ) (stores stores′ number : ℕ) : Type 0 where
   pub start : Start
-  pub promised : StartPromise edition1 o (decoded words .rec) area cells work work′ start
+  pub promised : StartPromise edition1 t o (decoded words .rec) area cells work work′ start
   pub handed : Handed (decoded words .ok) start words words′ stores stores′ number
 
 -- ---- step

@@ -25,6 +25,7 @@ use Rattle.record.specs.declared.StartAnswer.{StartAnswer}
 use Rattle.record.specs.declared.Stepped.{Stepped}
 use Rattle.record.specs.declared.StepAnswer.{StepAnswer}
 use Rattle.model.specs.Operations.{Operation}
+use Rattle.model.specs.Refused.{Terms}
 use Rattle.model.specs.Promises.{FormatPromise, RecoverPromise, ValuePromise, StartPromise, StepPromise}
 use Rattle.index.specs.Search.{searchFor}
 use Rattle.index.specs.declared.Found.{Found}
@@ -166,9 +167,9 @@ handed {stores = stores} w e m s =
       says = w;
     }
 
-pub start-crossed : {o : Operation} {words words′ area cells work work′ : List ℕ} {stores stores′ number : ℕ} {d : Decoded} {x : Start}
-    → d ≡ decoded words → StartPromise edition1 o (d .rec) area cells work work′ x
-    → Handed (d .ok) x words words′ stores stores′ number → StartCrossed o words words′ area cells work work′ stores stores′ number
+pub start-crossed : {t : Terms} {o : Operation} {words words′ area cells work work′ : List ℕ} {stores stores′ number : ℕ} {d : Decoded} {x : Start}
+    → d ≡ decoded words → StartPromise edition1 t o (d .rec) area cells work work′ x
+    → Handed (d .ok) x words words′ stores stores′ number → StartCrossed t o words words′ area cells work work′ stores stores′ number
 start-crossed {x = x} f p h =
     record {
       start = x;

@@ -19,6 +19,7 @@ use Rattle.record.specs.declared.Stepped.{Stepped}
 use Rattle.record.specs.declared.StepAnswer.{StepAnswer}
 use Rattle.record.specs.declared.Record.{Record}
 use Rattle.model.specs.Operations.{Operation}
+use Rattle.model.specs.Refused.{Terms}
 use Rattle.model.specs.Promises.{Begun, begun}
 use Rattle.laws.specs.CauseLaws.{cause-first}
 use Rattle.words.specs.Words.{recordWords, isRecord, decoded}
@@ -61,8 +62,8 @@ value-none {words = words} f x =
     let empty = x .nowhere (λ zero. omega arith) in
     (four, empty .0, empty .1)
 
-pub start-none : {o : Operation} {words words′ area cells work work′ : List ℕ} {stores stores′ number : ℕ} → isRecord words ≡ false
-    → StartCrossed o words words′ area cells work work′ stores stores′ number
+pub start-none : {t : Terms} {o : Operation} {words words′ area cells work work′ : List ℕ} {stores stores′ number : ℕ} → isRecord words ≡ false
+    → StartCrossed t o words words′ area cells work work′ stores stores′ number
     → (number ≡ 4) × (words′ ≡ words) × (work′ ≡ work) × (stores′ ≡ stores)
 unfolding begun storesAfter
 start-none {words = words} {words′ = words′} {stores = stores} f x =

@@ -3,6 +3,7 @@
 // required of the caller's values: words that are no record are refused with 4. The answer is 0 or the refusal's number.
 use firmware::step_held;
 use index::search::search;
+use record::Expected;
 use record::FormatAnswer;
 use record::ReadAnswer;
 use record::Record;
@@ -17,12 +18,14 @@ use recovery::read::find;
 use recovery::read::look_at;
 use recovery::read::told;
 use segment::Key;
+use segment::Version;
 use segment::layout::HEAD_SIZE;
 use store::clean;
 use store::delete;
 use store::format;
 use store::recover;
 use store::write;
+use store::write_expecting;
 use words::WORDS;
 use words::decode;
 use words::encode;
@@ -31,6 +34,8 @@ ghost use mathlib.Core.Path.{_≡_};
 ghost use mathlib.Core.Bool.{true};
 ghost use lib.ListN.{length};
 ghost use Rattle.model.specs.Operations.{write, delete, clean};
+ghost use Rattle.model.specs.Refused.{freely};
+ghost use Rattle.record.specs.declared.Expected.{Expected};
 ghost use Rattle.words.specs.Words.{recordWords};
 ghost use Rattle.kurdavel.specs.Crossing.{FormatCrossed, RecoverCrossed, ReadCrossed, ValueCrossed, StartCrossed, StepCrossed, keptWords, Handed};
 
@@ -199,13 +204,41 @@ pub extern "C" fn kurdavel_write(
 ) -> u32
     ensures { λ r.
         ⌜
-        StartCrossed (write (record { table = table; key = key }) (now (value .entry))) (now (words .entry)) (now (words .exit))
-        (now (area .entry)) (now (index .entry)) (now (work .entry)) (now (work .exit)) (now (stores .entry)) (now (stores .exit)) r
+        StartCrossed freely (write (record { table = table; key = key }) (now (value .entry))) (now (words .entry))
+        (now (words .exit)) (now (area .entry)) (now (index .entry)) (now (work .entry)) (now (work .exit)) (now (stores .entry))
+        (now (stores .exit)) r
         ⌝ }
 {
     let decoded = decode(words);
     let rec = decoded.rec;
     let start = write(rec, area, index, work, Key { table, key }, value);
+    hand_back(words, decoded.ok, start, stores)
+}
+
+// A write over the version that the caller expects the key to have, 0 where it expects none.
+#[no_mangle]
+pub extern "C" fn kurdavel_write_expecting(
+    words: &mut [u32],
+    area: &[u8],
+    index: &[u32],
+    work: &mut [u8],
+    table: u16,
+    key: u32,
+    expected: u32,
+    value: &[u8],
+    stores: &mut u32,
+) -> u32
+    ensures { λ r.
+        ⌜
+        StartCrossed (record { expected = Expected.Only (record { 0 = expected }) })
+        (write (record { table = table; key = key }) (now (value .entry))) (now (words .entry)) (now (words .exit))
+        (now (area .entry)) (now (index .entry)) (now (work .entry)) (now (work .exit)) (now (stores .entry)) (now (stores .exit)) r
+        ⌝ }
+{
+    let decoded = decode(words);
+    let rec = decoded.rec;
+    let only = Expected::Only(Version(expected));
+    let start = write_expecting(rec, area, index, work, only, Key { table, key }, value);
     hand_back(words, decoded.ok, start, stores)
 }
 
@@ -221,7 +254,7 @@ pub extern "C" fn kurdavel_delete(
 ) -> u32
     ensures { λ r.
         ⌜
-        StartCrossed (delete (record { table = table; key = key })) (now (words .entry)) (now (words .exit)) (now (area .entry))
+        StartCrossed freely (delete (record { table = table; key = key })) (now (words .entry)) (now (words .exit)) (now (area .entry))
         (now (index .entry)) (now (work .entry)) (now (work .exit)) (now (stores .entry)) (now (stores .exit)) r
         ⌝ }
 {
@@ -242,7 +275,7 @@ pub extern "C" fn kurdavel_clean(
 ) -> u32
     ensures { λ r.
         ⌜
-        StartCrossed (clean victims) (now (words .entry)) (now (words .exit)) (now (area .entry)) (now (index .entry))
+        StartCrossed freely (clean victims) (now (words .entry)) (now (words .exit)) (now (area .entry)) (now (index .entry))
         (now (work .entry)) (now (work .exit)) (now (stores .entry)) (now (stores .exit)) r
         ⌝ }
 {

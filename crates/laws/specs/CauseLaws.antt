@@ -8,7 +8,7 @@ use lib.Dec.{eqb}
 use Rattle.segment.specs.Choice.{pick}
 use Rattle.record.specs.Refusals.{numberOfRefusal}
 use Rattle.record.specs.declared.Refusal.{Refusal}
-use Rattle.record.specs.declared.Refusal.the-variants.{Geometry, Cells, WorkShort, BadRecord, Busy, NonePending, ValueLength, Absent, VersionsSpent, NumbersSpent, KeysFull, NoRoom, BadVictims, KeptTooLong, BadOrder, NoDigest, BadDigest, DamagedLog, SharedVersion, TooManyKeys}
+use Rattle.record.specs.declared.Refusal.the-variants.{Geometry, Cells, WorkShort, BadRecord, Busy, NonePending, ValueLength, Absent, VersionsSpent, NumbersSpent, KeysFull, NoRoom, BadVictims, KeptTooLong, BadOrder, NoDigest, BadDigest, DamagedLog, SharedVersion, TooManyKeys, OtherVersion}
 use Rattle.model.specs.Causes.{Cause, firstCause}
 
 -- ---- no cause holds
@@ -126,6 +126,7 @@ refusal-number BadDigest = refl
 refusal-number DamagedLog = refl
 refusal-number SharedVersion = refl
 refusal-number TooManyKeys = refl
+refusal-number OtherVersion = refl
 
 -- ---- a number that no cause of a list has
 

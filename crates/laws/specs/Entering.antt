@@ -19,7 +19,7 @@ use Rattle.record.specs.RangeLaws.{Lent, lent}
 use Rattle.record.specs.declared.Record.{Record}
 use Rattle.model.specs.Log.{Placed, hasKey, present, latest, objectOnly}
 use Rattle.model.specs.Operations.{Operation, write, delete, logNow, writtenEntry, tombstoneEntry, fitsHead, noRoom, countNew}
-use Rattle.model.specs.Refused.{keyFacts, startCauses}
+use Rattle.model.specs.Refused.{freely, keyFacts, startCauses}
 use Rattle.laws.specs.Latest.{latest-has}
 use Rattle.laws.specs.RecoverLaws.{recovered-fits, recovered-next, recovered-number}
 use Rattle.laws.specs.Appended.{Takes}
@@ -109,8 +109,8 @@ module _ (L : Layout) (before : List ℕ) (idle : Record) (k : Key) where
         number-left = λ f. number-below (idle .digest .0) (idle-number L before idle (write k value) a) (both-true-false _ _ (tests .number-left) (not-true-of _ f));
       }
     where
-      tests : WritePassed L idle (a .lengths) (keyFacts log k) (length value)
-      tests = write-passed L idle (a .lengths) (keyFacts log k) (length value) (a .no-cause)
+      tests : WritePassed L idle (a .lengths) freely (keyFacts log k) (length value)
+      tests = write-passed L idle (a .lengths) freely (keyFacts log k) (length value) (a .no-cause)
 
       facts : Lent L idle (length before) (idle .cells)
       facts = idle-lent L before idle (write k value) a

@@ -19,7 +19,7 @@ use Rattle.model.specs.Causes.{firstCause}
 use Rattle.model.specs.Recovery.{recovered, recordFrom, geometryBad}
 use Rattle.model.specs.Operations.{Operation, write, delete, clean, Typed, logNow, writtenEntry, tombstoneEntry, laid, planFor, stored, finishedRecord, formatted}
 use Rattle.model.specs.Promises.{partOf, valuePart}
-use Rattle.model.specs.Refused.{Lengths, startCauses}
+use Rattle.model.specs.Refused.{Lengths, freely, startCauses}
 
 -- An operation that a start accepts on the record which recovery of an area of bytes gives.
 pub record Accepted (L : Layout) (before : List ℕ) (idle : Record) (o : Operation) : Type 0 where
@@ -27,7 +27,7 @@ pub record Accepted (L : Layout) (before : List ℕ) (idle : Record) (o : Operat
   pub area-bytes : Bytes before
   pub typed : Typed o
   pub recovers : recovered L (idle .slots) (idle .size) (idle .cells) before ≡ some idle
-  pub no-cause : firstCause (startCauses L idle (logNow L before idle) lengths o) ≡ none
+  pub no-cause : firstCause (startCauses L idle (logNow L before idle) lengths freely o) ≡ none
 
 abbrev pub planAt : Layout → List ℕ → Record → Operation → List (ℕ × ℕ)
 planAt L before idle o = planFor L idle (logNow L before idle) o

@@ -15,33 +15,37 @@ use Rattle.model.specs.Log.{View, Head, Placed, versionShared}
 use Rattle.model.specs.Causes.{Cause, when, firstCause}
 use Rattle.model.specs.Recovery.{geometryBad, orderBad, headElse, digestBad, logDamaged, logSlots, logUnder, lentCauses, imageCauses}
 use Rattle.model.specs.Operations.{Operation, write, delete, clean}
-use Rattle.model.specs.Refused.{Lengths, KeyFacts, keyFacts, keptLength, recordBad, workShort, isPending, valueBad, versionsSpent, numbersSpent, keysFull, noRoom, noNumber, victimsBad, keptTooLong, writeCauses, deleteCauses, cleanCauses, startCauses, stepCauses}
+use Rattle.model.specs.Refused.{Lengths, Terms, KeyFacts, keyFacts, expectsOther, keptLength, recordBad, workShort, isPending, valueBad, versionsSpent, numbersSpent, keysFull, noRoom, noNumber, victimsBad, keptTooLong, writeCauses, deleteCauses, cleanCauses, startCauses, stepCauses}
 use Rattle.laws.specs.CauseLaws.{NoCause, no-cause}
 
-pub record WritePassed (L : Layout) (r : Record) (l : Lengths) (k : KeyFacts) (n : ℕ) : Type 0 where
+pub record WritePassed (L : Layout) (r : Record) (l : Lengths) (t : Terms) (k : KeyFacts) (n : ℕ) : Type 0 where
   pub record-good : recordBad L r l ≡ false
   pub work-long : workShort r l ≡ false
   pub idle : isPending (r .pending) ≡ false
   pub value-known : valueBad L n ≡ false
-  pub versions-left : versionsSpent L r ≡ false
   pub log-sound : k .forbidden ≡ false
+  pub as-expected : expectsOther (t .expected) (k .version) ≡ false
+  pub versions-left : versionsSpent L r ≡ false
   pub key-fits : keysFull r k ≡ false
   pub room : noRoom r (entrySize L n) ≡ false
   pub number-left : noNumber r (entrySize L n) ≡ false
 
-pub write-passed : (L : Layout) (r : Record) (l : Lengths) (k : KeyFacts) (n : ℕ) → firstCause (writeCauses L r l k n) ≡ none → WritePassed L r l k n
-write-passed L r l k n e =
-    let t : NoCause (writeCauses L r l k n) = no-cause (writeCauses L r l k n) e in
+pub write-passed :
+    (L : Layout) (r : Record) (l : Lengths) (t : Terms) (k : KeyFacts) (n : ℕ) → firstCause (writeCauses L r l t k n) ≡ none →
+    WritePassed L r l t k n
+write-passed L r l t k n e =
+    let x : NoCause (writeCauses L r l t k n) = no-cause (writeCauses L r l t k n) e in
     record {
-      record-good = t .0;
-      work-long = t .1 .0;
-      idle = t .1 .1 .0;
-      value-known = t .1 .1 .1 .0;
-      versions-left = t .1 .1 .1 .1 .0;
-      log-sound = t .1 .1 .1 .1 .1 .0;
-      key-fits = t .1 .1 .1 .1 .1 .1 .0;
-      room = t .1 .1 .1 .1 .1 .1 .1 .0;
-      number-left = t .1 .1 .1 .1 .1 .1 .1 .1 .0;
+      record-good = x .0;
+      work-long = x .1 .0;
+      idle = x .1 .1 .0;
+      value-known = x .1 .1 .1 .0;
+      log-sound = x .1 .1 .1 .1 .0;
+      as-expected = x .1 .1 .1 .1 .1 .0;
+      versions-left = x .1 .1 .1 .1 .1 .1 .0;
+      key-fits = x .1 .1 .1 .1 .1 .1 .1 .0;
+      room = x .1 .1 .1 .1 .1 .1 .1 .1 .0;
+      number-left = x .1 .1 .1 .1 .1 .1 .1 .1 .1 .0;
     }
 
 pub record DeletePassed (L : Layout) (r : Record) (l : Lengths) (k : KeyFacts) : Type 0 where
@@ -92,14 +96,16 @@ pub record StartPassed (L : Layout) (r : Record) (l : Lengths) : Type 0 where
   pub work-long : workShort r l ≡ false
   pub idle : isPending (r .pending) ≡ false
 
-pub start-passed : (L : Layout) (r : Record) (log : List Placed) (l : Lengths) (o : Operation) → firstCause (startCauses L r log l o) ≡ none → StartPassed L r l
+pub start-passed :
+    (L : Layout) (r : Record) (log : List Placed) (l : Lengths) (t : Terms) (o : Operation) → firstCause (startCauses L r log l t o) ≡ none →
+    StartPassed L r l
 unfolding startCauses
-start-passed L r log l (write k value) e =
-    let t = write-passed L r l (keyFacts log k) (length value) e in record { record-good = t .record-good; work-long = t .work-long; idle = t .idle }
-start-passed L r log l (delete k) e =
-    let t = delete-passed L r l (keyFacts log k) e in record { record-good = t .record-good; work-long = t .work-long; idle = t .idle }
-start-passed L r log l (clean victims) e =
-    let t = clean-passed L r l (keptLength L log victims) victims e in record { record-good = t .record-good; work-long = t .work-long; idle = t .idle }
+start-passed L r log l t (write k value) e =
+    let x = write-passed L r l t (keyFacts log k) (length value) e in record { record-good = x .record-good; work-long = x .work-long; idle = x .idle }
+start-passed L r log l t (delete k) e =
+    let x = delete-passed L r l (keyFacts log k) e in record { record-good = x .record-good; work-long = x .work-long; idle = x .idle }
+start-passed L r log l t (clean victims) e =
+    let x = clean-passed L r l (keptLength L log victims) victims e in record { record-good = x .record-good; work-long = x .work-long; idle = x .idle }
 
 pub record StepPassed (L : Layout) (r : Record) (l : Lengths) : Type 0 where
   pub record-good : recordBad L r l ≡ false

@@ -17,7 +17,7 @@ use Rattle.model.specs.Log.{Placed, present}
 use Rattle.model.specs.Causes.{firstCause}
 use Rattle.model.specs.Recovery.{recordFrom, recoverCauses, recoveryFor, recovery}
 use Rattle.model.specs.Operations.{Operation, logNow, storesFor}
-use Rattle.model.specs.Refused.{Lengths, recordBad, readCauses, startCauses}
+use Rattle.model.specs.Refused.{Lengths, Terms, recordBad, readCauses, startCauses}
 use Rattle.model.specs.Promises.{Genuine, Settled, formatAnswer, presentAnswer, readAnswer, objectSaid, readLengths, Begun, begun, lentLengths, stepped, stepSays}
 use Rattle.laws.specs.CauseLaws.{cause-first}
 use Rattle.laws.specs.Starts.{start-bad}
@@ -76,17 +76,17 @@ read-settled L r area cells k a unfit exact (inr genuine) =
 
 -- and likewise a start
 pub start-settled :
-    (L : Layout) (o : Operation) (r : Record) (area cells work work′ : List ℕ) (a : Start) →
+    (L : Layout) (t : Terms) (o : Operation) (r : Record) (area cells work work′ : List ℕ) (a : Start) →
     (recordBad L r (lentLengths area cells work) ≡ true →
     _≡_ {A = Begun} (record { start = a; work = work′ }) (begun L r [] o work (some Refusal.BadRecord))) →
     (Genuine L area r cells → _≡_ {A = Begun} (record { start = a; work = work′ })
-    (begun L r (logNow L area r) o work (firstCause (startCauses L r (logNow L area r) (lentLengths area cells work) o)))) →
+    (begun L r (logNow L area r) o work (firstCause (startCauses L r (logNow L area r) (lentLengths area cells work) t o)))) →
     Settled L area r cells (lentLengths area cells work) → startSaid (a .answer) ≡
-    saidBy (firstCause (startCauses L r (logNow L area r) (lentLengths area cells work) o)) (takenWith (storesFor L r (logNow L area r) o))
+    saidBy (firstCause (startCauses L r (logNow L area r) (lentLengths area cells work) t o)) (takenWith (storesFor L r (logNow L area r) o))
 unfolding saidBy begun
-start-settled L o r area cells work work′ a unfit exact (inl bad) =
+start-settled L t o r area cells work work′ a unfit exact (inl bad) =
     ap (λ (b : Begun). startSaid (b .start .answer)) (unfit bad) ∙
-    sym (ap (λ (c : Option Refusal). saidBy c (takenWith (storesFor L r (logNow L area r) o))) (start-bad L r (logNow L area r) (lentLengths area cells work) o bad))
-start-settled L o r area cells work work′ a unfit exact (inr genuine) =
+    sym (ap (λ (c : Option Refusal). saidBy c (takenWith (storesFor L r (logNow L area r) o))) (start-bad L r (logNow L area r) (lentLengths area cells work) t o bad))
+start-settled L t o r area cells work work′ a unfit exact (inr genuine) =
     ap (λ (b : Begun). startSaid (b .start .answer)) (exact genuine) ∙
-    start-says L r (logNow L area r) o work (firstCause (startCauses L r (logNow L area r) (lentLengths area cells work) o))
+    start-says L r (logNow L area r) o work (firstCause (startCauses L r (logNow L area r) (lentLengths area cells work) t o))

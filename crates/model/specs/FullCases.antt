@@ -1,4 +1,4 @@
--- Cases of 02's R-4: deletes on a store with one slot free and a head that no tombstone fits.
+-- Cases of 02, R-4: deletes on a store with one slot free and a head that no tombstone fits. Rows are numbered as in RequestCases.
 use Prim.Native.Nat.{ℕ}
 use mathlib.Core.Path.{_≡_, refl}
 use mathlib.Core.List.{List, [], _∷_, _++_}
@@ -52,26 +52,26 @@ cuts (n ∷ ns) k = recovers (cutAfter n full (delete k)) ++ cuts ns k
 abbrev rows : List Row
 rows =
     -- a write meets 12, and so would every other; a delete does not
-    row 41 (startNumber full (write a (replicate 8 1)) ∷ startNumber full (delete a) ∷ startNumber full (delete c) ∷ []) (12 ∷ 0 ∷ 8 ∷ [])
+    row 401 (startNumber full (write a (replicate 8 1)) ∷ startNumber full (delete a) ∷ startNumber full (delete c) ∷ []) (12 ∷ 0 ∷ 8 ∷ [])
     -- the tombstone stands in the place of the live object, the older object beside it goes, and the digest has the next version after it
-    ∷ row 42 (newHead a) (slotWith 255 (segmentWith 4 13 16 (small b 4 ∷ tombstone c 6 ∷ tombstone a 15 ∷ large d 8 ∷ small e 9 ∷ [])))
-    ∷ row 42 (starts full (delete a)) (toCome 142 ++ holds (record { head = 2; end = 252; digest = 3; map = 7; next = 15; keys = 10; left = 142 }))
-    ∷ row 42 (ends full (delete a)) (done 15 ++ holds (record { head = 3; end = 140; digest = 4; map = 13; next = 16; keys = 10; left = 0 }))
-    ∷ row 42 (recovers (played full (delete a))) (gives (record { head = 3; end = 140; digest = 4; map = 13; next = 16; keys = 10; left = 0 }))
-    ∷ row 42 (reads (played full (delete a)) a) (refusedBy 8)
-    ∷ row 42 (reads (played full (delete a)) d) (shows 8 3 (replicate 56 8))
+    ∷ row 402 (newHead a) (slotWith 255 (segmentWith 4 13 16 (small b 4 ∷ tombstone c 6 ∷ tombstone a 15 ∷ large d 8 ∷ small e 9 ∷ [])))
+    ∷ row 402 (starts full (delete a)) (toCome 142 ++ holds (record { head = 2; end = 252; digest = 3; map = 7; next = 15; keys = 10; left = 142 }))
+    ∷ row 402 (ends full (delete a)) (done 15 ++ holds (record { head = 3; end = 140; digest = 4; map = 13; next = 16; keys = 10; left = 0 }))
+    ∷ row 402 (recovers (played full (delete a))) (gives (record { head = 3; end = 140; digest = 4; map = 13; next = 16; keys = 10; left = 0 }))
+    ∷ row 402 (reads (played full (delete a)) a) (refusedBy 8)
+    ∷ row 402 (reads (played full (delete a)) d) (shows 8 3 (replicate 56 8))
     -- with no object outside nothing stands there, and the next version is above one that no entry has
-    ∷ row 43 (newHead b) (slotWith 255 (segmentWith 4 13 16 (tombstone c 6 ∷ small a 7 ∷ large d 8 ∷ small e 9 ∷ [])))
-    ∷ row 43 (ends full (delete b)) (done 15 ++ holds (record { head = 3; end = 129; digest = 4; map = 13; next = 16; keys = 9; left = 0 }))
-    ∷ row 43 (recovers (played full (delete b))) (gives (record { head = 3; end = 129; digest = 4; map = 13; next = 16; keys = 9; left = 0 }))
+    ∷ row 403 (newHead b) (slotWith 255 (segmentWith 4 13 16 (tombstone c 6 ∷ small a 7 ∷ large d 8 ∷ small e 9 ∷ [])))
+    ∷ row 403 (ends full (delete b)) (done 15 ++ holds (record { head = 3; end = 129; digest = 4; map = 13; next = 16; keys = 9; left = 0 }))
+    ∷ row 403 (recovers (played full (delete b))) (gives (record { head = 3; end = 129; digest = 4; map = 13; next = 16; keys = 9; left = 0 }))
     -- an older tombstone outside stays, and its key counts
-    ∷ row 44 (newHead e) (slotWith 255 (segmentWith 4 13 16 (small b 4 ∷ tombstone c 6 ∷ small a 7 ∷ large d 8 ∷ [])))
-    ∷ row 44 (recovers (played full (delete e))) (gives (record { head = 3; end = 129; digest = 4; map = 13; next = 16; keys = 10; left = 0 }))
+    ∷ row 404 (newHead e) (slotWith 255 (segmentWith 4 13 16 (small b 4 ∷ tombstone c 6 ∷ small a 7 ∷ large d 8 ∷ [])))
+    ∷ row 404 (recovers (played full (delete e))) (gives (record { head = 3; end = 129; digest = 4; map = 13; next = 16; keys = 10; left = 0 }))
     -- the victim may be the head
-    ∷ row 45 (newHead (h 4)) (slotWith 255 (segmentWith 4 11 16 (large (h 1) 10 ∷ large (h 2) 11 ∷ large (h 3) 12 ∷ small (h 5) 14 ∷ [])))
-    ∷ row 45 (recovers (played full (delete (h 4)))) (gives (record { head = 3; end = 233; digest = 4; map = 11; next = 16; keys = 9; left = 0 }))
+    ∷ row 405 (newHead (h 4)) (slotWith 255 (segmentWith 4 11 16 (large (h 1) 10 ∷ large (h 2) 11 ∷ large (h 3) 12 ∷ small (h 5) 14 ∷ [])))
+    ∷ row 405 (recovers (played full (delete (h 4)))) (gives (record { head = 3; end = 233; digest = 4; map = 11; next = 16; keys = 9; left = 0 }))
     -- cut before its last store it has done nothing
-    ∷ row 46 (cuts (1 ∷ 2 ∷ 13 ∷ 140 ∷ 141 ∷ []) a) (old ++ old ++ old ++ old ++ old)
+    ∷ row 406 (cuts (1 ∷ 2 ∷ 13 ∷ 140 ∷ 141 ∷ []) a) (old ++ old ++ old ++ old ++ old)
     ∷ []
   where
     old : List ℕ

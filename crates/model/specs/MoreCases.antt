@@ -11,7 +11,7 @@ use Rattle.record.specs.declared.Pending.the-variants.{Idle, Append, NewHead, C
 use Rattle.record.specs.declared.Record.{Record}
 use Rattle.model.specs.Recovery.{recoverCauses, recovery}
 use Rattle.model.specs.Operations.{Operation, write, delete, clean, formatted, allEncoded}
-use Rattle.model.specs.Refused.{formatCauses, readCauses, startCauses, stepCauses}
+use Rattle.model.specs.Refused.{freely, formatCauses, readCauses, startCauses, stepCauses}
 use Rattle.model.specs.Play.{opened, freshOver, keyed, object, tombstone, slotWith, segmentWith, first, recoveryNumbers, recovers, lentWith, startNumber, starts, begins, ends, stores, cutAfter, played, playedAll, reads, keeps}
 use Rattle.model.specs.Expected.{holds, gives, refusedBy, toCome, remaining, done, shows}
 use Rattle.model.specs.Table.{Row, row, failing, Hold, joined, rows-hold}
@@ -143,17 +143,17 @@ abbrev steps : Record → ℕ → ℕ
 steps r work = first (stepCauses edition1 r (lentWith work))
 
 abbrev startsOf : Record → ℕ → Operation → ℕ
-startsOf r work o = first (startCauses edition1 r [] (lentWith work) o)
+startsOf r work o = first (startCauses edition1 r [] (lentWith work) freely o)
 
 abbrev badOnes : List Operation
 badOnes = write (keyed 7 9) (replicate 7 1) ∷ delete (keyed 7 9) ∷ clean 0 ∷ []
 
 -- 15 keys in the head, which ends at 245, so that a tombstone fits it and no object does; slots 1 and 2 have digests
-abbrev crowded : (number map next : ℕ) → List ℕ
+abbrev pub crowded : (number map next : ℕ) → List ℕ
 crowded number map next = seg number map next (tombstones 15 ++ large (keyed 1 1) 16 ∷ []) ++ bare 1 ++ bare 2 ++ vacant
 
 -- the same with one more tombstone, so that nothing fits
-abbrev filled : (number map next : ℕ) → List ℕ
+abbrev pub filled : (number map next : ℕ) → List ℕ
 filled number map next =
     seg number map next (tombstones 15 ++ large (keyed 1 1) 16 ∷ tombstone (keyed 1 2) 17 ∷ []) ++ bare 1 ++ bare 2 ++ vacant
 
@@ -163,7 +163,7 @@ wide number =
     seg 1 1 1 (large (keyed 1 1) 1 ∷ large (keyed 1 2) 2 ∷ large (keyed 1 3) 3 ∷ []) ++
     seg number 3 4 (large (keyed 2 1) 4 ∷ large (keyed 2 2) 5 ∷ large (keyed 2 3) 6 ∷ []) ++ vacant ++ vacant
 
-abbrev limit : ℕ
+abbrev pub limit : ℕ
 limit = 4294967295
 
 abbrev newKey : ℕ → Operation

@@ -22,7 +22,7 @@ use Rattle.model.specs.Log.{Placed, itemFirst, scanFrom, itemsOf, endOf,
 use Rattle.model.specs.Causes.{Cause, firstCause}
 use Rattle.model.specs.Recovery.{lists, listsBelow, headElse, hasNumber, sharing, namesNoDigest, logDamaged, recoveryFor, recovery, recordFrom}
 use Rattle.model.specs.Operations.{Operation, logNow, isVersion, objectOutside, keptOf, kept, allEncoded, replaced, replacedBy, slotOf, laid, storesFrom, planOf, planFor, storesFor, stored, toldVersion, countNew, placedFrom, finishedRecord, cleared, formatted}
-use Rattle.model.specs.Refused.{Lengths, isPending, readCauses, startCauses}
+use Rattle.model.specs.Refused.{Lengths, Terms, freely, versionIn, expectsOther, isPending, readCauses, startCauses}
 use Rattle.model.specs.Promises.{presentAnswer, readAnswer, partOf, valuePart, valueAnswer, Begun, begun, stepped}
 use Rattle.model.specs.Table.{same, failing}
 
@@ -33,7 +33,7 @@ unfolding numberOf bytesOf pick both either isNone orZero edition1 lookup lookBa
     itemFirst scanFrom itemsOf endOf isDamaged digestIn newer headOf placedIn logOf sameKeys sameKey laterOf latest objectOnly present hasKey keysOf hasVersion versionShared highest
     firstCause lists listsBelow headElse hasNumber sharing namesNoDigest logDamaged recoveryFor recovery
     isVersion objectOutside keptOf allEncoded replaced replacedBy slotOf laid storesFrom planOf stored toldVersion countNew placedFrom finishedRecord cleared
-    isPending startCauses presentAnswer readAnswer valuePart valueAnswer begun stepped same failing
+    versionIn expectsOther isPending startCauses presentAnswer readAnswer valuePart valueAnswer begun stepped same failing
 opened = tt
 
 -- ---- areas
@@ -97,13 +97,20 @@ log area = logNow edition1 area (recordNow area)
 abbrev pub lentWith : ℕ → Lengths
 lentWith work = record { area = 1024; index = 16; work = work }
 
--- the first cause of a start with this record
+-- the first cause of a start with this record, on terms and on none
+abbrev pub causeOn : Terms → Record → List ℕ → Operation → Option Refusal
+causeOn t r area o = firstCause (startCauses edition1 r (logNow edition1 area r) (lentWith 256) t o)
+
 abbrev pub startCause : Record → List ℕ → Operation → Option Refusal
-startCause r area o = firstCause (startCauses edition1 r (logNow edition1 area r) (lentWith 256) o)
+startCause = causeOn freely
 
 -- its number with the recovered record
 abbrev pub startNumber : List ℕ → Operation → ℕ
 startNumber area o = causeNumber (startCause (recordNow area) area o)
+
+-- on terms
+abbrev pub numberOn : Terms → List ℕ → Operation → ℕ
+numberOn t area o = causeNumber (causeOn t (recordNow area) area o)
 
 -- a start with the recovered record and a work buffer of bytes 170
 abbrev pub begins : List ℕ → Operation → Begun

@@ -19,7 +19,7 @@ use Rattle.record.specs.declared.Start.{Start}
 use Rattle.record.specs.declared.Stepped.{Stepped}
 use Rattle.model.specs.Causes.{firstCause}
 use Rattle.model.specs.Operations.{Operation}
-use Rattle.model.specs.Refused.{stepCauses, recordBad}
+use Rattle.model.specs.Refused.{Terms, stepCauses, recordBad}
 use Rattle.model.specs.Promises.{Genuine, Settled, Started, FormatPromise, RecoverPromise, ReadPromise, readLengths, Part, nowhere, ValuePromise, Begun, lentLengths, StartPromise, StepPromise, OneByte}
 
 -- Two places at which the area after a step differs from the one before are one place.
@@ -97,9 +97,9 @@ pub record StartSame (L : Layout) (r : Record) (area cells work work′ work″ 
   pub said : Settled L area r cells (lentLengths area cells work) → startSaid (a .answer) ≡ startSaid (b .answer)
 
 pub start-fixed :
-    (L : Layout) (o : Operation) (r : Record) (area cells work work′ work″ : List ℕ) (a b : Start) →
-    StartPromise L o r area cells work work′ a → StartPromise L o r area cells work work″ b → StartSame L r area cells work work′ work″ a b
-start-fixed L o r area cells work work′ work″ a b x y =
+    (L : Layout) (t : Terms) (o : Operation) (r : Record) (area cells work work′ work″ : List ℕ) (a b : Start) →
+    StartPromise L t o r area cells work work′ a → StartPromise L t o r area cells work work″ b → StartSame L r area cells work work′ work″ a b
+start-fixed L t o r area cells work work′ work″ a b x y =
     record {
       unfit-same = λ u. x .unfit u ∙ sym (y .unfit u);
       left-same = λ g. x .exact g ∙ sym (y .exact g);

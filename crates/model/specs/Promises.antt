@@ -35,7 +35,7 @@ use Rattle.model.specs.Causes.{Cause, firstCause}
 use Rattle.model.specs.Recovery.{recovered, recovery, recoverCauses}
 use Rattle.model.specs.Index.{IndexRule}
 use Rattle.model.specs.Operations.{Operation, Typed, logNow, laid, planFor, storesFor, startedRecord, stored, toldVersion, finishedRecord, formatted}
-use Rattle.model.specs.Refused.{Lengths, recordBad, formatCauses, readCauses, startCauses, stepCauses}
+use Rattle.model.specs.Refused.{Lengths, Terms, freely, recordBad, formatCauses, readCauses, startCauses, stepCauses}
 
 -- Each answer is fixed twice over, in two languages: as the value that the call returns, and (`says`) as the number and values
 -- that 01 gives it, by the definitions that the events of a list and the book use.
@@ -48,7 +48,8 @@ pub record Genuine (L : Layout) (area : List ℕ) (r : Record) (cells : List ℕ
   pub rule : IndexRule (r .size) (logNow L area r) cells
 
 -- The pending operation is one that was started on this store, and steps alone were made since: `idle` was the record and `before` the
--- area, `since` stores of the plan are done, and the work buffer still begins with the operation's bytes.
+-- area, `since` stores of the plan are done, and the work buffer still begins with the operation's bytes. What its call asked for
+-- besides has left no trace: whatever is accepted on terms is accepted without any.
 pub record Started (L : Layout) (area : List ℕ) (r : Record) (work : List ℕ) : Type 0 where
   pub operation : Operation
   pub before : List ℕ
@@ -58,7 +59,7 @@ pub record Started (L : Layout) (area : List ℕ) (r : Record) (work : List ℕ)
   pub typed : Typed operation
   pub area-bytes : Bytes before
   pub recovers : recovered L (idle .slots) (idle .size) (idle .cells) before ≡ some idle
-  pub accepted : firstCause (startCauses L idle (logNow L before idle) lengths operation) ≡ none
+  pub accepted : firstCause (startCauses L idle (logNow L before idle) lengths freely operation) ≡ none
   pub some-left : since < storesFor L idle (logNow L before idle) operation
   pub record-now :
       r ≡ withPending idle (laid L idle (logNow L before idle) operation .pending (storesFor L idle (logNow L before idle) operation - since))
@@ -196,18 +197,18 @@ begun L r log o work (some c) = record { start = record { answer = StartAnswer.R
 abbrev pub lentLengths : List ℕ → List ℕ → List ℕ → Lengths
 lentLengths area cells work = record { area = length area; index = length cells; work = length work }
 
--- One promise for the three starts. Of an area that is only read nothing has to be said.
-pub record StartPromise (L : Layout) (o : Operation) (r : Record) (area cells work work′ : List ℕ) (a : Start) : Type 0 where
+-- One promise for the three starts, on any terms. Of an area that is only read nothing has to be said.
+pub record StartPromise (L : Layout) (t : Terms) (o : Operation) (r : Record) (area cells work work′ : List ℕ) (a : Start) : Type 0 where
   pub same-length : length work′ ≡ length work
   pub unfit :
       recordBad L r (lentLengths area cells work) ≡ true →
       record { start = a; work = work′ } ≡ begun L r [] o work (some Refusal.BadRecord)
   pub exact :
       Genuine L area r cells → record { start = a; work = work′ } ≡
-      begun L r (logNow L area r) o work (firstCause (startCauses L r (logNow L area r) (lentLengths area cells work) o))
+      begun L r (logNow L area r) o work (firstCause (startCauses L r (logNow L area r) (lentLengths area cells work) t o))
   pub says :
       Settled L area r cells (lentLengths area cells work) → startSaid (a .answer) ≡
-      saidBy (firstCause (startCauses L r (logNow L area r) (lentLengths area cells work) o)) (takenWith (storesFor L r (logNow L area r) o))
+      saidBy (firstCause (startCauses L r (logNow L area r) (lentLengths area cells work) t o)) (takenWith (storesFor L r (logNow L area r) o))
 
 -- ---- step
 

@@ -3,6 +3,7 @@
 use Prim.Native.Nat.{ℕ, _+_, _-_}
 use mathlib.Core.Bool.{Bool, true, false, not}
 use mathlib.Core.List.{List, [], _∷_}
+use mathlib.Core.Option.{Option, none, some}
 use lib.Dec.{eqb, ltb, leb}
 use lib.ListN.{length}
 use Rattle.segment.specs.Choice.{both, either, isNone}
@@ -12,8 +13,10 @@ use Rattle.slot_map.specs.Bit.{within}
 use Rattle.record.specs.Range.{fitsLent}
 use Rattle.record.specs.declared.Pending.{Pending}
 use Rattle.record.specs.declared.Pending.the-variants.{Idle, Append, NewHead, Clean, Forget}
-use Rattle.record.specs.declared.Refusal.the-variants.{WorkShort, BadRecord, Busy, NonePending, ValueLength, Absent, VersionsSpent, NumbersSpent, KeysFull, NoRoom, BadVictims, KeptTooLong, Geometry}
+use Rattle.record.specs.declared.Refusal.the-variants.{WorkShort, BadRecord, Busy, NonePending, ValueLength, Absent, VersionsSpent, NumbersSpent, KeysFull, NoRoom, BadVictims, KeptTooLong, Geometry, OtherVersion}
 use Rattle.record.specs.declared.Record.{Record}
+use Rattle.record.specs.declared.Expected.{Expected}
+use Rattle.record.specs.declared.Expected.the-variants.{Any, Only}
 use Rattle.model.specs.Log.{Placed, hasKey, present}
 use Rattle.model.specs.Causes.{Cause, when}
 use Rattle.model.specs.Recovery.{geometryBad}
@@ -25,6 +28,14 @@ pub record Lengths : Type 0 where
   pub area : ℕ
   pub index : ℕ
   pub work : ℕ
+
+-- What a start asks for besides its operation. It belongs to the call: plan, work bytes, book and recovery do not know it.
+pub record Terms : Type 0 where
+  pub expected : Expected
+
+-- nothing besides
+abbrev pub freely : Terms
+freely = record { expected = Any }
 
 -- 4, as far as it needs no look at the log
 abbrev pub recordBad : Layout → Record → Lengths → Bool
@@ -50,16 +61,28 @@ valueBad L n = isNone (objectKind L n)
 abbrev pub keyAbsent : List Placed → Key → Bool
 keyAbsent log k = isNone (present log k)
 
+-- the version of a key: that of the object that gives it its value, 0 where it is absent
+unfoldable pub versionIn : Option Placed → ℕ
+versionIn none = 0
+versionIn (some x) = x .entry .version
+
 -- What a call knows of its key: whether a byte was met that the rules of the log forbid, whether the log has any entry of
--- the key, and whether no object gives it a value.
+-- the key, whether no object gives it a value, and its version.
 pub record KeyFacts : Type 0 where
   pub forbidden : Bool
   pub in-log : Bool
   pub absent : Bool
+  pub version : ℕ
 
 -- by the log, whose entries have no such byte
 abbrev pub keyFacts : List Placed → Key → KeyFacts
-keyFacts log k = record { forbidden = false; in-log = hasKey log k; absent = keyAbsent log k }
+keyFacts log k =
+    record { forbidden = false; in-log = hasKey log k; absent = keyAbsent log k; version = versionIn (present log k) }
+
+-- 21 (02, R-1): the key's version is not the one that is expected
+unfoldable pub expectsOther : Expected → ℕ → Bool
+expectsOther Any v = false
+expectsOther (Only e) v = not (eqb (e .0) v)
 
 -- 9
 abbrev pub versionsSpent : Layout → Record → Bool
@@ -95,16 +118,17 @@ formatCauses n s areaLength = when (geometryBad n s areaLength) Geometry ∷ []
 abbrev pub readCauses : Layout → Record → List Placed → Lengths → Key → List Cause
 readCauses L r log l k = when (recordBad L r l) BadRecord ∷ when (keyAbsent log k) Absent ∷ []
 
--- Write: 4, 3, 5, 7, 9, 11, 12, 10, for a value of n bytes. A forbidden byte is met where the key is looked up, which 11 is
+-- Write: 4, 3, 5, 7, 21, 9, 11, 12, 10, for a value of n bytes. A forbidden byte is met where the key is looked up, which 21 is
 -- the first to need.
-abbrev pub writeCauses : Layout → Record → Lengths → KeyFacts → ℕ → List Cause
-writeCauses L r l k n =
+abbrev pub writeCauses : Layout → Record → Lengths → Terms → KeyFacts → ℕ → List Cause
+writeCauses L r l t k n =
     when (recordBad L r l) BadRecord
     ∷ when (workShort r l) WorkShort
     ∷ when (isPending (r .pending)) Busy
     ∷ when (valueBad L n) ValueLength
-    ∷ when (versionsSpent L r) VersionsSpent
     ∷ when (k .forbidden) BadRecord
+    ∷ when (expectsOther (t .expected) (k .version)) OtherVersion
+    ∷ when (versionsSpent L r) VersionsSpent
     ∷ when (keysFull r k) KeysFull
     ∷ when (noRoom r (entrySize L n)) NoRoom
     ∷ when (noNumber r (entrySize L n)) NumbersSpent
@@ -138,10 +162,10 @@ abbrev pub keptLength : Layout → List Placed → ℕ → ℕ
 keptLength L log victims = length (allEncoded L (kept victims log))
 
 -- The causes of a start, with what the log says.
-unfoldable pub startCauses : Layout → Record → List Placed → Lengths → Operation → List Cause
-startCauses L r log l (write k value) = writeCauses L r l (keyFacts log k) (length value)
-startCauses L r log l (delete k) = deleteCauses L r l (keyFacts log k)
-startCauses L r log l (clean victims) = cleanCauses L r l (keptLength L log victims) victims
+unfoldable pub startCauses : Layout → Record → List Placed → Lengths → Terms → Operation → List Cause
+startCauses L r log l t (write k value) = writeCauses L r l t (keyFacts log k) (length value)
+startCauses L r log l t (delete k) = deleteCauses L r l (keyFacts log k)
+startCauses L r log l t (clean victims) = cleanCauses L r l (keptLength L log victims) victims
 
 -- Step: 4, 3, 6.
 abbrev pub stepCauses : Layout → Record → Lengths → List Cause

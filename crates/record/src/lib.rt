@@ -64,7 +64,7 @@ pub struct Commit {
     pub next: Version,
 }
 
-// The causes of 01's table "Refused calls", in the order of their numbers.
+// The causes of 01's table "Refused calls", in the order of their numbers, and those that 02 adds to it.
 pub enum Refusal {
     Geometry,
     Cells,
@@ -86,6 +86,13 @@ pub enum Refusal {
     DamagedLog,
     SharedVersion,
     TooManyKeys,
+    OtherVersion,
+}
+
+// What a write expects of its key (02, R-1): nothing, or the version that the key has, 0 where it is absent.
+pub enum Expected {
+    Any,
+    Only(Version),
 }
 
 pub enum FormatAnswer {
@@ -137,7 +144,7 @@ pub struct Stepped {
     pub rec: Record,
 }
 
-// 01's number for a cause.
+// The number of a cause.
 pub fn number(r: Refusal) -> u32
     ensures { λ n. ⌜ n ≡ numberOfRefusal r ⌝ }
 {
@@ -162,6 +169,7 @@ pub fn number(r: Refusal) -> u32
         Refusal::DamagedLog => 18,
         Refusal::SharedVersion => 19,
         Refusal::TooManyKeys => 20,
+        Refusal::OtherVersion => 21,
     }
 }
 

@@ -1,4 +1,4 @@
-// The store: the seven calls, and the value of a read. This is what a user looks at; the promise of each call is its contract,
+// The store: its calls, and the value of a read. This is what a user looks at; the promise of each call is its contract,
 // a relation of the crate model that holds for every input.
 
 // Makes an area of N slots of S bytes a fresh store. Outside the promise about cuts. Refused with 1, it changes nothing.
@@ -17,6 +17,10 @@ pub use recovery::read::read_value;
 // Starts a write: checks, fills the work buffer, and answers the number of stores to come. Nothing is stored in the area.
 // Refused with 4, 3, 5, 7, 9, 11, 12 or 10, it changes nothing.
 pub use writing::start::write;
+
+// Starts a write over the version that the caller expects the key to have, 0 where it expects the key to be absent. Refused also
+// with 21, behind 7, where the key has another version.
+pub use writing::start::write_expecting;
 
 // Starts a delete, likewise. Refused with 4, 3, 5, 8, 9, 12 or 10.
 pub use writing::start::delete;

@@ -21,7 +21,7 @@ use Rattle.model.specs.Log.{present}
 use Rattle.model.specs.Causes.{firstCause}
 use Rattle.model.specs.Operations.{Operation, logNow}
 use Rattle.model.specs.Recovery.{recovery, recoveryFor, recoverCauses, recordFrom}
-use Rattle.model.specs.Refused.{readCauses, startCauses}
+use Rattle.model.specs.Refused.{Terms, readCauses, startCauses}
 use Rattle.model.specs.Promises.{IndexAfter, RecoverPromise, readAnswer, readLengths, ReadPromise, Part, valueAnswer, ValuePromise, Begun, begun, lentLengths, StartPromise}
 use Rattle.laws.specs.CauseLaws.{cause-first}
 use Rattle.laws.specs.SaidLaws.{recover-says, read-settled, start-settled}
@@ -67,25 +67,25 @@ module _ (L : Layout) (r : Record) (area cells : List ℕ) (k : Key) where
 
 -- ---- write, delete and clean
 
-abbrev pub startedBy : Layout → Operation → Record → List ℕ → List ℕ → List ℕ → Begun
-startedBy L o r area cells work =
-    begun L r (logNow L area r) o work (firstCause (startCauses L r (logNow L area r) (lentLengths area cells work) o))
+abbrev pub startedBy : Layout → Terms → Operation → Record → List ℕ → List ℕ → List ℕ → Begun
+startedBy L t o r area cells work =
+    begun L r (logNow L area r) o work (firstCause (startCauses L r (logNow L area r) (lentLengths area cells work) t o))
 
-module _ (L : Layout) (o : Operation) (r : Record) (area cells work : List ℕ) where
+module _ (L : Layout) (t : Terms) (o : Operation) (r : Record) (area cells work : List ℕ) where
   abbrev its : Begun
-  its = startedBy L o r area cells work
+  its = startedBy L t o r area cells work
 
-  pub start-made : StartPromise L o r area cells work (its .work) (its .start)
+  pub start-made : StartPromise L t o r area cells work (its .work) (its .start)
   unfolding begun
   start-made =
       record {
         same-length =
-            begun-length L r (logNow L area r) o work (firstCause (startCauses L r (logNow L area r) (lentLengths area cells work) o));
-        unfit = λ bad. ap (begun L r (logNow L area r) o work) (start-bad L r (logNow L area r) (lentLengths area cells work) o bad);
+            begun-length L r (logNow L area r) o work (firstCause (startCauses L r (logNow L area r) (lentLengths area cells work) t o));
+        unfit = λ bad. ap (begun L r (logNow L area r) o work) (start-bad L r (logNow L area r) (lentLengths area cells work) t o bad);
         exact = λ g. refl;
         says =
-            start-settled L o r area cells work (its .work) (its .start)
-            (λ bad. ap (begun L r (logNow L area r) o work) (start-bad L r (logNow L area r) (lentLengths area cells work) o bad)) (λ g. refl);
+            start-settled L t o r area cells work (its .work) (its .start)
+            (λ bad. ap (begun L r (logNow L area r) o work) (start-bad L r (logNow L area r) (lentLengths area cells work) t o bad)) (λ g. refl);
       }
 
 -- ---- recovery

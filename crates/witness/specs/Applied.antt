@@ -20,13 +20,15 @@ use Rattle.model.specs.Operations.{write}
 use Rattle.model.specs.Play.{opened}
 use Rattle.model.specs.Recovery.{orderBad, recovery}
 use Rattle.model.specs.Promises.{formatAnswer, areaUnless, FormatPromise, RecoverPromise, ReadPromise, Part, partOf, ValuePromise}
-use Rattle.history.specs.Book.{reads, asks, Answer, saying, Event, cut, accepted, Book, freshBook, versionFor, bookOf, highestTold, versionTold}
+use Rattle.history.specs.Book.{reads, starts, asks, Answer, saying, Event, called, cut, accepted, bookVersion, Book, freshBook, versionFor, feed, bookOf, highestTold, versionTold}
 use Rattle.history.specs.Demand3.{LargeEnough, bookAnswer, bookValue, GivesBook, StepAgrees, QuestionAgrees, EventAgrees, EventsAgree, Demand3Of}
 use Rattle.history.proofs.Readings.{feed-asks}
 use Rattle.history.proofs.Theorem.{demand-3}
+use Rattle.history.specs.Finishing.{goesOn, allGoOn}
 use Rattle.history.proofs.Corollaries.{agree-at, agree-behind, told-below-next}
+use Rattle.history.proofs.Expecting.{expected-found, replaces-expected}
 use Rattle.witness.specs.Answers.{recoveredCells, recover-made}
-use Rattle.witness.specs.Example.{computing, booking, bytes-of, nine, nine-typed, ten, ten-typed, ones, threes, told, lent, started, stepped, recovered, readEvent, valueEvent, readsAs, leaving, begins, writes, idles, half, meanwhile, fails, others, deletes, cleans, ends, before, area₀, events, all, run, two, cleaned}
+use Rattle.witness.specs.Example.{computing, booking, bytes-of, nine, nine-typed, ten, ten-typed, ones, twos, threes, expecting, told, lent, startedOn, started, stepped, recovered, readEvent, valueEvent, readsAs, leaving, begins, writes, idles, half, meanwhile, fails, others, deletes, cleans, ends, before, area₀, events, all, run, two, cleaned}
 
 formats : FormatPromise edition1 4 256 before area₀ FormatAnswer.Formatted
 unfolding opened formatAnswer areaUnless saidBy
@@ -151,3 +153,24 @@ pub read-meanwhile : ReadAgreed (bookOf (begins ++ (writes ++ (idles ++ half))))
 read-meanwhile =
     read-agreed (begins ++ (writes ++ (idles ++ half))) nine (told 0 1 1) ones (fails ++ (others ++ (deletes ++ (cleans ++ ends))))
     (demanded .agrees)
+
+-- ---- what a write expected
+
+-- the second write found version 1, and the write of the other key no version
+pub found-first : 1 ≡ bookVersion (bookOf (begins ++ (writes ++ (idles ++ called (starts (expecting 0) (write nine twos)) (lent 256) (saying (refusal 21)) ∷ []))) .keys nine)
+found-first =
+    expected-found 4 256 before area₀ (bytes-of 1024 0xaa (omega arith)) formats
+    (begins ++ (writes ++ (idles ++ called (starts (expecting 0) (write nine twos)) (lent 256) (saying (refusal 21)) ∷ [])))
+    (leaving 7 13 ++ (meanwhile ++ (fails ++ (others ++ (deletes ++ (cleans ++ ends)))))) (expecting 1) (record { 0 = 1 }) nine twos (lent 256)
+    (saying (told 20 0 0)) (all .world) run refl refl
+
+-- so the last step of the latter replaced nothing, and it has the key's value now at the version told
+pub replaced-none :
+    let b = bookOf (begins ++ (writes ++ (idles ++ (half ++ (meanwhile ++ (fails ++ startedOn (expecting 0) (write ten threes) 36 ∷ leaving 35 1)))))) in
+    (bookVersion (b .keys ten) ≡ 0) × (feed b (stepped (told 0 2 0)) .keys ten ≡ two)
+unfolding allGoOn goesOn booking bookVersion
+replaced-none =
+    replaces-expected 4 256 before area₀ (bytes-of 1024 0xaa (omega arith)) formats (begins ++ (writes ++ (idles ++ (half ++ (meanwhile ++ fails)))))
+    (leaving 35 1) (deletes ++ (cleans ++ ends)) (expecting 0) (record { 0 = 0 }) ten threes (lent 256) (lent 256) (saying (told 36 0 0))
+    (saying (told 0 2 0)) (all .world) run refl refl refl
+    (record { awaited = record { operation = write ten threes; left = 1 }; pending = refl; one-left = refl; is-accepted = refl })

@@ -9,6 +9,7 @@ use Rattle.segment.specs.Layout.{Layout, edition1}
 use Rattle.record.specs.Answers.{recoverSaid, readSaid, startSaid, stepSaid}
 use Rattle.record.specs.declared.Recovery.{Recovery}
 use Rattle.model.specs.Operations.{Operation, Typed, TypedKey}
+use Rattle.model.specs.Refused.{Terms}
 use Rattle.model.specs.Recovery.{recovery}
 use Rattle.model.specs.Promises.{readLengths, partOf, Begun, lentLengths}
 use Rattle.history.specs.Book.{Question, reads, readsValue, starts, steps, asks, recovers, Answer, saying, giving, Event, called, cut}
@@ -21,9 +22,9 @@ abbrev pub TypedQuestion : Question → Type 0
 TypedQuestion (reads k) = TypedKey k
 TypedQuestion (readsValue k) = TypedKey k
 
--- Arguments are of their types. A start gets any work buffer, a recovery any order list and any index.
+-- Arguments are of their types. A start gets any terms and any work buffer, a recovery any order list and any index.
 pub data Command : Type 0 where
-  operate : (o : Operation) → Typed o → List ℕ → Command
+  operate : Terms → (o : Operation) → Typed o → List ℕ → Command
   advance : Command
   question : (q : Question) → TypedQuestion q → Command
   restart : List ℕ → List ℕ → Command
@@ -36,10 +37,10 @@ pub record Played : Type 0 where
 
 -- ---- one command
 
-abbrev pub startedWorld : World → Held → Operation → List ℕ → Begun → Played
-startedWorld w h o work b =
+abbrev pub startedWorld : World → Held → Terms → Operation → List ℕ → Begun → Played
+startedWorld w h q o work b =
     record {
-      events = called (starts o) (lentLengths (w .area) (h .cells) work) (saying (startSaid (b .start .answer))) ∷ [];
+      events = called (starts q o) (lentLengths (w .area) (h .cells) work) (saying (startSaid (b .start .answer))) ∷ [];
       world = record { area = w .area; held = some (heldAfter h (b .work) (b .start)); cells = w .cells };
     }
 
@@ -73,10 +74,10 @@ restarted L n s w order cells r =
 
 -- Without a record only a recovery and a cut can happen: any other command does nothing. A step gets the work buffer of the start.
 unfoldable pub played : Layout → ℕ → ℕ → World → Option Held → Command → Played
-played L n s w (some h) (operate o t work) = startedWorld w h o work (startedBy L o (h .rec) (w .area) (h .cells) work)
+played L n s w (some h) (operate q o t work) = startedWorld w h q o work (startedBy L q o (h .rec) (w .area) (h .cells) work)
 played L n s w (some h) advance = steppedWorld w h (steppedBy L (h .rec) (w .area) (h .cells) (h .work))
 played L n s w (some h) (question q t) = askedWorld L w h q
-played L n s w none (operate o t work) = record { events = []; world = w }
+played L n s w none (operate q o t work) = record { events = []; world = w }
 played L n s w none advance = record { events = []; world = w }
 played L n s w none (question q t) = record { events = []; world = w }
 played L n s w held (restart order cells) = restarted L n s w order cells (recovery L n s (length cells) order (w .area))
@@ -116,10 +117,10 @@ module _ (n s : ℕ) where
   played-run : (area : List ℕ) (m : Option ℕ) (held : Option Held) (c : Command) →
       let w : World = record { area = area; held = held; cells = m } in From w (played edition1 n s w held c)
   unfolding played
-  played-run area m (some h) (operate o t work) = one (start t (start-made edition1 o (h .rec) area (h .cells) work))
+  played-run area m (some h) (operate q o t work) = one (start t (start-made edition1 q o (h .rec) area (h .cells) work))
   played-run area m (some h) advance = one (step (λ e. refl) (step-made (h .rec) area (h .cells) (h .work)))
   played-run area m (some h) (question q t) = one (ask (asked area m h q t))
-  played-run area m none (operate o t work) = stop
+  played-run area m none (operate q o t work) = stop
   played-run area m none advance = stop
   played-run area m none (question q t) = stop
   played-run area m (some h) (restart order cells) = one (recover (recover-made edition1 n s order area cells))

@@ -1,24 +1,32 @@
 -- Two lists of events are held against each other as numbers, so that one test is computed over them; a law turns it into an equation.
 use Prim.Native.Nat.{ℕ, zero, suc}
-use mathlib.Core.Path.{_≡_, refl, sym, _∙_, ap₂}
+use mathlib.Core.Path.{_≡_, refl, sym, _∙_, ap, ap₂}
 use mathlib.Core.List.{List, [], _∷_}
 use native.Mathlib.Omega.{arith}
 use lib.ListN.{length, getD, drop}
 use Rattle.segment.specs.declared.Key.{Key}
+use Rattle.record.specs.declared.Expected.{Expected}
+use Rattle.record.specs.declared.Expected.the-variants.{Any, Only}
 use Rattle.model.specs.Operations.{write, delete, clean}
+use Rattle.model.specs.Refused.{Terms}
 use Rattle.model.specs.Table.{Row, row, failing, Hold, rows-hold}
 use Rattle.history.specs.Book.{reads, readsValue, Call, starts, steps, asks, recovers, Event, called, cut}
 
 -- ---- an event as numbers: what is told, the lengths lent, which call it is, and its arguments; and its value
+
+-- 0 where nothing is expected, else one more than the version
+unfoldable pub expectedNumber : Expected → ℕ
+expectedNumber Any = 0
+expectedNumber (Only v) = suc (v .0)
 
 unfoldable pub callNumbers : Call → List ℕ
 callNumbers steps = 0 ∷ []
 callNumbers (recovers n s order) = 1 ∷ n ∷ s ∷ order
 callNumbers (asks (reads k)) = 2 ∷ k .table ∷ k .key ∷ []
 callNumbers (asks (readsValue k)) = 3 ∷ k .table ∷ k .key ∷ []
-callNumbers (starts (clean victims)) = 4 ∷ victims ∷ []
-callNumbers (starts (delete k)) = 5 ∷ k .table ∷ k .key ∷ []
-callNumbers (starts (write k value)) = 6 ∷ k .table ∷ k .key ∷ value
+callNumbers (starts t (clean victims)) = 4 ∷ expectedNumber (t .expected) ∷ victims ∷ []
+callNumbers (starts t (delete k)) = 5 ∷ expectedNumber (t .expected) ∷ k .table ∷ k .key ∷ []
+callNumbers (starts t (write k value)) = 6 ∷ expectedNumber (t .expected) ∷ k .table ∷ k .key ∷ value
 
 unfoldable pub eventNumbers : Event → List ℕ
 eventNumbers cut = []
@@ -34,20 +42,35 @@ eventValue (called c l a) = a .value
 abbrev keyFrom : List ℕ → Key
 keyFrom xs = record { table = getD xs 0 0; key = getD xs 1 0 }
 
+expectedFrom : ℕ → Expected
+expectedFrom zero = Any
+expectedFrom (suc v) = Only (record { 0 = v })
+
+abbrev termsFrom : List ℕ → Terms
+termsFrom xs = record { expected = expectedFrom (getD xs 0 0) }
+
 callFrom : ℕ → List ℕ → Call
 callFrom zero xs = steps
 callFrom (suc zero) xs = recovers (getD xs 0 0) (getD xs 1 0) (drop 2 xs)
 callFrom (suc (suc zero)) xs = asks (reads (keyFrom xs))
 callFrom (suc (suc (suc zero))) xs = asks (readsValue (keyFrom xs))
-callFrom (suc (suc (suc (suc zero)))) xs = starts (clean (getD xs 0 0))
-callFrom (suc (suc (suc (suc (suc zero))))) xs = starts (delete (keyFrom xs))
-callFrom (suc (suc (suc (suc (suc (suc n)))))) xs = starts (write (keyFrom xs) (drop 2 xs))
+callFrom (suc (suc (suc (suc zero)))) xs = starts (termsFrom xs) (clean (getD xs 1 0))
+callFrom (suc (suc (suc (suc (suc zero))))) xs = starts (termsFrom xs) (delete (keyFrom (drop 1 xs)))
+callFrom (suc (suc (suc (suc (suc (suc n)))))) xs = starts (termsFrom xs) (write (keyFrom (drop 1 xs)) (drop 3 xs))
 
 eventFrom : List ℕ → List ℕ → Event
 eventFrom [] value = cut
 eventFrom (x ∷ xs) value =
     called (callFrom (getD xs 6 0) (drop 7 xs)) (record { area = getD xs 3 0; index = getD xs 4 0; work = getD xs 5 0 })
     (record { said = record { refused = x; stores = getD xs 0 0; version = getD xs 1 0; kind = getD xs 2 0 }; value = value })
+
+terms-back : (t : Terms) → record { expected = expectedFrom (expectedNumber (t .expected)) } ≡ t
+unfolding expectedNumber expectedFrom
+terms-back t = ap (λ (e : Expected). record { expected = e }) (go (t .expected))
+  where
+    go : (e : Expected) → expectedFrom (expectedNumber e) ≡ e
+    go Any = refl
+    go (Only v) = refl
 
 event-back : (e : Event) → eventFrom (eventNumbers e) (eventValue e) ≡ e
 unfolding callNumbers eventNumbers eventValue callFrom eventFrom
@@ -56,9 +79,9 @@ event-back (called steps l a) = refl
 event-back (called (recovers n s order) l a) = refl
 event-back (called (asks (reads k)) l a) = refl
 event-back (called (asks (readsValue k)) l a) = refl
-event-back (called (starts (clean victims)) l a) = refl
-event-back (called (starts (delete k)) l a) = refl
-event-back (called (starts (write k value)) l a) = refl
+event-back (called (starts t (clean victims)) l a) = ap (λ (x : Terms). called (starts x (clean victims)) l a) (terms-back t)
+event-back (called (starts t (delete k)) l a) = ap (λ (x : Terms). called (starts x (delete k)) l a) (terms-back t)
+event-back (called (starts t (write k value)) l a) = ap (λ (x : Terms). called (starts x (write k value)) l a) (terms-back t)
 
 -- ---- two lists: two rows for each event, numbered by the events behind it, and one that fails where a list ends before the other
 

@@ -15,9 +15,10 @@ use Rattle.slot_map.specs.Bit.{withBit, less}
 use Rattle.record.specs.Answers.{Said, refusal, taken}
 use Rattle.model.specs.Log.{sameKeys}
 use Rattle.model.specs.Index.{around}
+use Rattle.record.specs.declared.Expected.the-variants.{Only}
 use Rattle.model.specs.Operations.{Operation, write, delete, clean, Typed, TypedKey, formatted}
 use Rattle.model.specs.Play.{opened, keyed}
-use Rattle.model.specs.Refused.{Lengths}
+use Rattle.model.specs.Refused.{Lengths, Terms, freely}
 use Rattle.model.specs.Table.{failing}
 use Rattle.history.specs.Book.{reads, readsValue, starts, steps, asks, recovers, saying, giving, Event, called, cut, Kept, Awaited, Book, finish, oneOff, takeOne, feedCall, feed, bookAfter, bookOf}
 use Rattle.history.specs.Runs.{freshWorld, Run}
@@ -30,7 +31,7 @@ use Rattle.stepping.specs.Finish.{keysAfter, answeredWith, foundIn, finishEntry
 use Rattle.stepping.specs.Agree.{entryAgrees, slotAgrees, victimsAgree, agreesWith, testedStore}
 use Rattle.stepping.specs.Next.{commitStore, fitsSlot, fitsLeft, slotStore, slotNext, pendingNext}
 use Rattle.witness.specs.Answers.{cellsBy}
-use Rattle.witness.specs.Compared.{callNumbers, eventNumbers, eventValue, compared, events-equal}
+use Rattle.witness.specs.Compared.{expectedNumber, callNumbers, eventNumbers, eventValue, compared, events-equal}
 use Rattle.witness.specs.Steps.{storedBy, steppedUnless}
 use Rattle.witness.specs.Commands.{Command, operate, advance, question, restart, powerCut, answerBy, Played, played, playOn, playAll, commands-run}
 
@@ -62,8 +63,16 @@ twos = replicate 8 0x22
 abbrev pub threes : List ℕ
 threes = replicate 24 0x33
 
+-- a start on terms, and on none
+abbrev pub startingOn : Terms → (o : Operation) → Typed o → Command
+startingOn q o t = operate q o t (replicate 256 0x55)
+
 abbrev pub starting : (o : Operation) → Typed o → Command
-starting o t = operate o t (replicate 256 0x55)
+starting = startingOn freely
+
+-- the key is expected to have that version
+abbrev pub expecting : ℕ → Terms
+expecting v = record { expected = Only (record { 0 = v }) }
 
 abbrev pub recovering : Command
 recovering = restart (0 ∷ 1 ∷ 2 ∷ 3 ∷ []) (replicate 16 0)
@@ -79,12 +88,13 @@ commands =
     (starting (write nine ones) (nine-typed, bytes-of 8 0x11 (omega arith))
     ∷ replicate 20 advance ++ advance
     ∷ looking nine nine-typed
-    (starting (write nine twos) (nine-typed, bytes-of 8 0x22 (omega arith))
+    (startingOn (expecting 0) (write nine twos) (nine-typed, bytes-of 8 0x22 (omega arith))
+    ∷ startingOn (expecting 1) (write nine twos) (nine-typed, bytes-of 8 0x22 (omega arith))
     ∷ replicate 7 advance ++ looking nine nine-typed
     (powerCut
     ∷ recovering
     ∷ looking nine nine-typed
-    (starting (write ten threes) (ten-typed, bytes-of 24 0x33 (omega arith))
+    (startingOn (expecting 0) (write ten threes) (ten-typed, bytes-of 24 0x33 (omega arith))
     ∷ replicate 36 advance ++ starting (delete nine) nine-typed
     ∷ replicate 12 advance ++ starting (clean 1) (omega arith)
     ∷ replicate 50 advance ++ powerCut
@@ -100,8 +110,11 @@ told stores version kind = record { refused = 0; stores = stores; version = vers
 abbrev pub lent : ℕ → Lengths
 lent work = record { area = 1024; index = 16; work = work }
 
+abbrev pub startedOn : Terms → Operation → ℕ → Event
+startedOn q o stores = called (starts q o) (lent 256) (saying (told stores 0 0))
+
 abbrev pub started : Operation → ℕ → Event
-started o stores = called (starts o) (lent 256) (saying (told stores 0 0))
+started = startedOn freely
 
 abbrev pub stepped : Said → Event
 stepped a = called steps (lent 256) (saying a)
@@ -125,8 +138,11 @@ leaving zero k = []
 leaving (suc f) k = stepped (told (f + k) 0 0) ∷ leaving f k
 
 -- an operation of n + 1 stores, to its last, which tells that version
+abbrev pub finishedOn : Terms → Operation → ℕ → ℕ → List Event
+finishedOn q o n version = startedOn q o (n + 1) ∷ leaving n 1 ++ stepped (told 0 version 0) ∷ []
+
 abbrev pub finished : Operation → ℕ → ℕ → List Event
-finished o n version = started o (n + 1) ∷ leaving n 1 ++ stepped (told 0 version 0) ∷ []
+finished = finishedOn freely
 
 -- The fresh store: a read answers 8, and the value is empty.
 abbrev pub begins : List Event
@@ -139,9 +155,13 @@ writes = finished (write nine ones) 19 1
 abbrev pub idles : List Event
 idles = stepped (refusal 6) ∷ readsAs nine (told 0 1 1) ones
 
--- Of the second one 7 of 20 stores are made; reads meanwhile show the first.
+-- The second one is refused with 21 while it expects the key to be absent. Expecting version 1 it is started; 7 of its 20 stores are
+-- made, and reads meanwhile show the first.
 abbrev pub half : List Event
-half = started (write nine twos) 20 ∷ leaving 7 13
+half =
+    called (starts (expecting 0) (write nine twos)) (lent 256) (saying (refusal 21))
+    ∷ startedOn (expecting 1) (write nine twos) 20
+    ∷ leaving 7 13
 
 abbrev pub meanwhile : List Event
 meanwhile = readsAs nine (told 0 1 1) ones
@@ -150,9 +170,10 @@ meanwhile = readsAs nine (told 0 1 1) ones
 abbrev pub fails : List Event
 fails = cut ∷ recovered ∷ readsAs nine (told 0 1 1) ones
 
--- The write of the other key takes the version that the cut write did not get, and the delete the one after.
+-- The write of the other key, which is expected to be absent, takes the version that the cut write did not get, and the delete the one
+-- after.
 abbrev pub others : List Event
-others = finished (write ten threes) 35 2
+others = finishedOn (expecting 0) (write ten threes) 35 2
 
 abbrev pub deletes : List Event
 deletes = finished (delete nine) 11 3
@@ -184,7 +205,7 @@ unfoldable pub computing : Unit {0}
 unfolding opened fnvStep fnvFrom withBit less around entriesFrom inLog listed Build.finished insertedAt tallied insertNext insertAll probe hasKeyAt
     keysAfter answeredWith foundIn finishEntry finishAppend finishHead upFrom finishClean oneLess finishWith advanced
     entryAgrees slotAgrees victimsAgree agreesWith testedStore
-    commitStores commitStore fitsSlot fitsLeft slotStore slotNext pendingNext cellsBy storedBy steppedUnless answerBy played playOn compared callNumbers eventNumbers eventValue
+    commitStores commitStore fitsSlot fitsLeft slotStore slotNext pendingNext cellsBy storedBy steppedUnless answerBy played playOn compared expectedNumber callNumbers eventNumbers eventValue
 computing = tt
 
 computed : failing (compared (all .events) events) ≡ []

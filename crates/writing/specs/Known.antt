@@ -21,7 +21,7 @@ use Rattle.record.specs.declared.Record.{Record}
 use Rattle.model.specs.Log.{Placed, segmentOf, placeOf, viewsOf, scan, latest, objectOnly, present, hasKey, keysOf}
 use Rattle.model.specs.Index.{HasCell}
 use Rattle.model.specs.Operations.{logNow}
-use Rattle.model.specs.Refused.{keyFacts}
+use Rattle.model.specs.Refused.{versionIn, keyFacts}
 use Rattle.model.specs.Promises.{Genuine}
 use Rattle.laws.specs.Members.{In}
 use Rattle.laws.specs.Latest.{latest-some, latest-has, latest-none, key-none}
@@ -38,8 +38,8 @@ use Rattle.writing.specs.Tests.{factsOf, presenceOf, presenceAt, factsFo
 
 -- the facts of a key by its latest entry
 entry-facts : (L : Layout) (x : Placed) →
-    factsOf (presenceOf (answer L (entry (x .entry)))) ≡ record { forbidden = false; in-log = true; absent = isNone (objectOnly (some x)) }
-unfolding factsOf presenceOf answer isNone objectOnly pick
+    factsOf (presenceOf (answer L (entry (x .entry)))) ≡ record { forbidden = false; in-log = true; absent = isNone (objectOnly (some x)); version = versionIn (objectOnly (some x)) }
+unfolding factsOf presenceOf answer isNone versionIn objectOnly pick
 entry-facts L x = go (isTombstone (x .entry))
   where
     go : (t : Bool) →
@@ -47,7 +47,7 @@ entry-facts L x = go (isTombstone (x .entry))
         (presenceOf
         (pick t (Read.Tombstone (keyOf (x .entry)) (record { 0 = x .entry .version }) (sizeOf L (x .entry)))
         (Read.Object (keyOf (x .entry)) (record { 0 = x .entry .version }) (kindOf L (x .entry)) (sizeOf L (x .entry))))) ≡
-        record { forbidden = false; in-log = true; absent = isNone (pick t none (some x)) }
+        record { forbidden = false; in-log = true; absent = isNone (pick t none (some x)); version = versionIn (pick t none (some x)) }
     go true = refl
     go false = refl
 
@@ -93,22 +93,24 @@ module _ (L : Layout) (area : List ℕ) (r : Record) (cells : List ℕ) (g : Gen
 
     -- so the code's facts of a key are the log's
     pub genuine-facts : factsFor L r area cells k ≡ keyFacts (logNow L area r) k
-    unfolding factsOf presenceAt present isNone objectOnly
+    unfolding factsOf presenceAt present isNone versionIn objectOnly
     genuine-facts = go (latest (logNow L area r) k) refl
       where
         go : (o : Option Placed) → latest (logNow L area r) k ≡ o → factsFor L r area cells k ≡ keyFacts (logNow L area r) k
         go none e =
             let has = sym (key-none (logNow L area r) k (latest-none (logNow L area r) k e)) in
             let absent = sym (ap (λ (o : Option Placed). isNone (objectOnly o)) e) in
+            let version = sym (ap (λ (o : Option Placed). versionIn (objectOnly o)) e) in
             ap (λ (f : Found). factsOf (presenceAt L (r .size) area cells f)) (no-entry e .1)
-            ∙ λ i. record { forbidden = false; in-log = has i; absent = absent i }
+            ∙ λ i. record { forbidden = false; in-log = has i; absent = absent i; version = version i }
         go (some x) e =
             let w = an-entry x e in
             let place : getD cells (w .0 .cell) 0 - 1 ≡ placeOf (r .size) x = omega (arith, w .0 .holds) in
             let has = sym (latest-has (logNow L area r) k x e) in
             let absent = sym (ap (λ (o : Option Placed). isNone (objectOnly o)) e) in
+            let version = sym (ap (λ (o : Option Placed). versionIn (objectOnly o)) e) in
             ap (λ (f : Found). factsOf (presenceAt L (r .size) area cells f)) (w .1)
             ∙ ap (λ (p : ℕ). factsOf (presenceOf (standsAt L (r .size) area p))) place
             ∙ ap (λ (y : Read). factsOf (presenceOf y)) (stands-at x (latest-some (logNow L area r) k x e .member))
             ∙ entry-facts L x
-            ∙ λ i. record { forbidden = false; in-log = has i; absent = absent i }
+            ∙ λ i. record { forbidden = false; in-log = has i; absent = absent i; version = version i }

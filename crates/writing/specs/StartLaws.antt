@@ -23,7 +23,7 @@ use Rattle.record.specs.declared.Record.{Record}
 use Rattle.model.specs.Log.{Placed}
 use Rattle.model.specs.Causes.{Cause, firstCause}
 use Rattle.model.specs.Operations.{Operation, write, delete, logNow, writtenEntry, tombstoneEntry, Laid, laid, laidEntry}
-use Rattle.model.specs.Refused.{Lengths, KeyFacts, recordBad, workShort, noNumber, writeCauses, deleteCauses, startCauses}
+use Rattle.model.specs.Refused.{Lengths, Terms, freely, KeyFacts, recordBad, workShort, noNumber, writeCauses, deleteCauses, startCauses}
 use Rattle.model.specs.Promises.{Genuine, Begun, begun, lentLengths, StartPromise}
 use Rattle.laws.specs.CauseLaws.{cause-first}
 use Rattle.laws.specs.Passed.{WritePassed, write-passed, DeletePassed, delete-passed}
@@ -52,7 +52,7 @@ begun-free L r o free log work none = ap (λ x. laidBegun r x work) (free log)
 begun-free L r o free log work (some c) = refl
 
 -- A start with these causes, as the code goes by them.
-module _ (L : Layout) (o : Operation) (r : Record) (area cells work : List ℕ) (tests : List Cause) where
+module _ (L : Layout) (q : Terms) (o : Operation) (r : Record) (area cells work : List ℕ) (tests : List Cause) where
   abbrev lengths : Lengths
   lengths = lentLengths area cells work
 
@@ -62,25 +62,25 @@ module _ (L : Layout) (o : Operation) (r : Record) (area cells work : List ℕ) 
     pub bad : recordBad L r lengths ≡ true → firstCause tests ≡ some BadRecord
     pub agrees :
         Genuine L area r cells → Lent L r (length area) (length cells) →
-        firstCause tests ≡ firstCause (startCauses L r (logNow L area r) lengths o)
+        firstCause tests ≡ firstCause (startCauses L r (logNow L area r) lengths q o)
 
   module _ (c : Causes) where
-    same : Genuine L area r cells → firstCause tests ≡ firstCause (startCauses L r (logNow L area r) lengths o)
+    same : Genuine L area r cells → firstCause tests ≡ firstCause (startCauses L r (logNow L area r) lengths q o)
     same g = go (recordBad L r lengths) refl
       where
-        go : (t : Bool) → recordBad L r lengths ≡ t → firstCause tests ≡ firstCause (startCauses L r (logNow L area r) lengths o)
-        go true e = c .bad e ∙ sym (start-bad L r (logNow L area r) lengths o e)
+        go : (t : Bool) → recordBad L r lengths ≡ t → firstCause tests ≡ firstCause (startCauses L r (logNow L area r) lengths q o)
+        go true e = c .bad e ∙ sym (start-bad L r (logNow L area r) lengths q o e)
         go false e = c .agrees g (lent L r (length area) (length cells) (not-false (fitsLent L r (length area) (length cells)) e))
 
     start-promise :
         (work′ : List ℕ) (a : Start) → record { start = a; work = work′ } ≡ begun L r [] o work (firstCause tests) →
-        StartPromise L o r area cells work work′ a
+        StartPromise L q o r area cells work work′ a
     start-promise work′ a e =
         record {
           same-length = ap (λ (b : Begun). length (b .work)) e ∙ begun-length L r [] o work (firstCause tests);
           unfit = unfit;
           exact = exact;
-          says = start-settled L o r area cells work work′ a unfit exact;
+          says = start-settled L q o r area cells work work′ a unfit exact;
         }
       where
         unfit : recordBad L r lengths ≡ true → record { start = a; work = work′ } ≡ begun L r [] o work (some BadRecord)
@@ -88,13 +88,13 @@ module _ (L : Layout) (o : Operation) (r : Record) (area cells work : List ℕ) 
 
         exact :
             Genuine L area r cells → record { start = a; work = work′ } ≡
-            begun L r (logNow L area r) o work (firstCause (startCauses L r (logNow L area r) lengths o))
+            begun L r (logNow L area r) o work (firstCause (startCauses L r (logNow L area r) lengths q o))
         exact g = e ∙ begun-free L r o (c .free) (logNow L area r) work (firstCause tests) ∙ ap (begun L r (logNow L area r) o work) (same g)
 
     -- refused: nothing changes
     start-refused :
         (x : Refusal) → Check.Refused x ≡ checked (firstCause tests) → (a : Start) → a ≡ refusedStart r x →
-        StartPromise L o r area cells work work a
+        StartPromise L q o r area cells work work a
     unfolding begun
     start-refused x e a is =
         start-promise work a
@@ -103,7 +103,7 @@ module _ (L : Layout) (o : Operation) (r : Record) (area cells work : List ℕ) 
     -- accepted: the entry is laid down
     start-laid :
         (e : Entry) → laid L r [] o ≡ laidEntry L r e → Check.Passed ≡ checked (firstCause tests) → (work′ : List ℕ) (a : Start) →
-        record { start = a; work = work′ } ≡ laidBegun r (laidEntry L r e) work → StartPromise L o r area cells work work′ a
+        record { start = a; work = work′ } ≡ laidBegun r (laidEntry L r e) work → StartPromise L q o r area cells work work′ a
     unfolding begun laidBegun
     start-laid e same-laid passed work′ a h =
         start-promise work′ a
@@ -130,35 +130,35 @@ module _ (L : Layout) (r : Record) (area cells work : List ℕ) (n : ℕ) where
 
 -- ---- a write
 
-module _ (L : Layout) (r : Record) (area cells work : List ℕ) (k : Key) (value : List ℕ) where
+module _ (L : Layout) (q : Terms) (r : Record) (area cells work : List ℕ) (k : Key) (value : List ℕ) where
   abbrev writeTests : List Cause
-  writeTests = writeCauses L r (lentLengths area cells work) (factsFor L r area cells k) (length value)
+  writeTests = writeCauses L r (lentLengths area cells work) q (factsFor L r area cells k) (length value)
 
   abbrev writes : Check
   writes = checked (firstCause writeTests)
 
-  write-causes : Causes L (write k value) r area cells work writeTests
+  write-causes : Causes L q (write k value) r area cells work writeTests
   unfolding laid startCauses
   write-causes =
       record {
         free = λ log. refl;
         bad = λ e. cause-first _ _ e;
-        agrees = λ g h. ap (λ (f : KeyFacts). firstCause (writeCauses L r (lentLengths area cells work) f (length value))) (genuine-facts L area r cells g h k);
+        agrees = λ g h. ap (λ (f : KeyFacts). firstCause (writeCauses L r (lentLengths area cells work) q f (length value))) (genuine-facts L area r cells g h k);
       }
 
   pub write-refused :
       (c : Refusal) → Check.Refused c ≡ writes → (a : Start) → a ≡ refusedStart r c →
-      StartPromise L (write k value) r area cells work work a
-  write-refused c e a is = start-refused L (write k value) r area cells work writeTests write-causes c e a is
+      StartPromise L q (write k value) r area cells work work a
+  write-refused c e a is = start-refused L q (write k value) r area cells work writeTests write-causes c e a is
 
   module _ (passed : Check.Passed ≡ writes) where
-    written : WritePassed L r (lentLengths area cells work) (factsFor L r area cells k) (length value)
-    written = write-passed L r (lentLengths area cells work) (factsFor L r area cells k) (length value) (checked-none _ passed)
+    written : WritePassed L r (lentLengths area cells work) q (factsFor L r area cells k) (length value)
+    written = write-passed L r (lentLengths area cells work) q (factsFor L r area cells k) (length value) (checked-none _ passed)
 
     -- the kind that the code finds is that of objects with so long a value
-    module _ (kind : ℕ) (q : kind ≡ orZero (objectKind L (length value))) where
+    module _ (kind : ℕ) (is : kind ≡ orZero (objectKind L (length value))) where
       kind-found : objectKind L (length value) ≡ some kind
-      kind-found = not-none (objectKind L (length value)) (written .value-known) ∙ ap some (sym q)
+      kind-found = not-none (objectKind L (length value)) (written .value-known) ∙ ap some (sym is)
 
       pub write-known : valueLength L kind ≡ some (length value)
       write-known = object-kind L (length value) kind kind-found
@@ -181,11 +181,11 @@ module _ (L : Layout) (r : Record) (area cells work : List ℕ) (k : Key) (value
     pub write-laid :
         (work′ : List ℕ) (a : Start) (kind : ℕ) → kind ≡ orZero (objectKind L (length value)) →
         record { start = a; work = work′ } ≡ laidBegun r (laidEntry L r (entryOf L kind k (r .next) value)) work →
-        StartPromise L (write k value) r area cells work work′ a
+        StartPromise L q (write k value) r area cells work work′ a
     unfolding laid
-    write-laid work′ a kind q h =
-        start-laid L (write k value) r area cells work writeTests write-causes (writtenEntry r k value) refl passed work′ a
-        (h ∙ ap (λ (e : Entry). laidBegun r (laidEntry L r e) work) (write-said kind q))
+    write-laid work′ a kind is h =
+        start-laid L q (write k value) r area cells work writeTests write-causes (writtenEntry r k value) refl passed work′ a
+        (h ∙ ap (λ (e : Entry). laidBegun r (laidEntry L r e) work) (write-said kind is))
 
 -- ---- a delete
 
@@ -196,7 +196,7 @@ module _ (L : Layout) (r : Record) (area cells work : List ℕ) (k : Key) where
   abbrev deletes : Check
   deletes = checked (firstCause deleteTests)
 
-  delete-causes : Causes L (delete k) r area cells work deleteTests
+  delete-causes : Causes L freely (delete k) r area cells work deleteTests
   unfolding laid startCauses
   delete-causes =
       record {
@@ -207,8 +207,8 @@ module _ (L : Layout) (r : Record) (area cells work : List ℕ) (k : Key) where
 
   pub delete-refused :
       (c : Refusal) → Check.Refused c ≡ deletes → (a : Start) → a ≡ refusedStart r c →
-      StartPromise L (delete k) r area cells work work a
-  delete-refused c e a is = start-refused L (delete k) r area cells work deleteTests delete-causes c e a is
+      StartPromise L freely (delete k) r area cells work work a
+  delete-refused c e a is = start-refused L freely (delete k) r area cells work deleteTests delete-causes c e a is
 
   module _ (passed : Check.Passed ≡ deletes) where
     deleted : DeletePassed L r (lentLengths area cells work) (factsFor L r area cells k)
@@ -229,8 +229,8 @@ module _ (L : Layout) (r : Record) (area cells work : List ℕ) (k : Key) where
     pub delete-laid :
         (work′ : List ℕ) (a : Start) →
         record { start = a; work = work′ } ≡ laidBegun r (laidEntry L r (entryOf L (L .tombstoneKind) k (r .next) [])) work →
-        StartPromise L (delete k) r area cells work work′ a
+        StartPromise L freely (delete k) r area cells work work′ a
     unfolding laid
     delete-laid work′ a h =
-        start-laid L (delete k) r area cells work deleteTests delete-causes (tombstoneEntry r k) refl passed work′ a
+        start-laid L freely (delete k) r area cells work deleteTests delete-causes (tombstoneEntry r k) refl passed work′ a
         (h ∙ ap (λ (e : Entry). laidBegun r (laidEntry L r e) work) delete-said)

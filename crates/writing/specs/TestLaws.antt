@@ -2,8 +2,8 @@
 use Prim.Native.Nat.{ℕ, _+_, _-_, _≤_, _<_}
 use mathlib.Core.Path.{_≡_, refl, sym, _∙_, ap}
 use mathlib.Core.Bool.{Bool, true, false, not}
-use mathlib.Core.List.{List, _∷_, _++_}
-use lib.Dec.{ltb, leb}
+use mathlib.Core.List.{List, [], _∷_, _++_}
+use lib.Dec.{eqb, ltb, leb}
 use lib.ListN.{getD}
 use borrow.Author.Tests.{lt-ltb, le-ltb, eq-eqb, ne-eqb}
 use Rattle.segment.specs.Choice.{both, both-true, both-false-left, both-false-right, isNone, orZero}
@@ -12,13 +12,16 @@ use Rattle.segment.specs.LayoutLaws.{object-kind}
 use Rattle.segment.specs.Area.{standsAt}
 use Rattle.segment.specs.Kinds.{no-kind, has-kind}
 use Rattle.segment.specs.declared.Key.{Key}
+use Rattle.segment.specs.declared.Version.{Version}
 use Rattle.slot_map.specs.Count.{free}
 use Rattle.record.specs.Range.{fitsLent}
+use Rattle.record.specs.declared.Expected.{Expected}
+use Rattle.record.specs.declared.Expected.the-variants.{Any, Only}
 use Rattle.record.specs.declared.Refusal.{Refusal}
-use Rattle.record.specs.declared.Refusal.the-variants.{BadRecord, ValueLength, VersionsSpent, NumbersSpent, KeysFull, NoRoom}
+use Rattle.record.specs.declared.Refusal.the-variants.{BadRecord, ValueLength, VersionsSpent, NumbersSpent, KeysFull, NoRoom, OtherVersion}
 use Rattle.record.specs.declared.Record.{Record}
 use Rattle.model.specs.Causes.{Cause, when, firstCause}
-use Rattle.model.specs.Refused.{Lengths, writeCauses, deleteCauses}
+use Rattle.model.specs.Refused.{Lengths, Terms, KeyFacts, expectsOther, writeCauses, deleteCauses}
 use Rattle.laws.specs.Entering.{Roomy}
 use Rattle.index.specs.Search.{searchFor}
 use Rattle.index.specs.declared.Found.{Found}
@@ -28,27 +31,64 @@ use Rattle.starting.specs.Checks.{checked, idleCauses}
 use Rattle.starting.specs.CheckLaws.{refused, skipped, passed, part-refused, part-passed, record-bad, idle-refuses, idle-goes}
 use Rattle.writing.specs.declared.Presence.{Presence}
 use Rattle.writing.specs.declared.Presence.the-variants.{Object, Tombstone, Nothing, Forbidden}
-use Rattle.writing.specs.Tests.{factsOf, presenceOf, presenceAt, presenceFor, keyTests, roomTests}
+use Rattle.writing.specs.Tests.{factsOf, presenceOf, presenceAt, presenceFor, versionTests, expectedTests, keyTests, roomTests, entryTests}
 
--- ---- 4 and 11, by what is known of the key
+-- ---- 21
+
+module _ (v : ℕ) where
+  pub version-any : (e : Expected) → e ≡ Any → Check.Passed ≡ checked (firstCause (versionTests e v))
+  unfolding versionTests expectsOther
+  version-any e q = skipped _ _ (ap (λ (x : Expected). expectsOther x v) q) passed
+
+  module _ (e : Expected) (only : Version) (q : e ≡ Only only) where
+    pub version-same : only .0 ≡ v → Check.Passed ≡ checked (firstCause (versionTests e v))
+    unfolding versionTests expectsOther
+    version-same h = skipped _ _ (ap (λ (x : Expected). expectsOther x v) q ∙ ap not (eq-eqb (only .0) v h)) passed
+
+    pub version-other : (only .0 ≡ v → ⊥) → Check.Refused OtherVersion ≡ checked (firstCause (versionTests e v))
+    unfolding versionTests expectsOther
+    version-other h = refused _ _ (ap (λ (x : Expected). expectsOther x v) q ∙ ap not (ne-eqb (only .0) v h))
+
+-- ---- 4 and 21, by what is known of the key
+
+module _ (e : Expected) (p : Presence) where
+  pub expected-at :
+      {a : Check} (x : Presence) → p ≡ x → factsOf x .forbidden ≡ false → a ≡ checked (firstCause (versionTests e (factsOf x .version))) →
+      a ≡ checked (firstCause (expectedTests e (factsOf p)))
+  unfolding versionTests expectedTests
+  expected-at x q sound h =
+      skipped _ _ (ap (λ (y : Presence). factsOf y .forbidden) q ∙ sound)
+      (h ∙ sym (ap (λ (y : Presence). checked (firstCause (when (expectsOther e (factsOf y .version)) OtherVersion ∷ []))) q))
+
+  pub expected-forbidden : p ≡ Forbidden → Check.Refused BadRecord ≡ checked (firstCause (expectedTests e (factsOf p)))
+  unfolding factsOf expectedTests
+  expected-forbidden q = refused _ _ (ap (λ (y : Presence). factsOf y .forbidden) q)
+
+-- ---- 11, by what is known of the key
 
 module _ (r : Record) where
-  -- a key that the log has
-  pub key-known : (p : Presence) → factsOf p .forbidden ≡ false → factsOf p .in-log ≡ true → Check.Passed ≡ checked (firstCause (keyTests r (factsOf p)))
-  unfolding keyTests
-  key-known p sound known = skipped _ _ sound (skipped _ _ (both-false-left (not (factsOf p .in-log)) _ (ap not known)) passed)
-
-  pub key-forbidden : Check.Refused BadRecord ≡ checked (firstCause (keyTests r (factsOf Forbidden)))
-  unfolding factsOf keyTests
-  key-forbidden = refused _ _ refl
-
-  pub key-over : r .keys ≡ r .cells - 1 → Check.Refused KeysFull ≡ checked (firstCause (keyTests r (factsOf Nothing)))
+  pub keys-over : r .keys ≡ r .cells - 1 → Check.Refused KeysFull ≡ checked (firstCause (keyTests r (factsOf Nothing)))
   unfolding factsOf both keyTests
-  key-over e = skipped _ _ refl (refused _ _ (eq-eqb (r .keys) (r .cells - 1) e))
+  keys-over e = refused _ _ (eq-eqb (r .keys) (r .cells - 1) e)
 
-  pub key-new : (r .keys ≡ r .cells - 1 → ⊥) → Check.Passed ≡ checked (firstCause (keyTests r (factsOf Nothing)))
+  pub keys-left : (r .keys ≡ r .cells - 1 → ⊥) → Check.Passed ≡ checked (firstCause (keyTests r (factsOf Nothing)))
   unfolding factsOf both keyTests
-  key-new n = skipped _ _ refl (skipped _ _ (ne-eqb (r .keys) (r .cells - 1) n) passed)
+  keys-left n = skipped _ _ (ne-eqb (r .keys) (r .cells - 1) n) passed
+
+  module _ (p : Presence) where
+    -- a key that the log has
+    pub key-known : (x : Presence) → p ≡ x → factsOf x .in-log ≡ true → Check.Passed ≡ checked (firstCause (keyTests r (factsOf p)))
+    unfolding keyTests
+    key-known x q known =
+        skipped _ _ (both-false-left (not (factsOf p .in-log)) _ (ap (λ (y : Presence). not (factsOf y .in-log)) q ∙ ap not known)) passed
+
+    pub key-new :
+        {a : Check} (x : Presence) → p ≡ x → factsOf x .in-log ≡ false → a ≡ checked (firstCause (keyTests r (factsOf Nothing))) →
+        a ≡ checked (firstCause (keyTests r (factsOf p)))
+    unfolding keyTests factsOf
+    key-new x q new h =
+        h ∙ sym (ap (λ (t : Bool). checked (firstCause (when (both (not t) (eqb (r .keys) (r .cells - 1))) KeysFull ∷ [])))
+        (ap (λ (y : Presence). factsOf y .in-log) q ∙ new))
 
 -- ---- 12 and 10: t is what the code finds for the fit, and f for the free slots
 
@@ -94,10 +134,28 @@ pub kind-room :
     (L : Layout) (n k : ℕ) → Roomy L → k ≡ orZero (objectKind L n) → (k ≡ 0 → ⊥) → digestSize L + entrySize L n ≤ 256
 kind-room L n k roomy e z = roomy .room k n (object-kind L n k (has-kind L n k e z))
 
+-- ---- 9, 11, 12 and 10
+
+module _ (L : Layout) (r : Record) (k : KeyFacts) (n : ℕ) where
+  pub entry-spent : r .next .0 ≡ versionLimit L → Check.Refused VersionsSpent ≡ checked (firstCause (entryTests L r k n))
+  unfolding entryTests
+  entry-spent h = refused _ _ (eq-eqb (r .next .0) (versionLimit L) h)
+
+  module _ (left : r .next .0 ≡ versionLimit L → ⊥) where
+    pub entry-key : (c : Refusal) → Check.Refused c ≡ checked (firstCause (keyTests r k)) → Check.Refused c ≡ checked (firstCause (entryTests L r k n))
+    unfolding entryTests
+    entry-key c h = skipped _ _ (ne-eqb (r .next .0) (versionLimit L) left) (part-refused (keyTests r k) (roomTests r n) c h)
+
+    pub entry-room :
+        {a : Check} → Check.Passed ≡ checked (firstCause (keyTests r k)) → a ≡ checked (firstCause (roomTests r n)) →
+        a ≡ checked (firstCause (entryTests L r k n))
+    unfolding entryTests
+    entry-room h g = skipped _ _ (ne-eqb (r .next .0) (versionLimit L) left) (part-passed (keyTests r k) (roomTests r n) h g)
+
 -- t is what the code finds for the range and the lengths, and p for the key
-module _ (L : Layout) (r : Record) (l : Lengths) (p : Presence) (n : ℕ) {t : Bool} (e : t ≡ fitsLent L r (l .area) (l .index)) where
+module _ (L : Layout) (r : Record) (l : Lengths) (q : Terms) (p : Presence) (n : ℕ) {t : Bool} (e : t ≡ fitsLent L r (l .area) (l .index)) where
   abbrev WriteIs : Check → Type 0
-  WriteIs a = a ≡ checked (firstCause (writeCauses L r l (factsOf p) n))
+  WriteIs a = a ≡ checked (firstCause (writeCauses L r l q (factsOf p) n))
 
   pub write-bad : not t ≡ true → WriteIs (Check.Refused BadRecord)
   write-bad h = refused _ _ (record-bad L r l e h)
@@ -113,26 +171,18 @@ module _ (L : Layout) (r : Record) (l : Lengths) (p : Presence) (n : ℕ) {t : B
       write-value m d z = idle-goes L r l e fits _ idle (refused _ _ (kind-none L n m d z))
 
       module _ (m : ℕ) (d : m ≡ orZero (objectKind L n)) (some-kind : m ≡ 0 → ⊥) where
-        pub write-spent : r .next .0 ≡ versionLimit L → WriteIs (Check.Refused VersionsSpent)
-        unfolding idleCauses
-        write-spent h =
-            idle-goes L r l e fits _ idle
-            (skipped _ _ (kind-some L n m d some-kind) (refused _ _ (eq-eqb (r .next .0) (versionLimit L) h)))
+        goes-on :
+            {a : Check} → a ≡ checked (firstCause (expectedTests (q .expected) (factsOf p) ++ entryTests L r (factsOf p) (entrySize L n))) → WriteIs a
+        unfolding idleCauses expectedTests entryTests keyTests roomTests
+        goes-on h = idle-goes L r l e fits _ idle (skipped _ _ (kind-some L n m d some-kind) h)
 
-        module _ (left : r .next .0 ≡ versionLimit L → ⊥) where
-          goes-on : {a : Check} → a ≡ checked (firstCause (keyTests r (factsOf p) ++ roomTests r (entrySize L n))) → WriteIs a
-          unfolding idleCauses keyTests roomTests
-          goes-on h =
-              idle-goes L r l e fits _ idle
-              (skipped _ _ (kind-some L n m d some-kind) (skipped _ _ (ne-eqb (r .next .0) (versionLimit L) left) h))
+        pub write-expected : (c : Refusal) → Check.Refused c ≡ checked (firstCause (expectedTests (q .expected) (factsOf p))) → WriteIs (Check.Refused c)
+        write-expected c h = goes-on (part-refused (expectedTests (q .expected) (factsOf p)) (entryTests L r (factsOf p) (entrySize L n)) c h)
 
-          pub write-key : (c : Refusal) → Check.Refused c ≡ checked (firstCause (keyTests r (factsOf p))) → WriteIs (Check.Refused c)
-          write-key c h = goes-on (part-refused (keyTests r (factsOf p)) (roomTests r (entrySize L n)) c h)
-
-          pub write-room :
-              {a : Check} → Check.Passed ≡ checked (firstCause (keyTests r (factsOf p))) →
-              a ≡ checked (firstCause (roomTests r (entrySize L n))) → WriteIs a
-          write-room h g = goes-on (part-passed (keyTests r (factsOf p)) (roomTests r (entrySize L n)) h g)
+        pub write-entry :
+            {a : Check} → Check.Passed ≡ checked (firstCause (expectedTests (q .expected) (factsOf p))) →
+            a ≡ checked (firstCause (entryTests L r (factsOf p) (entrySize L n))) → WriteIs a
+        write-entry h g = goes-on (part-passed (expectedTests (q .expected) (factsOf p)) (entryTests L r (factsOf p) (entrySize L n)) h g)
 
 -- ---- what the index says of a key
 
@@ -178,7 +228,7 @@ module _ (L : Layout) (r : Record) (l : Lengths) (p : Presence) {t : Bool} (e : 
           (skipped _ _ (ap (λ (y : Presence). factsOf y .forbidden) (sym q) ∙ sound)
           (refused _ _ (ap (λ (y : Presence). factsOf y .absent) (sym q) ∙ absent)))
 
-      module _ (q : Object ≡ p) where
+      module _ (v : Version) (q : Object v ≡ p) where
         known-goes : {a : Check} (cs : List Cause) → a ≡ checked (firstCause cs) →
             a ≡ checked (firstCause (when (factsOf p .forbidden) BadRecord ∷ when (factsOf p .absent) Refusal.Absent ∷ cs))
         unfolding factsOf

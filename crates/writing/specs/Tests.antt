@@ -2,16 +2,17 @@
 -- the lists of causes that functions of their own test.
 use Prim.Native.Nat.{ℕ, _-_}
 use mathlib.Core.Bool.{Bool, true, false}
-use mathlib.Core.List.{List, [], _∷_}
+use mathlib.Core.List.{List, [], _∷_, _++_}
 use lib.ListN.{getD}
 use Rattle.segment.specs.Layout.{Layout}
 use Rattle.segment.specs.Area.{standsAt}
 use Rattle.segment.specs.declared.Key.{Key}
 use Rattle.segment.specs.declared.Read.{Read}
-use Rattle.record.specs.declared.Refusal.the-variants.{BadRecord, NumbersSpent, KeysFull, NoRoom}
+use Rattle.record.specs.declared.Expected.{Expected}
+use Rattle.record.specs.declared.Refusal.the-variants.{BadRecord, VersionsSpent, NumbersSpent, KeysFull, NoRoom, OtherVersion}
 use Rattle.record.specs.declared.Record.{Record}
 use Rattle.model.specs.Causes.{Cause, when}
-use Rattle.model.specs.Refused.{KeyFacts, keysFull, noRoom, noNumber}
+use Rattle.model.specs.Refused.{KeyFacts, expectsOther, versionsSpent, keysFull, noRoom, noNumber}
 use Rattle.index.specs.Search.{searchFor}
 use Rattle.index.specs.declared.Found.{Found}
 use Rattle.index.specs.declared.Found.the-variants.{At, Free, Full}
@@ -22,14 +23,14 @@ use Rattle.writing.specs.declared.Presence.the-variants.{Object, Tombsto
 
 -- the facts that the causes go by
 unfoldable pub factsOf : Presence → KeyFacts
-factsOf Object = record { forbidden = false; in-log = true; absent = false }
-factsOf Tombstone = record { forbidden = false; in-log = true; absent = true }
-factsOf Nothing = record { forbidden = false; in-log = false; absent = true }
-factsOf Forbidden = record { forbidden = true; in-log = false; absent = true }
+factsOf (Object v) = record { forbidden = false; in-log = true; absent = false; version = v .0 }
+factsOf Tombstone = record { forbidden = false; in-log = true; absent = true; version = 0 }
+factsOf Nothing = record { forbidden = false; in-log = false; absent = true; version = 0 }
+factsOf Forbidden = record { forbidden = true; in-log = false; absent = true; version = 0 }
 
 -- what stands at the place of a key's entry
 unfoldable pub presenceOf : Read → Presence
-presenceOf (Read.Object k v kind n) = Object
+presenceOf (Read.Object k v kind n) = Object v
 presenceOf (Read.Tombstone k v n) = Tombstone
 presenceOf Read.End = Forbidden
 presenceOf Read.Damage = Forbidden
@@ -48,10 +49,22 @@ factsFor L r area cells k = factsOf (presenceFor L (r .size) area cells k)
 
 -- ---- parts of the lists of causes
 
--- 4, where a forbidden byte was met, and 11
+-- 21, for a key of version v
+unfoldable pub versionTests : Expected → ℕ → List Cause
+versionTests e v = when (expectsOther e v) OtherVersion ∷ []
+
+-- 4, where a forbidden byte was met, and 21
+unfoldable pub expectedTests : Expected → KeyFacts → List Cause
+expectedTests e k = when (k .forbidden) BadRecord ∷ when (expectsOther e (k .version)) OtherVersion ∷ []
+
+-- 11
 unfoldable pub keyTests : Record → KeyFacts → List Cause
-keyTests r k = when (k .forbidden) BadRecord ∷ when (keysFull r k) KeysFull ∷ []
+keyTests r k = when (keysFull r k) KeysFull ∷ []
 
 -- 12 and 10, for an entry of n bytes
 unfoldable pub roomTests : Record → ℕ → List Cause
 roomTests r n = when (noRoom r n) NoRoom ∷ when (noNumber r n) NumbersSpent ∷ []
+
+-- 9, 11, 12 and 10, for an entry of n bytes
+unfoldable pub entryTests : Layout → Record → KeyFacts → ℕ → List Cause
+entryTests L r k n = when (versionsSpent L r) VersionsSpent ∷ (keyTests r k ++ roomTests r n)

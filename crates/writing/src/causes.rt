@@ -1,10 +1,12 @@
 // The tests of a write and of a delete, in the order of 01, "Refused calls".
 use crate::Presence;
 use crate::find::find;
+use record::Expected;
 use record::Record;
 use record::Refusal;
 use record::range::fits_lent;
 use segment::Key;
+use segment::Version;
 use segment::layout::HEAD_SIZE;
 use segment::layout::NUMBER_LIMIT;
 use segment::layout::VERSION_LIMIT;
@@ -19,7 +21,8 @@ ghost use Rattle.segment.specs.Layout.{edition1};
 ghost use Rattle.model.specs.Causes.{firstCause};
 ghost use Rattle.model.specs.Refused.{writeCauses, deleteCauses};
 ghost use Rattle.starting.specs.Checks.{checked};
-ghost use Rattle.writing.specs.Tests.{roomTests, keyTests, factsOf, factsFor};
+ghost use Rattle.writing.specs.declared.Presence.{Presence};
+ghost use Rattle.writing.specs.Tests.{versionTests, expectedTests, keyTests, roomTests, entryTests, factsOf, factsFor};
 
 // Whether an entry of that length fits the head; it may end exactly at S.
 pub fn fits_head(rec: Record, length: usize) -> bool
@@ -47,30 +50,79 @@ fn check_room(rec: Record, length: usize) -> Check
     Check::Passed
 }
 
-// 4, where a forbidden byte was met, and 11, by what is known of the key.
+// 21: the key has another version than the one that is expected.
+fn check_version(expected: Expected, version: Version) -> Check
+    ensures { λ r. ⌜ r ≡ checked (firstCause (versionTests expected (version .0))) ⌝ }
+{
+    match expected {
+        Expected::Any => Check::Passed,
+        Expected::Only(only) => {
+            if only.0 == version.0 {
+                return Check::Passed;
+            }
+            Check::Refused(Refusal::OtherVersion)
+        }
+    }
+}
+
+// 4, where a forbidden byte was met, and 21, by what is known of the key. A deleted key is absent: its version is 0.
+fn check_expected(expected: Expected, presence: Presence) -> Check
+    ensures { λ r. ⌜ r ≡ checked (firstCause (expectedTests expected (factsOf presence))) ⌝ }
+{
+    match presence {
+        Presence::Object(version) => check_version(expected, version),
+        Presence::Tombstone => check_version(expected, Version(0)),
+        Presence::Nothing => check_version(expected, Version(0)),
+        Presence::Forbidden => Check::Refused(Refusal::BadRecord),
+    }
+}
+
+// 11: whether a key that has no entry finds room in the index.
+fn check_keys(rec: Record) -> Check
+    requires { ⌜ 1 ≤ rec .cells ⌝ }
+    ensures { λ r. ⌜ r ≡ checked (firstCause (keyTests rec (factsOf Presence.Nothing))) ⌝ }
+{
+    if rec.keys == rec.cells - 1 {
+        return Check::Refused(Refusal::KeysFull);
+    }
+    Check::Passed
+}
+
+// 11, by what is known of the key.
 fn check_key(rec: Record, presence: Presence) -> Check
     requires { ⌜ 1 ≤ rec .cells ⌝ }
     ensures { λ r. ⌜ r ≡ checked (firstCause (keyTests rec (factsOf presence))) ⌝ }
 {
     match presence {
-        Presence::Object => Check::Passed,
+        Presence::Object(_) => Check::Passed,
         Presence::Tombstone => Check::Passed,
-        Presence::Nothing => {
-            if rec.keys == rec.cells - 1 {
-                return Check::Refused(Refusal::KeysFull);
-            }
-            Check::Passed
-        }
-        Presence::Forbidden => Check::Refused(Refusal::BadRecord),
+        Presence::Nothing => check_keys(rec),
+        Presence::Forbidden => check_keys(rec),
     }
 }
 
-// Write: 4, 3, 5, 7, 9, 11, 12, 10, for a value of so many bytes.
+// 9, 11, 12 and 10, for an entry of that length.
+fn check_entry(rec: Record, presence: Presence, length: usize) -> Check
+    requires { ⌜ (length ≤ 256) × (rec .map < 2 ^ rec .slots) × (1 ≤ rec .cells) ⌝ }
+    ensures { λ r. ⌜ r ≡ checked (firstCause (entryTests edition1 rec (factsOf presence) length)) ⌝ }
+{
+    let next = rec.next;
+    if next.0 == VERSION_LIMIT {
+        return Check::Refused(Refusal::VersionsSpent);
+    }
+    match check_key(rec, presence) {
+        Check::Refused(c) => Check::Refused(c),
+        Check::Passed => check_room(rec, length),
+    }
+}
+
+// Write: 4, 3, 5, 7, 21, 9, 11, 12, 10, for a value of so many bytes.
 pub fn check_write(
     rec: Record,
     area: &[u8],
     index: &[u32],
     work: usize,
+    expected: Expected,
     key: Key,
     value: usize,
 ) -> Check
@@ -80,7 +132,7 @@ pub fn check_write(
         (firstCause
         (writeCauses edition1 rec
         (record { area = length (now (area .entry)); index = length (now (index .entry)); work = work })
-        (factsFor edition1 rec (now (area .entry)) (now (index .entry)) key) value))
+        (record { expected = expected }) (factsFor edition1 rec (now (area .entry)) (now (index .entry)) key) value))
         ⌝ }
 {
     if !fits_lent(rec, area.len(), index.len()) {
@@ -92,13 +144,10 @@ pub fn check_write(
             if object_kind(value) == 0 {
                 return Check::Refused(Refusal::ValueLength);
             }
-            let next = rec.next;
-            if next.0 == VERSION_LIMIT {
-                return Check::Refused(Refusal::VersionsSpent);
-            }
-            match check_key(rec, find(rec.size as usize, area, index, key)) {
+            let presence = find(rec.size as usize, area, index, key);
+            match check_expected(expected, presence) {
                 Check::Refused(c) => Check::Refused(c),
-                Check::Passed => check_room(rec, HEAD_SIZE + value),
+                Check::Passed => check_entry(rec, presence, HEAD_SIZE + value),
             }
         }
     }
@@ -124,7 +173,7 @@ pub fn check_delete(rec: Record, area: &[u8], index: &[u32], work: usize, key: K
             Presence::Forbidden => Check::Refused(Refusal::BadRecord),
             Presence::Nothing => Check::Refused(Refusal::Absent),
             Presence::Tombstone => Check::Refused(Refusal::Absent),
-            Presence::Object => {
+            Presence::Object(_) => {
                 let next = rec.next;
                 if next.0 == VERSION_LIMIT {
                     return Check::Refused(Refusal::VersionsSpent);

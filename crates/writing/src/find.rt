@@ -17,10 +17,10 @@ fn presence(read: Read) -> Presence
     match read {
         Read::Object {
             key: _,
-            version: _,
+            version,
             kind: _,
             length: _,
-        } => Presence::Object,
+        } => Presence::Object(version),
         Read::Tombstone {
             key: _,
             version: _,

@@ -1,13 +1,15 @@
 // The starts of a write and of a delete: what they check, and what they lay out in the work buffer.
+use segment::Version;
+
 pub mod causes;
 pub mod find;
 pub mod lay;
 pub mod start;
 
-// What the index says of a key: its latest entry is an object or a tombstone, it has none, or a byte was met that the rules of
+// What the index says of a key: its latest entry is an object of that version or a tombstone, it has none, or a byte was met that the rules of
 // the log forbid.
 pub enum Presence {
-    Object,
+    Object(Version),
     Tombstone,
     Nothing,
     Forbidden,

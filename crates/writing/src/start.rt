@@ -2,6 +2,7 @@
 use crate::causes::check_delete;
 use crate::causes::check_write;
 use crate::lay::lay_entry;
+use record::Expected;
 use record::Record;
 use record::Start;
 use segment::Key;
@@ -11,9 +12,32 @@ use starting::Check;
 use starting::answer::refused;
 ghost use Rattle.segment.specs.Layout.{edition1};
 ghost use Rattle.model.specs.Operations.{write, delete};
+ghost use Rattle.model.specs.Refused.{freely};
 ghost use Rattle.model.specs.Promises.{StartPromise};
 
-// A value is to come under a key.
+// A value is to come under a key, if the key has the version that is expected.
+pub fn write_expecting(
+    rec: Record,
+    area: &[u8],
+    index: &[u32],
+    work: &mut [u8],
+    expected: Expected,
+    key: Key,
+    value: &[u8],
+) -> Start
+    ensures { λ r.
+        ⌜
+        StartPromise edition1 (record { expected = expected }) (write key (now (value .entry))) rec (now (area .entry))
+        (now (index .entry)) (now (work .entry)) (now (work .exit)) r
+        ⌝ }
+{
+    match check_write(rec, area, index, work.len(), expected, key, value.len()) {
+        Check::Refused(c) => refused(rec, c),
+        Check::Passed => lay_entry(rec, work, object_kind(value.len()), key, value),
+    }
+}
+
+// A value is to come under a key, whatever version the key has.
 pub fn write(
     rec: Record,
     area: &[u8],
@@ -24,21 +48,18 @@ pub fn write(
 ) -> Start
     ensures { λ r.
         ⌜
-        StartPromise edition1 (write key (now (value .entry))) rec (now (area .entry)) (now (index .entry)) (now (work .entry))
+        StartPromise edition1 freely (write key (now (value .entry))) rec (now (area .entry)) (now (index .entry)) (now (work .entry))
         (now (work .exit)) r
         ⌝ }
 {
-    match check_write(rec, area, index, work.len(), key, value.len()) {
-        Check::Refused(c) => refused(rec, c),
-        Check::Passed => lay_entry(rec, work, object_kind(value.len()), key, value),
-    }
+    write_expecting(rec, area, index, work, Expected::Any, key, value)
 }
 
 // A key is to go: a tombstone, which has no value, takes the next version.
 pub fn delete(rec: Record, area: &[u8], index: &[u32], work: &mut [u8], key: Key) -> Start
     ensures { λ r.
         ⌜
-        StartPromise edition1 (delete key) rec (now (area .entry)) (now (index .entry)) (now (work .entry)) (now (work .exit)) r
+        StartPromise edition1 freely (delete key) rec (now (area .entry)) (now (index .entry)) (now (work .entry)) (now (work .exit)) r
         ⌝ }
 {
     match check_delete(rec, area, index, work.len(), key) {

@@ -67,7 +67,7 @@ returns-2 c =
     let f = c .before .before .before .before .before in
     let t = f .before .before in
     delete-spent edition1 _ _ _ (t .before .before .before .before .fits-lent .ensures) (t .before .before .before .if1 .left) (idle t)
-    (sym (c .before .before .before .enum-told5 .given .1) ∙ f .find .ensures) (c .if2 .taken)
+    _ (sym (c .before .before .before .enum-told5 .given .1) ∙ f .find .ensures) (c .if2 .taken)
 
 check-room-requires : tie.Need-check-room-requires
 check-room-requires c κs = (omega arith, lent (c .before .before .before .before .before .before .before) .map-below)
@@ -103,7 +103,7 @@ returns-7 c =
     let f = c .before .before .before .before .before .before in
     let t = f .before .before in
     delete-room edition1 _ _ _ (t .before .before .before .before .fits-lent .ensures) (t .before .before .before .if1 .left) (idle t)
-    (sym (c .before .before .before .before .enum-told5 .given .1) ∙ f .find .ensures) (c .before .if2 .left) (c .check-room .ensures)
+    _ (sym (c .before .before .before .before .enum-told5 .given .1) ∙ f .find .ensures) (c .before .if2 .left) (c .check-room .ensures)
 
 pub check-delete-spec : {M : Type 1} → statement M
 check-delete-spec =

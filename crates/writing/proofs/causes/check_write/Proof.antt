@@ -11,8 +11,7 @@ use Rattle.laws.specs.OperationsKept.{edition1-roomy}
 use Rattle.starting.specs.declared.Check.{Check}
 use Rattle.starting.specs.Checks.{checked, idleCauses}
 use Rattle.starting.specs.CheckLaws.{record-lent}
-use Rattle.writing.specs.Tests.{presenceFor}
-use Rattle.writing.specs.TestLaws.{kind-room, write-bad, write-idle, write-value, write-spent, write-key, write-room}
+use Rattle.writing.specs.TestLaws.{kind-room, write-bad, write-idle, write-value, write-expected, write-entry}
 use borrow.Author.Needs.{needs}
 use Rattle.writing.proofs.causes.check_write.Statement.{statement}
 use Rattle.writing.proofs.causes.check_write.Tie as tie
@@ -36,7 +35,7 @@ fits-lent-requires : tie.Need-fits-lent-requires
 fits-lent-requires c κs = search needs
 
 returns : tie.Need-returns
-returns c = write-bad edition1 _ _ _ _ (c .before .fits-lent .ensures) (c .if1 .taken)
+returns c = write-bad edition1 _ _ _ _ _ (c .before .fits-lent .ensures) (c .if1 .taken)
 
 check-idle-requires : tie.Need-check-idle-requires
 check-idle-requires c κs = search needs
@@ -53,28 +52,19 @@ object-kind-requires c κs = search needs
 returns-2 : tie.Need-returns-2
 returns-2 c =
     let t = c .before .before in
-    write-value edition1 _ _ _ _ (t .before .before .before .before .fits-lent .ensures) (t .before .before .before .if1 .left) (idle t)
+    write-value edition1 _ _ _ _ _ (t .before .before .before .before .fits-lent .ensures) (t .before .before .before .if1 .left) (idle t)
     _ (c .before .object-kind .ensures) (c .if2 .taken)
-
-returns-3 : tie.Need-returns-3
-unfolding edition1
-returns-3 c =
-    let e = c .before .before .before in
-    let t = e .before .before in
-    let a = t .before .before .before .before .before .before .before .args in
-    write-spent edition1 _ _ (presenceFor edition1 (a .rec .size) (now (a .area)) (now (a .index)) (a .key)) (a .value) (t .before .before .before .before .fits-lent .ensures) (t .before .before .before .if1 .left) (idle t)
-    _ (e .before .object-kind .ensures) (e .if2 .left) (c .if3 .taken)
 
 cast-find : tie.Need-cast-find
 cast-find c = search needs
 
 find-requires : tie.Need-find-requires
 find-requires c κs =
-    let l = lent (c .before .before .before .before .before .before) in
+    let l = lent (c .before .before .before) in
     (omega (arith, l .size-low), omega (arith, l .size-high))
 
-check-key-requires : tie.Need-check-key-requires
-check-key-requires c κs = omega (arith, lent (c .before .before .before .before .before .before .before) .cells-low)
+check-expected-requires : tie.Need-check-expected-requires
+check-expected-requires c κs = search needs
 
 enum-known-c-2 : tie.Need-enum-known-c-2
 enum-known-c-2 c = search needs
@@ -82,41 +72,42 @@ enum-known-c-2 c = search needs
 enum-told-2 : tie.Need-enum-told-2
 enum-told-2 c = search needs
 
-add-check-room : tie.Need-add-check-room
+add-check-entry : tie.Need-add-check-entry
 unfolding edition1
-add-check-room c = omega (arith, room (c .before .before .before .before .before .before .before .before))
+add-check-entry c = omega (arith, room (c .before .before .before .before .before))
 
-check-room-requires : tie.Need-check-room-requires
+check-entry-requires : tie.Need-check-entry-requires
 unfolding edition1
-check-room-requires c κs = (
-  omega (arith, room (c .before .before .before .before .before .before .before .before)),
-  lent (c .before .before .before .before .before .before .before .before .before .before) .map-below,
-)
+check-entry-requires c κs =
+    let e = c .before .before .before .before .before in
+    let l = lent (e .before .before) in
+    (omega (arith, room e), l .map-below, omega (arith, l .cells-low))
+
+returns-3 : tie.Need-returns-3
+returns-3 c =
+    let s = c .before .before .before in
+    write-idle edition1 _ _ _ _ _ (s .before .before .fits-lent .ensures) (s .before .if1 .left) _ (sym (c .before .c .given .1) ∙ s .check-idle .ensures)
 
 returns-4 : tie.Need-returns-4
+unfolding edition1
 returns-4 c =
     let s = c .before .before .before in
-    write-idle edition1 _ _ _ _ (s .before .before .fits-lent .ensures) (s .before .if1 .left) _ (sym (c .before .c .given .1) ∙ s .check-idle .ensures)
+    let e = s .before .before .before in
+    let t = e .before .before in
+    write-expected edition1 _ _ _ _ (t .before .before .before .before .before .before .before .args .value) (t .before .before .before .before .fits-lent .ensures) (t .before .before .before .if1 .left) (idle t)
+    _ (e .before .object-kind .ensures) (e .if2 .left) _
+    (rw (s .before .find .ensures) at (sym (c .before .c2 .given .1) ∙ s .check-expected .ensures))
 
 returns-5 : tie.Need-returns-5
 unfolding edition1
 returns-5 c =
     let s = c .before .before .before in
-    let e = s .before .before .before .before .before .before in
+    let e = s .before .before .before in
     let t = e .before .before in
-    write-key edition1 _ _ _ (t .before .before .before .before .before .before .before .args .value) (t .before .before .before .before .fits-lent .ensures) (t .before .before .before .if1 .left) (idle t)
-    _ (e .before .object-kind .ensures) (e .if2 .left) (s .before .before .before .if3 .left) _
-    (rw (s .before .find .ensures) at (sym (c .before .c2 .given .1) ∙ s .check-key .ensures))
-
-returns-6 : tie.Need-returns-6
-unfolding edition1
-returns-6 c =
-    let s = c .before .before .before in
-    let e = s .before .before .before .before .before .before in
-    let t = e .before .before in
-    write-room edition1 _ _ _ _ (t .before .before .before .before .fits-lent .ensures) (t .before .before .before .if1 .left) (idle t)
-    _ (e .before .object-kind .ensures) (e .if2 .left) (s .before .before .before .if3 .left)
-    (rw (s .before .find .ensures) at (sym (c .before .enum-told2 .given .1) ∙ s .check-key .ensures)) (c .check-room .ensures)
+    write-entry edition1 _ _ _ _ _ (t .before .before .before .before .fits-lent .ensures) (t .before .before .before .if1 .left) (idle t)
+    _ (e .before .object-kind .ensures) (e .if2 .left)
+    (rw (s .before .find .ensures) at (sym (c .before .enum-told2 .given .1) ∙ s .check-expected .ensures))
+    (rw (s .before .find .ensures) at (c .check-entry .ensures))
 
 pub check-write-spec : {M : Type 1} → statement M
 check-write-spec =
@@ -129,14 +120,13 @@ check-write-spec =
     enum-told
     object-kind-requires
     returns-2
-    returns-3
     cast-find
     find-requires
-    check-key-requires
+    check-expected-requires
     enum-known-c-2
     enum-told-2
-    add-check-room
-    check-room-requires
+    add-check-entry
+    check-entry-requires
+    returns-3
     returns-4
-    returns-5
-    returns-6)
+    returns-5)

@@ -1,12 +1,12 @@
--- `writing::start::write` meets its contract.
+-- `writing::start::write_expecting` meets its contract.
 use mathlib.Core.Path.{sym, _∙_}
 use denote.Ref.{now}
 use Rattle.segment.specs.Layout.{edition1}
 use Rattle.laws.specs.OperationsKept.{edition1-roomy}
 use Rattle.writing.specs.StartLaws.{write-refused, write-ready, write-number, write-known, write-laid}
 use borrow.Author.Needs.{needs}
-use Rattle.writing.proofs.start.write.Statement.{statement}
-use Rattle.writing.proofs.start.write.Tie as tie
+use Rattle.writing.proofs.start.write_expecting.Statement.{statement}
+use Rattle.writing.proofs.start.write_expecting.Tie as tie
 
 check-write-requires : tie.Need-check-write-requires
 check-write-requires c κs = search needs
@@ -29,16 +29,16 @@ lay-entry-requires c κs =
     let t = c .before .before in
     let a = t .before .before .before .before .before .before .before .args in
     let passed = sym (t .enum-told .given .1) ∙ t .before .before .check-write .ensures in (
-      write-ready edition1 (a .rec) (now (a .area)) (now (a .index)) (now (a .work)) (a .key) (now (a .value)) passed edition1-roomy,
+      write-ready edition1 (record { expected = a .expected }) (a .rec) (now (a .area)) (now (a .index)) (now (a .work)) (a .key) (now (a .value)) passed edition1-roomy,
       (
-        write-number edition1 (a .rec) (now (a .area)) (now (a .index)) (now (a .work)) (a .key) (now (a .value)) passed,
-        write-known edition1 (a .rec) (now (a .area)) (now (a .index)) (now (a .work)) (a .key) (now (a .value)) passed _ (c .object-kind .ensures),
+        write-number edition1 (record { expected = a .expected }) (a .rec) (now (a .area)) (now (a .index)) (now (a .work)) (a .key) (now (a .value)) passed,
+        write-known edition1 (record { expected = a .expected }) (a .rec) (now (a .area)) (now (a .index)) (now (a .work)) (a .key) (now (a .value)) passed _ (c .object-kind .ensures),
       ),
     )
 
 returns : tie.Need-returns
 returns c =
-    write-refused edition1 _ _ _ _ _ _ _ (sym (c .before .before .c .given .1) ∙ c .before .before .before .before .check-write .ensures) _
+    write-refused edition1 _ _ _ _ _ _ _ _ (sym (c .before .before .c .given .1) ∙ c .before .before .before .before .check-write .ensures) _
     (c .refused .ensures)
 
 same-length : tie.Need-same-length
@@ -47,11 +47,11 @@ same-length c = search needs
 returns-2 : tie.Need-returns-2
 returns-2 c =
     let t = c .before .before .before .before .before in
-    write-laid edition1 _ _ _ _ _ _ (sym (t .enum-told .given .1) ∙ t .before .before .check-write .ensures) _ _ _
+    write-laid edition1 _ _ _ _ _ _ _ (sym (t .enum-told .given .1) ∙ t .before .before .check-write .ensures) _ _ _
     (c .before .before .before .object-kind .ensures) (c .before .before .lay-entry .ensures)
 
-pub write-spec : {M : Type 1} → statement M
-write-spec =
+pub write-expecting-spec : {M : Type 1} → statement M
+write-expecting-spec =
     tie.close
     (tie.spec
     check-write-requires

@@ -1,0 +1,45 @@
+-- `writing::causes::check_entry` meets its contract.
+use mathlib.Core.Path.{sym, _∙_}
+use Rattle.segment.specs.Layout.{edition1}
+use Rattle.writing.specs.TestLaws.{entry-spent, entry-key, entry-room}
+use borrow.Author.Needs.{needs}
+use Rattle.writing.proofs.causes.check_entry.Statement.{statement}
+use Rattle.writing.proofs.causes.check_entry.Tie as tie
+
+returns : tie.Need-returns
+unfolding edition1
+returns c = entry-spent edition1 _ _ _ (c .if1 .taken)
+
+check-key-requires : tie.Need-check-key-requires
+check-key-requires c κs = search needs
+
+enum-known-c : tie.Need-enum-known-c
+enum-known-c c = search needs
+
+enum-told : tie.Need-enum-told
+enum-told c = search needs
+
+check-room-requires : tie.Need-check-room-requires
+check-room-requires c κs = search needs
+
+returns-2 : tie.Need-returns-2
+unfolding edition1
+returns-2 c = entry-key edition1 _ _ _ (c .before .before .before .before .if1 .left) _ (sym (c .before .c .given .1) ∙ c .before .before .before .check-key .ensures)
+
+returns-3 : tie.Need-returns-3
+unfolding edition1
+returns-3 c =
+    let k = c .before .before .before in
+    entry-room edition1 _ _ _ (k .before .if1 .left) (sym (c .before .enum-told .given .1) ∙ k .check-key .ensures) (c .check-room .ensures)
+
+pub check-entry-spec : {M : Type 1} → statement M
+check-entry-spec =
+    tie.close
+    (tie.spec
+    returns
+    check-key-requires
+    enum-known-c
+    enum-told
+    check-room-requires
+    returns-2
+    returns-3)
