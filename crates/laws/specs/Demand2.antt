@@ -1,21 +1,20 @@
 -- Demand 2, three theorems at the layout of 01: the map that the rule of versions reads after the last store of a write, a delete and a
 -- cleaning, from the one that it read before the start. A cleaning may have any victims of the log, the head among them. For other layouts the same facts are `finish-recovers` and `finish-map` of their laws.
 use Prim.Native.Nat.{ℕ, _+_}
-use mathlib.Core.Path.{_≡_, refl}
-use mathlib.Core.Bool.{Bool, true, false}
+use mathlib.Core.Path.{_≡_}
 use mathlib.Core.List.{List}
 use mathlib.Core.Option.{Option, none, some}
 use Rattle.segment.specs.Choice.{pick}
-use Rattle.segment.specs.Layout.{edition1, entrySize}
+use Rattle.segment.specs.Layout.{edition1}
 use Rattle.segment.specs.Entry.{Entry}
 use Rattle.segment.specs.declared.Key.{Key}
 use Rattle.record.specs.declared.Record.{Record}
 use Rattle.model.specs.Log.{sameKey}
 use Rattle.model.specs.Recovery.{recovered}
-use Rattle.model.specs.Operations.{Operation, write, delete, clean, logNow, writtenEntry, tombstoneEntry, fitsHead, noRoom, stored, appendedRecord, headedRecord, forgottenRecord, finishedRecord}
+use Rattle.model.specs.Operations.{Operation, write, delete, clean, logNow, writtenEntry, tombstoneEntry, stored, finishedRecord}
 use Rattle.laws.specs.MapLaws.{valueAt}
 use Rattle.laws.specs.Operated.{Accepted, planAt, mapAfter}
-use Rattle.laws.specs.OperationsKept.{finishes, edition1-roomy}
+use Rattle.laws.specs.OperationsKept.{finishes, deleted-next, edition1-roomy}
 
 -- Bytes that read as a map: recovery of them gives this record, whose slot map is that of the newest digest, and in the segments
 -- that it names the highest version of each key decides what the map holds of it.
@@ -53,16 +52,7 @@ module _ (before : List ℕ) (idle : Record) where
 
   -- 02, R-4: it takes the next version whether or not an entry comes to have it.
   pub delete-raises-next : (k : Key) → finishedRecord edition1 before idle (delete k) .next .0 ≡ idle .next .0 + 1
-  unfolding finishedRecord pick
-  delete-raises-next k = go (noRoom idle (entrySize edition1 0)) (fitsHead edition1 idle (tombstoneEntry idle k))
-    where
-      go : (full fits : Bool) →
-          pick full (forgottenRecord edition1 before idle k)
-          (pick fits (appendedRecord edition1 idle (logNow edition1 before idle) (tombstoneEntry idle k))
-          (headedRecord edition1 idle (logNow edition1 before idle) (tombstoneEntry idle k))) .next .0 ≡ idle .next .0 + 1
-      go true fits = refl
-      go false true = refl
-      go false false = refl
+  delete-raises-next k = deleted-next edition1 before idle k
 
   -- a cleaning changes no key
   pub demand-2-clean : (victims : ℕ) → Accepted edition1 before idle (clean victims) → Finished (clean victims) old

@@ -21,7 +21,7 @@ use Rattle.record.specs.RangeLaws.{Lent, lent}
 use Rattle.record.specs.declared.Record.{Record}
 use Rattle.model.specs.Log.{Placed, placeOf, scan, segmentOf, viewsOf, present, latest, objectOnly, sameKey}
 use Rattle.model.specs.Recovery.{recovered, recordFrom}
-use Rattle.model.specs.Operations.{Operation, write, delete, clean, logNow, writtenEntry, tombstoneEntry, noRoom, newSlot, digestWith, kept, placedFrom, Laid, laidEntry, laidForget, laid, planOf, stored, entryRecord, renewedRecord, forgottenRecord, finishedRecord}
+use Rattle.model.specs.Operations.{Operation, write, delete, clean, logNow, writtenEntry, tombstoneEntry, fitsHead, noRoom, newSlot, digestWith, kept, placedFrom, Laid, laidEntry, laidForget, laid, planOf, stored, appendedRecord, headedRecord, entryRecord, renewedRecord, forgottenRecord, finishedRecord}
 use Rattle.model.specs.Promises.{partOf, valuePart}
 use Rattle.laws.specs.Members.{In}
 use Rattle.laws.specs.Latest.{latest-some}
@@ -140,6 +140,19 @@ module _ (L : Layout) (roomy : Roomy L) (before : List ℕ) (idle : Record) wher
       )
   finishes (delete k) a = finishes-delete k a
   finishes (clean victims) a = clean-done L before idle _ _ _ (clean-cleans L before idle victims a)
+
+-- a delete takes the next version, whether or not an entry comes to have it
+pub deleted-next : (L : Layout) (before : List ℕ) (idle : Record) (k : Key) → finishedRecord L before idle (delete k) .next .0 ≡ idle .next .0 + 1
+unfolding finishedRecord pick
+deleted-next L before idle k = go (noRoom idle (entrySize L 0)) (fitsHead L idle (tombstoneEntry idle k))
+  where
+    go : (full fits : Bool) →
+        pick full (forgottenRecord L before idle k)
+        (pick fits (appendedRecord L idle (logNow L before idle) (tombstoneEntry idle k))
+        (headedRecord L idle (logNow L before idle) (tombstoneEntry idle k))) .next .0 ≡ idle .next .0 + 1
+    go true fits = refl
+    go false true = refl
+    go false false = refl
 
 -- ---- reading a recovered log
 
