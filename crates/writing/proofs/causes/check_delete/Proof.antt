@@ -11,7 +11,7 @@ use Rattle.starting.specs.Checks.{checked, idleCauses}
 use Rattle.starting.specs.CheckLaws.{record-lent}
 use Rattle.writing.specs.declared.Presence.the-variants.{Tombstone, Nothing}
 use Rattle.writing.specs.Tests.{factsOf}
-use Rattle.writing.specs.TestLaws.{delete-bad, delete-idle, delete-forbidden, delete-absent, delete-spent, delete-room}
+use Rattle.writing.specs.TestLaws.{delete-bad, delete-idle, delete-forbidden, delete-absent, delete-spent, delete-number}
 use borrow.Author.Needs.{needs}
 use Rattle.writing.proofs.causes.check_delete.Statement.{statement}
 use Rattle.writing.proofs.causes.check_delete.Tie as tie
@@ -69,8 +69,8 @@ returns-2 c =
     delete-spent edition1 _ _ _ (t .before .before .before .before .fits-lent .ensures) (t .before .before .before .if1 .left) (idle t)
     _ (sym (c .before .before .before .enum-told5 .given .1) ∙ f .find .ensures) (c .if2 .taken)
 
-check-room-requires : tie.Need-check-room-requires
-check-room-requires c κs = (omega arith, lent (c .before .before .before .before .before .before .before) .map-below)
+check-number-requires : tie.Need-check-number-requires
+check-number-requires c κs = omega arith
 
 returns-3 : tie.Need-returns-3
 returns-3 c =
@@ -102,8 +102,8 @@ unfolding edition1
 returns-7 c =
     let f = c .before .before .before .before .before .before in
     let t = f .before .before in
-    delete-room edition1 _ _ _ (t .before .before .before .before .fits-lent .ensures) (t .before .before .before .if1 .left) (idle t)
-    _ (sym (c .before .before .before .before .enum-told5 .given .1) ∙ f .find .ensures) (c .before .if2 .left) (c .check-room .ensures)
+    delete-number edition1 _ _ _ (t .before .before .before .before .fits-lent .ensures) (t .before .before .before .if1 .left) (idle t)
+    _ (sym (c .before .before .before .before .enum-told5 .given .1) ∙ f .find .ensures) (c .before .if2 .left) (c .check-number .ensures)
 
 pub check-delete-spec : {M : Type 1} → statement M
 check-delete-spec =
@@ -121,7 +121,7 @@ check-delete-spec =
     enum-told-4
     enum-told-5
     returns-2
-    check-room-requires
+    check-number-requires
     returns-3
     returns-4
     returns-5
