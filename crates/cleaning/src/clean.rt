@@ -44,7 +44,7 @@ fn victims_bad(rec: Record, victims: u32) -> bool
 }
 
 // The log's slots, parted by the victims.
-fn split_of(rec: Record, victims: u32) -> Split
+pub fn split_of(rec: Record, victims: u32) -> Split
     ensures { λ r. ⌜ r ≡ splitOf rec victims ⌝ }
 {
     Split {
