@@ -1,6 +1,6 @@
 -- 02, R-4, at the level of logs: what it does to a log and its map that a tombstone stands in the place of a live object.
 use Prim.Native.Nat.{ℕ, _+_, _^_, _≤_, _<_}
-use mathlib.Core.Path.{_≡_, refl, sym, _∙_, ap}
+use mathlib.Core.Path.{_≡_, refl, sym, _∙_, ap, ap₂}
 use mathlib.Core.Bool.{Bool, true, false, not}
 use mathlib.Core.Logic.{_⊎_, inl, inr}
 use mathlib.Core.List.{List, [], _∷_, List·Memᴰ·head, List·Memᴰ·tail, List·Memᴰ·not-nil}
@@ -10,15 +10,15 @@ use native.Mathlib.Omega.{arith}
 use lib.Dec.{eqb}
 use lib.ListN.{length}
 use borrow.Author.Tests.{eq-eqb, ne-eqb, eqb-true, eqb-false}
-use Rattle.segment.specs.Choice.{pick, pick-true, pick-false}
+use Rattle.segment.specs.Choice.{pick, pick-true, pick-false, both, both-false-left, either}
 use Rattle.segment.specs.Entry.{Entry, keyOf, isTombstone}
 use Rattle.segment.specs.declared.Key.{Key}
 use Rattle.slot_map.specs.Bit.{named}
 use Rattle.slot_map.specs.BitLaws.{bit-pow-same, set-named}
 use Rattle.model.specs.Log.{Placed, sameKey, latest, laterOf, objectOnly, present, hasKey, keysOf, versionShared, highest}
-use Rattle.model.specs.Operations.{replaced}
+use Rattle.model.specs.Operations.{isVersion, isHighest, objectOutside, isKept, replaced}
 use Rattle.laws.specs.Members.{clash, In, first, entriesOf, those, total}
-use Rattle.laws.specs.Latest.{same-key, key-same, Newest, latest-is, LatestIs, absent, found, latest-some, Apart, has-key, key-had}
+use Rattle.laws.specs.Latest.{same-key, key-same, own-key, Newest, latest-is, LatestIs, absent, found, latest-some, Apart, has-key, key-had}
 use Rattle.laws.specs.Versions.{counted, count, count-shared, shared-count, shared-apart, highest-above, highest-least}
 use Rattle.laws.specs.Keys.{KeysWithin, keys-within}
 use Rattle.laws.specs.MapLaws.{valueAt, gives, value-some, value-none, unplaced, outside, outside-in}
@@ -115,6 +115,26 @@ module _ (v : ℕ) (e : Entry) where
           ap (λ (d : Entry). front d (latest (replaced v e xs) j)) (instead-own (x .entry) p)
           ∙ pick-false (sameKey j e) _ _ q ∙ ih ∙ sym (pick-false (sameKey j (x .entry)) _ _ (f x first p))
       go (no p) ih = ap (λ (d : Entry). front d (latest (replaced v e xs) j)) (instead-other (x .entry) p) ∙ ap (front (x .entry)) ih
+
+  -- the objects outside victims, where none of them is replaced
+  pub replaced-objects : (victims : ℕ) (j : Key) (log : List Placed) →
+      ((x : Placed) → In x log → x .entry .version ≡ v → named victims (x .slot) ≡ true) →
+      objectOutside victims (replaced v e log) j ≡ objectOutside victims log j
+  unfolding replaced objectOutside
+  replaced-objects victims j [] f = refl
+  replaced-objects victims j (x ∷ xs) f =
+      go (ℕ-discrete (x .entry .version) v) (replaced-objects victims j xs (λ y m. f y (List·Memᴰ·tail m)))
+    where
+      here : Entry → Bool
+      here d = both (both (not (named victims (x .slot))) (sameKey j d)) (not (isTombstone d))
+
+      inside : (d : Entry) → named victims (x .slot) ≡ true → here d ≡ false
+      inside d p = both-false-left _ _ (both-false-left _ _ (ap not p))
+
+      go : Dec (x .entry .version ≡ v) → objectOutside victims (replaced v e xs) j ≡ objectOutside victims xs j →
+          either (here (instead (x .entry))) (objectOutside victims (replaced v e xs) j) ≡ either (here (x .entry)) (objectOutside victims xs j)
+      go (yes p) ih = let q = f x first p in ap₂ either (inside (instead (x .entry)) q ∙ sym (inside (x .entry) q)) ih
+      go (no p) ih = ap₂ either (ap here (instead-other (x .entry) p)) ih
 
   -- how often each version stands: the new one as often as the old one did, and any other no more often
   counted-same : (d : Entry) → d .version ≡ v → counted (e .version) e ≡ counted v d
@@ -220,6 +240,37 @@ module _ (log : List Placed) (k : Key) (x : Placed) (live : Live log k x) (e : E
               has-key log j x (own .member)
               (ap (λ (u : Key). sameKey u (x .entry)) (same-key j (y .entry) s ∙ ap keyOf q ∙ of-key) ∙ own .of-key)
 
+  -- the tombstone is the latest entry of its key
+  latest-dead : (j : Key) → sameKey j e ≡ true → (z : Placed) → Newest stand j z → z .entry ≡ e
+  latest-dead j s z n = go (was (x .entry .version) e log z (n .member))
+    where
+      go : Was (x .entry .version) e log z → z .entry ≡ e
+      go (put-for y i q d) = d
+      go (kept-as y i q d) =
+          let t = put-there (x .entry .version) e (own .member) refl in
+          absurd
+          (omega (
+            arith,
+            n .none-above (t .0) (t .1) (ap (sameKey j) (t .2) ∙ s),
+            ap (λ (u : Entry). u .version) (t .2),
+            ap (λ (u : Entry). u .version) d,
+            highest-above i,
+          ))
+
+  -- a key that is not the tombstone's is not the object's either, and the other way round
+  other-key : (j : Key) → sameKey j e ≡ false → sameKey j (x .entry) ≡ false
+  other-key j s = by (sameKey j (x .entry)) refl
+    where
+      by : (t : Bool) → sameKey j (x .entry) ≡ t → t ≡ false
+      by false p = refl
+      by true p =
+          absurd
+          (clash (sameKey j e) (key-same j e (same-key j (x .entry) p ∙ sym (same-key k (x .entry) (own .of-key)) ∙ sym of-key)) s)
+
+  other-latest : (j : Key) → sameKey j e ≡ false → latest stand j ≡ latest log j
+  other-latest j s =
+      replaced-latest (x .entry .version) e j s log (λ y m p. ap (λ (z : Placed). sameKey j (z .entry)) (one y m p) ∙ other-key j s)
+
   -- The key is gone, and no other.
   pub forgotten-value : (j : Key) → valueAt stand j ≡ pick (sameKey j e) none (valueAt log j)
   unfolding pick
@@ -228,37 +279,61 @@ module _ (log : List Placed) (k : Key) (x : Placed) (live : Live log k x) (e : E
       tombstone : (o : Option Placed) → latest stand j ≡ o → sameKey j e ≡ true → LatestIs stand j o → valueAt stand j ≡ none
       tombstone none p s l = value-none stand j p
       tombstone (some z) p s (found n) =
-          value-some stand j z p ∙ unfold gives in pick-true (isTombstone (z .entry)) none (some (z .entry)) (is-dead (was (x .entry .version) e log z (n .member)))
-        where
-          is-dead : Was (x .entry .version) e log z → isTombstone (z .entry) ≡ true
-          is-dead (put-for y i q d) = ap isTombstone d ∙ dead
-          is-dead (kept-as y i q d) =
-              let t = put-there (x .entry .version) e (own .member) refl in
-              absurd
-              (omega (
-                arith,
-                n .none-above (t .0) (t .1) (ap (sameKey j) (t .2) ∙ s),
-                ap (λ (u : Entry). u .version) (t .2),
-                ap (λ (u : Entry). u .version) d,
-                highest-above i,
-              ))
+          value-some stand j z p
+          ∙ unfold gives in
+          pick-true (isTombstone (z .entry)) none (some (z .entry)) (ap isTombstone (latest-dead j s z n) ∙ dead)
 
       go : (t : Bool) → sameKey j e ≡ t → valueAt stand j ≡ pick t none (valueAt log j)
       go true s = tombstone (latest stand j) refl s (latest-is stand j)
-      go false s =
-          unfold present in
-          ap (λ (o : Option Placed). unplaced (objectOnly o))
-          (replaced-latest (x .entry .version) e j s log
-          (λ y m p.
-          ap (λ (z : Placed). sameKey j (z .entry)) (one y m p)
-          ∙ other j s))
-        where
-          other : (j : Key) → sameKey j e ≡ false → sameKey j (x .entry) ≡ false
-          other j s = by (sameKey j (x .entry)) refl
-            where
-              by : (t : Bool) → sameKey j (x .entry) ≡ t → t ≡ false
-              by false p = refl
-              by true p =
-                  absurd
-                  (clash (sameKey j e)
-                  (key-same j e (same-key j (x .entry) p ∙ sym (same-key k (x .entry) (own .of-key)) ∙ sym of-key)) s)
+      go false s = unfold present in ap (λ (o : Option Placed). unplaced (objectOnly o)) (other-latest j s)
+
+  -- ---- what a cleaning of its slot keeps
+
+  victim-named : named (2 ^ x .slot) (x .slot) ≡ true
+  victim-named = set-named (2 ^ x .slot) (x .slot) (bit-pow-same (x .slot))
+
+  objects-same : (j : Key) → objectOutside (2 ^ x .slot) stand j ≡ objectOutside (2 ^ x .slot) log j
+  objects-same j =
+      replaced-objects (x .entry .version) e (2 ^ x .slot) j log
+      (λ y m p. ap (λ (z : Placed). named (2 ^ x .slot) (z .slot)) (one y m p) ∙ victim-named)
+
+  -- the other entries are highest versions where they were
+  highest-same : (y : Placed) → In y log → (y .entry .version ≡ x .entry .version → ⊥) → isHighest stand (y .entry) ≡ isHighest log (y .entry)
+  unfolding isVersion
+  highest-same y m apart = go (sameKey (keyOf (y .entry)) e) refl
+    where
+      none-such : (o : Option Placed) → LatestIs stand (keyOf (y .entry)) o → sameKey (keyOf (y .entry)) e ≡ true → isVersion o (y .entry .version) ≡ false
+      none-such none l s = refl
+      none-such (some z) (found n) s =
+          ne-eqb (z .entry .version) (y .entry .version)
+          (λ p. omega (arith, ap (λ (u : Entry). u .version) (latest-dead (keyOf (y .entry)) s z n), highest-above m))
+
+      go : (t : Bool) → sameKey (keyOf (y .entry)) e ≡ t → isHighest stand (y .entry) ≡ isHighest log (y .entry)
+      go true s =
+          let key : keyOf (y .entry) ≡ k = same-key (keyOf (y .entry)) e s ∙ of-key in
+          none-such (latest stand (keyOf (y .entry))) (latest-is stand (keyOf (y .entry))) s
+          ∙ sym (ne-eqb (x .entry .version) (y .entry .version) (λ p. apart (sym p)))
+          ∙ sym (ap (λ (o : Option Placed). isVersion o (y .entry .version)) (ap (latest log) key ∙ live .latest-of))
+      go false s = ap (λ (o : Option Placed). isVersion o (y .entry .version)) (other-latest (keyOf (y .entry)) s)
+
+  -- The other entries are kept where they would be kept.
+  pub forgotten-kept : (y : Placed) → In y log → (y .entry .version ≡ x .entry .version → ⊥) →
+      isKept (2 ^ x .slot) stand y ≡ isKept (2 ^ x .slot) log y
+  forgotten-kept y m apart =
+      λ i.
+      both (named (2 ^ x .slot) (y .slot))
+      (both (highest-same y m apart i) (either (not (isTombstone (y .entry))) (objects-same (keyOf (y .entry)) i)))
+
+  -- The tombstone is kept where an object of the key stands outside.
+  pub forgotten-tombstone : isKept (2 ^ x .slot) stand (record { slot = x .slot; offset = x .offset; entry = e }) ≡ objectOutside (2 ^ x .slot) log k
+  unfolding isVersion both either
+  forgotten-tombstone =
+      rw (victim-named, own-highest (latest stand (keyOf e)) (latest-is stand (keyOf e)), dead)
+      (objects-same (keyOf e) ∙ ap (objectOutside (2 ^ x .slot) log) of-key)
+    where
+      own-highest : (o : Option Placed) → LatestIs stand (keyOf e) o → isVersion o (e .version) ≡ true
+      own-highest none (absent f) =
+          let t = put-there (x .entry .version) e (own .member) refl in
+          absurd (clash (sameKey (keyOf e) (t .0 .entry)) (ap (sameKey (keyOf e)) (t .2) ∙ own-key e) (f (t .0) (t .1)))
+      own-highest (some z) (found n) =
+          eq-eqb (z .entry .version) (e .version) (ap (λ (u : Entry). u .version) (latest-dead (keyOf e) (own-key e) z n))

@@ -56,6 +56,12 @@ one-picked v p i (suc n) l q o = go (ℕ-discrete i n) (λ h. one-picked v p i n
     go (no e) ih =
         ap (λ (l : List Placed). logOf v p n ++ l) (part-passed v p n (o n (λ z. e (sym z)))) ∙ append-nil (logOf v p n) ∙ ih (omega arith)
 
+-- the part of a log in one of its slots is what the slot holds
+pub slot-log : (v : ℕ → View) (map n i : ℕ) → i < n → named map i ≡ true → inSlot i (logOf v (named map) n) ≡ placedIn i (itemsOf (v i .scan))
+slot-log v map n i l q =
+    log-those v (named map) (λ j. eqb j i) n
+    ∙ one-picked v (λ j. both (named map j) (eqb j i)) i n l (both-true _ _ q (eq-eqb i i refl)) (λ j o. both-false-right _ _ (ne-eqb j i o))
+
 module _ (L : Layout) (area : List ℕ) (r : Record) (e : recovered L (r .slots) (r .size) (r .cells) area ≡ some r) where
   facts : Lent L r (length area) (r .cells)
   facts = lent L r (length area) (r .cells) (recovered-fits L (r .slots) (r .size) (r .cells) area r e)
@@ -78,12 +84,7 @@ module _ (L : Layout) (area : List ℕ) (r : Record) (e : recovered L (r .slots)
       scans = scan-scans L (segmentOf area (r .size) i) whole
 
       held : entriesOf (inSlot i (logNow L area r)) ≡ itemEntries (itemsOf (scan L (segmentOf area (r .size) i)))
-      held =
-          ap entriesOf
-          (log-those (viewsOf L area (r .size)) (named (r .map)) (λ j. eqb j i) (r .slots) ∙
-          one-picked (viewsOf L area (r .size)) (λ j. both (named (r .map) j) (eqb j i)) i (r .slots) l
-          (both-true _ _ q (eq-eqb i i refl)) (λ j o. both-false-right _ _ (ne-eqb j i o))) ∙
-          entries-in i (itemsOf (scan L (segmentOf area (r .size) i)))
+      held = ap entriesOf (slot-log (viewsOf L area (r .size)) (r .map) (r .slots) i l q) ∙ entries-in i (itemsOf (scan L (segmentOf area (r .size) i)))
 
   -- what is kept of one slot fits, also by a log whose entries there take no more bytes
   one-fits :
