@@ -122,7 +122,7 @@ module _ (L : Layout) (area cells : List ℕ) (r : Record) (g : Genuine L area r
         let s : List ℕ = segmentOf area (r .size) (x .slot) in
         scans-found (scan-scans L s (scan-whole (scan L s) (scans (x .slot) (w .below) (w .picked)))) (w .item)
 
-    inside : x .offset + sizeOf L (x .entry) ≤ r .size
+    pub inside : x .offset + sizeOf L (x .entry) ≤ r .size
     inside =
         omega (
           arith,

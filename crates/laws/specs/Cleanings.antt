@@ -26,7 +26,7 @@ use Rattle.model.specs.Refused.{keptLength, startCauses}
 use Rattle.laws.specs.Members.{In, those, those-in, entry-of}
 use Rattle.laws.specs.Latest.{latest-some}
 use Rattle.laws.specs.MapLaws.{valueAt, kept-those}
-use Rattle.laws.specs.Forgotten.{Live, present-live, Was, kept-as, put-for, was, forgotten-outside, forgotten-versions, forgotten-highest, forgotten-keys, forgotten-value}
+use Rattle.laws.specs.Forgotten.{IsLive, present-live, Was, kept-as, put-for, was, forgotten-outside, forgotten-versions, forgotten-highest, forgotten-keys, forgotten-value}
 use Rattle.laws.specs.Scans.{scan-scans, scans-stands}
 use Rattle.laws.specs.LogLaws.{log-in, scan-whole}
 use Rattle.laws.specs.RecoverLaws.{recovered-case, recovered-highest}
@@ -116,7 +116,7 @@ module _ (L : Layout) (before : List ℕ) (idle : Record) (k : Key) (a : Accepte
   is : present log k ≡ some x
   is = delete-live L before idle k a .1
 
-  live : Live log k x
+  live : IsLive log k x
   live = present-live log k x is
 
   member : In x log

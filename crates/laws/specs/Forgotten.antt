@@ -27,13 +27,13 @@ use Rattle.laws.specs.MapLaws.{valueAt, gives, value-some, value-none, u
 
 module _ (v : ℕ) (e : Entry) where
   -- what comes to stand in the place of an entry
-  abbrev instead : Entry → Entry
+  abbrev pub instead : Entry → Entry
   instead d = pick (eqb (d .version) v) e d
 
-  instead-own : (d : Entry) → d .version ≡ v → instead d ≡ e
+  pub instead-own : (d : Entry) → d .version ≡ v → instead d ≡ e
   instead-own d p = pick-true (eqb (d .version) v) e d (eq-eqb (d .version) v p)
 
-  instead-other : (d : Entry) → (d .version ≡ v → ⊥) → instead d ≡ d
+  pub instead-other : (d : Entry) → (d .version ≡ v → ⊥) → instead d ≡ d
   instead-other d p = pick-false (eqb (d .version) v) e d (ne-eqb (d .version) v p)
 
   -- no entry changes its slot
@@ -176,25 +176,25 @@ module _ (v : ℕ) (e : Entry) where
 -- ---- a tombstone in the place of a key's live object
 
 -- what makes an object the live one of a key
-pub record Live (log : List Placed) (k : Key) (x : Placed) : Type 0 where
+pub record IsLive (log : List Placed) (k : Key) (x : Placed) : Type 0 where
   pub latest-of : latest log k ≡ some x
   pub object : isTombstone (x .entry) ≡ false
 
-pub present-live : (log : List Placed) (k : Key) (x : Placed) → present log k ≡ some x → Live log k x
+pub present-live : (log : List Placed) (k : Key) (x : Placed) → present log k ≡ some x → IsLive log k x
 unfolding present objectOnly pick
 present-live log k x e = go (latest log k) refl e
   where
-    by-kind : (y : Placed) → latest log k ≡ some y → (t : Bool) → isTombstone (y .entry) ≡ t → pick t none (some y) ≡ some x → Live log k x
+    by-kind : (y : Placed) → latest log k ≡ some y → (t : Bool) → isTombstone (y .entry) ≡ t → pick t none (some y) ≡ some x → IsLive log k x
     by-kind y p true q r = let z : _≡_ {A = ℕ} 0 1 = cc in absurd (omega arith)
     by-kind y p false q r =
         let same : y ≡ x = cc in
         record { latest-of = p ∙ ap some same; object = ap (λ (u : Placed). isTombstone (u .entry)) (sym same) ∙ q }
 
-    go : (o : Option Placed) → latest log k ≡ o → objectOnly o ≡ some x → Live log k x
+    go : (o : Option Placed) → latest log k ≡ o → objectOnly o ≡ some x → IsLive log k x
     go none p q = let z : _≡_ {A = ℕ} 0 1 = cc in absurd (omega arith)
     go (some y) p q = by-kind y p (isTombstone (y .entry)) refl q
 
-module _ (log : List Placed) (k : Key) (x : Placed) (live : Live log k x) (e : Entry) (of-key : keyOf e ≡ k) (dead : isTombstone e ≡ true)
+module _ (log : List Placed) (k : Key) (x : Placed) (live : IsLive log k x) (e : Entry) (of-key : keyOf e ≡ k) (dead : isTombstone e ≡ true)
     (above : highest log < e .version) (versions : versionShared log ≡ false) where
   abbrev stand : List Placed
   stand = replaced (x .entry .version) e log

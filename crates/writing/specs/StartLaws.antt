@@ -190,10 +190,10 @@ module _ (L : Layout) (q : Terms) (r : Record) (area cells work : List ℕ) (k :
 -- ---- a delete
 
 module _ (L : Layout) (r : Record) (area cells work : List ℕ) (k : Key) where
-  abbrev deleteTests : List Cause
+  abbrev pub deleteTests : List Cause
   deleteTests = deleteCauses L r (lentLengths area cells work) (factsFor L r area cells k)
 
-  abbrev deletes : Check
+  abbrev pub deletes : Check
   deletes = checked (firstCause deleteTests)
 
   pub delete-causes : Causes L freely (delete k) r area cells work deleteTests
