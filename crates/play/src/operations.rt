@@ -136,6 +136,12 @@ fn work_bytes(rec: Record) -> u32
             length,
             left: _,
         } => length,
+        Pending::Forget {
+            slot: _,
+            victims: _,
+            length,
+            left: _,
+        } => length,
     }
 }
 
