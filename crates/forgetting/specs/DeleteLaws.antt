@@ -203,7 +203,7 @@ module _ (L : Layout) (r : Record) (area cells : List ℕ) (k : Key) (work : Lis
 
   found-long : (f : Found) → length (forgotFound L r area cells k work f .work) ≡ length work
   unfolding forgotFound
-  found-long (Found.At cell) = in-long cell (getD cells cell 0 - 1) ((getD cells cell 0 - 1) / r .size)
+  found-long (Found.At cell) = in-long cell _ _
   found-long (Found.Free cell) = refl
   found-long Found.Full = refl
 
