@@ -38,14 +38,28 @@
  * HOW THE CALLS GO TOGETHER
  *   kurdavel_format once, for a new area. After that, and after each cut, kurdavel_recover: it gives the record and
  *   the index that the other calls take. Then reads at any time; and operations, one at a time: a start
- *   (kurdavel_write, kurdavel_delete, kurdavel_clean) checks all and leaves the area alone, and each
- *   kurdavel_step after it stores one byte, until none is left. The operation takes effect with its last store: a cut
- *   before it leaves the store as it was before the start, a cut after it loses nothing. Between a start and its last
- *   step the work buffer must not change. Reads meanwhile show the store before the operation.
+ *   (kurdavel_write, kurdavel_write_expecting, kurdavel_delete, kurdavel_clean) checks all and leaves the area alone,
+ *   and each kurdavel_step after it stores one byte, until none is left. The operation takes effect with its last store:
+ *   a cut before it leaves the store as it was before the start, a cut after it loses nothing. Between a start and its
+ *   last step the work buffer must not change. Reads meanwhile show the store before the operation.
+ *
+ *   Every read, write and delete is given the tables that its caller may use: `first` to `last`, both included, none
+ *   where first is above last. A key outside them is refused with 22, whatever the store holds. Cleaning, step and
+ *   recovery take no tables: they serve all.
  *
  *   An operation that is not to be finished is given up by kurdavel_recover, without a cut: it drops what is pending.
  *   The bytes stored so far stay in the area, where they do not count and the next operation overwrites what it needs.
  *   The rules of use leave no other way: a record kept from before the start is not the newest one.
+ *
+ *   Where several parts of a firmware change the same value, let each write with kurdavel_write_expecting the version
+ *   that it read. The one that comes too late is then refused with 21 and loses nothing of the other's: it reads again
+ *   and decides anew.
+ *
+ * TWO OWNERS OF ONE STORE
+ *   Parts of a firmware whose tables have none in common, and which give no others with their calls, can by them neither
+ *   read nor change each other's values. What one gets (answers, versions, places, values) does not depend on the bytes
+ *   that the other writes. It does depend on the other's keys, the lengths of its values and the number of its calls, which
+ *   show through the refusals 5, 6, 9 to 14, 20 and 21, the numbers of stores, the versions and the places.
  *
  * WHAT THE CALLS COST
  *   A step before the last does the same little work whatever the store holds. A read, the start of a write or delete
@@ -105,6 +119,8 @@
  *       help a store full of live objects; there even a delete, whose tombstone needs 11 bytes, may be refused with
  *       12. So leave room from the start.
  *   14  Name fewer victims. What a single one holds always fits.
+ *   21  Read the key again: another write or a delete came between. The value to be written may rest on an old one.
+ *   22  Nothing: the key is another owner's.
  */
 #ifndef KURDAVEL_H
 #define KURDAVEL_H
@@ -120,7 +136,7 @@ extern "C" {
  * The version of this interface. MAJOR goes up when a program written for an earlier one may have to change, or an area
  * written by an earlier one may be refused; MINOR when something is added.
  */
-#define KURDAVEL_VERSION_MAJOR 1u
+#define KURDAVEL_VERSION_MAJOR 2u
 #define KURDAVEL_VERSION_MINOR 0u
 #define KURDAVEL_VERSION (KURDAVEL_VERSION_MAJOR * 1000u + KURDAVEL_VERSION_MINOR)
 
@@ -142,7 +158,8 @@ extern "C" {
 #define KURDAVEL_STACK_RECOVER 3584u
 #define KURDAVEL_STACK_READ 256u
 #define KURDAVEL_STACK_READ_VALUE 256u
-#define KURDAVEL_STACK_WRITE 512u
+#define KURDAVEL_STACK_WRITE 768u
+#define KURDAVEL_STACK_WRITE_EXPECTING 768u
 #define KURDAVEL_STACK_DELETE 512u
 #define KURDAVEL_STACK_CLEAN 1024u
 #define KURDAVEL_STACK_STEP 896u
@@ -196,7 +213,9 @@ enum kurdavel_answer {
     KURDAVEL_REFUSED_BAD_DIGEST = 17,      /* the highest digest number is 0 or shared, or that digest is impossible */
     KURDAVEL_REFUSED_DAMAGED_LOG = 18,     /* an entry of unknown kind, past its slot, or with an impossible version */
     KURDAVEL_REFUSED_SHARED_VERSION = 19,  /* a version stands twice in the log */
-    KURDAVEL_REFUSED_TOO_MANY_KEYS = 20    /* more than M - 1 keys have entries in the log */
+    KURDAVEL_REFUSED_TOO_MANY_KEYS = 20,   /* more than M - 1 keys have entries in the log */
+    KURDAVEL_REFUSED_OTHER_VERSION = 21,   /* the key has another version than the caller expects */
+    KURDAVEL_REFUSED_OUTSIDE_TABLES = 22   /* the key's table is not one that the caller may use */
 };
 
 /*
@@ -220,11 +239,11 @@ uint32_t kurdavel_recover(uint32_t slots, uint32_t slot_bytes, const uint8_t *or
 /*
  * Tells the version and the kind (1, 2 or 3: a value of 8, 24 or 56 bytes) of a key's object. Where it is refused, both
  * are 0.
- * Refused: 4, 8.
+ * Refused: 4, 22, 8, in this order.
  */
 uint32_t kurdavel_read(const uint32_t *record, size_t record_words, const uint8_t *area, size_t area_bytes,
-                       const uint32_t *index, size_t index_words, uint16_t table, uint32_t key, uint32_t *version,
-                       uint32_t *kind);
+                       const uint32_t *index, size_t index_words, uint16_t first, uint16_t last, uint16_t table,
+                       uint32_t key, uint32_t *version, uint32_t *kind);
 
 /*
  * Tells where the value of a key's object lies in the area: at area + *place, *bytes long. Where it is refused, both
@@ -232,27 +251,39 @@ uint32_t kurdavel_read(const uint32_t *record, size_t record_words, const uint8_
  * The place may be used until the last step of the next operation, which may be the one that replaces or deletes the
  * value. The bytes there stay longer: no store touches an entry while its slot is in the log. A slot leaves the log
  * with the last step of a cleaning that names it, and the next new head may then be stored over it.
- * Refused: 4, 8.
+ * Refused: 4, 22, 8, in this order.
  */
 uint32_t kurdavel_read_value(const uint32_t *record, size_t record_words, const uint8_t *area, size_t area_bytes,
-                             const uint32_t *index, size_t index_words, uint16_t table, uint32_t key, uint32_t *place,
-                             uint32_t *bytes);
+                             const uint32_t *index, size_t index_words, uint16_t first, uint16_t last, uint16_t table,
+                             uint32_t key, uint32_t *place, uint32_t *bytes);
 
 /*
  * Starts to write a value under a key. Tells how many stores are to come, each by a kurdavel_step.
- * Refused: 4, 3, 5, 7, 9, 11, 12, 10, in this order.
+ * Refused: 4, 22, 3, 5, 7, 9, 11, 12, 10, in this order.
  */
 uint32_t kurdavel_write(uint32_t *record, size_t record_words, const uint8_t *area, size_t area_bytes,
-                        const uint32_t *index, size_t index_words, uint8_t *work, size_t work_bytes, uint16_t table,
-                        uint32_t key, const uint8_t *value, size_t value_bytes, uint32_t *stores);
+                        const uint32_t *index, size_t index_words, uint8_t *work, size_t work_bytes, uint16_t first,
+                        uint16_t last, uint16_t table, uint32_t key, const uint8_t *value, size_t value_bytes,
+                        uint32_t *stores);
+
+/*
+ * Starts to write a value under a key that has the expected version, as kurdavel_read tells it; 0 expects that the key
+ * is absent, never written or deleted. Once accepted it is the operation of kurdavel_write, and nothing can come between
+ * the comparison and its last step: what it replaces is what the caller expected.
+ * Refused: 4, 22, 3, 5, 7, 21, 9, 11, 12, 10, in this order.
+ */
+uint32_t kurdavel_write_expecting(uint32_t *record, size_t record_words, const uint8_t *area, size_t area_bytes,
+                                  const uint32_t *index, size_t index_words, uint8_t *work, size_t work_bytes,
+                                  uint16_t first, uint16_t last, uint16_t table, uint32_t key, uint32_t expected,
+                                  const uint8_t *value, size_t value_bytes, uint32_t *stores);
 
 /*
  * Starts to delete a key. Tells how many stores are to come.
- * Refused: 4, 3, 5, 8, 9, 12, 10, in this order.
+ * Refused: 4, 22, 3, 5, 8, 9, 12, 10, in this order.
  */
 uint32_t kurdavel_delete(uint32_t *record, size_t record_words, const uint8_t *area, size_t area_bytes,
-                         const uint32_t *index, size_t index_words, uint8_t *work, size_t work_bytes, uint16_t table,
-                         uint32_t key, uint32_t *stores);
+                         const uint32_t *index, size_t index_words, uint8_t *work, size_t work_bytes, uint16_t first,
+                         uint16_t last, uint16_t table, uint32_t key, uint32_t *stores);
 
 /*
  * Starts to clean the slots of a map (bit i, from the lowest, is slot i): a new head takes over what they hold that
@@ -305,6 +336,12 @@ struct kurdavel_store {
     struct kurdavel_record record;
 };
 
+/* The tables that a caller may use, first and last included. {0, UINT16_MAX} is all of them. */
+struct kurdavel_tables {
+    uint16_t first;
+    uint16_t last;
+};
+
 struct kurdavel_key {
     uint16_t table;
     uint32_t key;
@@ -335,33 +372,45 @@ static inline uint32_t kurdavel_store_recover(struct kurdavel_store *store, cons
     return answer;
 }
 
-static inline uint32_t kurdavel_store_read(const struct kurdavel_store *store, struct kurdavel_key key,
-                                           uint32_t *version, uint32_t *kind) {
+static inline uint32_t kurdavel_store_read(const struct kurdavel_store *store, struct kurdavel_tables tables,
+                                           struct kurdavel_key key, uint32_t *version, uint32_t *kind) {
     return kurdavel_read(store->record.words, KURDAVEL_RECORD_WORDS, store->area.bytes, store->area.length,
-                         store->index.cells, store->index.length, key.table, key.key, version, kind);
+                         store->index.cells, store->index.length, tables.first, tables.last, key.table, key.key,
+                         version, kind);
 }
 
-static inline uint32_t kurdavel_store_read_value(const struct kurdavel_store *store, struct kurdavel_key key,
-                                                 struct kurdavel_value *value) {
+static inline uint32_t kurdavel_store_read_value(const struct kurdavel_store *store, struct kurdavel_tables tables,
+                                                 struct kurdavel_key key, struct kurdavel_value *value) {
     uint32_t place = 0;
     uint32_t answer = kurdavel_read_value(store->record.words, KURDAVEL_RECORD_WORDS, store->area.bytes,
-                                          store->area.length, store->index.cells, store->index.length, key.table,
-                                          key.key, &place, &value->length);
+                                          store->area.length, store->index.cells, store->index.length, tables.first,
+                                          tables.last, key.table, key.key, &place, &value->length);
     value->bytes = store->area.bytes + place;
     return answer;
 }
 
-static inline uint32_t kurdavel_store_write(struct kurdavel_store *store, struct kurdavel_key key,
-                                            const uint8_t *value, size_t value_bytes, uint32_t *stores) {
+static inline uint32_t kurdavel_store_write(struct kurdavel_store *store, struct kurdavel_tables tables,
+                                            struct kurdavel_key key, const uint8_t *value, size_t value_bytes,
+                                            uint32_t *stores) {
     return kurdavel_write(store->record.words, KURDAVEL_RECORD_WORDS, store->area.bytes, store->area.length,
-                          store->index.cells, store->index.length, store->work.bytes, store->work.length, key.table,
-                          key.key, value, value_bytes, stores);
+                          store->index.cells, store->index.length, store->work.bytes, store->work.length, tables.first,
+                          tables.last, key.table, key.key, value, value_bytes, stores);
 }
 
-static inline uint32_t kurdavel_store_delete(struct kurdavel_store *store, struct kurdavel_key key, uint32_t *stores) {
+static inline uint32_t kurdavel_store_write_expecting(struct kurdavel_store *store, struct kurdavel_tables tables,
+                                                      struct kurdavel_key key, uint32_t expected, const uint8_t *value,
+                                                      size_t value_bytes, uint32_t *stores) {
+    return kurdavel_write_expecting(store->record.words, KURDAVEL_RECORD_WORDS, store->area.bytes, store->area.length,
+                                    store->index.cells, store->index.length, store->work.bytes, store->work.length,
+                                    tables.first, tables.last, key.table, key.key, expected, value, value_bytes,
+                                    stores);
+}
+
+static inline uint32_t kurdavel_store_delete(struct kurdavel_store *store, struct kurdavel_tables tables,
+                                             struct kurdavel_key key, uint32_t *stores) {
     return kurdavel_delete(store->record.words, KURDAVEL_RECORD_WORDS, store->area.bytes, store->area.length,
-                           store->index.cells, store->index.length, store->work.bytes, store->work.length, key.table,
-                           key.key, stores);
+                           store->index.cells, store->index.length, store->work.bytes, store->work.length,
+                           tables.first, tables.last, key.table, key.key, stores);
 }
 
 static inline uint32_t kurdavel_store_clean(struct kurdavel_store *store, uint32_t victims, uint32_t *stores) {

@@ -1,6 +1,7 @@
 /*
- * The edges of the interface: refusals and what they leave, an operation that is given up, and an index that is too
- * small for the log. Prints what is answered; `rules.stdout` beside this file is what it must print.
+ * The edges of the interface: refusals and what they leave, an operation that is given up, an index that is too small
+ * for the log, two passes that write over what they read, and two owners with tables of their own. Prints what is
+ * answered; `rules.stdout` beside this file is what it must print.
  */
 #include "kurdavel.h"
 
@@ -9,6 +10,9 @@
 #include <string.h>
 
 enum { SLOTS = 4, SLOT_BYTES = 256, CELLS = 64, FEW_CELLS = 16, KEYS = 20 };
+
+/* The tables of two owners, which have none in common. All but the last part of this program is servo's. */
+static const struct kurdavel_tables servo = {0, 99}, media = {100, 199};
 
 static uint8_t medium[SLOTS * SLOT_BYTES];
 static uint32_t cells[CELLS];
@@ -53,7 +57,7 @@ static uint32_t start_write(struct kurdavel_store *store, uint32_t number) {
     uint8_t value[8];
     uint32_t stores = 0;
     memset(value, (int)number, sizeof value);
-    expect_accepted("write", kurdavel_store_write(store, key_of(number), value, sizeof value, &stores));
+    expect_accepted("write", kurdavel_store_write(store, servo, key_of(number), value, sizeof value, &stores));
     return stores;
 }
 
@@ -61,7 +65,7 @@ static unsigned present(const struct kurdavel_store *store) {
     uint32_t version = 0, kind = 0, number;
     unsigned count = 0;
     for (number = 0; number < KEYS; number++) {
-        count += kurdavel_store_read(store, key_of(number), &version, &kind) == KURDAVEL_ACCEPTED;
+        count += kurdavel_store_read(store, servo, key_of(number), &version, &kind) == KURDAVEL_ACCEPTED;
     }
     return count;
 }
@@ -71,10 +75,10 @@ static void outputs(const struct kurdavel_store *store) {
     struct kurdavel_value value = {work, 77};
     uint32_t version = 77, kind = 77, left = 77;
     struct kurdavel_store copy = *store;
-    unsigned answer = (unsigned)kurdavel_store_read(store, key_of(KEYS), &version, &kind);
+    unsigned answer = (unsigned)kurdavel_store_read(store, servo, key_of(KEYS), &version, &kind);
     printf("read of an absent key: %u, version %u and kind %u\n", answer, (unsigned)version,
            (unsigned)kind);
-    answer = (unsigned)kurdavel_store_read_value(store, key_of(KEYS), &value);
+    answer = (unsigned)kurdavel_store_read_value(store, servo, key_of(KEYS), &value);
     printf("its value: %u, %u bytes at %u\n", answer, (unsigned)value.length, (unsigned)(value.bytes - medium));
     answer = (unsigned)kurdavel_step(copy.record.words, KURDAVEL_RECORD_WORDS - 1, medium, sizeof medium, cells, CELLS,
                                      work, sizeof work, &left, &version);
@@ -108,9 +112,70 @@ static void too_few_cells(struct kurdavel_store *store) {
     printf(", %u keys present\n", present(store));
 }
 
+/* Starts a write of eight equal bytes over the version that the caller expects; gives the answer. */
+static uint32_t start_over(struct kurdavel_store *store, uint32_t number, uint32_t expected, int byte,
+                           uint32_t *stores) {
+    uint8_t value[8];
+    memset(value, byte, sizeof value);
+    return kurdavel_store_write_expecting(store, servo, key_of(number), expected, value, sizeof value, stores);
+}
+
+/*
+ * Two passes read the value of a key, and each writes over the version that it read. The second one comes too late: it
+ * is refused, and has to read again. A deleted key has version 0, whatever version its delete took.
+ */
+static void two_passes(struct kurdavel_store *store, uint32_t deleted, uint32_t version_of_delete) {
+    uint32_t version = 0, kind = 0, stores = 0;
+    expect_accepted("read", kurdavel_store_read(store, servo, key_of(0), &version, &kind));
+    expect_accepted("first pass", start_over(store, 0, version, 0xa1, &stores));
+    printf("first pass, over version %u: version %u\n", (unsigned)version, (unsigned)finish(store, stores));
+    printf("second pass, over version %u: %u\n", (unsigned)version,
+           (unsigned)start_over(store, 0, version, 0xa2, &stores));
+    expect_accepted("read", kurdavel_store_read(store, servo, key_of(0), &version, &kind));
+    expect_accepted("second pass", start_over(store, 0, version, 0xa2, &stores));
+    printf("second pass, over version %u: version %u\n", (unsigned)version, (unsigned)finish(store, stores));
+    printf("deleted key, over version %u: %u\n", (unsigned)version_of_delete,
+           (unsigned)start_over(store, deleted, version_of_delete, 0xa3, &stores));
+    expect_accepted("write of a deleted key", start_over(store, deleted, 0, 0xa3, &stores));
+    printf("deleted key, over version 0: version %u\n", (unsigned)finish(store, stores));
+}
+
+/* Reads a key for an owner and prints what is answered. */
+static void read_as(const struct kurdavel_store *store, const char *owner, struct kurdavel_tables tables,
+                    struct kurdavel_key key) {
+    struct kurdavel_value value;
+    unsigned answer = (unsigned)kurdavel_store_read_value(store, tables, key, &value);
+    printf("%s reads %u/%u: %u, %u bytes\n", owner, (unsigned)key.table, (unsigned)key.key, answer,
+           (unsigned)value.length);
+}
+
+/*
+ * Each owner gives its own tables with every read, write and delete. First and last are among them, and a key outside
+ * is refused whatever the store holds. Cleaning is common: it keeps what counts of both.
+ */
+static void two_owners(struct kurdavel_store *store) {
+    static const struct kurdavel_tables none = {1, 0};
+    static const uint8_t defects[24] = {0xde, 0xfe, 0xc7};
+    struct kurdavel_key first = {100, 7}, last = {199, 7}, beyond = {200, 7};
+    uint32_t stores = 0;
+    expect_accepted("write", kurdavel_store_write(store, media, first, defects, sizeof defects, &stores));
+    finish(store, stores);
+    expect_accepted("write", kurdavel_store_write(store, media, last, defects, sizeof defects, &stores));
+    finish(store, stores);
+    read_as(store, "media", media, first);
+    read_as(store, "media", media, last);
+    read_as(store, "media", media, key_of(0));
+    read_as(store, "servo", servo, key_of(0));
+    read_as(store, "servo", servo, first);
+    read_as(store, "nobody", none, key_of(0));
+    printf("media writes past its last table: %u\n",
+           (unsigned)kurdavel_store_write(store, media, beyond, defects, sizeof defects, &stores));
+    printf("media deletes servo's key: %u\n", (unsigned)kurdavel_store_delete(store, media, key_of(0), &stores));
+}
+
 int main(void) {
     struct kurdavel_store store;
-    uint32_t number, stores = 0;
+    uint32_t number, stores = 0, version;
     lend(&store);
     expect_accepted("format", kurdavel_store_format(&store.area));
     printf("cleaning before a recovery: %u\n", (unsigned)kurdavel_store_clean(&store, 1, &stores));
@@ -122,11 +187,15 @@ int main(void) {
     give_up(&store);
     too_few_cells(&store);
 
-    expect_accepted("delete", kurdavel_store_delete(&store, key_of(3), &stores));
-    printf("deleted with version %u\n", (unsigned)finish(&store, stores));
+    expect_accepted("delete", kurdavel_store_delete(&store, servo, key_of(3), &stores));
+    version = finish(&store, stores);
+    printf("deleted with version %u\n", (unsigned)version);
     expect_accepted("clean", kurdavel_store_clean(&store, 1, &stores));
     finish(&store, stores);
     printf("slot 0 cleaned: %u keys present, slots of the log %u\n", present(&store),
            (unsigned)store.record.words[KURDAVEL_WORD_MAP]);
+    two_passes(&store, 3, version);
+    printf("%u keys present\n", present(&store));
+    two_owners(&store);
     return 0;
 }

@@ -11,6 +11,9 @@
 
 enum { SLOTS = 4, SLOT_BYTES = 256, CELLS = 16 };
 
+/* One caller, which may use every table. */
+static const struct kurdavel_tables all = {0, UINT16_MAX};
+
 /* The medium: all that survives a cut. */
 static uint8_t medium[SLOTS * SLOT_BYTES];
 
@@ -54,7 +57,7 @@ static uint32_t start_write(struct kurdavel_store *store, struct kurdavel_key ke
     uint8_t value[8];
     uint32_t stores = 0;
     memset(value, byte, sizeof value);
-    expect_accepted("write", kurdavel_store_write(store, key, value, sizeof value, &stores));
+    expect_accepted("write", kurdavel_store_write(store, all, key, value, sizeof value, &stores));
     printf("write %u/%u: %u stores to come\n", (unsigned)key.table, (unsigned)key.key, (unsigned)stores);
     return stores;
 }
@@ -75,8 +78,8 @@ static void steps(struct kurdavel_store *store, uint32_t count) {
 static void show(const struct kurdavel_store *store, struct kurdavel_key key) {
     struct kurdavel_value value;
     uint32_t version = 0, kind = 0, i;
-    uint32_t answer = kurdavel_store_read(store, key, &version, &kind);
-    if (kurdavel_store_read_value(store, key, &value) != answer) exit(1);
+    uint32_t answer = kurdavel_store_read(store, all, key, &version, &kind);
+    if (kurdavel_store_read_value(store, all, key, &value) != answer) exit(1);
     if (answer == KURDAVEL_REFUSED_ABSENT) {
         printf("read %u/%u: absent\n", (unsigned)key.table, (unsigned)key.key);
         return;

@@ -25,9 +25,9 @@ use Rattle.record.specs.declared.Record.{Record}
 use Rattle.model.specs.Log.{Placed}
 use Rattle.model.specs.Causes.{Cause, when, firstCause}
 use Rattle.model.specs.Operations.{clean, logNow, newSlot, newDigest, kept, allEncoded, laid, planOf}
-use Rattle.model.specs.Refused.{Lengths, freely, recordBad, workShort, isPending, victimsBad, keptTooLong, numbersSpent, cleanCauses, startCauses}
+use Rattle.model.specs.Refused.{Lengths, freely, recordBad, workShort, isPending, victimsBad, keptTooLong, numbersSpent, cleanCauses, earlyCauses, startCauses}
 use Rattle.model.specs.Promises.{Begun, begun, Genuine, lentLengths, StartPromise}
-use Rattle.laws.specs.CauseLaws.{cause-first}
+use Rattle.laws.specs.CauseLaws.{cause-first, first-some}
 use Rattle.laws.specs.SaidLaws.{start-settled}
 use Rattle.starting.specs.Stores.{headStores, head-stores}
 use Rattle.starting.specs.Checks.{idleCauses}
@@ -171,18 +171,20 @@ module _ (L : Layout) (area cells : List ℕ) (r : Record) (victims : ℕ) (work
 
   pub cleaned-promise : Bytes area → record { start = a; work = work′ } ≡ cleanedWith L r victims lengths work code-bytes →
       StartPromise L freely (clean victims) r area cells work work′ a
-  unfolding begunWith begun causesWith
+  unfolding begunWith begun causesWith earlyCauses
   cleaned-promise bytes e =
       record {
         same-length =
             ap (λ (b : Begun). length (b .work)) e ∙ begun-long L r victims lengths work code-bytes (firstCause (causesWith L r lengths code-bytes victims));
-        unfit = unfit;
+        early = early;
         exact = exact;
-        says = start-settled L freely (clean victims) r area cells work work′ a unfit exact;
+        says = start-settled L freely (clean victims) r area cells work work′ a early exact;
       }
     where
-      unfit : recordBad L r lengths ≡ true → record { start = a; work = work′ } ≡ begun L r [] (clean victims) work (some BadRecord)
-      unfit bad = e ∙ ap (begunWith L r victims work code-bytes) (cause-first _ _ bad)
+      early :
+          (c : Refusal) → firstCause (earlyCauses L r lengths freely (clean victims)) ≡ some c →
+          record { start = a; work = work′ } ≡ begun L r [] (clean victims) work (some c)
+      early c bad = e ∙ ap (begunWith L r victims work code-bytes) (first-some (when (recordBad L r lengths) BadRecord ∷ []) _ c bad)
 
       exact :
           Genuine L area r cells → record { start = a; work = work′ } ≡

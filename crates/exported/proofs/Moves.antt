@@ -23,7 +23,9 @@ use Rattle.record.specs.declared.Stepped.{Stepped}
 use Rattle.record.specs.declared.StepAnswer.{StepAnswer}
 use Rattle.model.specs.Arguments.{typed-key, typed-write, typed-delete, typed-clean}
 use Rattle.model.specs.Operations.{Operation, write, delete, clean, Typed}
+use Rattle.record.specs.declared.Tables.{Tables}
 use Rattle.model.specs.Refused.{Terms, isPending}
+use Rattle.laws.specs.Starts.{early-bad}
 use Rattle.model.specs.Promises.{Begun, begun, readLengths, lentLengths}
 use Rattle.laws.specs.CauseLaws.{cause-first, refusal-number}
 use Rattle.words.specs.Words.{recordWords, isRecord, decoded}
@@ -146,7 +148,7 @@ module _ (n s : ℕ) where
       says : decoded words′ .rec ≡ c .start .rec
       says =
           words-say (h .words) words′ (c .start .rec) (c .handed .says)
-          (λ e. ap (λ (b : Begun). b .start .rec) (c .promised .unfit (none-unfit (h .words) e _ _)))
+          (λ e. ap (λ (b : Begun). b .start .rec) (c .promised .early BadRecord (early-bad edition1 (decoded (h .words) .rec) _ t o (none-unfit (h .words) e _ _))))
 
   step-runs :
       (area area′ cells′ work words′ : List ℕ) (h : HeldWords) (m : Option ℕ) (left left′ version version′ number : ℕ) →
@@ -175,28 +177,28 @@ module _ (n s : ℕ) where
           (λ e. ap (λ (a : Stepped). a .rec) (c .promised .refused BadRecord (cause-first _ _ (none-unfit (h .words) e _ _)) .answers))
 
   read-runs :
-      (area : List ℕ) (h : HeldWords) (m : Option ℕ) (k : Key) (version kind number : ℕ) → KeyArgument k →
-      ReadCrossed (h .words) area (h .cells) k version kind number →
+      (area : List ℕ) (h : HeldWords) (m : Option ℕ) (v : Tables) (k : Key) (version kind number : ℕ) → KeyArgument k →
+      ReadCrossed (h .words) area (h .cells) v k version kind number →
       Runs (worldOf (record { area = area; held = some h; cells = m }))
-      (called (asks (reads k)) (readLengths area (h .cells)) (saying (readTold number version kind)) ∷ [])
+      (called (asks (reads v k)) (readLengths area (h .cells)) (saying (readTold number version kind)) ∷ [])
       (worldOf (record { area = area; held = some h; cells = m }))
-  read-runs area h m k version kind number p c =
+  read-runs area h m v k version kind number p c =
       subst
       (λ (a : Said).
-      Runs (worldOf (record { area = area; held = some h; cells = m })) (called (asks (reads k)) (readLengths area (h .cells)) (saying a) ∷ [])
+      Runs (worldOf (record { area = area; held = some h; cells = m })) (called (asks (reads v k)) (readLengths area (h .cells)) (saying a) ∷ [])
       (worldOf (record { area = area; held = some h; cells = m })))
       (read-said (c .reading .answer) version kind number (c .numbered) (c .version-told) (c .kind-told))
       (Store.go (Store.ask (Store.read {h = heldBy h} (typed-key k (p .0) (p .1)) (c .promised))) Store.stop)
 
   value-runs :
-      (area : List ℕ) (h : HeldWords) (m : Option ℕ) (k : Key) (place bytes number : ℕ) → KeyArgument k →
-      (c : ValueCrossed (h .words) area (h .cells) k place bytes number) →
+      (area : List ℕ) (h : HeldWords) (m : Option ℕ) (v : Tables) (k : Key) (place bytes number : ℕ) → KeyArgument k →
+      (c : ValueCrossed (h .words) area (h .cells) v k place bytes number) →
       Runs (worldOf (record { area = area; held = some h; cells = m }))
-      (called (asks (reads k)) (readLengths area (h .cells)) (saying (readSaid (c .reading .answer)))
-      ∷ called (asks (readsValue k)) (readLengths area (h .cells)) (giving (take bytes (drop place area)))
+      (called (asks (reads v k)) (readLengths area (h .cells)) (saying (readSaid (c .reading .answer)))
+      ∷ called (asks (readsValue v k)) (readLengths area (h .cells)) (giving (take bytes (drop place area)))
       ∷ [])
       (worldOf (record { area = area; held = some h; cells = m }))
-  value-runs area h m k place bytes number p c =
+  value-runs area h m v k place bytes number p c =
       let typed = typed-key k (p .0) (p .1) in
       Store.go (Store.ask (Store.read {h = heldBy h} typed (c .promised)))
       (Store.go (Store.ask (Store.readValue {h = heldBy h} typed (c .value))) Store.stop)
@@ -247,9 +249,9 @@ module _ (n s : ℕ) where
       start-runs area work work′ words′ h m t o stores stores′ number p c
   exports-run (step {area} {area′} {cells′} {work} {words′} {h} {m} {left} {left′} {version} {version′} {number} own c) =
       step-runs area area′ cells′ work words′ h m left left′ version version′ number own c
-  exports-run (read {area} {h} {m} {k} {version} {kind} {number} p c) =
-      read-runs area h m k version kind number p c
-  exports-run (readValue {area} {h} {m} {k} {place} {bytes} {number} p c) = value-runs area h m k place bytes number p c
+  exports-run (read {area} {h} {m} {v} {k} {version} {kind} {number} p c) =
+      read-runs area h m v k version kind number p c
+  exports-run (readValue {area} {h} {m} {v} {k} {place} {bytes} {number} p c) = value-runs area h m v k place bytes number p c
   exports-run (recover {m} {order} {cells} {cells′} {words} {words′} {number} long c) =
       recover-runs m order cells cells′ words words′ number long c
   exports-run (short less c) = Store.stop

@@ -10,6 +10,8 @@ use Rattle.segment.specs.Layout.{edition1}
 use Rattle.segment.specs.declared.Key.{Key}
 use Rattle.record.specs.Answers.{formatSaid, recoverSaid, readSaid}
 use Rattle.record.specs.Refusals.{numberOfRefusal}
+use Rattle.record.specs.Reach.{holdsTable}
+use Rattle.record.specs.declared.Tables.{Tables}
 use Rattle.record.specs.declared.FormatAnswer.{FormatAnswer}
 use Rattle.record.specs.declared.Reading.{Reading}
 use Rattle.record.specs.declared.ReadAnswer.{ReadAnswer}
@@ -24,7 +26,7 @@ use Rattle.words.specs.declared.Decoded.{Decoded}
 use Rattle.history.specs.Book.{Book, bookOf}
 use Rattle.history.specs.Demand3.{bookAnswer, GivesBook, Demand3Of}
 use Rattle.history.proofs.Theorem.{demand-3}
-use Rattle.kurdavel.specs.Crossing.{wordsAfter, Recovers}
+use Rattle.kurdavel.specs.Crossing.{wordsAfter, FormatCrossed, Recovers}
 use Rattle.exported.specs.Runs.{worldOf, KeyArgument}
 use Rattle.exported.specs.Demand3.{WordsGiveBook, Demand3Exported}
 use Rattle.exported.proofs.Moves.{read-said, exported-run}
@@ -37,6 +39,11 @@ format-accepted (FormatAnswer.Refused c) e = absurd (never (sym (eq-eqb (numberO
     never : _≡_ {A = Bool} true false → ⊥
     never p = let z : _≡_ {A = ℕ} 0 1 = cc in absurd (omega arith)
 
+pub format-promised :
+    (n s : ℕ) (area₀ area : List ℕ) → FormatCrossed n s area₀ area 0 → FormatPromise edition1 n s area₀ area FormatAnswer.Formatted
+format-promised n s area₀ area f =
+    subst (λ (a : FormatAnswer). FormatPromise edition1 n s area₀ area a) (format-accepted (f .answer) (f .numbered)) (f .promised)
+
 -- what a recovery of the store gives, it gives through words
 module _ (n s : ℕ) (order area cells cells′ words words′ : List ℕ) (number : ℕ) (b : Book) (long : recordWords ≤ length words)
     (x : Recovers n s order area cells cells′ words words′ number) (given : GivesBook edition1 area cells′ (x .recovery) b)
@@ -48,10 +55,10 @@ module _ (n s : ℕ) (order area cells cells′ words words′ : List ℕ) (numb
         ap (λ (d : Decoded). d .rec) (decode-encode (x .recovery .rec) words long)
 
     answered :
-        (k : Key) → KeyArgument k → (a : Reading) → ReadPromise edition1 (decoded words′ .rec) area cells′ k a →
-        a .answer ≡ bookAnswer edition1 (b .keys k)
-    answered k p a q =
-        given .answers k (typed-key k (p .0) (p .1)) a (subst (λ (r : Record). ReadPromise edition1 r area cells′ k a) says q)
+        (t : Tables) (k : Key) → KeyArgument k → holdsTable t (k .table) ≡ true → (a : Reading) →
+        ReadPromise edition1 (decoded words′ .rec) area cells′ t k a → a .answer ≡ bookAnswer edition1 (b .keys k)
+    answered t k p held a q =
+        given .answers t k (typed-key k (p .0) (p .1)) held a (subst (λ (r : Record). ReadPromise edition1 r area cells′ t k a) says q)
 
     words-give : WordsGiveBook area cells′ words′ number b
     words-give =
@@ -59,14 +66,14 @@ module _ (n s : ℕ) (order area cells cells′ words words′ : List ℕ) (numb
           is-accepted = x .numbered ∙ ap (λ (a : RecoverAnswer). recoverSaid a .refused) (given .is-accepted);
           next-version = ap (λ (r : Record). r .next .0) says ∙ given .next-version;
           answers =
-              λ k p version kind told c.
+              λ t k p held version kind told c.
               sym (read-said (c .reading .answer) version kind told (c .numbered) (c .version-told) (c .kind-told)) ∙
-              ap (λ (a : ReadAnswer). readSaid a) (answered k p (c .reading) (c .promised));
+              ap (λ (a : ReadAnswer). readSaid a) (answered t k p held (c .reading) (c .promised));
           values =
-              λ k p place bytes told c. (
-                c .numbered ∙ ap (λ (a : ReadAnswer). readSaid a .refused) (answered k p (c .reading) (c .promised)),
-                given .values k (typed-key k (p .0) (p .1)) (record { place = place; bytes = bytes })
-                    (subst (λ (r : Record). ValuePromise edition1 r area cells′ k (record { place = place; bytes = bytes })) says (c .value)),
+              λ t k p held place bytes told c. (
+                c .numbered ∙ ap (λ (a : ReadAnswer). readSaid a .refused) (answered t k p held (c .reading) (c .promised)),
+                given .values t k (typed-key k (p .0) (p .1)) held (record { place = place; bytes = bytes })
+                    (subst (λ (r : Record). ValuePromise edition1 r area cells′ t k (record { place = place; bytes = bytes })) says (c .value)),
               );
         }
 
@@ -82,8 +89,5 @@ demand-3-exported n s area₀ area ab f es m run =
       agrees = stored .agrees;
     }
   where
-    formatted : FormatPromise edition1 n s area₀ area FormatAnswer.Formatted
-    formatted = subst (λ (a : FormatAnswer). FormatPromise edition1 n s area₀ area a) (format-accepted (f .answer) (f .numbered)) (f .promised)
-
     stored : Demand3Of edition1 n s (worldOf m) es
-    stored = demand-3 n s area₀ area ab formatted es (worldOf m) (exported-run n s run)
+    stored = demand-3 n s area₀ area ab (format-promised n s area₀ area f) es (worldOf m) (exported-run n s run)

@@ -12,19 +12,23 @@ use Rattle.model.specs.Recovery.{orderBad}
 use Rattle.words.specs.Words.{recordWords, decoded}
 use Rattle.history.specs.Book.{Event, Book, freshBook, bookOf, highestTold}
 use Rattle.history.specs.Demand3.{LargeEnough, bookAnswer, bookValue, EventsAgree}
+use Rattle.record.specs.Reach.{holdsTable}
+use Rattle.record.specs.declared.Tables.{Tables}
 use Rattle.kurdavel.specs.Crossing.{FormatCrossed, RecoverCrossed, ReadCrossed, ValueCrossed}
 use Rattle.exported.specs.Runs.{Memory, freshMemory, KeyArgument, readTold, ExportedRun}
 
--- What a recovery gives through words and index: it is accepted, the words say the book's next version, and for each key the two reads
--- then answer what the book holds.
+-- What a recovery gives through words and index: it is accepted, the words say the book's next version, and for each key the two reads,
+-- whose tables hold the key's, then answer what the book holds.
 pub record WordsGiveBook (area cells words : List ℕ) (number : ℕ) (b : Book) : Type 0 where
   pub is-accepted : number ≡ 0
   pub next-version : decoded words .rec .next .0 ≡ b .next
   pub answers :
-      (k : Key) → KeyArgument k → (version kind told : ℕ) → ReadCrossed words area cells k version kind told →
+      (t : Tables) (k : Key) → KeyArgument k → holdsTable t (k .table) ≡ true → (version kind told : ℕ) →
+      ReadCrossed words area cells t k version kind told →
       readTold told version kind ≡ readSaid (bookAnswer edition1 (b .keys k))
   pub values :
-      (k : Key) → KeyArgument k → (place bytes told : ℕ) → ValueCrossed words area cells k place bytes told →
+      (t : Tables) (k : Key) → KeyArgument k → holdsTable t (k .table) ≡ true → (place bytes told : ℕ) →
+      ValueCrossed words area cells t k place bytes told →
       (told ≡ readSaid (bookAnswer edition1 (b .keys k)) .refused) × (take bytes (drop place area) ≡ bookValue (b .keys k))
 
 -- What demand 3 says of one list of exported calls and cuts.

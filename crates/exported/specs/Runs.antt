@@ -13,6 +13,7 @@ use Rattle.segment.specs.Choice.{pick}
 use Rattle.segment.specs.declared.Key.{Key}
 use Rattle.record.specs.Answers.{Said, refusal, taken, takenWith, readSaid}
 use Rattle.model.specs.Operations.{Operation, write, delete, clean}
+use Rattle.record.specs.declared.Tables.{Tables}
 use Rattle.model.specs.Refused.{Terms, isPending}
 use Rattle.model.specs.Promises.{readLengths, lentLengths}
 use Rattle.words.specs.Words.{recordWords, decoded}
@@ -99,18 +100,18 @@ pub data Exports (n s : ℕ) : Memory → List Event → Memory → Type 0 where
       (record { area = area′; held = some (record { words = words′; cells = cells′; work = h .work }); cells = m })
   -- kurdavel_read
   read :
-      {area : List ℕ} {h : HeldWords} {m : Option ℕ} {k : Key} {version kind number : ℕ} → KeyArgument k →
-      ReadCrossed (h .words) area (h .cells) k version kind number →
+      {area : List ℕ} {h : HeldWords} {m : Option ℕ} {v : Tables} {k : Key} {version kind number : ℕ} → KeyArgument k →
+      ReadCrossed (h .words) area (h .cells) v k version kind number →
       Exports n s (record { area = area; held = some h; cells = m })
-      (called (asks (reads k)) (readLengths area (h .cells)) (saying (readTold number version kind)) ∷ [])
+      (called (asks (reads v k)) (readLengths area (h .cells)) (saying (readTold number version kind)) ∷ [])
       (record { area = area; held = some h; cells = m })
   -- kurdavel_read_value: its number is that of a read, whose version and kind it does not tell, and then it gives the value
   readValue :
-      {area : List ℕ} {h : HeldWords} {m : Option ℕ} {k : Key} {place bytes number : ℕ} → KeyArgument k →
-      (c : ValueCrossed (h .words) area (h .cells) k place bytes number) →
+      {area : List ℕ} {h : HeldWords} {m : Option ℕ} {v : Tables} {k : Key} {place bytes number : ℕ} → KeyArgument k →
+      (c : ValueCrossed (h .words) area (h .cells) v k place bytes number) →
       Exports n s (record { area = area; held = some h; cells = m })
-      (called (asks (reads k)) (readLengths area (h .cells)) (saying (readSaid (c .reading .answer)))
-      ∷ called (asks (readsValue k)) (readLengths area (h .cells)) (giving (take bytes (drop place area)))
+      (called (asks (reads v k)) (readLengths area (h .cells)) (saying (readSaid (c .reading .answer)))
+      ∷ called (asks (readsValue v k)) (readLengths area (h .cells)) (giving (take bytes (drop place area)))
       ∷ [])
       (record { area = area; held = some h; cells = m })
   -- kurdavel_recover with the N and S of the format, any order list, any index and room for the words

@@ -27,10 +27,11 @@ use Rattle.record.specs.declared.Pending.the-variants.{Forget}
 use Rattle.record.specs.declared.Refusal.the-variants.{BadRecord}
 use Rattle.record.specs.declared.Start.{Start}
 use Rattle.record.specs.declared.Record.{Record}
+use Rattle.record.specs.declared.Tables.{Tables}
 use Rattle.model.specs.Log.{Placed, placeOf, present}
 use Rattle.model.specs.Causes.{firstCause}
 use Rattle.model.specs.Operations.{delete, logNow, noRoom, newSlot, digestWith, nextAfter, slotOf, allEncoded, forgetVictim, forgetKept, forgetDigest, Laid, laid, laidEntry, laidForget, laidDelete, tombstoneEntry, planOf}
-use Rattle.model.specs.Refused.{Lengths, freely, KeyFacts, keyFacts, deleteCauses}
+use Rattle.model.specs.Refused.{Lengths, reaching, KeyFacts, keyFacts, deleteCauses}
 use Rattle.model.specs.Promises.{Genuine, Begun, lentLengths, StartPromise}
 use Rattle.laws.specs.Passed.{DeletePassed}
 use Rattle.index.specs.Search.{searchFor}
@@ -251,9 +252,9 @@ unfolding isNone
 some-of none e = let z : _≡_ {A = ℕ} 0 1 = cc in absurd (omega arith)
 some-of (some x) e = (x, refl)
 
-module _ (L : Layout) (r : Record) (area cells work : List ℕ) (k : Key) (passed : Check.Passed ≡ deletes L r area cells work k) where
-  tests : DeletePassed L r (lentLengths area cells work) (factsFor L r area cells k)
-  tests = deleted L r area cells work k passed
+module _ (L : Layout) (t : Tables) (r : Record) (area cells work : List ℕ) (k : Key) (passed : Check.Passed ≡ deletes L t r area cells work k) where
+  tests : DeletePassed L r (lentLengths area cells work) (reaching t) k (factsFor L r area cells k)
+  tests = deleted L t r area cells work k passed
 
   pub delete-lent : Lent L r (length area) (length cells)
   delete-lent = lent L r (length area) (length cells) (not-false (fitsLent L r (length area) (length cells)) (tests .record-good))
@@ -275,10 +276,10 @@ module _ (L : Layout) (r : Record) (area cells work : List ℕ) (k : Key) (passe
         (sym (ap (λ (f : KeyFacts). f .absent) (genuine-facts L area r cells g delete-lent k)) ∙ tests .present)
 
     pub forget-promise : Bytes area → (work′ : List ℕ) (a : Start) → record { start = a; work = work′ } ≡ forgotFor L r area cells k work →
-        StartPromise L freely (delete k) r area cells work work′ a
+        StartPromise L (reaching t) (delete k) r area cells work work′ a
     unfolding laid
     forget-promise bytes work′ a e =
-        start-laid L freely (delete k) r area cells work (deleteTests L r area cells work k) (delete-causes L r area cells work k) passed work′ a
+        start-laid L (reaching t) (delete k) r area cells work (deleteTests L t r area cells work k) (delete-causes L t r area cells work k) passed work′ a
         (ap (λ (b : Begun). length (b .work)) e ∙ found-long L r area cells k work (searchFor L area cells k))
         (λ g.
         let x = live-key g in

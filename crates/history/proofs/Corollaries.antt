@@ -20,6 +20,8 @@ use Rattle.record.specs.declared.Reading.{Reading}
 use Rattle.record.specs.declared.ReadAnswer.{ReadAnswer}
 use Rattle.record.specs.declared.Recovery.{Recovery}
 use Rattle.record.specs.declared.Refusal.{Refusal}
+use Rattle.record.specs.declared.Tables.{Tables}
+use Rattle.record.specs.Reach.{holdsTable}
 use Rattle.model.specs.Log.{sameKeys}
 use Rattle.model.specs.Operations.{Operation, write, delete, clean, TypedKey}
 use Rattle.model.specs.Recovery.{orderBad}
@@ -143,13 +145,13 @@ module _ (n s : ℕ) (area₀ area : List ℕ) (ab : Bytes area₀) (format : Fo
       (before after : List Event) (l : Lengths) (a : Answer) (k : Key) (w : World) → Leads (before ++ called steps l a ∷ after) w →
       bookOf before .pending ≡ some (record { operation = delete k; left = 1 }) → accepted a ≡ true →
       noWrite (feed (bookOf before) (called steps l a)) k after ≡ true → (order cells cells′ : List ℕ) (r : Recovery) → orderBad n order ≡ false →
-      LargeEnough (w .cells) (length cells) → RecoverPromise edition1 n s order (w .area) cells cells′ r → TypedKey k →
-      ((x : Reading) → ReadPromise edition1 (r .rec) (w .area) cells′ k x → x .answer ≡ ReadAnswer.Refused Refusal.Absent)
-      × ((p : Part) → ValuePromise edition1 (r .rec) (w .area) cells′ k p → partOf (w .area) p ≡ [])
+      LargeEnough (w .cells) (length cells) → RecoverPromise edition1 n s order (w .area) cells cells′ r → TypedKey k → (t : Tables) →
+      holdsTable t (k .table) ≡ true → ((x : Reading) → ReadPromise edition1 (r .rec) (w .area) cells′ t k x → x .answer ≡ ReadAnswer.Refused Refusal.Absent)
+      × ((p : Part) → ValuePromise edition1 (r .rec) (w .area) cells′ t k p → partOf (w .area) p ≡ [])
   unfolding bookAnswer bookValue bookAfter
-  deleted-stays-gone before after l a k w run deleting done none-written order cells cells′ r good large promise typed = (
-    λ x q. given .answers k typed x q ∙ ap (bookAnswer edition1) gone,
-    λ v q. given .values k typed v q ∙ ap bookValue gone,
+  deleted-stays-gone before after l a k w run deleting done none-written order cells cells′ r good large promise typed t held = (
+    λ x q. given .answers t k typed held x q ∙ ap (bookAnswer edition1) gone,
+    λ v q. given .values t k typed held v q ∙ ap bookValue gone,
   )
     where
       given : GivesBook edition1 (w .area) cells′ r (bookOf (before ++ called steps l a ∷ after))
@@ -162,15 +164,19 @@ module _ (n s : ℕ) (area₀ area : List ℕ) (ab : Bytes area₀) (format : Fo
 
   -- And no read of it meanwhile: it answers 8, and the value is empty, whether an operation is pending or not.
   pub deleted-reads-gone :
-      (before between after : List Event) (l lent : Lengths) (a x : Answer) (k : Key) (q : Question) (w : World) →
+      (before between after : List Event) (l lent : Lengths) (a x : Answer) (t : Tables) (k : Key) (q : Question) (w : World) → holdsTable t (k .table) ≡ true →
       Leads (before ++ called steps l a ∷ (between ++ called (asks q) lent x ∷ after)) w →
       bookOf before .pending ≡ some (record { operation = delete k; left = 1 }) → accepted a ≡ true →
       noWrite (feed (bookOf before) (called steps l a)) k between ≡ true →
-      (q ≡ reads k → x ≡ saying (refusal 8)) × (q ≡ readsValue k → x ≡ giving [])
+      (q ≡ reads t k → x ≡ saying (refusal 8)) × (q ≡ readsValue t k → x ≡ giving [])
   unfolding EventAgrees QuestionAgrees bookAnswer bookValue
-  deleted-reads-gone before between after l lent a x k q w run deleting done none-written = (
-    λ e. subst (λ (y : Question). QuestionAgrees edition1 now y x) e agrees ∙ ap (λ (y : Option Kept). saying (readSaid (bookAnswer edition1 y))) gone,
-    λ e. subst (λ (y : Question). QuestionAgrees edition1 now y x) e agrees ∙ ap (λ (y : Option Kept). giving (bookValue y)) gone,
+  deleted-reads-gone before between after l lent a x t k q w held run deleting done none-written = (
+    λ e. subst (λ (y : Question). QuestionAgrees edition1 now y x) e agrees
+        ∙ ap saying (pick-true (holdsTable t (k .table)) (readSaid (bookAnswer edition1 (now .keys k))) (refusal 22) held)
+        ∙ ap (λ (y : Option Kept). saying (readSaid (bookAnswer edition1 y))) gone,
+    λ e. subst (λ (y : Question). QuestionAgrees edition1 now y x) e agrees
+        ∙ ap giving (pick-true (holdsTable t (k .table)) (bookValue (now .keys k)) [] held)
+        ∙ ap (λ (y : Option Kept). giving (bookValue y)) gone,
   )
     where
       now : Book

@@ -10,24 +10,25 @@ use mathlib.Core.Option.{Option, none, some}
 use lib.Dec.{eqb}
 use borrow.Author.Tests.{not-true}
 use Rattle.word.specs.Number.{Bytes}
-use Rattle.segment.specs.Choice.{pick, both-left, both-right, pick-true, pick-false}
+use Rattle.segment.specs.Choice.{pick, both-left, both-right, pick-true}
 use Rattle.segment.specs.Layout.{edition1}
 use Rattle.segment.specs.declared.Key.{Key}
 use Rattle.segment.specs.declared.Version.{Version}
-use Rattle.record.specs.Answers.{Said, readSaid}
-use Rattle.record.specs.Refusals.{numberOfRefusal}
+use Rattle.record.specs.Answers.{readSaid, refusal}
+use Rattle.record.specs.Reach.{holdsTable}
 use Rattle.record.specs.declared.Expected.{Expected}
-use Rattle.record.specs.declared.Expected.the-variants.{Any, Only}
+use Rattle.record.specs.declared.Expected.the-variants.{Only}
 use Rattle.record.specs.declared.FormatAnswer.{FormatAnswer}
+use Rattle.record.specs.declared.Tables.{Tables}
 use Rattle.model.specs.Log.{sameKeys}
 use Rattle.model.specs.Operations.{Operation, write, delete, clean}
 use Rattle.model.specs.Refused.{Lengths, Terms}
 use Rattle.model.specs.Promises.{FormatPromise}
-use Rattle.history.specs.Book.{reads, Call, starts, steps, asks, recovers, Answer, saying, Event, called, cut, accepted, Kept, bookVersion, Awaited, Book, freshBook, withKey, withoutPending, finish, versionFor, oneOff, takeOne, feedCall, feed, bookAfter, bookOf}
+use Rattle.history.specs.Book.{reads, Call, starts, steps, asks, recovers, Answer, saying, Event, called, cut, accepted, Kept, bookVersion, Awaited, Book, freshBook, finish, versionFor, oneOff, takeOne, feedCall, feed, bookAfter, bookOf}
 use Rattle.history.specs.Runs.{World}
 use Rattle.history.specs.Demand3.{bookAnswer, Expects, StartAgrees, QuestionAgrees, EventAgrees, EventsAgree}
 use Rattle.history.specs.Finishing.{goesOn, allGoOn, Finishes}
-use Rattle.history.proofs.Corollaries.{agree-at, agree-behind, book-append, sameKeys-own, told-at, book-at, list-rises, Leads, demanded}
+use Rattle.history.proofs.Corollaries.{agree-at, agree-behind, book-append, sameKeys-own, told-at, book-at, Leads, demanded}
 
 -- ---- a pending operation that nothing breaks off
 
@@ -233,6 +234,15 @@ read-told n _ a nothing e done =
 read-told n _ a (below {x} low high) e done =
     record { object = x; is-held = refl; its-version = sym (ap (λ (y : Answer). y .said .version) e); low = low; high = high }
 
+-- and its range held the key's table
+within-told :
+    (t : Bool) (n : ℕ) (y : Option Kept) (a : Answer) → Below n y → a ≡ saying (pick t (readSaid (bookAnswer edition1 y)) (refusal 22)) →
+    accepted a ≡ true → Told n (a .said .version) y
+unfolding pick
+within-told true n y a h e done = read-told n y a h e done
+within-told false n y a h e done =
+    let refused-22 : eqb 22 0 ≡ true = sym (ap accepted e) ∙ done in let z : _≡_ {A = ℕ} 0 1 = cc in absurd (omega arith)
+
 agree-prefix : (b : Book) (xs ys : List Event) → EventsAgree edition1 b (xs ++ ys) → EventsAgree edition1 b xs
 unfolding EventsAgree
 agree-prefix b [] ys h = tt
@@ -303,14 +313,14 @@ module _ (n s : ℕ) (area₀ area : List ℕ) (ab : Bytes area₀) (format : Fo
       -- The expectation was the version that an earlier read told. Then what the write replaces is what that read found, version and
       -- value: whatever was written or deleted under the key in between would have another version.
       pub no-update-lost :
-          (first mid : List Event) (j : Lengths) (r : Answer) → before ≡ first ++ called (asks (reads k)) j r ∷ mid → accepted r ≡ true →
+          (first mid : List Event) (v : Tables) (j : Lengths) (r : Answer) → before ≡ first ++ called (asks (reads v k)) j r ∷ mid → accepted r ≡ true →
           r .said .version ≡ e .0 → Finishes atLast c → atLast .keys k ≡ bookOf first .keys k
       unfolding EventAgrees QuestionAgrees bookAfter
-      no-update-lost first mid j r split read-done rests f =
+      no-update-lost first mid v j r split read-done rests f =
           ap (λ (keys : Key → Option Kept). keys k) (own .same-keys)
-          ∙ ap (λ (b : Book). b .keys k) (ap bookOf split ∙ book-append freshBook first (called (asks (reads k)) j r ∷ mid))
+          ∙ ap (λ (b : Book). b .keys k) (ap bookOf split ∙ book-append freshBook first (called (asks (reads v k)) j r ∷ mid))
           ∙ fate-same (bookOf first .next) (told .object) (later .keys k) (since .fate) (told .low) (told .high)
-          (told .its-version ∙ rests ∙ found ∙ ap (λ (x : Book). bookVersion (x .keys k)) (ap bookOf split ∙ book-append freshBook first (called (asks (reads k)) j r ∷ mid)))
+          (told .its-version ∙ rests ∙ found ∙ ap (λ (x : Book). bookVersion (x .keys k)) (ap bookOf split ∙ book-append freshBook first (called (asks (reads v k)) j r ∷ mid)))
           ∙ sym (told .is-held)
         where
           own : Still (bookOf before .keys) (write k value) atLast (f .awaited)
@@ -319,7 +329,7 @@ module _ (n s : ℕ) (area₀ area : List ℕ) (ab : Bytes area₀) (format : Fo
           found : e .0 ≡ bookVersion (bookOf before .keys k)
           found = expected-found before (between ++ called steps m c ∷ after) t e k value l a w run asked done
 
-          agree : EventsAgree edition1 freshBook (first ++ called (asks (reads k)) j r ∷ mid)
+          agree : EventsAgree edition1 freshBook (first ++ called (asks (reads v k)) j r ∷ mid)
           agree =
               subst (EventsAgree edition1 freshBook) split
               (agree-prefix freshBook before (called (starts t (write k value)) l a ∷ (between ++ called steps m c ∷ after))
@@ -327,14 +337,14 @@ module _ (n s : ℕ) (area₀ area : List ℕ) (ab : Bytes area₀) (format : Fo
 
           told : Told (bookOf first .next) (r .said .version) (bookOf first .keys k)
           told =
-              read-told (bookOf first .next) (bookOf first .keys k) r (book-versioned first .versions k)
-              (agree-at freshBook first (called (asks (reads k)) j r) mid agree) read-done
+              within-told (holdsTable v (k .table)) (bookOf first .next) (bookOf first .keys k) r (book-versioned first .versions k)
+              (agree-at freshBook first (called (asks (reads v k)) j r) mid agree) read-done
 
           later : Book
-          later = bookAfter (feed (bookOf first) (called (asks (reads k)) j r)) mid
+          later = bookAfter (feed (bookOf first) (called (asks (reads v k)) j r)) mid
 
           since : Since (bookOf first .next) (told .object) k later
           since =
-              list-fate (bookOf first .next) (told .object) k (feed (bookOf first) (called (asks (reads k)) j r)) mid
-              (event-fate (bookOf first .next) (told .object) k (bookOf first) (called (asks (reads k)) j r)
+              list-fate (bookOf first .next) (told .object) k (feed (bookOf first) (called (asks (reads v k)) j r)) mid
+              (event-fate (bookOf first .next) (told .object) k (bookOf first) (called (asks (reads v k)) j r)
               (record { fate = subst (Fate (bookOf first .next) (told .object)) (sym (told .is-held)) held; risen = omega arith }))

@@ -12,7 +12,8 @@ use Rattle.segment.specs.Choice.{pick, isNone}
 use Rattle.segment.specs.Layout.{Layout, entrySize}
 use Rattle.segment.specs.Entry.{Entry, kindOf, bytesIn}
 use Rattle.segment.specs.declared.Key.{Key}
-use Rattle.record.specs.Answers.{readSaid, withPending, storesLeft}
+use Rattle.record.specs.Answers.{readSaid, refusal, withPending, storesLeft}
+use Rattle.record.specs.Reach.{holdsTable}
 use Rattle.record.specs.Range.{fitsLent}
 use Rattle.record.specs.RangeLaws.{Lent, lent, fits-lent, lent-pending}
 use Rattle.record.specs.declared.Pending.{Pending}
@@ -21,14 +22,15 @@ use Rattle.record.specs.declared.Reading.{Reading}
 use Rattle.record.specs.declared.ReadAnswer.{ReadAnswer}
 use Rattle.record.specs.declared.Record.{Record}
 use Rattle.record.specs.declared.Refusal.{Refusal}
-use Rattle.record.specs.declared.Refusal.the-variants.{BadRecord, Absent}
+use Rattle.record.specs.declared.Refusal.the-variants.{BadRecord, Absent, OutsideTables}
+use Rattle.record.specs.declared.Tables.{Tables}
 use Rattle.model.specs.Log.{Placed, present}
 use Rattle.model.specs.Causes.{when, firstCause}
 use Rattle.model.specs.Recovery.{recovered}
 use Rattle.model.specs.Operations.{Operation, write, delete, clean, logNow, writtenEntry, tombstoneEntry, fitsHead, noRoom, laidAppend, laidHead, laidEntry, laidForget, laid, storesFor}
-use Rattle.model.specs.Refused.{Lengths, recordBad, keyAbsent, readCauses}
+use Rattle.model.specs.Refused.{Lengths, recordBad, keyAbsent, outsideTables, readCauses}
 use Rattle.model.specs.Promises.{ReadPromise, ValuePromise, readAnswer, presentAnswer, readLengths, Part, partOf, valueAnswer, valuePart}
-use Rattle.laws.specs.CauseLaws.{cause-skip}
+use Rattle.laws.specs.CauseLaws.{cause-skip, cause-first}
 use Rattle.laws.specs.MapLaws.{valueAt, unplaced}
 use Rattle.laws.specs.Operated.{OperationLaws}
 use Rattle.history.specs.Book.{Question, reads, readsValue, asks, Answer, saying, giving, called, accepted, Kept, Book, feed, feedCall, versionTold}
@@ -131,27 +133,52 @@ module _ (L : Layout) (laws : OperationLaws L) (n s : ℕ) where
   -- A record that recovery of the area gives, its pending operation aside, and that fits what is lent.
   module _ (area cells : List ℕ) (r : Record) (ab : Bytes area)
       (recovers : recovered L (r .slots) (r .size) (r .cells) area ≡ some (withPending r Idle))
-      (fits : fitsLent L r (length area) (length cells) ≡ true) (k : Key) (x : Option Kept)
+      (fits : fitsLent L r (length area) (length cells) ≡ true) (v : Tables) (k : Key) (x : Option Kept)
       (same : valueAt (logNow L area r) k ≡ bookEntry k x)
     where
-      only-absent :
-          firstCause (readCauses L r (logNow L area r) (readLengths area cells) k) ≡ firstCause (when (keyAbsent (logNow L area r) k) Absent ∷ [])
-      only-absent =
-          cause-skip (when (recordBad L r (readLengths area cells)) BadRecord) (when (keyAbsent (logNow L area r) k) Absent ∷ []) (ap not fits)
+      abbrev cause : Option Refusal
+      cause = firstCause (readCauses L r (logNow L area r) (readLengths area cells) v k)
 
-      pub read-answer :
-          readAnswer L (firstCause (readCauses L r (logNow L area r) (readLengths area cells) k)) (present (logNow L area r) k) ≡ bookAnswer L x
-      read-answer =
-          ap (λ (c : Option Refusal). readAnswer L c (present (logNow L area r) k)) only-absent ∙
+      only-absent : holdsTable v (k .table) ≡ true → cause ≡ firstCause (when (keyAbsent (logNow L area r) k) Absent ∷ [])
+      only-absent held =
+          cause-skip (when (recordBad L r (readLengths area cells)) BadRecord) _ (ap not fits) ∙
+          cause-skip (when (outsideTables v k) OutsideTables) (when (keyAbsent (logNow L area r) k) Absent ∷ []) (ap not held)
+
+      only-outside : holdsTable v (k .table) ≡ false → cause ≡ some OutsideTables
+      only-outside out =
+          cause-skip (when (recordBad L r (readLengths area cells)) BadRecord) _ (ap not fits) ∙
+          cause-first (when (outsideTables v k) OutsideTables) (when (keyAbsent (logNow L area r) k) Absent ∷ []) (ap not out)
+
+      pub read-answer : holdsTable v (k .table) ≡ true → readAnswer L cause (present (logNow L area r) k) ≡ bookAnswer L x
+      read-answer held =
+          ap (λ (c : Option Refusal). readAnswer L c (present (logNow L area r) k)) (only-absent held) ∙
           present-answer k (present (logNow L area r) k) x same
 
-      pub value-answer :
-          partOf area (valueAnswer L (r .size) (firstCause (readCauses L r (logNow L area r) (readLengths area cells) k)) (present (logNow L area r) k)) ≡
-          bookValue x
-      value-answer =
-          ap (λ (c : Option Refusal). partOf area (valueAnswer L (r .size) c (present (logNow L area r) k))) only-absent ∙
+      pub value-answer : holdsTable v (k .table) ≡ true → partOf area (valueAnswer L (r .size) cause (present (logNow L area r) k)) ≡ bookValue x
+      value-answer held =
+          ap (λ (c : Option Refusal). partOf area (valueAnswer L (r .size) c (present (logNow L area r) k))) (only-absent held) ∙
           present-value area (r .size) k (present (logNow L area r) k) x same
           (λ y q. laws .value-part area (withPending r Idle) ab recovers k y q)
+
+      -- what is said and given, within reach and out of it
+      pub read-said :
+          readSaid (readAnswer L cause (present (logNow L area r) k)) ≡ pick (holdsTable v (k .table)) (readSaid (bookAnswer L x)) (refusal 22)
+      unfolding pick readAnswer
+      read-said = go (holdsTable v (k .table)) refl
+        where
+          go : (t : Bool) → holdsTable v (k .table) ≡ t →
+              readSaid (readAnswer L cause (present (logNow L area r) k)) ≡ pick t (readSaid (bookAnswer L x)) (refusal 22)
+          go true e = ap readSaid (read-answer e)
+          go false e = ap (λ (c : Option Refusal). readSaid (readAnswer L c (present (logNow L area r) k))) (only-outside e)
+
+      pub value-given :
+          partOf area (valueAnswer L (r .size) cause (present (logNow L area r) k)) ≡ pick (holdsTable v (k .table)) (bookValue x) []
+      unfolding pick valueAnswer
+      value-given = go (holdsTable v (k .table)) refl
+        where
+          go : (t : Bool) → holdsTable v (k .table) ≡ t → partOf area (valueAnswer L (r .size) cause (present (logNow L area r) k)) ≡ pick t (bookValue x) []
+          go true e = value-answer e
+          go false e = ap (λ (c : Option Refusal). partOf area (valueAnswer L (r .size) c (present (logNow L area r) k))) (only-outside e)
 
   -- ---- reads in a run
 
@@ -188,26 +215,30 @@ module _ (L : Layout) (laws : OperationLaws L) (n s : ℕ) where
           Inv L n s (record { area = area; held = some h; cells = m }) (feed b (called (asks q) l a)) (max t (versionTold (called (asks q) l a)))
           × EventAgrees L b (called (asks q) l a)
 
-      read-keeps : (l : Lengths) (a : Reading) → ReadPromise L (h .rec) area (h .cells) k a → QuestionGoal (reads k) l (saying (readSaid (a .answer)))
+      read-keeps :
+          (v : Tables) (l : Lengths) (a : Reading) → ReadPromise L (h .rec) area (h .cells) v k a →
+          QuestionGoal (reads v k) l (saying (readSaid (a .answer)))
       unfolding feed feedCall versionTold EventAgrees QuestionAgrees
-      read-keeps l a p = (
+      read-keeps v l a p = (
         rw (pick-same (accepted (saying (readSaid (a .answer)))) b)
             (record { bytes = inv .bytes; base = inv .base; agrees = inv .agrees; below = omega (arith, inv .below, less); held = inv .held }),
-        ap (λ (x : ReadAnswer). saying (readSaid x))
-            (p .exact (good .genuine) ∙ read-answer area (h .cells) (h .rec) (inv .bytes) (good .genuine .recovers) fits k (b .keys k) map-now),
+        ap (λ (x : ReadAnswer). saying (readSaid x)) (p .exact (good .genuine))
+            ∙ ap saying (read-said area (h .cells) (h .rec) (inv .bytes) (good .genuine .recovers) fits v k (b .keys k) map-now),
       )
         where
           less : readSaid (a .answer) .version < b .next
           less =
               subst⁻¹ (λ (x : ReadAnswer). readSaid x .version < b .next) (p .exact (good .genuine))
-              (told-less (firstCause (readCauses L (h .rec) (logNow L area (h .rec)) (readLengths area (h .cells)) k)) (present (logNow L area (h .rec)) k) refl)
+              (told-less (firstCause (readCauses L (h .rec) (logNow L area (h .rec)) (readLengths area (h .cells)) v k)) (present (logNow L area (h .rec)) k) refl)
 
-      value-keeps : (l : Lengths) (p : Part) → ValuePromise L (h .rec) area (h .cells) k p → QuestionGoal (readsValue k) l (giving (partOf area p))
+      value-keeps :
+          (v : Tables) (l : Lengths) (p : Part) → ValuePromise L (h .rec) area (h .cells) v k p →
+          QuestionGoal (readsValue v k) l (giving (partOf area p))
       unfolding feed feedCall versionTold pick EventAgrees QuestionAgrees
-      value-keeps l p promise = (
+      value-keeps v l p promise = (
         rw (max-zero t) inv,
         ap giving
-            (ap (partOf area) (promise .exact (good .genuine)) ∙ value-answer area (h .cells) (h .rec) (inv .bytes) (good .genuine .recovers) fits k (b .keys k) map-now),
+            (ap (partOf area) (promise .exact (good .genuine)) ∙ value-given area (h .cells) (h .rec) (inv .bytes) (good .genuine .recovers) fits v k (b .keys k) map-now),
       )
 
   -- A question keeps the invariant, and answers what the book says.
@@ -215,6 +246,6 @@ module _ (L : Layout) (laws : OperationLaws L) (n s : ℕ) where
       {w : World} {q : Question} {l : Lengths} {a : Answer} (b : Book) (t : ℕ) → Asked L w q l a → Inv L n s w b t →
       Inv L n s w (feed b (called (asks q) l a)) (max t (versionTold (called (asks q) l a))) × EventAgrees L b (called (asks q) l a)
   unfolding HeldGood
-  ask-keeps b t (read {area} {h} {m} {k} {a} ty p) inv = read-keeps area h m b t inv (inv .held) k (readLengths area (h .cells)) a p
-  ask-keeps b t (readValue {area} {h} {m} {k} {p} ty promise) inv =
-      value-keeps area h m b t inv (inv .held) k (readLengths area (h .cells)) p promise
+  ask-keeps b t (read {area} {h} {m} {v} {k} {a} ty p) inv = read-keeps area h m b t inv (inv .held) k v (readLengths area (h .cells)) a p
+  ask-keeps b t (readValue {area} {h} {m} {v} {k} {p} ty promise) inv =
+      value-keeps area h m b t inv (inv .held) k v (readLengths area (h .cells)) p promise

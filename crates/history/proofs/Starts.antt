@@ -100,7 +100,7 @@ module _ (L : Layout) (laws : OperationLaws L) (n s : ℕ) where
   agreed area h m q (write k value) b t l inv good e =
       let log = logNow L area (h .rec) in
       found-expected (q .expected) (versionIn (present log k)) (bookVersion (b .keys k))
-      (write-passed L (h .rec) l q (keyFacts log k) (length value) e .as-expected)
+      (write-passed L (h .rec) l q k (keyFacts log k) (length value) e .as-expected)
       (version-same k (present log k) (b .keys k) (map-now L laws n s area h m b t inv good k))
   agreed area h m q (delete k) b t l inv good e = tt
   agreed area h m q (clean victims) b t l inv good e = tt
@@ -145,7 +145,7 @@ module _ (L : Layout) (laws : OperationLaws L) (n s : ℕ) where
       led = start-passed L r log (lentLengths area (h .cells) work) q o e
 
       free : firstCause (startCauses L r log (lentLengths area (h .cells) work) freely o) ≡ none
-      free = freely-accepted L r log (lentLengths area (h .cells) work) q o e
+      free = freely-accepted L r log (lentLengths area (h .cells) work) q o ty e
 
       none-pending : r .pending ≡ Idle
       none-pending = not-pending (r .pending) (led .idle)

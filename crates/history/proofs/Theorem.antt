@@ -41,7 +41,7 @@ use Rattle.history.proofs.Recoveries.{recover-keeps, cut-keeps}
 module _ (L : Layout) (laws : OperationLaws L) (n s : ℕ) where
   -- ---- one event
 
-  move-keeps :
+  pub move-keeps :
       {w x : World} {e : Event} (b : Book) (t : ℕ) → Moves L n s w e x → Inv L n s w b t →
       Inv L n s x (feed b e) (max t (versionTold e)) × EventAgrees L b e
   unfolding EventAgrees
@@ -111,18 +111,18 @@ module _ (L : Layout) (laws : OperationLaws L) (n s : ℕ) where
             is-accepted = refl;
             next-version = inv .agrees .next-same;
             answers =
-                λ k ty a q.
+                λ t k ty held a q.
                 q .exact genuine ∙
-                read-answer L laws n s (w .area) cells′ rec (inv .bytes) recovers fits k (b .keys k) (inv .agrees .map-same k);
+                read-answer L laws n s (w .area) cells′ rec (inv .bytes) recovers fits t k (b .keys k) (inv .agrees .map-same k) held;
             values =
-                λ k ty v q.
+                λ t k ty held v q.
                 ap (partOf (w .area)) (q .exact genuine) ∙
-                value-answer L laws n s (w .area) cells′ rec (inv .bytes) recovers fits k (b .keys k) (inv .agrees .map-same k);
+                value-answer L laws n s (w .area) cells′ rec (inv .bytes) recovers fits t k (b .keys k) (inv .agrees .map-same k) held;
           }
 
   -- ---- the fresh store
 
-  fresh : (area₀ area : List ℕ) → Bytes area₀ → FormatPromise L n s area₀ area FormatAnswer.Formatted → Inv L n s (freshWorld area) freshBook 0
+  pub fresh : (area₀ area : List ℕ) → Bytes area₀ → FormatPromise L n s area₀ area FormatAnswer.Formatted → Inv L n s (freshWorld area) freshBook 0
   unfolding formatAnswer areaUnless baseCells HeldGood between both present latest objectOnly unplaced bookEntry
   fresh area₀ area ab p = subst⁻¹ (λ (x : List ℕ). Inv L n s (freshWorld x) freshBook 0) left start′
     where

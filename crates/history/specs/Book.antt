@@ -7,14 +7,15 @@ use lib.Dec.{eqb}
 use Rattle.segment.specs.Choice.{pick}
 use Rattle.segment.specs.declared.Key.{Key}
 use Rattle.record.specs.Answers.{Said, taken}
+use Rattle.record.specs.declared.Tables.{Tables}
 use Rattle.model.specs.Log.{sameKeys}
 use Rattle.model.specs.Operations.{Operation, write, delete, clean}
 use Rattle.model.specs.Refused.{Lengths, Terms}
 
--- A call that changes nothing: a read, and a read of the value.
+-- A call that changes nothing: a read within some tables, and a read of the value.
 pub data Question : Type 0 where
-  reads : Key → Question
-  readsValue : Key → Question
+  reads : Tables → Key → Question
+  readsValue : Tables → Key → Question
 
 -- A call on the store with its arguments: a start (write, delete or clean) on some terms, a step, a question, a recovery with N, S
 -- and the order list.

@@ -6,10 +6,12 @@ use mathlib.Core.List.{List, [], _∷_}
 use mathlib.Core.Option.{Option, none, some}
 use lib.ListN.{length}
 use Rattle.word.specs.Number.{Bytes}
+use Rattle.segment.specs.Choice.{pick}
 use Rattle.segment.specs.Layout.{Layout, edition1}
 use Rattle.segment.specs.declared.Key.{Key}
 use Rattle.segment.specs.Entry.{kindFor}
-use Rattle.record.specs.Answers.{Said, readSaid}
+use Rattle.record.specs.Answers.{Said, readSaid, refusal}
+use Rattle.record.specs.Reach.{holdsTable}
 use Rattle.record.specs.Range.{cellsGood}
 use Rattle.record.specs.declared.Expected.{Expected}
 use Rattle.record.specs.declared.Expected.the-variants.{Any, Only}
@@ -19,6 +21,7 @@ use Rattle.record.specs.declared.ReadAnswer.{ReadAnswer}
 use Rattle.record.specs.declared.Recovery.{Recovery}
 use Rattle.record.specs.declared.RecoverAnswer.{RecoverAnswer}
 use Rattle.record.specs.declared.Refusal.{Refusal}
+use Rattle.record.specs.declared.Tables.{Tables}
 use Rattle.model.specs.Operations.{Operation, write, delete, clean, TypedKey}
 use Rattle.model.specs.Recovery.{orderBad}
 use Rattle.model.specs.Refused.{Terms}
@@ -47,9 +50,14 @@ pub record GivesBook (L : Layout) (area cells′ : List ℕ) (r : Recovery) (b :
   pub is-accepted : r .answer ≡ RecoverAnswer.Recovered
   -- "and the next version"
   pub next-version : r .rec .next .0 ≡ b .next
-  -- "the keys, versions and values left by the operations whose last store was done": for each key what a read then answers
-  pub answers : (k : Key) → TypedKey k → (a : Reading) → ReadPromise L (r .rec) area cells′ k a → a .answer ≡ bookAnswer L (b .keys k)
-  pub values : (k : Key) → TypedKey k → (p : Part) → ValuePromise L (r .rec) area cells′ k p → partOf area p ≡ bookValue (b .keys k)
+  -- "the keys, versions and values left by the operations whose last store was done": for each key what a read then answers, whose
+  -- tables hold the key's (02, R-2)
+  pub answers :
+      (t : Tables) (k : Key) → TypedKey k → holdsTable t (k .table) ≡ true → (a : Reading) → ReadPromise L (r .rec) area cells′ t k a →
+      a .answer ≡ bookAnswer L (b .keys k)
+  pub values :
+      (t : Tables) (k : Key) → TypedKey k → holdsTable t (k .table) ≡ true → (p : Part) → ValuePromise L (r .rec) area cells′ t k p →
+      partOf area p ≡ bookValue (b .keys k)
 
 -- "Each accepted step answers the stores left in the book, and an operation's last step also the book's version for it"
 unfoldable pub StepAgrees : Book → Said → Option Awaited → Type 0
@@ -57,10 +65,10 @@ StepAgrees b a none = ⊥
 StepAgrees b a (some p) = (a .stores ≡ p .left - 1) × (p .left ≡ 1 → a .version ≡ versionFor b (p .operation))
 
 -- A read answers version and kind of what the book holds of its key, or 8, and a read of the value that value; also while an
--- operation is pending.
+-- operation is pending. A key whose table the caller may not reach is answered with 22 and no value, whatever the book holds (02, R-2).
 unfoldable pub QuestionAgrees : Layout → Book → Question → Answer → Type 0
-QuestionAgrees L b (reads k) a = a ≡ saying (readSaid (bookAnswer L (b .keys k)))
-QuestionAgrees L b (readsValue k) a = a ≡ giving (bookValue (b .keys k))
+QuestionAgrees L b (reads t k) a = a ≡ saying (pick (holdsTable t (k .table)) (readSaid (bookAnswer L (b .keys k))) (refusal 22))
+QuestionAgrees L b (readsValue t k) a = a ≡ giving (pick (holdsTable t (k .table)) (bookValue (b .keys k)) [])
 
 -- 02, R-1: what a write expected of its key, where it was accepted, is the version that the book has of it.
 unfoldable pub Expects : Expected → ℕ → Type 0

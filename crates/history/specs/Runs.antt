@@ -16,6 +16,7 @@ use Rattle.record.specs.declared.Recovery.{Recovery}
 use Rattle.record.specs.declared.Reading.{Reading}
 use Rattle.record.specs.declared.Start.{Start}
 use Rattle.record.specs.declared.Stepped.{Stepped}
+use Rattle.record.specs.declared.Tables.{Tables}
 use Rattle.model.specs.Operations.{Operation, Typed, TypedKey}
 use Rattle.model.specs.Refused.{Lengths, Terms, isPending}
 use Rattle.model.specs.Promises.{RecoverPromise, readLengths, ReadPromise, Part, partOf, ValuePromise, lentLengths, StartPromise, StepPromise}
@@ -53,11 +54,11 @@ recoveredWorld w cells′ r =
 -- What a question answers in a world, by its promise. Reads need a record, and are allowed while an operation is pending.
 pub data Asked (L : Layout) : World → Question → Lengths → Answer → Type 0 where
   read :
-      {area : List ℕ} {h : Held} {m : Option ℕ} {k : Key} {a : Reading} → TypedKey k → ReadPromise L (h .rec) area (h .cells) k a →
-      Asked L (record { area = area; held = some h; cells = m }) (reads k) (readLengths area (h .cells)) (saying (readSaid (a .answer)))
+      {area : List ℕ} {h : Held} {m : Option ℕ} {v : Tables} {k : Key} {a : Reading} → TypedKey k → ReadPromise L (h .rec) area (h .cells) v k a →
+      Asked L (record { area = area; held = some h; cells = m }) (reads v k) (readLengths area (h .cells)) (saying (readSaid (a .answer)))
   readValue :
-      {area : List ℕ} {h : Held} {m : Option ℕ} {k : Key} {p : Part} → TypedKey k → ValuePromise L (h .rec) area (h .cells) k p →
-      Asked L (record { area = area; held = some h; cells = m }) (readsValue k) (readLengths area (h .cells)) (giving (partOf area p))
+      {area : List ℕ} {h : Held} {m : Option ℕ} {v : Tables} {k : Key} {p : Part} → TypedKey k → ValuePromise L (h .rec) area (h .cells) v k p →
+      Asked L (record { area = area; held = some h; cells = m }) (readsValue v k) (readLengths area (h .cells)) (giving (partOf area p))
 
 -- One event. A cut takes what is held and leaves the area with the stores made so far. The stores of an operation are made one by
 -- one, each by a step, and no other call stores anything; so a cut during a call is one before it, or one after it once its store

@@ -5,6 +5,7 @@ use crate::lines;
 use record::ReadAnswer;
 use record::Record;
 use record::RecoverAnswer;
+use record::Tables;
 use segment::Key;
 use store::read;
 use store::read_value;
@@ -46,8 +47,12 @@ fn refused(number: u32, index: &[u32]) {
 // What both reads of a key answer.
 fn read_line(rec: Record, area: &[u8], index: &[u32], key: Key) {
     lines::key(key);
-    let value = read_value(rec, area, index, key);
-    let reading = read(rec, area, index, key);
+    let tables = Tables {
+        first: 0,
+        last: 65535,
+    };
+    let value = read_value(rec, area, index, tables, key);
+    let reading = read(rec, area, index, tables, key);
     let answer = reading.answer;
     match answer {
         ReadAnswer::Present { version, kind } => {

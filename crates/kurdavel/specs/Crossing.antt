@@ -21,6 +21,7 @@ use Rattle.record.specs.declared.StartAnswer.{StartAnswer}
 use Rattle.record.specs.declared.Stepped.{Stepped}
 use Rattle.record.specs.declared.StepAnswer.{StepAnswer}
 use Rattle.model.specs.Operations.{Operation}
+use Rattle.record.specs.declared.Tables.{Tables}
 use Rattle.model.specs.Refused.{Terms}
 use Rattle.model.specs.Promises.{FormatPromise, RecoverPromise, ReadPromise, ValuePromise, StartPromise, StepPromise}
 use Rattle.words.specs.Words.{recordWords, wordsOf, decoded}
@@ -61,20 +62,20 @@ pub record RecoverCrossed (n s : ℕ) (order area cells cells′ words words′ 
 -- ---- read
 
 -- What the read says; where it is refused version and kind are 0.
-pub record ReadCrossed (words area cells : List ℕ) (k : Key) (version kind number : ℕ) : Type 0 where
+pub record ReadCrossed (words area cells : List ℕ) (t : Tables) (k : Key) (version kind number : ℕ) : Type 0 where
   pub reading : Reading
-  pub promised : ReadPromise edition1 (decoded words .rec) area cells k reading
+  pub promised : ReadPromise edition1 (decoded words .rec) area cells t k reading
   pub numbered : number ≡ readSaid (reading .answer) .refused
   pub version-told : version ≡ readSaid (reading .answer) .version
   pub kind-told : kind ≡ readSaid (reading .answer) .kind
 
 -- The value is a part of the area: place and length are those that the value read promises, and lie in the area for every input; where
 -- the read is refused both are 0.
-pub record ValueCrossed (words area cells : List ℕ) (k : Key) (place bytes number : ℕ) : Type 0 where
+pub record ValueCrossed (words area cells : List ℕ) (t : Tables) (k : Key) (place bytes number : ℕ) : Type 0 where
   pub reading : Reading
-  pub promised : ReadPromise edition1 (decoded words .rec) area cells k reading
+  pub promised : ReadPromise edition1 (decoded words .rec) area cells t k reading
   pub numbered : number ≡ readSaid (reading .answer) .refused
-  pub value : ValuePromise edition1 (decoded words .rec) area cells k (record { place = place; bytes = bytes })
+  pub value : ValuePromise edition1 (decoded words .rec) area cells t k (record { place = place; bytes = bytes })
   pub inside : place + bytes ≤ length area
   pub nowhere : (number ≡ 0 → ⊥) → (place ≡ 0) × (bytes ≡ 0)
 

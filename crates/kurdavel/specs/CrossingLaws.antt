@@ -25,12 +25,14 @@ use Rattle.record.specs.declared.StartAnswer.{StartAnswer}
 use Rattle.record.specs.declared.Stepped.{Stepped}
 use Rattle.record.specs.declared.StepAnswer.{StepAnswer}
 use Rattle.model.specs.Operations.{Operation}
+use Rattle.record.specs.Reach.{holdsTable}
+use Rattle.record.specs.declared.Tables.{Tables}
 use Rattle.model.specs.Refused.{Terms}
 use Rattle.model.specs.Promises.{FormatPromise, RecoverPromise, ValuePromise, StartPromise, StepPromise}
 use Rattle.index.specs.Search.{searchFor}
 use Rattle.index.specs.declared.Found.{Found}
 use Rattle.recovery.specs.Lookups.{lookupAt, lookedUp, toldBy, partBy}
-use Rattle.recovery.specs.LookupLaws.{looked-unfit, looked-fit, read-promise, value-promise}
+use Rattle.recovery.specs.LookupLaws.{looked-unfit, looked-fit, read-promise, value-promise, looked-outside}
 use Rattle.recovery.specs.declared.Lookup.{Lookup}
 use Rattle.words.specs.Words.{recordWords, wordsOf, isRecord, decoded}
 use Rattle.words.specs.WordLaws.{record-long, decoded-record, decoded-none}
@@ -84,28 +86,34 @@ recover-crossed {words = words} {x = x} h p e m w =
 
 -- ---- read
 
-pub looked-crossed : (words area cells : List ℕ) (k : Key) {d : Decoded} {x : Lookup} → d ≡ decoded words
-    → x ≡ lookedUp edition1 (d .rec) area cells k → x ≡ lookedUp edition1 (decoded words .rec) area cells k
-looked-crossed words area cells k f l = l ∙ ap (λ (a : Decoded). lookedUp edition1 (a .rec) area cells k) f
+pub looked-crossed : (words area cells : List ℕ) (t : Tables) (k : Key) {d : Decoded} {x : Lookup} → d ≡ decoded words
+    → x ≡ lookedUp edition1 (d .rec) area cells t k → x ≡ lookedUp edition1 (decoded words .rec) area cells t k
+looked-crossed words area cells t k f l = l ∙ ap (λ (a : Decoded). lookedUp edition1 (a .rec) area cells t k) f
 
--- a record that does not fit what is lent is bad, and one that fits is looked up where the search has ended
-pub looked-lost : (words area cells : List ℕ) (k : Key) {d : Decoded} → d ≡ decoded words
-    → fitsLent edition1 (d .rec) (length area) (length cells) ≡ false → Lookup.Bad ≡ lookedUp edition1 (decoded words .rec) area cells k
-looked-lost words area cells k {d} f unfit = looked-crossed words area cells k f (sym (looked-unfit edition1 (d .rec) area cells k unfit))
+-- a record that does not fit what is lent is bad; with one that fits, a key out of reach is not looked for, and another is looked up where
+-- the search has ended
+pub looked-lost : (words area cells : List ℕ) (t : Tables) (k : Key) {d : Decoded} → d ≡ decoded words
+    → fitsLent edition1 (d .rec) (length area) (length cells) ≡ false → Lookup.Bad ≡ lookedUp edition1 (decoded words .rec) area cells t k
+looked-lost words area cells t k {d} f unfit = looked-crossed words area cells t k f (sym (looked-unfit edition1 (d .rec) area cells t k unfit))
 
-pub looked-found : (words area cells : List ℕ) (k : Key) {d : Decoded} {x : Lookup} {found : Found} → d ≡ decoded words
-    → fitsLent edition1 (d .rec) (length area) (length cells) ≡ true → found ≡ searchFor edition1 area cells k
-    → x ≡ lookupAt edition1 (d .rec .size) area cells found → x ≡ lookedUp edition1 (decoded words .rec) area cells k
-looked-found words area cells k {d} f fit e l =
-    looked-crossed words area cells k f
-    (l ∙ ap (lookupAt edition1 (d .rec .size) area cells) e ∙ sym (looked-fit edition1 (d .rec) area cells k fit))
+pub looked-away : (words area cells : List ℕ) (t : Tables) (k : Key) {d : Decoded} → d ≡ decoded words
+    → fitsLent edition1 (d .rec) (length area) (length cells) ≡ true → holdsTable t (k .table) ≡ false
+    → Lookup.Outside ≡ lookedUp edition1 (decoded words .rec) area cells t k
+looked-away words area cells t k {d} f fit out = looked-crossed words area cells t k f (sym (looked-outside edition1 (d .rec) area cells t k fit out))
+
+pub looked-found : (words area cells : List ℕ) (t : Tables) (k : Key) {d : Decoded} {x : Lookup} {found : Found} → d ≡ decoded words
+    → fitsLent edition1 (d .rec) (length area) (length cells) ≡ true → holdsTable t (k .table) ≡ true → found ≡ searchFor edition1 area cells k
+    → x ≡ lookupAt edition1 (d .rec .size) area cells found → x ≡ lookedUp edition1 (decoded words .rec) area cells t k
+looked-found words area cells t k {d} f fit held e l =
+    looked-crossed words area cells t k f
+    (l ∙ ap (lookupAt edition1 (d .rec .size) area cells) e ∙ sym (looked-fit edition1 (d .rec) area cells t k fit held))
 
 -- words that are no record say the blank one, which is bad
-pub looked-none : (words area cells : List ℕ) (k : Key) {d : Decoded} → d ≡ decoded words → not (d .ok) ≡ true
-    → Lookup.Bad ≡ lookedUp edition1 (decoded words .rec) area cells k
-looked-none words area cells k {d} f off = go (isRecord words) refl
+pub looked-none : (words area cells : List ℕ) (t : Tables) (k : Key) {d : Decoded} → d ≡ decoded words → not (d .ok) ≡ true
+    → Lookup.Bad ≡ lookedUp edition1 (decoded words .rec) area cells t k
+looked-none words area cells t k {d} f off = go (isRecord words) refl
   where
-    go : (t : Bool) → isRecord words ≡ t → Lookup.Bad ≡ lookedUp edition1 (decoded words .rec) area cells k
+    go : (x : Bool) → isRecord words ≡ x → Lookup.Bad ≡ lookedUp edition1 (decoded words .rec) area cells t k
     go true e =
         let yes : decoded words .ok ≡ true = ap (λ (a : Decoded). a .ok) (decoded-record words e) in
         let no : decoded words .ok ≡ false = sym (ap (λ (a : Decoded). a .ok) f) ∙ not-true (d .ok) off in
@@ -113,44 +121,44 @@ looked-none words area cells k {d} f off = go (isRecord words) refl
         absurd (omega arith)
     go false e =
         let says : decoded words .rec ≡ blank = ap (λ (a : Decoded). a .rec) (decoded-none words e) in
-        sym (ap (λ (r : Record). lookedUp edition1 r area cells k) says
-        ∙ looked-unfit edition1 blank area cells k (blank-unfit edition1 (length area) (length cells)))
+        sym (ap (λ (r : Record). lookedUp edition1 r area cells t k) says
+        ∙ looked-unfit edition1 blank area cells t k (blank-unfit edition1 (length area) (length cells)))
 
-pub read-crossed : {words area cells : List ℕ} {k : Key} {version kind number : ℕ} {x : Lookup} {a b : ReadAnswer}
-    → x ≡ lookedUp edition1 (decoded words .rec) area cells k → a ≡ toldBy x → a ≡ b → number ≡ readSaid b .refused
-    → version ≡ readSaid b .version → kind ≡ readSaid b .kind → ReadCrossed words area cells k version kind number
-read-crossed {words} {area} {cells} {k} {x = x} {a = a} l t e m v w =
+pub read-crossed : {words area cells : List ℕ} {t : Tables} {k : Key} {version kind number : ℕ} {x : Lookup} {a b : ReadAnswer}
+    → x ≡ lookedUp edition1 (decoded words .rec) area cells t k → a ≡ toldBy x → a ≡ b → number ≡ readSaid b .refused
+    → version ≡ readSaid b .version → kind ≡ readSaid b .kind → ReadCrossed words area cells t k version kind number
+read-crossed {words} {area} {cells} {t} {k} {x = x} {a = a} l its e m v w =
     record {
       reading = record { answer = a; rec = decoded words .rec };
-      promised = read-promise edition1 (decoded words .rec) area cells k x a l t;
+      promised = read-promise edition1 (decoded words .rec) area cells t k x a l its;
       numbered = m ∙ ap (λ (c : ReadAnswer). readSaid c .refused) (sym e);
       version-told = v ∙ ap (λ (c : ReadAnswer). readSaid c .version) (sym e);
       kind-told = w ∙ ap (λ (c : ReadAnswer). readSaid c .kind) (sym e);
     }
 
 -- a record that an object was looked up with fits what is lent, which is at most the largest area
-pub found-small : (r : Record) (area cells : List ℕ) (k : Key) {p kind n : ℕ} {v : Version}
-    → lookedUp edition1 r area cells k ≡ Lookup.Object p v kind n → length area ≤ 65536
-found-small r area cells k e = go (fitsLent edition1 r (length area) (length cells)) refl
+pub found-small : (r : Record) (area cells : List ℕ) (t : Tables) (k : Key) {p kind n : ℕ} {v : Version}
+    → lookedUp edition1 r area cells t k ≡ Lookup.Object p v kind n → length area ≤ 65536
+found-small r area cells t k e = go (fitsLent edition1 r (length area) (length cells)) refl
   where
-    go : (t : Bool) → fitsLent edition1 r (length area) (length cells) ≡ t → length area ≤ 65536
-    go false f = let g = looked-unfit edition1 r area cells k f in let z : _≡_ {A = ℕ} 0 1 = cc in absurd (omega arith)
+    go : (x : Bool) → fitsLent edition1 r (length area) (length cells) ≡ x → length area ≤ 65536
+    go false f = let g = looked-unfit edition1 r area cells t k f in let z : _≡_ {A = ℕ} 0 1 = cc in absurd (omega arith)
     go true f =
         let l = lent edition1 r (length area) (length cells) f in
         let most : r .slots * r .size ≤ 32 * 2048 = mul-le-mul (l .slots-high) (l .size-high) in
         omega arith
 
-pub value-crossed : {words area cells : List ℕ} {k : Key} {place bytes number : ℕ} {x b : Lookup}
-    → x ≡ lookedUp edition1 (decoded words .rec) area cells k → x ≡ b → number ≡ readSaid (toldBy b) .refused
+pub value-crossed : {words area cells : List ℕ} {t : Tables} {k : Key} {place bytes number : ℕ} {x b : Lookup}
+    → x ≡ lookedUp edition1 (decoded words .rec) area cells t k → x ≡ b → number ≡ readSaid (toldBy b) .refused
     → record { place = place; bytes = bytes } ≡ partBy edition1 b → place + bytes ≤ length area
-    → ((number ≡ 0 → ⊥) → (place ≡ 0) × (bytes ≡ 0)) → ValueCrossed words area cells k place bytes number
-value-crossed {words} {area} {cells} {k} {place} {bytes} {b = b} l e m v i w =
-    let found : b ≡ lookedUp edition1 (decoded words .rec) area cells k = sym e ∙ l in
+    → ((number ≡ 0 → ⊥) → (place ≡ 0) × (bytes ≡ 0)) → ValueCrossed words area cells t k place bytes number
+value-crossed {words} {area} {cells} {t} {k} {place} {bytes} {b = b} l e m v i w =
+    let found : b ≡ lookedUp edition1 (decoded words .rec) area cells t k = sym e ∙ l in
     record {
       reading = record { answer = toldBy b; rec = decoded words .rec };
-      promised = read-promise edition1 (decoded words .rec) area cells k b (toldBy b) found refl;
+      promised = read-promise edition1 (decoded words .rec) area cells t k b (toldBy b) found refl;
       numbered = m;
-      value = subst⁻¹ (ValuePromise edition1 (decoded words .rec) area cells k) v (value-promise edition1 (decoded words .rec) area cells k b found);
+      value = subst⁻¹ (ValuePromise edition1 (decoded words .rec) area cells t k) v (value-promise edition1 (decoded words .rec) area cells t k b found);
       inside = i;
       nowhere = w;
     }

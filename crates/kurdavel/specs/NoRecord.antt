@@ -19,7 +19,9 @@ use Rattle.record.specs.declared.Stepped.{Stepped}
 use Rattle.record.specs.declared.StepAnswer.{StepAnswer}
 use Rattle.record.specs.declared.Record.{Record}
 use Rattle.model.specs.Operations.{Operation}
+use Rattle.record.specs.declared.Tables.{Tables}
 use Rattle.model.specs.Refused.{Terms}
+use Rattle.laws.specs.Starts.{early-bad}
 use Rattle.model.specs.Promises.{Begun, begun}
 use Rattle.laws.specs.CauseLaws.{cause-first}
 use Rattle.words.specs.Words.{recordWords, isRecord, decoded}
@@ -45,19 +47,19 @@ pub recover-too-few : {n s : ℕ} {order area cells cells′ words words′ : Li
     → RecoverCrossed n s order area cells cells′ words words′ number → (number ≡ 4) × (cells′ ≡ cells) × (words′ ≡ words)
 recover-too-few h x = let t = x .short h in (t .numbered, t .index-same, t .words-same)
 
-pub read-none : {words area cells : List ℕ} {k : Key} {version kind number : ℕ} → isRecord words ≡ false
-    → ReadCrossed words area cells k version kind number → (number ≡ 4) × (version ≡ 0) × (kind ≡ 0)
+pub read-none : {words area cells : List ℕ} {t : Tables} {k : Key} {version kind number : ℕ} → isRecord words ≡ false
+    → ReadCrossed words area cells t k version kind number → (number ≡ 4) × (version ≡ 0) × (kind ≡ 0)
 read-none {words = words} f x =
-    let e : x .reading .answer ≡ ReadAnswer.Refused BadRecord = x .promised .unfit (unfit words f _ _) in (
+    let e : x .reading .answer ≡ ReadAnswer.Refused BadRecord = x .promised .early BadRecord (cause-first _ _ (unfit words f _ _)) in (
       x .numbered ∙ ap (λ (a : ReadAnswer). readSaid a .refused) e,
       x .version-told ∙ ap (λ (a : ReadAnswer). readSaid a .version) e,
       x .kind-told ∙ ap (λ (a : ReadAnswer). readSaid a .kind) e,
     )
 
-pub value-none : {words area cells : List ℕ} {k : Key} {place bytes number : ℕ} → isRecord words ≡ false
-    → ValueCrossed words area cells k place bytes number → (number ≡ 4) × (place ≡ 0) × (bytes ≡ 0)
+pub value-none : {words area cells : List ℕ} {t : Tables} {k : Key} {place bytes number : ℕ} → isRecord words ≡ false
+    → ValueCrossed words area cells t k place bytes number → (number ≡ 4) × (place ≡ 0) × (bytes ≡ 0)
 value-none {words = words} f x =
-    let e : x .reading .answer ≡ ReadAnswer.Refused BadRecord = x .promised .unfit (unfit words f _ _) in
+    let e : x .reading .answer ≡ ReadAnswer.Refused BadRecord = x .promised .early BadRecord (cause-first _ _ (unfit words f _ _)) in
     let four = x .numbered ∙ ap (λ (a : ReadAnswer). readSaid a .refused) e in
     let empty = x .nowhere (λ zero. omega arith) in
     (four, empty .0, empty .1)
@@ -66,8 +68,8 @@ pub start-none : {t : Terms} {o : Operation} {words words′ area cells work wor
     → StartCrossed t o words words′ area cells work work′ stores stores′ number
     → (number ≡ 4) × (words′ ≡ words) × (work′ ≡ work) × (stores′ ≡ stores)
 unfolding begun storesAfter
-start-none {words = words} {words′ = words′} {stores = stores} f x =
-    let b = x .promised .unfit (unfit words f _ _) in
+start-none {t} {o} {words} {words′} {stores = stores} f x =
+    let b = x .promised .early BadRecord (early-bad edition1 (decoded words .rec) _ t o (unfit words f _ _)) in
     let e : x .start .answer ≡ StartAnswer.Refused BadRecord = ap (λ (y : Begun). y .start .answer) b in (
       x .handed .numbered ∙ ap (λ (a : StartAnswer). startSaid a .refused) e,
       kept-none words words′ (x .start .rec) f (x .handed .says),

@@ -11,8 +11,10 @@ use record::RecoverAnswer;
 use record::Start;
 use record::StartAnswer;
 use record::StepAnswer;
+use record::Tables;
 use record::number;
 use record::range::fits_lent;
+use record::reach::holds_table;
 use recovery::Lookup;
 use recovery::read::find;
 use recovery::read::look_at;
@@ -34,7 +36,7 @@ ghost use mathlib.Core.Path.{_≡_};
 ghost use mathlib.Core.Bool.{true};
 ghost use lib.ListN.{length};
 ghost use Rattle.model.specs.Operations.{write, delete, clean};
-ghost use Rattle.model.specs.Refused.{freely};
+ghost use Rattle.model.specs.Refused.{freely, reaching};
 ghost use Rattle.record.specs.declared.Expected.{Expected};
 ghost use Rattle.words.specs.Words.{recordWords};
 ghost use Rattle.kurdavel.specs.Crossing.{FormatCrossed, RecoverCrossed, ReadCrossed, ValueCrossed, StartCrossed, StepCrossed, keptWords, Handed};
@@ -84,6 +86,8 @@ pub extern "C" fn kurdavel_read(
     words: &[u32],
     area: &[u8],
     index: &[u32],
+    first: u16,
+    last: u16,
     table: u16,
     key: u32,
     version: &mut u32,
@@ -91,8 +95,8 @@ pub extern "C" fn kurdavel_read(
 ) -> u32
     ensures { λ r.
         ⌜
-        ReadCrossed (now (words .entry)) (now (area .entry)) (now (index .entry)) (record { table = table; key = key })
-        (now (version .exit)) (now (kind .exit)) r
+        ReadCrossed (now (words .entry)) (now (area .entry)) (now (index .entry)) (record { first = first; last = last })
+        (record { table = table; key = key }) (now (version .exit)) (now (kind .exit)) r
         ⌝ }
 {
     *version = 0;
@@ -102,7 +106,7 @@ pub extern "C" fn kurdavel_read(
         return 4;
     }
     let rec = decoded.rec;
-    let answer = told(find(rec, area, index, Key { table, key }));
+    let answer = told(find(rec, area, index, Tables { first, last }, Key { table, key }));
     match answer {
         ReadAnswer::Refused(cause) => number(cause),
         ReadAnswer::Present {
@@ -123,6 +127,8 @@ pub extern "C" fn kurdavel_read_value(
     words: &[u32],
     area: &[u8],
     index: &[u32],
+    first: u16,
+    last: u16,
     table: u16,
     key: u32,
     place: &mut u32,
@@ -130,8 +136,8 @@ pub extern "C" fn kurdavel_read_value(
 ) -> u32
     ensures { λ r.
         ⌜
-        ValueCrossed (now (words .entry)) (now (area .entry)) (now (index .entry)) (record { table = table; key = key })
-        (now (place .exit)) (now (bytes .exit)) r
+        ValueCrossed (now (words .entry)) (now (area .entry)) (now (index .entry)) (record { first = first; last = last })
+        (record { table = table; key = key }) (now (place .exit)) (now (bytes .exit)) r
         ⌝ }
 {
     *place = 0;
@@ -143,6 +149,9 @@ pub extern "C" fn kurdavel_read_value(
     let rec = decoded.rec;
     if !fits_lent(rec, area.len(), index.len()) {
         return 4;
+    }
+    if !holds_table(Tables { first, last }, table) {
+        return 22;
     }
     let found = search(area, index, Key { table, key });
     match look_at(rec.size as usize, area, index, found) {
@@ -157,6 +166,7 @@ pub extern "C" fn kurdavel_read_value(
             0
         }
         Lookup::Absent => 8,
+        Lookup::Outside => 22,
         Lookup::Bad => 4,
     }
 }
@@ -197,6 +207,8 @@ pub extern "C" fn kurdavel_write(
     area: &[u8],
     index: &[u32],
     work: &mut [u8],
+    first: u16,
+    last: u16,
     table: u16,
     key: u32,
     value: &[u8],
@@ -204,14 +216,16 @@ pub extern "C" fn kurdavel_write(
 ) -> u32
     ensures { λ r.
         ⌜
-        StartCrossed freely (write (record { table = table; key = key }) (now (value .entry))) (now (words .entry))
+        StartCrossed (reaching (record { first = first; last = last }))
+        (write (record { table = table; key = key }) (now (value .entry))) (now (words .entry))
         (now (words .exit)) (now (area .entry)) (now (index .entry)) (now (work .entry)) (now (work .exit)) (now (stores .entry))
         (now (stores .exit)) r
         ⌝ }
 {
     let decoded = decode(words);
     let rec = decoded.rec;
-    let start = write(rec, area, index, work, Key { table, key }, value);
+    let tables = Tables { first, last };
+    let start = write(rec, area, index, work, tables, Key { table, key }, value);
     hand_back(words, decoded.ok, start, stores)
 }
 
@@ -222,6 +236,8 @@ pub extern "C" fn kurdavel_write_expecting(
     area: &[u8],
     index: &[u32],
     work: &mut [u8],
+    first: u16,
+    last: u16,
     table: u16,
     key: u32,
     expected: u32,
@@ -230,7 +246,7 @@ pub extern "C" fn kurdavel_write_expecting(
 ) -> u32
     ensures { λ r.
         ⌜
-        StartCrossed (record { expected = Expected.Only (record { 0 = expected }) })
+        StartCrossed (record { tables = record { first = first; last = last }; expected = Expected.Only (record { 0 = expected }) })
         (write (record { table = table; key = key }) (now (value .entry))) (now (words .entry)) (now (words .exit))
         (now (area .entry)) (now (index .entry)) (now (work .entry)) (now (work .exit)) (now (stores .entry)) (now (stores .exit)) r
         ⌝ }
@@ -238,7 +254,17 @@ pub extern "C" fn kurdavel_write_expecting(
     let decoded = decode(words);
     let rec = decoded.rec;
     let only = Expected::Only(Version(expected));
-    let start = write_expecting(rec, area, index, work, only, Key { table, key }, value);
+    let tables = Tables { first, last };
+    let start = write_expecting(
+        rec,
+        area,
+        index,
+        work,
+        tables,
+        only,
+        Key { table, key },
+        value,
+    );
     hand_back(words, decoded.ok, start, stores)
 }
 
@@ -248,19 +274,22 @@ pub extern "C" fn kurdavel_delete(
     area: &[u8],
     index: &[u32],
     work: &mut [u8],
+    first: u16,
+    last: u16,
     table: u16,
     key: u32,
     stores: &mut u32,
 ) -> u32
     ensures { λ r.
         ⌜
-        StartCrossed freely (delete (record { table = table; key = key })) (now (words .entry)) (now (words .exit)) (now (area .entry))
+        StartCrossed (reaching (record { first = first; last = last })) (delete (record { table = table; key = key })) (now (words .entry)) (now (words .exit)) (now (area .entry))
         (now (index .entry)) (now (work .entry)) (now (work .exit)) (now (stores .entry)) (now (stores .exit)) r
         ⌝ }
 {
     let decoded = decode(words);
     let rec = decoded.rec;
-    let start = delete(rec, area, index, work, Key { table, key });
+    let tables = Tables { first, last };
+    let start = delete(rec, area, index, work, tables, Key { table, key });
     hand_back(words, decoded.ok, start, stores)
 }
 

@@ -109,17 +109,17 @@ module _ (L : Layout) (before : List ℕ) (idle : Record) (k : Key) where
         number-left = λ f. number-below (idle .digest .0) (idle-number L before idle (write k value) a) (both-true-false _ _ (tests .number-left) (not-true-of _ f));
       }
     where
-      tests : WritePassed L idle (a .lengths) freely (keyFacts log k) (length value)
-      tests = write-passed L idle (a .lengths) freely (keyFacts log k) (length value) (a .no-cause)
+      tests : WritePassed L idle (a .lengths) freely k (keyFacts log k) (length value)
+      tests = write-passed L idle (a .lengths) freely k (keyFacts log k) (length value) (a .no-cause)
 
       facts : Lent L idle (length before) (idle .cells)
       facts = idle-lent L before idle (write k value) a
 
   -- the tombstone of an accepted delete
   module _ (a : Accepted L before idle (delete k)) where
-    tests : DeletePassed L idle (a .lengths) (keyFacts log k)
+    tests : DeletePassed L idle (a .lengths) freely k (keyFacts log k)
     unfolding startCauses
-    tests = delete-passed L idle (a .lengths) (keyFacts log k) (a .no-cause)
+    tests = delete-passed L idle (a .lengths) freely k (keyFacts log k) (a .no-cause)
 
     facts : Lent L idle (length before) (idle .cells)
     facts = idle-lent L before idle (delete k) a

@@ -8,6 +8,7 @@ use mathlib.Core.Option.{Option, none}
 use lib.ListN.{length}
 use Rattle.segment.specs.Choice.{isNone}
 use Rattle.segment.specs.Layout.{Layout, entrySize}
+use Rattle.segment.specs.declared.Key.{Key}
 use Rattle.record.specs.Range.{cellsGood}
 use Rattle.record.specs.declared.Refusal.the-variants.{BadOrder}
 use Rattle.record.specs.declared.Record.{Record}
@@ -15,11 +16,12 @@ use Rattle.model.specs.Log.{View, Head, Placed, versionShared}
 use Rattle.model.specs.Causes.{Cause, when, firstCause}
 use Rattle.model.specs.Recovery.{geometryBad, orderBad, headElse, digestBad, logDamaged, logSlots, logUnder, lentCauses, imageCauses}
 use Rattle.model.specs.Operations.{Operation, write, delete, clean}
-use Rattle.model.specs.Refused.{Lengths, Terms, KeyFacts, keyFacts, expectsOther, keptLength, recordBad, workShort, isPending, valueBad, versionsSpent, numbersSpent, keysFull, noRoom, noNumber, victimsBad, keptTooLong, writeCauses, deleteCauses, cleanCauses, startCauses, stepCauses}
+use Rattle.model.specs.Refused.{Lengths, Terms, KeyFacts, keyFacts, expectsOther, outsideTables, keptLength, recordBad, workShort, isPending, valueBad, versionsSpent, numbersSpent, keysFull, noRoom, noNumber, victimsBad, keptTooLong, writeCauses, deleteCauses, cleanCauses, startCauses, stepCauses}
 use Rattle.laws.specs.CauseLaws.{NoCause, no-cause}
 
-pub record WritePassed (L : Layout) (r : Record) (l : Lengths) (t : Terms) (k : KeyFacts) (n : ℕ) : Type 0 where
+pub record WritePassed (L : Layout) (r : Record) (l : Lengths) (t : Terms) (j : Key) (k : KeyFacts) (n : ℕ) : Type 0 where
   pub record-good : recordBad L r l ≡ false
+  pub in-reach : outsideTables (t .tables) j ≡ false
   pub work-long : workShort r l ≡ false
   pub idle : isPending (r .pending) ≡ false
   pub value-known : valueBad L n ≡ false
@@ -31,25 +33,27 @@ pub record WritePassed (L : Layout) (r : Record) (l : Lengths) (t : Terms) (k : 
   pub number-left : noNumber r (entrySize L n) ≡ false
 
 pub write-passed :
-    (L : Layout) (r : Record) (l : Lengths) (t : Terms) (k : KeyFacts) (n : ℕ) → firstCause (writeCauses L r l t k n) ≡ none →
-    WritePassed L r l t k n
-write-passed L r l t k n e =
-    let x : NoCause (writeCauses L r l t k n) = no-cause (writeCauses L r l t k n) e in
+    (L : Layout) (r : Record) (l : Lengths) (t : Terms) (j : Key) (k : KeyFacts) (n : ℕ) → firstCause (writeCauses L r l t j k n) ≡ none →
+    WritePassed L r l t j k n
+write-passed L r l t j k n e =
+    let x : NoCause (writeCauses L r l t j k n) = no-cause (writeCauses L r l t j k n) e in
     record {
       record-good = x .0;
-      work-long = x .1 .0;
-      idle = x .1 .1 .0;
-      value-known = x .1 .1 .1 .0;
-      log-sound = x .1 .1 .1 .1 .0;
-      as-expected = x .1 .1 .1 .1 .1 .0;
-      versions-left = x .1 .1 .1 .1 .1 .1 .0;
-      key-fits = x .1 .1 .1 .1 .1 .1 .1 .0;
-      room = x .1 .1 .1 .1 .1 .1 .1 .1 .0;
-      number-left = x .1 .1 .1 .1 .1 .1 .1 .1 .1 .0;
+      in-reach = x .1 .0;
+      work-long = x .1 .1 .0;
+      idle = x .1 .1 .1 .0;
+      value-known = x .1 .1 .1 .1 .0;
+      log-sound = x .1 .1 .1 .1 .1 .0;
+      as-expected = x .1 .1 .1 .1 .1 .1 .0;
+      versions-left = x .1 .1 .1 .1 .1 .1 .1 .0;
+      key-fits = x .1 .1 .1 .1 .1 .1 .1 .1 .0;
+      room = x .1 .1 .1 .1 .1 .1 .1 .1 .1 .0;
+      number-left = x .1 .1 .1 .1 .1 .1 .1 .1 .1 .1 .0;
     }
 
-pub record DeletePassed (L : Layout) (r : Record) (l : Lengths) (k : KeyFacts) : Type 0 where
+pub record DeletePassed (L : Layout) (r : Record) (l : Lengths) (t : Terms) (j : Key) (k : KeyFacts) : Type 0 where
   pub record-good : recordBad L r l ≡ false
+  pub in-reach : outsideTables (t .tables) j ≡ false
   pub work-long : workShort r l ≡ false
   pub idle : isPending (r .pending) ≡ false
   pub log-sound : k .forbidden ≡ false
@@ -57,17 +61,20 @@ pub record DeletePassed (L : Layout) (r : Record) (l : Lengths) (k : KeyFacts) :
   pub versions-left : versionsSpent L r ≡ false
   pub number-left : noNumber r (entrySize L 0) ≡ false
 
-pub delete-passed : (L : Layout) (r : Record) (l : Lengths) (k : KeyFacts) → firstCause (deleteCauses L r l k) ≡ none → DeletePassed L r l k
-delete-passed L r l k e =
-    let t : NoCause (deleteCauses L r l k) = no-cause (deleteCauses L r l k) e in
+pub delete-passed :
+    (L : Layout) (r : Record) (l : Lengths) (t : Terms) (j : Key) (k : KeyFacts) → firstCause (deleteCauses L r l t j k) ≡ none →
+    DeletePassed L r l t j k
+delete-passed L r l t j k e =
+    let x : NoCause (deleteCauses L r l t j k) = no-cause (deleteCauses L r l t j k) e in
     record {
-      record-good = t .0;
-      work-long = t .1 .0;
-      idle = t .1 .1 .0;
-      log-sound = t .1 .1 .1 .0;
-      present = t .1 .1 .1 .1 .0;
-      versions-left = t .1 .1 .1 .1 .1 .0;
-      number-left = t .1 .1 .1 .1 .1 .1 .0;
+      record-good = x .0;
+      in-reach = x .1 .0;
+      work-long = x .1 .1 .0;
+      idle = x .1 .1 .1 .0;
+      log-sound = x .1 .1 .1 .1 .0;
+      present = x .1 .1 .1 .1 .1 .0;
+      versions-left = x .1 .1 .1 .1 .1 .1 .0;
+      number-left = x .1 .1 .1 .1 .1 .1 .1 .0;
     }
 
 pub record CleanPassed (L : Layout) (r : Record) (l : Lengths) (n victims : ℕ) : Type 0 where
@@ -101,9 +108,9 @@ pub start-passed :
     StartPassed L r l
 unfolding startCauses
 start-passed L r log l t (write k value) e =
-    let x = write-passed L r l t (keyFacts log k) (length value) e in record { record-good = x .record-good; work-long = x .work-long; idle = x .idle }
+    let x = write-passed L r l t k (keyFacts log k) (length value) e in record { record-good = x .record-good; work-long = x .work-long; idle = x .idle }
 start-passed L r log l t (delete k) e =
-    let x = delete-passed L r l (keyFacts log k) e in record { record-good = x .record-good; work-long = x .work-long; idle = x .idle }
+    let x = delete-passed L r l t k (keyFacts log k) e in record { record-good = x .record-good; work-long = x .work-long; idle = x .idle }
 start-passed L r log l t (clean victims) e =
     let x = clean-passed L r l (keptLength L log victims) victims e in record { record-good = x .record-good; work-long = x .work-long; idle = x .idle }
 

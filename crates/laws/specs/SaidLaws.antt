@@ -2,7 +2,6 @@
 use Prim.Native.Nat.{ℕ, zero, suc}
 use mathlib.Core.Path.{_≡_, refl, sym, ap, _∙_}
 use mathlib.Core.Logic.{_⊎_, inl, inr}
-use mathlib.Core.Bool.{true}
 use mathlib.Core.List.{List, []}
 use mathlib.Core.Option.{Option, none, some}
 use Rattle.segment.specs.Layout.{Layout}
@@ -13,14 +12,14 @@ use Rattle.record.specs.declared.Refusal.{Refusal}
 use Rattle.record.specs.declared.Record.{Record}
 use Rattle.record.specs.declared.Recovery.{Recovery}
 use Rattle.record.specs.declared.Start.{Start}
+use Rattle.record.specs.declared.Tables.{Tables}
 use Rattle.model.specs.Log.{Placed, present}
 use Rattle.model.specs.Causes.{firstCause}
 use Rattle.model.specs.Recovery.{recordFrom, recoverCauses, recoveryFor, recovery}
 use Rattle.model.specs.Operations.{Operation, logNow, storesFor}
-use Rattle.model.specs.Refused.{Lengths, Terms, recordBad, readCauses, startCauses}
+use Rattle.model.specs.Refused.{Terms, reachCauses, readCauses, earlyCauses, startCauses}
 use Rattle.model.specs.Promises.{Genuine, Settled, formatAnswer, presentAnswer, readAnswer, objectSaid, readLengths, Begun, begun, lentLengths, stepped, stepSays}
-use Rattle.laws.specs.CauseLaws.{cause-first}
-use Rattle.laws.specs.Starts.{start-bad}
+use Rattle.laws.specs.Starts.{start-early, read-early}
 
 pub format-says : (c : Option Refusal) → formatSaid (formatAnswer c) ≡ saidBy c taken
 unfolding formatAnswer saidBy
@@ -58,35 +57,36 @@ unfolding stepped stepSays
 step-says L before idle o zero = refl
 step-says L before idle o (suc k) = refl
 
--- A read that answers as it must on records that are unfit and on genuine stores says what it must.
+-- A read that answers as it must where a first cause holds and on genuine stores says what it must.
 pub read-settled :
-    (L : Layout) (r : Record) (area cells : List ℕ) (k : Key) (a : ReadAnswer) →
-    (recordBad L r (readLengths area cells) ≡ true → a ≡ ReadAnswer.Refused Refusal.BadRecord) →
+    (L : Layout) (r : Record) (area cells : List ℕ) (t : Tables) (k : Key) (a : ReadAnswer) →
+    ((c : Refusal) → firstCause (reachCauses L r (readLengths area cells) t k) ≡ some c → a ≡ ReadAnswer.Refused c) →
     (Genuine L area r cells → a ≡
-    readAnswer L (firstCause (readCauses L r (logNow L area r) (readLengths area cells) k)) (present (logNow L area r) k)) →
-    Settled L area r cells (readLengths area cells) → readSaid a ≡
-    saidBy (firstCause (readCauses L r (logNow L area r) (readLengths area cells) k)) (objectSaid L (present (logNow L area r) k))
+    readAnswer L (firstCause (readCauses L r (logNow L area r) (readLengths area cells) t k)) (present (logNow L area r) k)) →
+    Settled L area r cells (reachCauses L r (readLengths area cells) t k) → readSaid a ≡
+    saidBy (firstCause (readCauses L r (logNow L area r) (readLengths area cells) t k)) (objectSaid L (present (logNow L area r) k))
 unfolding saidBy
-read-settled L r area cells k a unfit exact (inl bad) =
-    ap readSaid (unfit bad) ∙
-    sym (ap (λ (c : Option Refusal). saidBy c (objectSaid L (present (logNow L area r) k))) (cause-first _ _ bad))
-read-settled L r area cells k a unfit exact (inr genuine) =
+read-settled L r area cells t k a early exact (inl (c, e)) =
+    ap readSaid (early c e) ∙
+    sym (ap (λ (x : Option Refusal). saidBy x (objectSaid L (present (logNow L area r) k))) (read-early L r (logNow L area r) (readLengths area cells) t k c e))
+read-settled L r area cells t k a early exact (inr genuine) =
     ap readSaid (exact genuine) ∙
-    read-says L (firstCause (readCauses L r (logNow L area r) (readLengths area cells) k)) (present (logNow L area r) k)
+    read-says L (firstCause (readCauses L r (logNow L area r) (readLengths area cells) t k)) (present (logNow L area r) k)
 
 -- and likewise a start
 pub start-settled :
     (L : Layout) (t : Terms) (o : Operation) (r : Record) (area cells work work′ : List ℕ) (a : Start) →
-    (recordBad L r (lentLengths area cells work) ≡ true →
-    _≡_ {A = Begun} (record { start = a; work = work′ }) (begun L r [] o work (some Refusal.BadRecord))) →
+    ((c : Refusal) → firstCause (earlyCauses L r (lentLengths area cells work) t o) ≡ some c →
+    _≡_ {A = Begun} (record { start = a; work = work′ }) (begun L r [] o work (some c))) →
     (Genuine L area r cells → _≡_ {A = Begun} (record { start = a; work = work′ })
     (begun L r (logNow L area r) o work (firstCause (startCauses L r (logNow L area r) (lentLengths area cells work) t o)))) →
-    Settled L area r cells (lentLengths area cells work) → startSaid (a .answer) ≡
+    Settled L area r cells (earlyCauses L r (lentLengths area cells work) t o) → startSaid (a .answer) ≡
     saidBy (firstCause (startCauses L r (logNow L area r) (lentLengths area cells work) t o)) (takenWith (storesFor L r (logNow L area r) o))
 unfolding saidBy begun
-start-settled L t o r area cells work work′ a unfit exact (inl bad) =
-    ap (λ (b : Begun). startSaid (b .start .answer)) (unfit bad) ∙
-    sym (ap (λ (c : Option Refusal). saidBy c (takenWith (storesFor L r (logNow L area r) o))) (start-bad L r (logNow L area r) (lentLengths area cells work) t o bad))
-start-settled L t o r area cells work work′ a unfit exact (inr genuine) =
+start-settled L t o r area cells work work′ a early exact (inl (c, e)) =
+    ap (λ (b : Begun). startSaid (b .start .answer)) (early c e) ∙
+    sym (ap (λ (x : Option Refusal). saidBy x (takenWith (storesFor L r (logNow L area r) o)))
+    (start-early L r (logNow L area r) (lentLengths area cells work) t o c e))
+start-settled L t o r area cells work work′ a early exact (inr genuine) =
     ap (λ (b : Begun). startSaid (b .start .answer)) (exact genuine) ∙
     start-says L r (logNow L area r) o work (firstCause (startCauses L r (logNow L area r) (lentLengths area cells work) t o))

@@ -9,6 +9,7 @@ use Rattle.segment.specs.declared.Key.{Key}
 use Rattle.record.specs.declared.Pending.{Pending}
 use Rattle.record.specs.declared.Pending.the-variants.{Idle, Append, NewHead, Clean, Forget}
 use Rattle.record.specs.declared.Record.{Record}
+use Rattle.record.specs.Reach.{allTables}
 use Rattle.model.specs.Recovery.{recoverCauses, recovery}
 use Rattle.model.specs.Operations.{Operation, write, delete, clean, formatted, allEncoded}
 use Rattle.model.specs.Refused.{freely, formatCauses, readCauses, startCauses, stepCauses}
@@ -131,12 +132,12 @@ recordOf n s m end number map next keys p =
 -- reading a key of an empty log, with memory as long as the record says: 4, or 8
 abbrev readsOf : Record → ℕ
 readsOf r =
-    first (readCauses edition1 r [] (record { area = r .slots * r .size; index = r .cells; work = 0 }) (keyed 7 9))
+    first (readCauses edition1 r [] (record { area = r .slots * r .size; index = r .cells; work = 0 }) allTables (keyed 7 9))
 
-abbrev idle : Record
+abbrev pub idle : Record
 idle = recordOf 4 256 16 13 1 1 1 0 Idle
 
-abbrev busy : Pending → Record
+abbrev pub busy : Pending → Record
 busy p = recordOf 4 256 16 13 1 1 1 0 p
 
 abbrev steps : Record → ℕ → ℕ
@@ -214,7 +215,7 @@ callRefusals =
     (8 ∷ 8 ∷ 8 ∷ [])
     -- lent lengths that are not the record's own
     ∷ row 4
-    (map (λ l. first (readCauses edition1 idle [] l (keyed 7 9)))
+    (map (λ l. first (readCauses edition1 idle [] l allTables (keyed 7 9)))
     (record { area = 1023; index = 16; work = 0 } ∷ record { area = 1024; index = 17; work = 0 } ∷ []))
     (4 ∷ 4 ∷ [])
     ∷ row 4 (steps (busy (Append 19 0)) 255 ∷ map (startsOf (busy (Append 19 258)) 255) badOnes) (4 ∷ 4 ∷ 4 ∷ 4 ∷ [])

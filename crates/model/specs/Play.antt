@@ -18,6 +18,8 @@ use Rattle.record.specs.Refusals.{numberOfRefusal}
 use Rattle.record.specs.declared.Recovery.{Recovery}
 use Rattle.record.specs.declared.Refusal.{Refusal}
 use Rattle.record.specs.declared.Record.{Record}
+use Rattle.record.specs.declared.Tables.{Tables}
+use Rattle.record.specs.Reach.{holdsTable, allTables}
 use Rattle.model.specs.Log.{Placed, itemFirst, scanFrom, itemsOf, endOf, isDamaged, digestIn, newer, headOf, placedIn, logOf, sameKeys, sameKey, laterOf, latest, objectOnly, present, hasKey, keysOf, hasVersion, versionShared, highest}
 use Rattle.model.specs.Causes.{Cause, firstCause}
 use Rattle.model.specs.Recovery.{lists, listsBelow, headElse, hasNumber, sharing, namesNoDigest, logDamaged, recoveryFor, recovery, recordFrom}
@@ -29,7 +31,7 @@ use Rattle.model.specs.Table.{same, failing}
 -- What a computed row looks through: a proof that opens this opens them all.
 unfoldable pub opened : Unit {0}
 unfolding numberOf bytesOf pick both either isNone orZero edition1 lookup lookBack isSome valueLength goodVersion bytesIn kindFor valueFor ofVersion ofLength entryAt
-    bit used slotAfter freeFrom nextFree between mapGood leftGood inRange lengthsOwn fitsLent
+    holdsTable bit used slotAfter freeFrom nextFree between mapGood leftGood inRange lengthsOwn fitsLent
     itemFirst scanFrom itemsOf endOf isDamaged digestIn newer headOf placedIn logOf sameKeys sameKey laterOf latest objectOnly present hasKey keysOf hasVersion versionShared highest
     firstCause lists listsBelow headElse hasNumber sharing namesNoDigest logDamaged recoveryFor recovery
     isVersion objectOutside keptOf allEncoded replaced replacedBy slotOf laid storesFrom planOf stored toldVersion countNew placedFrom finishedRecord cleared
@@ -150,14 +152,17 @@ abbrev pub playedAll : List ℕ → List Operation → List ℕ
 playedAll area [] = area
 playedAll area (o ∷ os) = playedAll (played area o) os
 
--- what reading a key answers, and the value
-abbrev pub readCause : Record → List ℕ → Key → Option Refusal
-readCause r area k = firstCause (readCauses edition1 r (logNow edition1 area r) (lentWith 0) k)
+-- what reading a key within these tables answers, and the value; and with every table in reach
+abbrev pub readCause : Tables → Record → List ℕ → Key → Option Refusal
+readCause t r area k = firstCause (readCauses edition1 r (logNow edition1 area r) (lentWith 0) t k)
+
+abbrev pub readsWithin : Tables → List ℕ → Key → List ℕ
+readsWithin t area k =
+    said (readSaid (readAnswer edition1 (readCause t (recordNow area) area k) (present (log area) k))) ++
+    partOf area (valueAnswer edition1 256 (readCause t (recordNow area) area k) (present (log area) k))
 
 abbrev pub reads : List ℕ → Key → List ℕ
-reads area k =
-    said (readSaid (readAnswer edition1 (readCause (recordNow area) area k) (present (log area) k))) ++
-    partOf area (valueAnswer edition1 256 (readCause (recordNow area) area k) (present (log area) k))
+reads = readsWithin allTables
 
 -- the bytes that a cleaning keeps
 abbrev pub keeps : List ℕ → ℕ → List ℕ

@@ -17,9 +17,10 @@ use Rattle.record.specs.declared.Recovery.{Recovery}
 use Rattle.record.specs.declared.Refusal.{Refusal}
 use Rattle.record.specs.declared.Start.{Start}
 use Rattle.record.specs.declared.Stepped.{Stepped}
+use Rattle.record.specs.declared.Tables.{Tables}
 use Rattle.model.specs.Causes.{firstCause}
 use Rattle.model.specs.Operations.{Operation}
-use Rattle.model.specs.Refused.{Terms, stepCauses, recordBad}
+use Rattle.model.specs.Refused.{Terms, reachCauses, earlyCauses, stepCauses}
 use Rattle.model.specs.Promises.{Genuine, Settled, Started, FormatPromise, RecoverPromise, ReadPromise, readLengths, Part, nowhere, ValuePromise, Begun, lentLengths, StartPromise, StepPromise, OneByte}
 
 -- Two places at which the area after a step differs from the one before are one place.
@@ -36,9 +37,9 @@ one-place area area′ (p, b, e) i j h g = stored-at i h ∙ sym (stored-at j g)
 
 -- Two parts that may both be a key's value are one: a copy of equal bytes elsewhere in the area is not the value.
 pub value-fixed :
-    (L : Layout) (r : Record) (area cells : List ℕ) (k : Key) (p q : Part) → Genuine L area r cells → ValuePromise L r area cells k p →
-    ValuePromise L r area cells k q → p ≡ q
-value-fixed L r area cells k p q g x y = x .exact g ∙ sym (y .exact g)
+    (L : Layout) (r : Record) (area cells : List ℕ) (t : Tables) (k : Key) (p q : Part) → Genuine L area r cells →
+    ValuePromise L r area cells t k p → ValuePromise L r area cells t k q → p ≡ q
+value-fixed L r area cells t k p q g x y = x .exact g ∙ sym (y .exact g)
 
 -- ---- two answers to the same input, wherever the whole answer is promised, are one, and so is what they leave and what they say
 
@@ -64,44 +65,45 @@ pub recover-fixed :
     RecoverPromise L n s order area cells cells″ q → RecoverSame r q
 recover-fixed L n s order area cells cells′ cells″ r q x y = record { answer = x .answers ∙ sym (y .answers); said = x .says ∙ sym (y .says) }
 
--- Read: the record always, the answer on genuine stores, and what it says also of a record that is unfit.
-pub record ReadSame (L : Layout) (r : Record) (area cells : List ℕ) (a b : Reading) : Type 0 where
+-- Read: the record always, the answer on genuine stores, and what it says also where 4 or 22 is found before any look at the log.
+pub record ReadSame (L : Layout) (r : Record) (area cells : List ℕ) (t : Tables) (k : Key) (a b : Reading) : Type 0 where
   pub record-same : a .rec ≡ b .rec
-  pub unfit-same : recordBad L r (readLengths area cells) ≡ true → a .answer ≡ b .answer
+  pub early-same : (c : Refusal) → firstCause (reachCauses L r (readLengths area cells) t k) ≡ some c → a .answer ≡ b .answer
   pub answer-same : Genuine L area r cells → a .answer ≡ b .answer
-  pub said : Settled L area r cells (readLengths area cells) → readSaid (a .answer) ≡ readSaid (b .answer)
+  pub said : Settled L area r cells (reachCauses L r (readLengths area cells) t k) → readSaid (a .answer) ≡ readSaid (b .answer)
 
 pub read-fixed :
-    (L : Layout) (r : Record) (area cells : List ℕ) (k : Key) (a b : Reading) → ReadPromise L r area cells k a → ReadPromise L r area cells k b →
-    ReadSame L r area cells a b
-read-fixed L r area cells k a b x y =
+    (L : Layout) (r : Record) (area cells : List ℕ) (t : Tables) (k : Key) (a b : Reading) → ReadPromise L r area cells t k a →
+    ReadPromise L r area cells t k b → ReadSame L r area cells t k a b
+read-fixed L r area cells t k a b x y =
     record {
       record-same = x .hands-back ∙ sym (y .hands-back);
-      unfit-same = λ u. x .unfit u ∙ sym (y .unfit u);
+      early-same = λ c u. x .early c u ∙ sym (y .early c u);
       answer-same = λ g. x .exact g ∙ sym (y .exact g);
       said = λ g. x .says g ∙ sym (y .says g);
     }
 
--- A value beside a record that is unfit is no bytes at place 0.
-pub value-unfit :
-    (L : Layout) (r : Record) (area cells : List ℕ) (k : Key) (p : Part) → recordBad L r (readLengths area cells) ≡ true →
-    ValuePromise L r area cells k p → p ≡ nowhere
-value-unfit L r area cells k p u x = x .unfit u
+-- A value beside a record that is unfit, and one out of reach, is no bytes at place 0.
+pub value-early :
+    (L : Layout) (r : Record) (area cells : List ℕ) (t : Tables) (k : Key) (p : Part) (c : Refusal) →
+    firstCause (reachCauses L r (readLengths area cells) t k) ≡ some c → ValuePromise L r area cells t k p → p ≡ nowhere
+value-early L r area cells t k p c u x = x .early c u
 
 -- A start: its answer, its record and the work buffer.
-pub record StartSame (L : Layout) (r : Record) (area cells work work′ work″ : List ℕ) (a b : Start) : Type 0 where
-  pub unfit-same :
-      recordBad L r (lentLengths area cells work) ≡ true →
+pub record StartSame (L : Layout) (t : Terms) (o : Operation) (r : Record) (area cells work work′ work″ : List ℕ) (a b : Start) : Type 0 where
+  pub early-same :
+      (c : Refusal) → firstCause (earlyCauses L r (lentLengths area cells work) t o) ≡ some c →
       _≡_ {A = Begun} (record { start = a; work = work′ }) (record { start = b; work = work″ })
   pub left-same : Genuine L area r cells → _≡_ {A = Begun} (record { start = a; work = work′ }) (record { start = b; work = work″ })
-  pub said : Settled L area r cells (lentLengths area cells work) → startSaid (a .answer) ≡ startSaid (b .answer)
+  pub said : Settled L area r cells (earlyCauses L r (lentLengths area cells work) t o) → startSaid (a .answer) ≡ startSaid (b .answer)
 
 pub start-fixed :
     (L : Layout) (t : Terms) (o : Operation) (r : Record) (area cells work work′ work″ : List ℕ) (a b : Start) →
-    StartPromise L t o r area cells work work′ a → StartPromise L t o r area cells work work″ b → StartSame L r area cells work work′ work″ a b
+    StartPromise L t o r area cells work work′ a → StartPromise L t o r area cells work work″ b →
+    StartSame L t o r area cells work work′ work″ a b
 start-fixed L t o r area cells work work′ work″ a b x y =
     record {
-      unfit-same = λ u. x .unfit u ∙ sym (y .unfit u);
+      early-same = λ c u. x .early c u ∙ sym (y .early c u);
       left-same = λ g. x .exact g ∙ sym (y .exact g);
       said = λ g. x .says g ∙ sym (y .says g);
     }

@@ -21,6 +21,7 @@ use Rattle.record.specs.declared.Pending.the-variants.{Idle, Append, NewHead, C
 use Rattle.record.specs.declared.Refusal.{Refusal}
 use Rattle.record.specs.Refusals.{numberOfRefusal}
 use Rattle.record.specs.declared.Record.{Record}
+use Rattle.record.specs.declared.Tables.{Tables}
 use Rattle.record.specs.declared.FormatAnswer.{FormatAnswer}
 use Rattle.record.specs.declared.Recovery.{Recovery}
 use Rattle.record.specs.declared.RecoverAnswer.{RecoverAnswer}
@@ -35,7 +36,7 @@ use Rattle.model.specs.Causes.{Cause, firstCause}
 use Rattle.model.specs.Recovery.{recovered, recovery, recoverCauses}
 use Rattle.model.specs.Index.{IndexRule}
 use Rattle.model.specs.Operations.{Operation, Typed, logNow, laid, planFor, storesFor, startedRecord, stored, toldVersion, finishedRecord, formatted}
-use Rattle.model.specs.Refused.{Lengths, Terms, freely, recordBad, formatCauses, readCauses, startCauses, stepCauses}
+use Rattle.model.specs.Refused.{Lengths, Terms, freely, formatCauses, reachCauses, readCauses, earlyCauses, startCauses, stepCauses}
 
 -- Each answer is fixed twice over, in two languages: as the value that the call returns, and (`says`) as the number and values
 -- that 01 gives it, by the definitions that the events of a list and the book use.
@@ -66,10 +67,10 @@ pub record Started (L : Layout) (area : List ℕ) (r : Record) (work : List ℕ)
   pub area-now : area ≡ stored before (take since (planFor L idle (logNow L before idle) operation))
   pub work-now : take (length (laid L idle (logNow L before idle) operation .bytes)) work ≡ laid L idle (logNow L before idle) operation .bytes
 
--- The whole answer of a call with a record is promised where the record fails the tests of range and length, which are its first
--- cause whatever the log holds, and where record and index are genuine.
-abbrev pub Settled : Layout → List ℕ → Record → List ℕ → Lengths → Type 0
-Settled L area r cells l = (recordBad L r l ≡ true) ⊎ Genuine L area r cells
+-- The whole answer of a call with a record is promised where one of its first causes holds, which need no look at the log (4 by range
+-- and lengths, and 22), and where record and index are genuine.
+abbrev pub Settled : Layout → List ℕ → Record → List ℕ → List Cause → Type 0
+Settled L area r cells early = ((c : Refusal) × (firstCause early ≡ some c)) ⊎ Genuine L area r cells
 
 -- ---- format
 
@@ -119,17 +120,18 @@ objectSaid L (some x) = record { refused = 0; stores = 0; version = x .entry .ve
 abbrev pub readLengths : List ℕ → List ℕ → Lengths
 readLengths area cells = record { area = length area; index = length cells; work = 0 }
 
--- The version and kind of the key's object, or 4 or 8; the record is handed back. A record that fails the tests of range and
--- length is refused whatever the log holds. Reads are allowed while an operation is pending, and need no work buffer.
-pub record ReadPromise (L : Layout) (r : Record) (area cells : List ℕ) (k : Key) (a : Reading) : Type 0 where
+-- The version and kind of the key's object, or 4, 22 or 8; the record is handed back. A record that fails the tests of range and
+-- length, and a table out of reach, are refused whatever the log holds. Reads are allowed while an operation is pending, and need no
+-- work buffer.
+pub record ReadPromise (L : Layout) (r : Record) (area cells : List ℕ) (t : Tables) (k : Key) (a : Reading) : Type 0 where
   pub hands-back : a .rec ≡ r
-  pub unfit : recordBad L r (readLengths area cells) ≡ true → a .answer ≡ ReadAnswer.Refused Refusal.BadRecord
+  pub early : (c : Refusal) → firstCause (reachCauses L r (readLengths area cells) t k) ≡ some c → a .answer ≡ ReadAnswer.Refused c
   pub exact :
       Genuine L area r cells → a .answer ≡
-      readAnswer L (firstCause (readCauses L r (logNow L area r) (readLengths area cells) k)) (present (logNow L area r) k)
+      readAnswer L (firstCause (readCauses L r (logNow L area r) (readLengths area cells) t k)) (present (logNow L area r) k)
   pub says :
-      Settled L area r cells (readLengths area cells) → readSaid (a .answer) ≡
-      saidBy (firstCause (readCauses L r (logNow L area r) (readLengths area cells) k)) (objectSaid L (present (logNow L area r) k))
+      Settled L area r cells (reachCauses L r (readLengths area cells) t k) → readSaid (a .answer) ≡
+      saidBy (firstCause (readCauses L r (logNow L area r) (readLengths area cells) t k)) (objectSaid L (present (logNow L area r) k))
 
 -- A part of the area: the place at which it starts, and how many bytes it has.
 pub record Part : Type 0 where
@@ -154,14 +156,14 @@ unfoldable pub valueAnswer : Layout → ℕ → Option Refusal → Option Placed
 valueAnswer L S none x = valuePart L S x
 valueAnswer L S (some c) x = nowhere
 
-abbrev pub promisedPart : Layout → Record → List ℕ → List ℕ → Key → Part
-promisedPart L r area cells k =
-    valueAnswer L (r .size) (firstCause (readCauses L r (logNow L area r) (readLengths area cells) k)) (present (logNow L area r) k)
+abbrev pub promisedPart : Layout → Record → List ℕ → List ℕ → Tables → Key → Part
+promisedPart L r area cells t k =
+    valueAnswer L (r .size) (firstCause (readCauses L r (logNow L area r) (readLengths area cells) t k)) (present (logNow L area r) k)
 
 -- Which part of the area the value is.
-pub record ValuePromise (L : Layout) (r : Record) (area cells : List ℕ) (k : Key) (p : Part) : Type 0 where
-  pub unfit : recordBad L r (readLengths area cells) ≡ true → p ≡ nowhere
-  pub exact : Genuine L area r cells → p ≡ promisedPart L r area cells k
+pub record ValuePromise (L : Layout) (r : Record) (area cells : List ℕ) (t : Tables) (k : Key) (p : Part) : Type 0 where
+  pub early : (c : Refusal) → firstCause (reachCauses L r (readLengths area cells) t k) ≡ some c → p ≡ nowhere
+  pub exact : Genuine L area r cells → p ≡ promisedPart L r area cells t k
 
 -- A reference to that part of what another reference refers to: the part lies within it, the reference points so many bytes behind the
 -- other's start, and has these bytes.
@@ -172,10 +174,10 @@ pub record RefersTo (part whole : RefT (List ℕ)) (p : Part) : Type 0 where
   pub holds : part .now ≡ partOf (whole .now) p
 
 -- The value as a reference into the lent area: to the part that is promised, and to no other bytes that happen to be equal.
-pub record ValueReference (L : Layout) (r : Record) (area : RefT (List ℕ)) (cells : List ℕ) (k : Key) (value : RefT (List ℕ)) : Type 0 where
+pub record ValueReference (L : Layout) (r : Record) (area : RefT (List ℕ)) (cells : List ℕ) (t : Tables) (k : Key) (value : RefT (List ℕ)) : Type 0 where
   pub part : Part
   pub refers : RefersTo value area part
-  pub promised : ValuePromise L r (area .now) cells k part
+  pub promised : ValuePromise L r (area .now) cells t k part
 
 -- ---- write, delete and clean
 
@@ -200,14 +202,14 @@ lentLengths area cells work = record { area = length area; index = length cells;
 -- One promise for the three starts, on any terms. Of an area that is only read nothing has to be said.
 pub record StartPromise (L : Layout) (t : Terms) (o : Operation) (r : Record) (area cells work work′ : List ℕ) (a : Start) : Type 0 where
   pub same-length : length work′ ≡ length work
-  pub unfit :
-      recordBad L r (lentLengths area cells work) ≡ true →
-      record { start = a; work = work′ } ≡ begun L r [] o work (some Refusal.BadRecord)
+  pub early :
+      (c : Refusal) → firstCause (earlyCauses L r (lentLengths area cells work) t o) ≡ some c →
+      record { start = a; work = work′ } ≡ begun L r [] o work (some c)
   pub exact :
       Genuine L area r cells → record { start = a; work = work′ } ≡
       begun L r (logNow L area r) o work (firstCause (startCauses L r (logNow L area r) (lentLengths area cells work) t o))
   pub says :
-      Settled L area r cells (lentLengths area cells work) → startSaid (a .answer) ≡
+      Settled L area r cells (earlyCauses L r (lentLengths area cells work) t o) → startSaid (a .answer) ≡
       saidBy (firstCause (startCauses L r (logNow L area r) (lentLengths area cells work) t o)) (takenWith (storesFor L r (logNow L area r) o))
 
 -- ---- step

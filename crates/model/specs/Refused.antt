@@ -13,8 +13,10 @@ use Rattle.slot_map.specs.Bit.{within}
 use Rattle.record.specs.Range.{fitsLent}
 use Rattle.record.specs.declared.Pending.{Pending}
 use Rattle.record.specs.declared.Pending.the-variants.{Idle, Append, NewHead, Clean, Forget}
-use Rattle.record.specs.declared.Refusal.the-variants.{WorkShort, BadRecord, Busy, NonePending, ValueLength, Absent, VersionsSpent, NumbersSpent, KeysFull, NoRoom, BadVictims, KeptTooLong, Geometry, OtherVersion}
+use Rattle.record.specs.declared.Refusal.the-variants.{WorkShort, BadRecord, Busy, NonePending, ValueLength, Absent, VersionsSpent, NumbersSpent, KeysFull, NoRoom, BadVictims, KeptTooLong, Geometry, OtherVersion, OutsideTables}
 use Rattle.record.specs.declared.Record.{Record}
+use Rattle.record.specs.Reach.{holdsTable, allTables}
+use Rattle.record.specs.declared.Tables.{Tables}
 use Rattle.record.specs.declared.Expected.{Expected}
 use Rattle.record.specs.declared.Expected.the-variants.{Any, Only}
 use Rattle.model.specs.Log.{Placed, hasKey, present}
@@ -31,11 +33,16 @@ pub record Lengths : Type 0 where
 
 -- What a start asks for besides its operation. It belongs to the call: plan, work bytes, book and recovery do not know it.
 pub record Terms : Type 0 where
+  pub tables : Tables
   pub expected : Expected
 
--- nothing besides
+-- nothing besides: every table may be reached, and no version is expected
 abbrev pub freely : Terms
-freely = record { expected = Any }
+freely = record { tables = allTables; expected = Any }
+
+-- these tables alone
+abbrev pub reaching : Tables → Terms
+reaching t = record { tables = t; expected = Any }
 
 -- 4, as far as it needs no look at the log
 abbrev pub recordBad : Layout → Record → Lengths → Bool
@@ -84,6 +91,10 @@ unfoldable pub expectsOther : Expected → ℕ → Bool
 expectsOther Any v = false
 expectsOther (Only e) v = not (eqb (e .0) v)
 
+-- 22 (02, R-2): the caller may not reach the key's table
+abbrev pub outsideTables : Tables → Key → Bool
+outsideTables t k = not (holdsTable t (k .table))
+
 -- 9
 abbrev pub versionsSpent : Layout → Record → Bool
 versionsSpent L r = eqb (r .next .0) (versionLimit L)
@@ -114,15 +125,17 @@ keptTooLong L r n = ltb (r .size) (digestSize L + n)
 abbrev pub formatCauses : ℕ → ℕ → ℕ → List Cause
 formatCauses n s areaLength = when (geometryBad n s areaLength) Geometry ∷ []
 
--- Read: 4, 8.
-abbrev pub readCauses : Layout → Record → List Placed → Lengths → Key → List Cause
-readCauses L r log l k = when (recordBad L r l) BadRecord ∷ when (keyAbsent log k) Absent ∷ []
+-- Read: 4, 22, 8.
+abbrev pub readCauses : Layout → Record → List Placed → Lengths → Tables → Key → List Cause
+readCauses L r log l t k =
+    when (recordBad L r l) BadRecord ∷ when (outsideTables t k) OutsideTables ∷ when (keyAbsent log k) Absent ∷ []
 
--- Write: 4, 3, 5, 7, 21, 9, 11, 12, 10, for a value of n bytes. A forbidden byte is met where the key is looked up, which 21 is
--- the first to need.
-abbrev pub writeCauses : Layout → Record → Lengths → Terms → KeyFacts → ℕ → List Cause
-writeCauses L r l t k n =
+-- Write: 4, 22, 3, 5, 7, 21, 9, 11, 12, 10, for a value of n bytes under key j. A forbidden byte is met where the key is looked up,
+-- which 21 is the first to need.
+abbrev pub writeCauses : Layout → Record → Lengths → Terms → Key → KeyFacts → ℕ → List Cause
+writeCauses L r l t j k n =
     when (recordBad L r l) BadRecord
+    ∷ when (outsideTables (t .tables) j) OutsideTables
     ∷ when (workShort r l) WorkShort
     ∷ when (isPending (r .pending)) Busy
     ∷ when (valueBad L n) ValueLength
@@ -134,10 +147,11 @@ writeCauses L r l t k n =
     ∷ when (noNumber r (entrySize L n)) NumbersSpent
     ∷ []
 
--- Delete: 4, 3, 5, 8, 9, 10. Here 8 is the first to need the key.
-abbrev pub deleteCauses : Layout → Record → Lengths → KeyFacts → List Cause
-deleteCauses L r l k =
+-- Delete: 4, 22, 3, 5, 8, 9, 10. Here 8 is the first to need what is known of key j.
+abbrev pub deleteCauses : Layout → Record → Lengths → Terms → Key → KeyFacts → List Cause
+deleteCauses L r l t j k =
     when (recordBad L r l) BadRecord
+    ∷ when (outsideTables (t .tables) j) OutsideTables
     ∷ when (workShort r l) WorkShort
     ∷ when (isPending (r .pending)) Busy
     ∷ when (k .forbidden) BadRecord
@@ -163,9 +177,19 @@ keptLength L log victims = length (allEncoded L (kept victims log))
 
 -- The causes of a start, with what the log says.
 unfoldable pub startCauses : Layout → Record → List Placed → Lengths → Terms → Operation → List Cause
-startCauses L r log l t (write k value) = writeCauses L r l t (keyFacts log k) (length value)
-startCauses L r log l t (delete k) = deleteCauses L r l (keyFacts log k)
+startCauses L r log l t (write k value) = writeCauses L r l t k (keyFacts log k) (length value)
+startCauses L r log l t (delete k) = deleteCauses L r l t k (keyFacts log k)
 startCauses L r log l t (clean victims) = cleanCauses L r l (keptLength L log victims) victims
+
+-- What is tested before any look at area and index, by the arguments, the record and the lengths alone: 4, and 22 by a call that
+-- names a key.
+abbrev pub reachCauses : Layout → Record → Lengths → Tables → Key → List Cause
+reachCauses L r l t k = when (recordBad L r l) BadRecord ∷ when (outsideTables t k) OutsideTables ∷ []
+
+unfoldable pub earlyCauses : Layout → Record → Lengths → Terms → Operation → List Cause
+earlyCauses L r l t (write k value) = reachCauses L r l (t .tables) k
+earlyCauses L r l t (delete k) = reachCauses L r l (t .tables) k
+earlyCauses L r l t (clean victims) = when (recordBad L r l) BadRecord ∷ []
 
 -- Step: 4, 3, 6.
 abbrev pub stepCauses : Layout → Record → Lengths → List Cause

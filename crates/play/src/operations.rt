@@ -12,6 +12,7 @@ use record::Record;
 use record::Start;
 use record::StartAnswer;
 use record::StepAnswer;
+use record::Tables;
 use segment::Version;
 use store::clean;
 use store::delete;
@@ -233,7 +234,11 @@ pub fn write_key(
     let bytes = memory::value_bytes(value);
     let length = memory::at_most(56, value.length);
     lines::operation(b"write", key);
-    let start = write(rec, area, index, work, key, &bytes[0..length]);
+    let tables = Tables {
+        first: 0,
+        last: 65535,
+    };
+    let start = write(rec, area, index, work, tables, key, &bytes[0..length]);
     let version = before.next;
     let due = Due {
         version,
@@ -255,7 +260,11 @@ pub fn delete_key(
     let before = played.book;
     let key = book::key(number);
     lines::operation(b"delete", key);
-    let start = delete(rec, area, index, work, key);
+    let tables = Tables {
+        first: 0,
+        last: 65535,
+    };
+    let start = delete(rec, area, index, work, tables, key);
     let version = before.next;
     let due = Due {
         version,

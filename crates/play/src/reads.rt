@@ -7,6 +7,7 @@ use crate::memory;
 use record::ReadAnswer;
 use record::Record;
 use record::RecoverAnswer;
+use record::Tables;
 use segment::layout::object_kind;
 use store::read;
 use store::read_value;
@@ -52,10 +53,14 @@ fn answer_is(answer: ReadAnswer, held: Held) -> bool
 fn reads_as(rec: Record, area: &[u8], index: &[u32], number: usize, held: Held) -> bool {
     let key = book::key(number);
     let value = held.value;
-    if !bytes_are(read_value(rec, area, index, key), value) {
+    let tables = Tables {
+        first: 0,
+        last: 65535,
+    };
+    if !bytes_are(read_value(rec, area, index, tables, key), value) {
         return false;
     }
-    let reading = read(rec, area, index, key);
+    let reading = read(rec, area, index, tables, key);
     let answer = reading.answer;
     answer_is(answer, held)
 }

@@ -4,3 +4,4 @@ pub mod Answers
 pub mod Committed
 pub mod Range
 pub mod RangeLaws
+pub mod Reach

@@ -7,6 +7,7 @@ ghost use Rattle.record.specs.Committed.{committed};
 ghost use Rattle.record.specs.Refusals.{numberOfRefusal};
 
 pub mod range;
+pub mod reach;
 
 // What an operation still has to do. The bytes themselves stand in the work buffer; `length` is how many of them are the
 // operation's, and `left` how many stores are left.
@@ -87,6 +88,14 @@ pub enum Refusal {
     SharedVersion,
     TooManyKeys,
     OtherVersion,
+    OutsideTables,
+}
+
+// The tables that a caller may reach (02, R-2), from the first to the last, both included; none where the first is above the
+// last.
+pub struct Tables {
+    pub first: u16,
+    pub last: u16,
 }
 
 // What a write expects of its key (02, R-1): nothing, or the version that the key has, 0 where it is absent.
@@ -170,6 +179,7 @@ pub fn number(r: Refusal) -> u32
         Refusal::SharedVersion => 19,
         Refusal::TooManyKeys => 20,
         Refusal::OtherVersion => 21,
+        Refusal::OutsideTables => 22,
     }
 }
 

@@ -1,12 +1,11 @@
 -- What is looked up on a genuine store is the object that its map has.
 use Prim.Native.Nat.{ℕ, _+_, _*_, _-_, _≤_, _<_}
-use mathlib.Core.Path.{_≡_, refl, sym, _∙_, ap}
+use mathlib.Core.Path.{_≡_, refl, sym, _∙_, ap, subst⁻¹}
 use mathlib.Core.Bool.{Bool, true, false, not}
 use mathlib.Core.List.{List, [], _∷_}
 use mathlib.Core.Option.{Option, none, some}
 use native.Mathlib.Omega.{arith}
 use lib.ListN.{length, getD, take, drop, length-take}
-use borrow.Author.Tests.{not-true}
 use Rattle.segment.specs.Area.{standsAt, found-within, found-place}
 use Rattle.segment.specs.Choice.{pick, pick-true, pick-false, isNone}
 use Rattle.segment.specs.Layout.{Layout, entrySize}
@@ -19,17 +18,19 @@ use Rattle.segment.specs.declared.Version.{Version}
 use Rattle.slot_map.specs.Bit.{named}
 use Rattle.record.specs.Answers.{withPending}
 use Rattle.record.specs.Range.{fitsLent}
+use Rattle.record.specs.Reach.{holdsTable}
 use Rattle.record.specs.RangeLaws.{lent}
 use Rattle.record.specs.declared.Pending.the-variants.{Idle}
 use Rattle.record.specs.declared.Record.{Record}
 use Rattle.record.specs.declared.ReadAnswer.{ReadAnswer}
 use Rattle.record.specs.declared.Refusal.{Refusal}
+use Rattle.record.specs.declared.Tables.{Tables}
 use Rattle.model.specs.Log.{Placed, placeOf, segmentOf, viewsOf, logOf, latest, objectOnly, present, keysOf, scan}
-use Rattle.model.specs.Causes.{when, firstCause}
+use Rattle.model.specs.Causes.{Cause, when, firstCause}
 use Rattle.model.specs.Operations.{logNow}
-use Rattle.model.specs.Refused.{recordBad, keyAbsent, readCauses}
-use Rattle.model.specs.Promises.{Genuine, ReadPromise, ValuePromise, readAnswer, presentAnswer, readLengths, valuePart, valueAnswer}
-use Rattle.laws.specs.CauseLaws.{cause-first, cause-none, cause-skip}
+use Rattle.model.specs.Refused.{recordBad, keyAbsent, outsideTables, reachCauses, readCauses}
+use Rattle.model.specs.Promises.{Genuine, ReadPromise, nowhere, ValuePromise, readAnswer, presentAnswer, readLengths, valuePart, valueAnswer}
+use Rattle.laws.specs.CauseLaws.{cause-first, cause-skip}
 use Rattle.laws.specs.SaidLaws.{read-settled}
 use Rattle.laws.specs.Members.{In}
 use Rattle.laws.specs.Latest.{latest-some}
@@ -47,27 +48,32 @@ use Rattle.recovery.specs.declared.Lookup.{Lookup}
 
 -- ---- the lookup at each test of the code
 
-module _ (L : Layout) (r : Record) (area cells : List ℕ) (k : Key) where
-  pub looked-unfit : fitsLent L r (length area) (length cells) ≡ false → lookedUp L r area cells k ≡ Lookup.Bad
+module _ (L : Layout) (r : Record) (area cells : List ℕ) (t : Tables) (k : Key) where
+  pub looked-unfit : fitsLent L r (length area) (length cells) ≡ false → lookedUp L r area cells t k ≡ Lookup.Bad
   unfolding lookedUp
   looked-unfit e = pick-false (fitsLent L r (length area) (length cells)) _ _ e
 
-  module _ (fit : fitsLent L r (length area) (length cells) ≡ true) where
-    pub looked-fit : lookedUp L r area cells k ≡ lookupAt L (r .size) area cells (searchFor L area cells k)
-    unfolding lookedUp
-    looked-fit = pick-true (fitsLent L r (length area) (length cells)) _ _ fit
+  pub looked-outside :
+      fitsLent L r (length area) (length cells) ≡ true → holdsTable t (k .table) ≡ false → lookedUp L r area cells t k ≡ Lookup.Outside
+  unfolding lookedUp
+  looked-outside fit out = pick-true (fitsLent L r (length area) (length cells)) _ _ fit ∙ pick-false (holdsTable t (k .table)) _ _ out
 
-    pub looked-full : searchFor L area cells k ≡ Hit.Full → lookedUp L r area cells k ≡ Lookup.Bad
+  module _ (fit : fitsLent L r (length area) (length cells) ≡ true) (held : holdsTable t (k .table) ≡ true) where
+    pub looked-fit : lookedUp L r area cells t k ≡ lookupAt L (r .size) area cells (searchFor L area cells k)
+    unfolding lookedUp
+    looked-fit = pick-true (fitsLent L r (length area) (length cells)) _ _ fit ∙ pick-true (holdsTable t (k .table)) _ _ held
+
+    pub looked-full : searchFor L area cells k ≡ Hit.Full → lookedUp L r area cells t k ≡ Lookup.Bad
     unfolding lookupAt
     looked-full e = looked-fit ∙ ap (lookupAt L (r .size) area cells) e
 
     module _ (i : ℕ) where
-      pub looked-free : searchFor L area cells k ≡ Hit.Free i → lookedUp L r area cells k ≡ Lookup.Absent
+      pub looked-free : searchFor L area cells k ≡ Hit.Free i → lookedUp L r area cells t k ≡ Lookup.Absent
       unfolding lookupAt
       looked-free e = looked-fit ∙ ap (lookupAt L (r .size) area cells) e
 
       module _ (e : searchFor L area cells k ≡ Hit.At i) where
-        pub looked-at : lookedUp L r area cells k ≡ lookupOf (getD cells i 0 - 1) (standsAt L (r .size) area (getD cells i 0 - 1))
+        pub looked-at : lookedUp L r area cells t k ≡ lookupOf (getD cells i 0 - 1) (standsAt L (r .size) area (getD cells i 0 - 1))
         unfolding lookupAt
         looked-at = looked-fit ∙ ap (lookupAt L (r .size) area cells) e
 
@@ -97,23 +103,27 @@ pub record ObjectInside (L : Layout) (area : List ℕ) (p n : ℕ) : Type 0 wher
   pub head : entrySize L 0 ≤ n
   pub whole : p + n ≤ length area
 
-module _ (L : Layout) (r : Record) (area cells : List ℕ) (k : Key) (p : ℕ) (v : Version) (kind n : ℕ)
-    (e : lookedUp L r area cells k ≡ Lookup.Object p v kind n) where
-  at-inside : fitsLent L r (length area) (length cells) ≡ true → (i : ℕ) → searchFor L area cells k ≡ Hit.At i → ObjectInside L area p n
-  at-inside fit i f =
-      let (place, key, there) = object-read (getD cells i 0 - 1) _ p v kind n (sym (looked-at L r area cells k fit i f) ∙ e) in
-      let t = tells-object L _ key v kind n there in
-      let within = found-within L (r .size) area (getD cells i 0 - 1) (t .told) (t .is) in
+module _ (L : Layout) (r : Record) (area cells : List ℕ) (t : Tables) (k : Key) (p : ℕ) (v : Version) (kind n : ℕ)
+    (e : lookedUp L r area cells t k ≡ Lookup.Object p v kind n) where
+  at-inside :
+      fitsLent L r (length area) (length cells) ≡ true → holdsTable t (k .table) ≡ true → (i : ℕ) → searchFor L area cells k ≡ Hit.At i →
+      ObjectInside L area p n
+  at-inside fit held i f =
+      let (place, key, there) = object-read (getD cells i 0 - 1) _ p v kind n (sym (looked-at L r area cells t k fit held i f) ∙ e) in
+      let x = tells-object L _ key v kind n there in
+      let within = found-within L (r .size) area (getD cells i 0 - 1) (x .told) (x .is) in
       record { head = omega arith; whole = omega arith }
 
   pub object-inside : ObjectInside L area p n
-  object-inside = go (fitsLent L r (length area) (length cells)) refl (searchFor L area cells k) refl
+  object-inside = go (fitsLent L r (length area) (length cells)) refl (holdsTable t (k .table)) refl (searchFor L area cells k) refl
     where
-      go : (t : Bool) → fitsLent L r (length area) (length cells) ≡ t → (h : Hit) → searchFor L area cells k ≡ h → ObjectInside L area p n
-      go false d h f = let q = looked-unfit L r area cells k d in let z : _≡_ {A = ℕ} 0 1 = cc in absurd (omega arith)
-      go true d (Hit.At i) f = at-inside d i f
-      go true d (Hit.Free i) f = let q = looked-free L r area cells k d i f in let z : _≡_ {A = ℕ} 0 1 = cc in absurd (omega arith)
-      go true d Hit.Full f = let q = looked-full L r area cells k d f in let z : _≡_ {A = ℕ} 0 1 = cc in absurd (omega arith)
+      go : (x : Bool) → fitsLent L r (length area) (length cells) ≡ x → (y : Bool) → holdsTable t (k .table) ≡ y → (h : Hit) →
+          searchFor L area cells k ≡ h → ObjectInside L area p n
+      go false d y c h f = let q = looked-unfit L r area cells t k d in let z : _≡_ {A = ℕ} 0 1 = cc in absurd (omega arith)
+      go true d false c h f = let q = looked-outside L r area cells t k d c in let z : _≡_ {A = ℕ} 0 1 = cc in absurd (omega arith)
+      go true d true c (Hit.At i) f = at-inside d c i f
+      go true d true c (Hit.Free i) f = let q = looked-free L r area cells t k d c i f in let z : _≡_ {A = ℕ} 0 1 = cc in absurd (omega arith)
+      go true d true c Hit.Full f = let q = looked-full L r area cells t k d c f in let z : _≡_ {A = ℕ} 0 1 = cc in absurd (omega arith)
 
 -- ---- the entries of an undamaged log stand in their segments
 
@@ -144,7 +154,7 @@ entry-lookup L S x = go (isTombstone (x .entry))
     go true = refl
     go false = refl
 
-module _ (L : Layout) (r : Record) (area cells : List ℕ) (k : Key) (genuine : Genuine L area r cells)
+module _ (L : Layout) (r : Record) (area cells : List ℕ) (t : Tables) (k : Key) (genuine : Genuine L area r cells)
     (fit : fitsLent L r (length area) (length cells) ≡ true) where
   abbrev S : ℕ
   S = r .size
@@ -169,32 +179,59 @@ module _ (L : Layout) (r : Record) (area cells : List ℕ) (k : Key) (genuine : 
       let inside : x .offset < S = omega (arith, found-fits L s (x .offset) (x .entry) found, length-take S (drop (x .slot * S) area)) in
       ap (answer L) (found-place L S area (x .slot) (x .offset) inside ∙ found)
 
-  pub genuine-lookup : lookedUp L r area cells k ≡ lookupFor L S (present log k)
+  pub genuine-lookup : holdsTable t (k .table) ≡ true → lookedUp L r area cells t k ≡ lookupFor L S (present log k)
   unfolding present
-  genuine-lookup = go (latest log k) refl
+  genuine-lookup held = go (latest log k) refl
     where
       picks : Picks (cellHas L area k) S log k
       picks = area-picks L area S log k (log-in-area L area S (named (r .map)) (r .slots) scans)
 
-      go : (o : Option Placed) → latest log k ≡ o → lookedUp L r area cells k ≡ lookupFor L S (objectOnly (latest log k))
+      go : (o : Option Placed) → latest log k ≡ o → lookedUp L r area cells t k ≡ lookupFor L S (objectOnly (latest log k))
       go none e =
           let (c, f) = search-new S log cells (genuine .rule) (cellHas L area k) k picks e few in
-          looked-free L r area cells k fit (c .cell) f ∙ sym (ap (λ (o : Option Placed). lookupFor L S (objectOnly o)) e ∙ absent)
+          looked-free L r area cells t k fit held (c .cell) f ∙ sym (ap (λ (o : Option Placed). lookupFor L S (objectOnly o)) e ∙ absent)
         where
           absent : lookupFor L S (objectOnly none) ≡ Lookup.Absent
           absent = unfold lookupFor objectOnly in refl
       go (some x) e =
           let (c, f) = search-known S log cells (genuine .rule) (cellHas L area k) k picks x e in
           let place : getD cells (c .cell) 0 - 1 ≡ placeOf S x = omega (arith, c .holds) in
-          looked-at L r area cells k fit (c .cell) f
+          looked-at L r area cells t k fit held (c .cell) f
           ∙ ap (λ (p : ℕ). lookupOf p (standsAt L S area p)) place
           ∙ ap (lookupOf (placeOf S x)) (at-place x (latest-some log k x e .member))
           ∙ entry-lookup L S x
           ∙ sym (ap (λ (o : Option Placed). lookupFor L S (objectOnly o)) e)
 
+-- ---- an object that is looked up within reach, or none: 8
+
+unfoldable ifAbsent : Option Placed → Option Refusal
+ifAbsent none = some Refusal.Absent
+ifAbsent (some x) = none
+
+only-absent : (o : Option Placed) → firstCause (when (isNone o) Refusal.Absent ∷ []) ≡ ifAbsent o
+unfolding firstCause isNone pick ifAbsent
+only-absent none = refl
+only-absent (some x) = refl
+
+told-object : (L : Layout) (S : ℕ) (o : Option Placed) → toldBy (lookupFor L S o) ≡ readAnswer L (ifAbsent o) o
+unfolding toldBy lookupFor readAnswer presentAnswer ifAbsent
+told-object L S none = refl
+told-object L S (some x) = refl
+
+part-object : (L : Layout) (S : ℕ) (o : Option Placed) → partBy L (lookupFor L S o) ≡ valueAnswer L S (ifAbsent o) o
+unfolding partBy lookupFor valueAnswer valuePart ifAbsent
+part-object L S none = refl
+part-object L S (some x) = ap (λ (n : ℕ). record { place = placeOf S x + entrySize L 0; bytes = n }) (value-length (length (bytesIn (x .entry .value))))
+  where
+    value-length : (n : ℕ) → entrySize L n - entrySize L 0 ≡ n
+    value-length n = omega arith
+
+some-is : {c d : Refusal} → _≡_ {A = Option Refusal} (some c) (some d) → c ≡ d
+some-is q = cc
+
 -- ---- the promises
 
-module _ (L : Layout) (r : Record) (area cells : List ℕ) (k : Key) where
+module _ (L : Layout) (r : Record) (area cells : List ℕ) (t : Tables) (k : Key) where
   abbrev fits : Bool
   fits = fitsLent L r (length area) (length cells)
 
@@ -202,63 +239,93 @@ module _ (L : Layout) (r : Record) (area cells : List ℕ) (k : Key) where
   object = present (logNow L area r) k
 
   abbrev cause : Option Refusal
-  cause = firstCause (readCauses L r (logNow L area r) (readLengths area cells) k)
+  cause = firstCause (readCauses L r (logNow L area r) (readLengths area cells) t k)
 
-  cause-unfit : fits ≡ false → cause ≡ some Refusal.BadRecord
-  cause-unfit e = cause-first (when (recordBad L r (readLengths area cells)) Refusal.BadRecord) _ (ap not e)
+  abbrev early : Option Refusal
+  early = firstCause (reachCauses L r (readLengths area cells) t k)
 
-  cause-fit : fits ≡ true → cause ≡ firstCause (when (keyAbsent (logNow L area r) k) Refusal.Absent ∷ [])
-  cause-fit e = cause-skip (when (recordBad L r (readLengths area cells)) Refusal.BadRecord) _ (ap not e)
+  -- What is looked up beside what the causes say, whatever the record: a first cause, or none and then the object that the map has.
+  data Case : Lookup → Option Refusal → Option Refusal → Type 0 where
+    unfit : Case Lookup.Bad (some Refusal.BadRecord) (some Refusal.BadRecord)
+    outside : Case Lookup.Outside (some Refusal.OutsideTables) (some Refusal.OutsideTables)
+    within : (x : Lookup) (c : Option Refusal) → (Genuine L area r cells → (x ≡ lookupFor L (r .size) object) × (c ≡ ifAbsent object)) → Case x none c
 
-  cause-absent : fits ≡ true → object ≡ none → cause ≡ some Refusal.Absent
-  unfolding isNone
-  cause-absent e d = cause-fit e ∙ cause-first (when (keyAbsent (logNow L area r) k) Refusal.Absent) [] (ap isNone d)
+  abbrev bad : Cause
+  bad = when (recordBad L r (readLengths area cells)) Refusal.BadRecord
 
-  cause-present : (x : Placed) → fits ≡ true → object ≡ some x → cause ≡ none
-  unfolding isNone firstCause
-  cause-present x e d = cause-fit e ∙ cause-none (when (keyAbsent (logNow L area r) k) Refusal.Absent) [] (ap isNone d) refl
+  abbrev out : Cause
+  out = when (outsideTables t k) Refusal.OutsideTables
 
-  unfit-false : recordBad L r (readLengths area cells) ≡ true → fits ≡ false
-  unfit-false e = not-true fits e
+  abbrev gone : Cause
+  gone = when (keyAbsent (logNow L area r) k) Refusal.Absent
 
-  pub read-promise : (found : Lookup) (said : ReadAnswer) → found ≡ lookedUp L r area cells k → said ≡ toldBy found
-      → ReadPromise L r area cells k (record { answer = said; rec = r })
-  unfolding toldBy readAnswer presentAnswer lookupFor
+  no-more : firstCause [] ≡ none
+  unfolding firstCause
+  no-more = refl
+
+  looked-case : (x y : Bool) → fits ≡ x → holdsTable t (k .table) ≡ y → Case (lookedUp L r area cells t k) early cause
+  looked-case false y e h =
+      subst⁻¹ (λ (x : Lookup). Case x early cause) (looked-unfit L r area cells t k e)
+      (subst⁻¹ (λ (c : Option Refusal). Case Lookup.Bad c cause) (cause-first bad (out ∷ []) (ap not e))
+      (subst⁻¹ (λ (c : Option Refusal). Case Lookup.Bad (some Refusal.BadRecord) c) (cause-first bad (out ∷ gone ∷ []) (ap not e)) unfit))
+  looked-case true false e h =
+      subst⁻¹ (λ (x : Lookup). Case x early cause) (looked-outside L r area cells t k e h)
+      (subst⁻¹ (λ (c : Option Refusal). Case Lookup.Outside c cause)
+      (cause-skip bad (out ∷ []) (ap not e) ∙ cause-first out [] (ap not h))
+      (subst⁻¹ (λ (c : Option Refusal). Case Lookup.Outside (some Refusal.OutsideTables) c)
+      (cause-skip bad (out ∷ gone ∷ []) (ap not e) ∙ cause-first out (gone ∷ []) (ap not h)) outside))
+  looked-case true true e h =
+      subst⁻¹ (λ (c : Option Refusal). Case (lookedUp L r area cells t k) c cause)
+      (cause-skip bad (out ∷ []) (ap not e) ∙ cause-skip out [] (ap not h) ∙ no-more)
+      (within (lookedUp L r area cells t k) cause
+      (λ g. (
+        genuine-lookup L r area cells t k g e h,
+        cause-skip bad (out ∷ gone ∷ []) (ap not e) ∙ cause-skip out (gone ∷ []) (ap not h) ∙ only-absent object,
+      )))
+
+  looked-promised : Case (lookedUp L r area cells t k) early cause
+  looked-promised = looked-case fits (holdsTable t (k .table)) refl refl
+
+  pub read-promise : (found : Lookup) (said : ReadAnswer) → found ≡ lookedUp L r area cells t k → said ≡ toldBy found
+      → ReadPromise L r area cells t k (record { answer = said; rec = r })
+  unfolding toldBy readAnswer
   read-promise found said same its =
       record {
         hands-back = refl;
-        unfit = unfit;
-        exact = λ g. its ∙ exact g fits refl object refl;
-        says = read-settled L r area cells k said unfit (λ g. its ∙ exact g fits refl object refl);
+        early = λ c e. told ∙ at-first looked-promised c e;
+        exact = λ g. told ∙ at-genuine looked-promised g;
+        says = read-settled L r area cells t k said (λ c e. told ∙ at-first looked-promised c e) (λ g. told ∙ at-genuine looked-promised g);
       }
     where
-      unfit : recordBad L r (readLengths area cells) ≡ true → said ≡ ReadAnswer.Refused Refusal.BadRecord
-      unfit e = its ∙ ap toldBy (same ∙ looked-unfit L r area cells k (unfit-false e))
+      told : said ≡ toldBy (lookedUp L r area cells t k)
+      told = its ∙ ap toldBy same
 
-      exact : Genuine L area r cells → (t : Bool) → fits ≡ t → (o : Option Placed) → object ≡ o → toldBy found ≡ readAnswer L cause object
-      exact g false e o d = ap toldBy (same ∙ looked-unfit L r area cells k e) ∙ sym (ap (λ (c : Option Refusal). readAnswer L c object) (cause-unfit e))
-      exact g true e none d =
-          ap toldBy (same ∙ genuine-lookup L r area cells k g e ∙ ap (lookupFor L (r .size)) d)
-          ∙ sym (ap (λ (c : Option Refusal). readAnswer L c object) (cause-absent e d))
-      exact g true e (some x) d =
-          ap toldBy (same ∙ genuine-lookup L r area cells k g e ∙ ap (lookupFor L (r .size)) d)
-          ∙ sym (ap (λ (c : Option Refusal). readAnswer L c object) (cause-present x e d) ∙ ap (presentAnswer L) d)
+      at-first : {x : Lookup} {e d : Option Refusal} → Case x e d → (c : Refusal) → e ≡ some c → toldBy x ≡ ReadAnswer.Refused c
+      at-first unfit c q = ap ReadAnswer.Refused (some-is q)
+      at-first outside c q = ap ReadAnswer.Refused (some-is q)
+      at-first (within x d h) c q = let z : _≡_ {A = ℕ} 0 1 = cc in absurd (omega arith)
 
-  value-length : (n : ℕ) → entrySize L n - entrySize L 0 ≡ n
-  value-length n = omega arith
+      at-genuine : {x : Lookup} {e d : Option Refusal} → Case x e d → Genuine L area r cells → toldBy x ≡ readAnswer L d object
+      at-genuine unfit g = refl
+      at-genuine outside g = refl
+      at-genuine (within x d h) g =
+          ap toldBy (h g .0) ∙ told-object L (r .size) object ∙ sym (ap (λ (c : Option Refusal). readAnswer L c object) (h g .1))
 
-  pub value-promise : (found : Lookup) → found ≡ lookedUp L r area cells k → ValuePromise L r area cells k (partBy L found)
-  unfolding partBy valueAnswer valuePart lookupFor
+  pub value-promise : (found : Lookup) → found ≡ lookedUp L r area cells t k → ValuePromise L r area cells t k (partBy L found)
+  unfolding partBy valueAnswer
   value-promise found same =
-      record { unfit = λ e. ap (partBy L) (same ∙ looked-unfit L r area cells k (unfit-false e)); exact = λ g. exact g fits refl object refl }
+      record {
+        early = λ c e. ap (partBy L) same ∙ at-first looked-promised c e;
+        exact = λ g. ap (partBy L) same ∙ at-genuine looked-promised g;
+      }
     where
-      exact : Genuine L area r cells → (t : Bool) → fits ≡ t → (o : Option Placed) → object ≡ o → partBy L found ≡ valueAnswer L (r .size) cause object
-      exact g false e o d =
-          ap (partBy L) (same ∙ looked-unfit L r area cells k e) ∙ sym (ap (λ (c : Option Refusal). valueAnswer L (r .size) c object) (cause-unfit e))
-      exact g true e none d =
-          ap (partBy L) (same ∙ genuine-lookup L r area cells k g e ∙ ap (lookupFor L (r .size)) d)
-          ∙ sym (ap (λ (c : Option Refusal). valueAnswer L (r .size) c object) (cause-absent e d))
-      exact g true e (some x) d =
-          ap (partBy L) (same ∙ genuine-lookup L r area cells k g e ∙ ap (lookupFor L (r .size)) d)
-          ∙ ap (λ (n : ℕ). record { place = placeOf (r .size) x + entrySize L 0; bytes = n }) (value-length (length (bytesIn (x .entry .value))))
-          ∙ sym (ap (λ (c : Option Refusal). valueAnswer L (r .size) c object) (cause-present x e d) ∙ ap (valuePart L (r .size)) d)
+      at-first : {x : Lookup} {e d : Option Refusal} → Case x e d → (c : Refusal) → e ≡ some c → partBy L x ≡ nowhere
+      at-first unfit c q = refl
+      at-first outside c q = refl
+      at-first (within x d h) c q = let z : _≡_ {A = ℕ} 0 1 = cc in absurd (omega arith)
+
+      at-genuine : {x : Lookup} {e d : Option Refusal} → Case x e d → Genuine L area r cells → partBy L x ≡ valueAnswer L (r .size) d object
+      at-genuine unfit g = refl
+      at-genuine outside g = refl
+      at-genuine (within x d h) g =
+          ap (partBy L) (h g .0) ∙ part-object L (r .size) object ∙ sym (ap (λ (c : Option Refusal). valueAnswer L (r .size) c object) (h g .1))

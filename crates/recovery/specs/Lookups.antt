@@ -8,9 +8,11 @@ use Rattle.segment.specs.Area.{standsAt}
 use Rattle.segment.specs.declared.Key.{Key}
 use Rattle.segment.specs.declared.Read.{Read}
 use Rattle.record.specs.Range.{fitsLent}
+use Rattle.record.specs.Reach.{holdsTable}
 use Rattle.record.specs.declared.Record.{Record}
 use Rattle.record.specs.declared.ReadAnswer.{ReadAnswer}
 use Rattle.record.specs.declared.Refusal.{Refusal}
+use Rattle.record.specs.declared.Tables.{Tables}
 use Rattle.model.specs.Promises.{Part, nowhere}
 use Rattle.index.specs.Search.{searchFor}
 use Rattle.index.specs.declared.Found.{Found}
@@ -35,18 +37,21 @@ lookupAt L S area cells (Found.At i) = lookupOf (getD cells i 0 - 1) (standsAt L
 lookupAt L S area cells (Found.Free i) = Lookup.Absent
 lookupAt L S area cells Found.Full = Lookup.Bad
 
--- a record that does not fit what is lent is bad
-unfoldable pub lookedUp : Layout → Record → List ℕ → List ℕ → Key → Lookup
-lookedUp L r area cells k =
-    pick (fitsLent L r (length area) (length cells)) (lookupAt L (r .size) area cells (searchFor L area cells k)) Lookup.Bad
+-- a record that does not fit what is lent is bad; then, a key out of the caller's reach is not looked for
+unfoldable pub lookedUp : Layout → Record → List ℕ → List ℕ → Tables → Key → Lookup
+lookedUp L r area cells t k =
+    pick (fitsLent L r (length area) (length cells))
+    (pick (holdsTable t (k .table)) (lookupAt L (r .size) area cells (searchFor L area cells k)) Lookup.Outside) Lookup.Bad
 
 unfoldable pub toldBy : Lookup → ReadAnswer
 toldBy (Lookup.Object p v kind n) = ReadAnswer.Present v kind
 toldBy Lookup.Absent = ReadAnswer.Refused Refusal.Absent
+toldBy Lookup.Outside = ReadAnswer.Refused Refusal.OutsideTables
 toldBy Lookup.Bad = ReadAnswer.Refused Refusal.BadRecord
 
 -- the value's part of the area
 unfoldable pub partBy : Layout → Lookup → Part
 partBy L (Lookup.Object p v kind n) = record { place = p + entrySize L 0; bytes = n - entrySize L 0 }
 partBy L Lookup.Absent = nowhere
+partBy L Lookup.Outside = nowhere
 partBy L Lookup.Bad = nowhere

@@ -8,7 +8,8 @@ pub mod read;
 pub mod recover;
 
 // What the index says of a key: its object at a place of the area, with the length of the whole entry; that no object is
-// its latest entry; or that the record, the index or the log is not one that a call may go by.
+// its latest entry; that its table is out of the caller's reach; or that the record, the index or the log is not one that a call
+// may go by.
 pub enum Lookup {
     Object {
         place: usize,
@@ -17,6 +18,7 @@ pub enum Lookup {
         length: usize,
     },
     Absent,
+    Outside,
     Bad,
 }
 

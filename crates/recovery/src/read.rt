@@ -6,7 +6,9 @@ use record::ReadAnswer;
 use record::Reading;
 use record::Record;
 use record::Refusal;
+use record::Tables;
 use record::range::fits_lent;
+use record::reach::holds_table;
 use segment::Key;
 use segment::Read;
 use segment::area::entry_at;
@@ -58,12 +60,15 @@ pub fn look_at(s: usize, area: &[u8], index: &[u32], found: Found) -> Lookup
     }
 }
 
-// What the index says of a key.
-pub fn find(rec: Record, area: &[u8], index: &[u32], key: Key) -> Lookup
-    ensures { λ r. ⌜ r ≡ lookedUp edition1 rec (now (area .entry)) (now (index .entry)) key ⌝ }
+// What the index says of a key that the caller may reach.
+pub fn find(rec: Record, area: &[u8], index: &[u32], tables: Tables, key: Key) -> Lookup
+    ensures { λ r. ⌜ r ≡ lookedUp edition1 rec (now (area .entry)) (now (index .entry)) tables key ⌝ }
 {
     if !fits_lent(rec, area.len(), index.len()) {
         return Lookup::Bad;
+    }
+    if !holds_table(tables, key.table) {
+        return Lookup::Outside;
     }
     look_at(rec.size as usize, area, index, search(area, index, key))
 }
@@ -80,23 +85,30 @@ pub fn told(found: Lookup) -> ReadAnswer
             length: _,
         } => ReadAnswer::Present { version, kind },
         Lookup::Absent => ReadAnswer::Refused(Refusal::Absent),
+        Lookup::Outside => ReadAnswer::Refused(Refusal::OutsideTables),
         Lookup::Bad => ReadAnswer::Refused(Refusal::BadRecord),
     }
 }
 
 // The version and kind of a key's object. The record is handed back.
-pub fn read(rec: Record, area: &[u8], index: &[u32], key: Key) -> Reading
-    ensures { λ r. ⌜ ReadPromise edition1 rec (now (area .entry)) (now (index .entry)) key r ⌝ }
+pub fn read(rec: Record, area: &[u8], index: &[u32], tables: Tables, key: Key) -> Reading
+    ensures { λ r. ⌜ ReadPromise edition1 rec (now (area .entry)) (now (index .entry)) tables key r ⌝ }
 {
-    let answer = told(find(rec, area, index, key));
+    let answer = told(find(rec, area, index, tables, key));
     Reading { answer, rec }
 }
 
 // The value of a key's object, as a part of the area; the empty part at its start where `read` refuses.
-pub fn read_value<'a>(rec: Record, area: &'a [u8], index: &[u32], key: Key) -> &'a [u8]
-    ensures { λ r. ⌜ ValueReference edition1 rec (area .entry) (now (index .entry)) key r ⌝ }
+pub fn read_value<'a>(
+    rec: Record,
+    area: &'a [u8],
+    index: &[u32],
+    tables: Tables,
+    key: Key,
+) -> &'a [u8]
+    ensures { λ r. ⌜ ValueReference edition1 rec (area .entry) (now (index .entry)) tables key r ⌝ }
 {
-    match find(rec, area, index, key) {
+    match find(rec, area, index, tables, key) {
         Lookup::Object {
             place,
             version: _,
@@ -104,6 +116,7 @@ pub fn read_value<'a>(rec: Record, area: &'a [u8], index: &[u32], key: Key) -> &
             length,
         } => &area[place + HEAD_SIZE..place + length],
         Lookup::Absent => &area[0..0],
+        Lookup::Outside => &area[0..0],
         Lookup::Bad => &area[0..0],
     }
 }

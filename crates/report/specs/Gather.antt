@@ -18,6 +18,7 @@ use Rattle.segment.specs.EntryLaws.{found-stands, found-fits}
 use Rattle.segment.specs.declared.Key.{Key}
 use Rattle.segment.specs.declared.Read.{Read}
 use Rattle.slot_map.specs.Bit.{named}
+use Rattle.record.specs.Reach.{allTables}
 use Rattle.record.specs.Range.{fitsLent}
 use Rattle.record.specs.RangeLaws.{Lent, lent}
 use Rattle.record.specs.declared.Record.{Record}
@@ -103,7 +104,7 @@ module _ (L : Layout) (area : List ℕ) (r : Record) (cells : List ℕ) (ready :
     s = segmentOf area S (x .slot)
 
     stands : entryAt L s (x .offset) ≡ entry (x .entry)
-    stands = log-stands L area S (named (r .map)) (r .slots) (scans L r area cells (keyOf (x .entry)) (ready .genuine) (ready .fit)) x m
+    stands = log-stands L area S (named (r .map)) (r .slots) (scans L r area cells allTables (keyOf (x .entry)) (ready .genuine) (ready .fit)) x m
 
     typed-entry : TypedKey (keyOf (x .entry))
     typed-entry =
@@ -132,7 +133,7 @@ module _ (L : Layout) (area : List ℕ) (r : Record) (cells : List ℕ) (ready :
     its-rank =
         cell-taken L S area (placeOf S x + 1) (λ e. omega arith)
         ∙ ap (λ (p : ℕ). rankRead (standsAt L S area p)) (place-back (placeOf S x))
-        ∙ ap rankRead (at-place L r area cells (keyOf (x .entry)) (ready .genuine) (ready .fit) x member)
+        ∙ ap rankRead (at-place L r area cells allTables (keyOf (x .entry)) (ready .genuine) (ready .fit) x member)
         ∙ of-answer
       where
         of-answer : rankRead (answer L (entry (x .entry))) ≡ pick (isTombstone (x .entry)) none (some (rank (keyOf (x .entry))))

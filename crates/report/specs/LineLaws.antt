@@ -9,6 +9,7 @@ use lib.ListN.{length, getD, take, drop, drop-of-length-le}
 use lib.Seq.{length-take-le}
 use Rattle.segment.specs.Layout.{Layout}
 use Rattle.segment.specs.declared.Key.{Key}
+use Rattle.record.specs.Reach.{tableAlone, alone-holds}
 use Rattle.record.specs.declared.Record.{Record}
 use Rattle.model.specs.Log.{Placed, present}
 use Rattle.model.specs.Operations.{logNow, TypedKey}
@@ -29,12 +30,13 @@ use Rattle.report.specs.Listing.{presentKeys}
 unfoldable pub lineFound : Key → Lookup → List ℕ
 lineFound k (Lookup.Object p v kind n) = keyLine k v kind
 lineFound k Lookup.Absent = []
+lineFound k Lookup.Outside = []
 lineFound k Lookup.Bad = []
 
 pub line-found : (L : Layout) (area : List ℕ) (r : Record) (cells : List ℕ) (k : Key) (found : Lookup) → RecoveredArea L area r cells
-    → found ≡ lookedUp L r area cells k → lineFound k found ≡ lineOf L k (present (logNow L area r) k)
+    → found ≡ lookedUp L r area cells (tableAlone (k .table)) k → lineFound k found ≡ lineOf L k (present (logNow L area r) k)
 line-found L area r cells k found ready e =
-    ap (lineFound k) (e ∙ genuine-lookup L r area cells k (ready .genuine) (ready .fit)) ∙ go (present (logNow L area r) k)
+    ap (lineFound k) (e ∙ genuine-lookup L r area cells (tableAlone (k .table)) k (ready .genuine) (ready .fit) (alone-holds (k .table))) ∙ go (present (logNow L area r) k)
   where
     go : (o : Option Placed) → lineFound k (lookupFor L (r .size) o) ≡ lineOf L k o
     go none = unfold lineFound lookupFor lineOf in refl

@@ -5,6 +5,7 @@ use crate::lines::put_head;
 use crate::lines::put_key;
 use crate::ranks::key_of;
 use record::Record;
+use record::Tables;
 use recovery::Lookup;
 use recovery::read::find;
 use segment::Key;
@@ -25,7 +26,12 @@ fn put_line(rec: Record, area: &[u8], index: &[u32], key: Key, out: &mut [u8], a
         ⌜ PutWithin (now (out .entry)) (now (out .exit)) at r
         (lineOf edition1 key (present (logNow edition1 (now (area .entry)) rec) key)) 44 ⌝ }
 {
-    match find(rec, area, index, key) {
+    let table = key.table;
+    let own = Tables {
+        first: table,
+        last: table,
+    };
+    match find(rec, area, index, own, key) {
         Lookup::Object {
             place: _,
             version,
@@ -33,6 +39,7 @@ fn put_line(rec: Record, area: &[u8], index: &[u32], key: Key, out: &mut [u8], a
             length: _,
         } => put_key(out, at, key, version, kind),
         Lookup::Absent => at,
+        Lookup::Outside => at,
         Lookup::Bad => at,
     }
 }

@@ -17,51 +17,56 @@ use Rattle.record.specs.declared.Recovery.{Recovery}
 use Rattle.record.specs.declared.RecoverAnswer.{RecoverAnswer}
 use Rattle.record.specs.declared.Refusal.{Refusal}
 use Rattle.record.specs.declared.Record.{Record}
+use Rattle.record.specs.declared.Tables.{Tables}
 use Rattle.model.specs.Log.{present}
 use Rattle.model.specs.Causes.{firstCause}
 use Rattle.model.specs.Operations.{Operation, logNow}
 use Rattle.model.specs.Recovery.{recovery, recoveryFor, recoverCauses, recordFrom}
-use Rattle.model.specs.Refused.{Terms, readCauses, startCauses}
+use Rattle.model.specs.Refused.{Terms, reachCauses, readCauses, startCauses}
 use Rattle.model.specs.Promises.{IndexAfter, RecoverPromise, readAnswer, readLengths, ReadPromise, Part, valueAnswer, ValuePromise, Begun, begun, lentLengths, StartPromise}
 use Rattle.laws.specs.CauseLaws.{cause-first}
 use Rattle.laws.specs.SaidLaws.{recover-says, read-settled, start-settled}
 use Rattle.laws.specs.RecoverLaws.{recovery-order, recovery-recovered, recovered-facts}
-use Rattle.laws.specs.Starts.{begun-length, start-bad}
+use Rattle.laws.specs.Starts.{begun-length, start-early, read-early}
 use Rattle.index.specs.Build.{built}
 use Rattle.index.specs.BuildLaws.{Holds}
 use Rattle.stepping.specs.CleanLaws.{recovered-built}
 
 -- ---- read
 
-abbrev pub readBy : Layout → Record → List ℕ → List ℕ → Key → Reading
-readBy L r area cells k =
+abbrev pub readBy : Layout → Record → List ℕ → List ℕ → Tables → Key → Reading
+readBy L r area cells t k =
     record {
-      answer = readAnswer L (firstCause (readCauses L r (logNow L area r) (readLengths area cells) k)) (present (logNow L area r) k);
+      answer = readAnswer L (firstCause (readCauses L r (logNow L area r) (readLengths area cells) t k)) (present (logNow L area r) k);
       rec = r;
     }
 
-abbrev pub partBy : Layout → Record → List ℕ → List ℕ → Key → Part
-partBy L r area cells k =
-    valueAnswer L (r .size) (firstCause (readCauses L r (logNow L area r) (readLengths area cells) k)) (present (logNow L area r) k)
+abbrev pub partBy : Layout → Record → List ℕ → List ℕ → Tables → Key → Part
+partBy L r area cells t k =
+    valueAnswer L (r .size) (firstCause (readCauses L r (logNow L area r) (readLengths area cells) t k)) (present (logNow L area r) k)
 
-module _ (L : Layout) (r : Record) (area cells : List ℕ) (k : Key) where
-  pub read-made : ReadPromise L r area cells k (readBy L r area cells k)
+module _ (L : Layout) (r : Record) (area cells : List ℕ) (t : Tables) (k : Key) where
+  its-cause : (c : Refusal) → firstCause (reachCauses L r (readLengths area cells) t k) ≡ some c →
+      firstCause (readCauses L r (logNow L area r) (readLengths area cells) t k) ≡ some c
+  its-cause c e = read-early L r (logNow L area r) (readLengths area cells) t k c e
+
+  pub read-made : ReadPromise L r area cells t k (readBy L r area cells t k)
   unfolding readAnswer
   read-made =
       record {
         hands-back = refl;
-        unfit = λ bad. ap (λ (c : Option Refusal). readAnswer L c (present (logNow L area r) k)) (cause-first _ _ bad);
+        early = λ c e. ap (λ (x : Option Refusal). readAnswer L x (present (logNow L area r) k)) (its-cause c e);
         exact = λ g. refl;
         says =
-            read-settled L r area cells k _
-            (λ bad. ap (λ (c : Option Refusal). readAnswer L c (present (logNow L area r) k)) (cause-first _ _ bad)) (λ g. refl);
+            read-settled L r area cells t k _
+            (λ c e. ap (λ (x : Option Refusal). readAnswer L x (present (logNow L area r) k)) (its-cause c e)) (λ g. refl);
       }
 
-  pub value-made : ValuePromise L r area cells k (partBy L r area cells k)
+  pub value-made : ValuePromise L r area cells t k (partBy L r area cells t k)
   unfolding valueAnswer
   value-made =
       record {
-        unfit = λ bad. ap (λ (c : Option Refusal). valueAnswer L (r .size) c (present (logNow L area r) k)) (cause-first _ _ bad);
+        early = λ c e. ap (λ (x : Option Refusal). valueAnswer L (r .size) x (present (logNow L area r) k)) (its-cause c e);
         exact = λ g. refl;
       }
 
@@ -81,11 +86,11 @@ module _ (L : Layout) (t : Terms) (o : Operation) (r : Record) (area cells work 
       record {
         same-length =
             begun-length L r (logNow L area r) o work (firstCause (startCauses L r (logNow L area r) (lentLengths area cells work) t o));
-        unfit = λ bad. ap (begun L r (logNow L area r) o work) (start-bad L r (logNow L area r) (lentLengths area cells work) t o bad);
+        early = λ c e. ap (begun L r (logNow L area r) o work) (start-early L r (logNow L area r) (lentLengths area cells work) t o c e);
         exact = λ g. refl;
         says =
             start-settled L t o r area cells work (its .work) (its .start)
-            (λ bad. ap (begun L r (logNow L area r) o work) (start-bad L r (logNow L area r) (lentLengths area cells work) t o bad)) (λ g. refl);
+            (λ c e. ap (begun L r (logNow L area r) o work) (start-early L r (logNow L area r) (lentLengths area cells work) t o c e)) (λ g. refl);
       }
 
 -- ---- recovery

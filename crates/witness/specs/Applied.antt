@@ -7,6 +7,7 @@ use mathlib.Core.List.{List, [], _∷_, _++_}
 use mathlib.Core.Option.{Option, some}
 use native.Mathlib.Omega.{arith}
 use lib.ListN.{length}
+use Rattle.segment.specs.Choice.{both, pick-true}
 use Rattle.segment.specs.Layout.{edition1}
 use Rattle.segment.specs.declared.Key.{Key}
 use Rattle.record.specs.Answers.{Said, readSaid, refusal, saidBy}
@@ -18,6 +19,7 @@ use Rattle.record.specs.declared.RecoverAnswer.{RecoverAnswer}
 use Rattle.record.specs.declared.Refusal.{Refusal}
 use Rattle.model.specs.Operations.{write}
 use Rattle.model.specs.Play.{opened}
+use Rattle.record.specs.Reach.{holdsTable, allTables}
 use Rattle.model.specs.Recovery.{orderBad, recovery}
 use Rattle.model.specs.Promises.{formatAnswer, areaUnless, FormatPromise, RecoverPromise, ReadPromise, Part, partOf, ValuePromise}
 use Rattle.history.specs.Book.{reads, starts, asks, Answer, saying, Event, called, cut, accepted, bookVersion, Book, freshBook, versionFor, feed, bookOf, highestTold, versionTold}
@@ -30,7 +32,7 @@ use Rattle.history.proofs.Expecting.{expected-found, replaces-expected}
 use Rattle.witness.specs.Answers.{recoveredCells, recover-made}
 use Rattle.witness.specs.Example.{computing, booking, bytes-of, nine, nine-typed, ten, ten-typed, ones, twos, threes, expecting, told, lent, startedOn, started, stepped, recovered, readEvent, valueEvent, readsAs, leaving, begins, writes, idles, half, meanwhile, fails, others, deletes, cleans, ends, before, area₀, events, all, run, two, cleaned}
 
-formats : FormatPromise edition1 4 256 before area₀ FormatAnswer.Formatted
+pub formats : FormatPromise edition1 4 256 before area₀ FormatAnswer.Formatted
 unfolding opened formatAnswer areaUnless saidBy
 formats = record { answers = refl; says = refl; leaves = refl }
 
@@ -53,11 +55,11 @@ pub record Left (cells′ : List ℕ) (r : Recovery) : Type 0 where
   pub above-steps : 3 < r .rec .next .0
   pub above-reads : 2 < r .rec .next .0
   pub absent :
-      (a : Reading) → ReadPromise edition1 (r .rec) (all .world .area) cells′ nine a → a .answer ≡ ReadAnswer.Refused Refusal.Absent
-  pub no-value : (p : Part) → ValuePromise edition1 (r .rec) (all .world .area) cells′ nine p → partOf (all .world .area) p ≡ []
+      (a : Reading) → ReadPromise edition1 (r .rec) (all .world .area) cells′ allTables nine a → a .answer ≡ ReadAnswer.Refused Refusal.Absent
+  pub no-value : (p : Part) → ValuePromise edition1 (r .rec) (all .world .area) cells′ allTables nine p → partOf (all .world .area) p ≡ []
   pub present :
-      (a : Reading) → ReadPromise edition1 (r .rec) (all .world .area) cells′ ten a → a .answer ≡ ReadAnswer.Present (record { 0 = 2 }) 2
-  pub value : (p : Part) → ValuePromise edition1 (r .rec) (all .world .area) cells′ ten p → partOf (all .world .area) p ≡ threes
+      (a : Reading) → ReadPromise edition1 (r .rec) (all .world .area) cells′ allTables ten a → a .answer ≡ ReadAnswer.Present (record { 0 = 2 }) 2
+  pub value : (p : Part) → ValuePromise edition1 (r .rec) (all .world .area) cells′ allTables ten p → partOf (all .world .area) p ≡ threes
 
 -- what the book says of the other key
 ten-answer : bookAnswer edition1 two ≡ ReadAnswer.Present (record { 0 = 2 }) 2
@@ -71,7 +73,7 @@ highest = refl
 pub left :
     (order cells cells′ : List ℕ) (r : Recovery) → orderBad 4 order ≡ false → LargeEnough (some 16) (length cells) →
     RecoverPromise edition1 4 256 order (all .world .area) cells cells′ r → Left cells′ r
-unfolding bookAnswer bookValue
+unfolding bookAnswer bookValue holdsTable both
 left order cells cells′ r good large p =
     record {
       is-accepted = given .is-accepted;
@@ -80,11 +82,11 @@ left order cells cells′ r good large p =
       above-reads =
           told-below-next 4 256 before area₀ (bytes-of 1024 0xaa (omega arith)) formats
           (begins ++ (writes ++ (idles ++ (half ++ (meanwhile ++ (fails ++ (others ++ (deletes ++ (cleans ++ (cut ∷ recovered ∷ readsAs nine (refusal 8) []))))))))))
-          (valueEvent ten threes ∷ []) (asks (reads ten)) (lent 0) (saying (told 0 2 2)) (all .world) run order cells cells′ r good enough p;
-      absent = λ a q. given .answers nine nine-typed a q ∙ ap (bookAnswer edition1) (cleaned .first-key);
-      no-value = λ v q. given .values nine nine-typed v q ∙ ap bookValue (cleaned .first-key);
-      present = λ a q. given .answers ten ten-typed a q ∙ ap (bookAnswer edition1) (cleaned .second-key) ∙ ten-answer;
-      value = λ v q. given .values ten ten-typed v q ∙ ap bookValue (cleaned .second-key);
+          (valueEvent ten threes ∷ []) (asks (reads allTables ten)) (lent 0) (saying (told 0 2 2)) (all .world) run order cells cells′ r good enough p;
+      absent = λ a q. given .answers allTables nine nine-typed refl a q ∙ ap (bookAnswer edition1) (cleaned .first-key);
+      no-value = λ v q. given .values allTables nine nine-typed refl v q ∙ ap bookValue (cleaned .first-key);
+      present = λ a q. given .answers allTables ten ten-typed refl a q ∙ ap (bookAnswer edition1) (cleaned .second-key) ∙ ten-answer;
+      value = λ v q. given .values allTables ten ten-typed refl v q ∙ ap bookValue (cleaned .second-key);
     }
   where
     enough : LargeEnough (all .world .cells) (length cells)
@@ -133,25 +135,30 @@ pub record ReadAgreed (b : Book) (k : Key) (a : Said) (value : List ℕ) : Type 
   pub gave : value ≡ bookValue (b .keys k)
 
 read-agreed :
-    (prior : List Event) (k : Key) (a : Said) (value : List ℕ) (after : List Event) →
+    (prior : List Event) (k : Key) (a : Said) (value : List ℕ) (after : List Event) → holdsTable allTables (k .table) ≡ true →
     EventsAgree edition1 freshBook (prior ++ (readsAs k a value ++ after)) → ReadAgreed (bookOf prior) k a value
 unfolding EventAgrees QuestionAgrees EventsAgree
-read-agreed prior k a value after h =
+read-agreed prior k a value after inside h =
     record {
-      said = ap (λ (x : Answer). x .said) (agree-at freshBook prior (readEvent k a) (valueEvent k value ∷ after) h);
+      said =
+          ap (λ (x : Answer). x .said) (agree-at freshBook prior (readEvent k a) (valueEvent k value ∷ after) h) ∙
+          pick-true (holdsTable allTables (k .table)) (readSaid (bookAnswer edition1 (bookOf prior .keys k))) (refusal 22) inside;
       gave =
           ap (λ (x : Answer). x .value)
-          (subst (λ (b : Book). EventAgrees edition1 b (valueEvent k value)) (feed-asks (bookOf prior) (reads k) (lent 0) (saying a))
-          (agree-behind freshBook prior (readEvent k a) (valueEvent k value ∷ after) h .0));
+          (subst (λ (b : Book). EventAgrees edition1 b (valueEvent k value)) (feed-asks (bookOf prior) (reads allTables k) (lent 0) (saying a))
+          (agree-behind freshBook prior (readEvent k a) (valueEvent k value ∷ after) h .0)) ∙
+          pick-true (holdsTable allTables (k .table)) (bookValue (bookOf prior .keys k)) [] inside;
     }
 
 -- on the fresh store, while the second write is pending, and after the recovery in the end
 pub read-fresh : ReadAgreed (bookOf (recovered ∷ [])) nine (refusal 8) []
-read-fresh = read-agreed (recovered ∷ []) nine (refusal 8) [] (writes ++ rest) (demanded .agrees)
+unfolding holdsTable both
+read-fresh = read-agreed (recovered ∷ []) nine (refusal 8) [] (writes ++ rest) refl (demanded .agrees)
 
 pub read-meanwhile : ReadAgreed (bookOf (begins ++ (writes ++ (idles ++ half)))) nine (told 0 1 1) ones
+unfolding holdsTable both
 read-meanwhile =
-    read-agreed (begins ++ (writes ++ (idles ++ half))) nine (told 0 1 1) ones (fails ++ (others ++ (deletes ++ (cleans ++ ends))))
+    read-agreed (begins ++ (writes ++ (idles ++ half))) nine (told 0 1 1) ones (fails ++ (others ++ (deletes ++ (cleans ++ ends)))) refl
     (demanded .agrees)
 
 -- ---- what a write expected

@@ -19,8 +19,8 @@ use Rattle.witness.specs.Steps.{Moved, steppedBy, step-made}
 
 -- a question's key is of its types
 abbrev pub TypedQuestion : Question → Type 0
-TypedQuestion (reads k) = TypedKey k
-TypedQuestion (readsValue k) = TypedKey k
+TypedQuestion (reads t k) = TypedKey k
+TypedQuestion (readsValue t k) = TypedKey k
 
 -- Arguments are of their types. A start gets any terms and any work buffer, a recovery any order list and any index.
 pub data Command : Type 0 where
@@ -58,8 +58,8 @@ steppedWorld w h x =
 
 -- what a question answers
 unfoldable pub answerBy : Layout → Held → List ℕ → Question → Answer
-answerBy L h area (reads k) = saying (readSaid (readBy L (h .rec) area (h .cells) k .answer))
-answerBy L h area (readsValue k) = giving (partOf area (partBy L (h .rec) area (h .cells) k))
+answerBy L h area (reads t k) = saying (readSaid (readBy L (h .rec) area (h .cells) t k .answer))
+answerBy L h area (readsValue t k) = giving (partOf area (partBy L (h .rec) area (h .cells) t k))
 
 abbrev pub askedWorld : Layout → World → Held → Question → Played
 askedWorld L w h q =
@@ -111,8 +111,8 @@ module _ (n s : ℕ) where
   asked : (area : List ℕ) (m : Option ℕ) (h : Held) (q : Question) → TypedQuestion q →
       Asked edition1 (record { area = area; held = some h; cells = m }) q (readLengths area (h .cells)) (answerBy edition1 h area q)
   unfolding answerBy
-  asked area m h (reads k) t = read t (read-made edition1 (h .rec) area (h .cells) k)
-  asked area m h (readsValue k) t = readValue t (value-made edition1 (h .rec) area (h .cells) k)
+  asked area m h (reads u k) t = read t (read-made edition1 (h .rec) area (h .cells) u k)
+  asked area m h (readsValue u k) t = readValue t (value-made edition1 (h .rec) area (h .cells) u k)
 
   played-run : (area : List ℕ) (m : Option ℕ) (held : Option Held) (c : Command) →
       let w : World = record { area = area; held = held; cells = m } in From w (played edition1 n s w held c)

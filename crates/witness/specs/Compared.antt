@@ -7,6 +7,7 @@ use lib.ListN.{length, getD, drop}
 use Rattle.segment.specs.declared.Key.{Key}
 use Rattle.record.specs.declared.Expected.{Expected}
 use Rattle.record.specs.declared.Expected.the-variants.{Any, Only}
+use Rattle.record.specs.declared.Tables.{Tables}
 use Rattle.model.specs.Operations.{write, delete, clean}
 use Rattle.model.specs.Refused.{Terms}
 use Rattle.model.specs.Table.{Row, row, failing, Hold, rows-hold}
@@ -22,11 +23,11 @@ expectedNumber (Only v) = suc (v .0)
 unfoldable pub callNumbers : Call → List ℕ
 callNumbers steps = 0 ∷ []
 callNumbers (recovers n s order) = 1 ∷ n ∷ s ∷ order
-callNumbers (asks (reads k)) = 2 ∷ k .table ∷ k .key ∷ []
-callNumbers (asks (readsValue k)) = 3 ∷ k .table ∷ k .key ∷ []
-callNumbers (starts t (clean victims)) = 4 ∷ expectedNumber (t .expected) ∷ victims ∷ []
-callNumbers (starts t (delete k)) = 5 ∷ expectedNumber (t .expected) ∷ k .table ∷ k .key ∷ []
-callNumbers (starts t (write k value)) = 6 ∷ expectedNumber (t .expected) ∷ k .table ∷ k .key ∷ value
+callNumbers (asks (reads t k)) = 2 ∷ t .first ∷ t .last ∷ k .table ∷ k .key ∷ []
+callNumbers (asks (readsValue t k)) = 3 ∷ t .first ∷ t .last ∷ k .table ∷ k .key ∷ []
+callNumbers (starts t (clean victims)) = 4 ∷ expectedNumber (t .expected) ∷ t .tables .first ∷ t .tables .last ∷ victims ∷ []
+callNumbers (starts t (delete k)) = 5 ∷ expectedNumber (t .expected) ∷ t .tables .first ∷ t .tables .last ∷ k .table ∷ k .key ∷ []
+callNumbers (starts t (write k value)) = 6 ∷ expectedNumber (t .expected) ∷ t .tables .first ∷ t .tables .last ∷ k .table ∷ k .key ∷ value
 
 unfoldable pub eventNumbers : Event → List ℕ
 eventNumbers cut = []
@@ -46,17 +47,20 @@ expectedFrom : ℕ → Expected
 expectedFrom zero = Any
 expectedFrom (suc v) = Only (record { 0 = v })
 
+abbrev tablesFrom : List ℕ → Tables
+tablesFrom xs = record { first = getD xs 0 0; last = getD xs 1 0 }
+
 abbrev termsFrom : List ℕ → Terms
-termsFrom xs = record { expected = expectedFrom (getD xs 0 0) }
+termsFrom xs = record { expected = expectedFrom (getD xs 0 0); tables = tablesFrom (drop 1 xs) }
 
 callFrom : ℕ → List ℕ → Call
 callFrom zero xs = steps
 callFrom (suc zero) xs = recovers (getD xs 0 0) (getD xs 1 0) (drop 2 xs)
-callFrom (suc (suc zero)) xs = asks (reads (keyFrom xs))
-callFrom (suc (suc (suc zero))) xs = asks (readsValue (keyFrom xs))
-callFrom (suc (suc (suc (suc zero)))) xs = starts (termsFrom xs) (clean (getD xs 1 0))
-callFrom (suc (suc (suc (suc (suc zero))))) xs = starts (termsFrom xs) (delete (keyFrom (drop 1 xs)))
-callFrom (suc (suc (suc (suc (suc (suc n)))))) xs = starts (termsFrom xs) (write (keyFrom (drop 1 xs)) (drop 3 xs))
+callFrom (suc (suc zero)) xs = asks (reads (tablesFrom xs) (keyFrom (drop 2 xs)))
+callFrom (suc (suc (suc zero))) xs = asks (readsValue (tablesFrom xs) (keyFrom (drop 2 xs)))
+callFrom (suc (suc (suc (suc zero)))) xs = starts (termsFrom xs) (clean (getD xs 3 0))
+callFrom (suc (suc (suc (suc (suc zero))))) xs = starts (termsFrom xs) (delete (keyFrom (drop 3 xs)))
+callFrom (suc (suc (suc (suc (suc (suc n)))))) xs = starts (termsFrom xs) (write (keyFrom (drop 3 xs)) (drop 5 xs))
 
 eventFrom : List ℕ → List ℕ → Event
 eventFrom [] value = cut
@@ -64,9 +68,9 @@ eventFrom (x ∷ xs) value =
     called (callFrom (getD xs 6 0) (drop 7 xs)) (record { area = getD xs 3 0; index = getD xs 4 0; work = getD xs 5 0 })
     (record { said = record { refused = x; stores = getD xs 0 0; version = getD xs 1 0; kind = getD xs 2 0 }; value = value })
 
-terms-back : (t : Terms) → record { expected = expectedFrom (expectedNumber (t .expected)) } ≡ t
+terms-back : (t : Terms) → record { expected = expectedFrom (expectedNumber (t .expected)); tables = t .tables } ≡ t
 unfolding expectedNumber expectedFrom
-terms-back t = ap (λ (e : Expected). record { expected = e }) (go (t .expected))
+terms-back t = ap (λ (e : Expected). record { expected = e; tables = t .tables }) (go (t .expected))
   where
     go : (e : Expected) → expectedFrom (expectedNumber e) ≡ e
     go Any = refl
@@ -77,8 +81,8 @@ unfolding callNumbers eventNumbers eventValue callFrom eventFrom
 event-back cut = refl
 event-back (called steps l a) = refl
 event-back (called (recovers n s order) l a) = refl
-event-back (called (asks (reads k)) l a) = refl
-event-back (called (asks (readsValue k)) l a) = refl
+event-back (called (asks (reads t k)) l a) = refl
+event-back (called (asks (readsValue t k)) l a) = refl
 event-back (called (starts t (clean victims)) l a) = ap (λ (x : Terms). called (starts x (clean victims)) l a) (terms-back t)
 event-back (called (starts t (delete k)) l a) = ap (λ (x : Terms). called (starts x (delete k)) l a) (terms-back t)
 event-back (called (starts t (write k value)) l a) = ap (λ (x : Terms). called (starts x (write k value)) l a) (terms-back t)

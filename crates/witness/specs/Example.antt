@@ -18,6 +18,7 @@ use Rattle.model.specs.Index.{around}
 use Rattle.record.specs.declared.Expected.the-variants.{Only}
 use Rattle.model.specs.Operations.{Operation, write, delete, clean, Typed, TypedKey, formatted}
 use Rattle.model.specs.Play.{opened, keyed}
+use Rattle.record.specs.Reach.{allTables}
 use Rattle.model.specs.Refused.{Lengths, Terms, freely}
 use Rattle.model.specs.Table.{failing}
 use Rattle.history.specs.Book.{reads, readsValue, starts, steps, asks, recovers, saying, giving, Event, called, cut, Kept, Awaited, Book, finish, oneOff, takeOne, feedCall, feed, bookAfter, bookOf}
@@ -72,14 +73,14 @@ starting = startingOn freely
 
 -- the key is expected to have that version
 abbrev pub expecting : ℕ → Terms
-expecting v = record { expected = Only (record { 0 = v }) }
+expecting v = record { expected = Only (record { 0 = v }); tables = allTables }
 
 abbrev pub recovering : Command
 recovering = restart (0 ∷ 1 ∷ 2 ∷ 3 ∷ []) (replicate 16 0)
 
 -- a read of the key, and one of its value
 abbrev pub looking : (k : Key) → TypedKey k → List Command → List Command
-looking k t rest = question (reads k) t ∷ question (readsValue k) t ∷ rest
+looking k t rest = question (reads allTables k) t ∷ question (readsValue allTables k) t ∷ rest
 
 abbrev pub commands : List Command
 commands =
@@ -123,10 +124,10 @@ abbrev pub recovered : Event
 recovered = called (recovers 4 256 (0 ∷ 1 ∷ 2 ∷ 3 ∷ [])) (lent 0) (saying taken)
 
 abbrev pub readEvent : Key → Said → Event
-readEvent k a = called (asks (reads k)) (lent 0) (saying a)
+readEvent k a = called (asks (reads allTables k)) (lent 0) (saying a)
 
 abbrev pub valueEvent : Key → List ℕ → Event
-valueEvent k value = called (asks (readsValue k)) (lent 0) (giving value)
+valueEvent k value = called (asks (readsValue allTables k)) (lent 0) (giving value)
 
 -- a read that is answered so, and the value
 abbrev pub readsAs : Key → Said → List ℕ → List Event

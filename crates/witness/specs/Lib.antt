@@ -5,3 +5,4 @@ pub mod Commands
 pub mod Compared
 pub mod Example
 pub mod Applied
+pub mod Owners

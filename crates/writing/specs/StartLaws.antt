@@ -22,16 +22,17 @@ use Rattle.record.specs.declared.Refusal.{Refusal}
 use Rattle.record.specs.declared.Refusal.the-variants.{BadRecord}
 use Rattle.record.specs.declared.Start.{Start}
 use Rattle.record.specs.declared.Record.{Record}
+use Rattle.record.specs.declared.Tables.{Tables}
 use Rattle.model.specs.Log.{Placed}
 use Rattle.model.specs.Causes.{Cause, firstCause}
 use Rattle.model.specs.Operations.{Operation, write, delete, logNow, writtenEntry, tombstoneEntry, Laid, laid, laidEntry}
-use Rattle.model.specs.Refused.{Lengths, Terms, freely, KeyFacts, recordBad, workShort, noRoom, noNumber, writeCauses, deleteCauses, startCauses}
+use Rattle.model.specs.Refused.{Lengths, Terms, reaching, KeyFacts, recordBad, workShort, noRoom, noNumber, reachCauses, writeCauses, deleteCauses, earlyCauses, startCauses}
 use Rattle.model.specs.Promises.{Genuine, Begun, begun, lentLengths, StartPromise}
-use Rattle.laws.specs.CauseLaws.{cause-first}
+use Rattle.laws.specs.CauseLaws.{first-some}
 use Rattle.laws.specs.Passed.{WritePassed, write-passed, DeletePassed, delete-passed}
 use Rattle.laws.specs.Entering.{Roomy}
 use Rattle.laws.specs.SaidLaws.{start-settled}
-use Rattle.laws.specs.Starts.{start-bad}
+use Rattle.laws.specs.Starts.{early-bad, start-early}
 use Rattle.starting.specs.declared.Check.{Check}
 use Rattle.starting.specs.Checks.{checked}
 use Rattle.starting.specs.CheckLaws.{checked-some, checked-none}
@@ -50,7 +51,7 @@ module _ (L : Layout) (q : Terms) (o : Operation) (r : Record) (area cells work 
 
   -- the first of them is a bad record, and on a genuine store with a record in range they are 01's
   pub record Causes : Type 0 where
-    pub bad : recordBad L r lengths ≡ true → firstCause tests ≡ some BadRecord
+    pub early : (x : Refusal) → firstCause (earlyCauses L r lengths q o) ≡ some x → firstCause tests ≡ some x
     pub agrees :
         Genuine L area r cells → Lent L r (length area) (length cells) →
         firstCause tests ≡ firstCause (startCauses L r (logNow L area r) lengths q o)
@@ -60,7 +61,9 @@ module _ (L : Layout) (q : Terms) (o : Operation) (r : Record) (area cells work 
     same g = go (recordBad L r lengths) refl
       where
         go : (t : Bool) → recordBad L r lengths ≡ t → firstCause tests ≡ firstCause (startCauses L r (logNow L area r) lengths q o)
-        go true e = c .bad e ∙ sym (start-bad L r (logNow L area r) lengths q o e)
+        go true e =
+            let bad = early-bad L r lengths q o e in
+            c .early BadRecord bad ∙ sym (start-early L r (logNow L area r) lengths q o BadRecord bad)
         go false e = c .agrees g (lent L r (length area) (length cells) (not-false (fitsLent L r (length area) (length cells)) e))
 
     -- refused: nothing changes
@@ -69,14 +72,15 @@ module _ (L : Layout) (q : Terms) (o : Operation) (r : Record) (area cells work 
         StartPromise L q o r area cells work work a
     unfolding begun
     start-refused x e a is =
-        record { same-length = refl; unfit = unfit; exact = exact; says = start-settled L q o r area cells work work a unfit exact }
+        record { same-length = refl; early = early; exact = exact; says = start-settled L q o r area cells work work a early exact }
       where
         told : (log : List Placed) → record { start = a; work = work } ≡ begun L r log o work (firstCause tests)
         told log =
             ap (λ (s : Start). record { start = s; work = work }) is ∙ sym (ap (begun L r log o work) (checked-some (firstCause tests) x e))
 
-        unfit : recordBad L r lengths ≡ true → record { start = a; work = work } ≡ begun L r [] o work (some BadRecord)
-        unfit h = told [] ∙ ap (begun L r [] o work) (c .bad h)
+        early :
+            (y : Refusal) → firstCause (earlyCauses L r lengths q o) ≡ some y → record { start = a; work = work } ≡ begun L r [] o work (some y)
+        early y h = told [] ∙ ap (begun L r [] o work) (c .early y h)
 
         exact :
             Genuine L area r cells → record { start = a; work = work } ≡
@@ -90,14 +94,15 @@ module _ (L : Layout) (q : Terms) (o : Operation) (r : Record) (area cells work 
         StartPromise L q o r area cells work work′ a
     unfolding begun laidBegun
     start-laid passed work′ a long h =
-        record { same-length = long; unfit = unfit; exact = exact; says = start-settled L q o r area cells work work′ a unfit exact }
+        record { same-length = long; early = early; exact = exact; says = start-settled L q o r area cells work work′ a early exact }
       where
         no-cause : firstCause tests ≡ none
         no-cause = checked-none (firstCause tests) passed
 
-        unfit : recordBad L r lengths ≡ true → record { start = a; work = work′ } ≡ begun L r [] o work (some BadRecord)
-        unfit b =
-            let p : _≡_ {A = Option Refusal} (some BadRecord) none = sym (c .bad b) ∙ no-cause in
+        early :
+            (y : Refusal) → firstCause (earlyCauses L r lengths q o) ≡ some y → record { start = a; work = work′ } ≡ begun L r [] o work (some y)
+        early y b =
+            let p : _≡_ {A = Option Refusal} (some y) none = sym (c .early y b) ∙ no-cause in
             let z : _≡_ {A = ℕ} 0 1 = cc in
             absurd (omega arith)
 
@@ -133,17 +138,17 @@ module _ (L : Layout) (r : Record) (area cells work : List ℕ) (n : ℕ) where
 
 module _ (L : Layout) (q : Terms) (r : Record) (area cells work : List ℕ) (k : Key) (value : List ℕ) where
   abbrev writeTests : List Cause
-  writeTests = writeCauses L r (lentLengths area cells work) q (factsFor L r area cells k) (length value)
+  writeTests = writeCauses L r (lentLengths area cells work) q k (factsFor L r area cells k) (length value)
 
   abbrev writes : Check
   writes = checked (firstCause writeTests)
 
   write-causes : Causes L q (write k value) r area cells work writeTests
-  unfolding laid startCauses
+  unfolding laid startCauses earlyCauses
   write-causes =
       record {
-        bad = λ e. cause-first _ _ e;
-        agrees = λ g h. ap (λ (f : KeyFacts). firstCause (writeCauses L r (lentLengths area cells work) q f (length value))) (genuine-facts L area r cells g h k);
+        early = λ x e. first-some (reachCauses L r (lentLengths area cells work) (q .tables) k) _ x e;
+        agrees = λ g h. ap (λ (f : KeyFacts). firstCause (writeCauses L r (lentLengths area cells work) q k f (length value))) (genuine-facts L area r cells g h k);
       }
 
   pub write-refused :
@@ -152,8 +157,8 @@ module _ (L : Layout) (q : Terms) (r : Record) (area cells work : List ℕ) (k :
   write-refused c e a is = start-refused L q (write k value) r area cells work writeTests write-causes c e a is
 
   module _ (passed : Check.Passed ≡ writes) where
-    written : WritePassed L r (lentLengths area cells work) q (factsFor L r area cells k) (length value)
-    written = write-passed L r (lentLengths area cells work) q (factsFor L r area cells k) (length value) (checked-none _ passed)
+    written : WritePassed L r (lentLengths area cells work) q k (factsFor L r area cells k) (length value)
+    written = write-passed L r (lentLengths area cells work) q k (factsFor L r area cells k) (length value) (checked-none _ passed)
 
     -- the kind that the code finds is that of objects with so long a value
     module _ (kind : ℕ) (is : kind ≡ orZero (objectKind L (length value))) where
@@ -189,29 +194,29 @@ module _ (L : Layout) (q : Terms) (r : Record) (area cells work : List ℕ) (k :
 
 -- ---- a delete
 
-module _ (L : Layout) (r : Record) (area cells work : List ℕ) (k : Key) where
+module _ (L : Layout) (t : Tables) (r : Record) (area cells work : List ℕ) (k : Key) where
   abbrev pub deleteTests : List Cause
-  deleteTests = deleteCauses L r (lentLengths area cells work) (factsFor L r area cells k)
+  deleteTests = deleteCauses L r (lentLengths area cells work) (reaching t) k (factsFor L r area cells k)
 
   abbrev pub deletes : Check
   deletes = checked (firstCause deleteTests)
 
-  pub delete-causes : Causes L freely (delete k) r area cells work deleteTests
-  unfolding laid startCauses
+  pub delete-causes : Causes L (reaching t) (delete k) r area cells work deleteTests
+  unfolding laid startCauses earlyCauses
   delete-causes =
       record {
-        bad = λ e. cause-first _ _ e;
-        agrees = λ g h. ap (λ (f : KeyFacts). firstCause (deleteCauses L r (lentLengths area cells work) f)) (genuine-facts L area r cells g h k);
+        early = λ x e. first-some (reachCauses L r (lentLengths area cells work) t k) _ x e;
+        agrees = λ g h. ap (λ (f : KeyFacts). firstCause (deleteCauses L r (lentLengths area cells work) (reaching t) k f)) (genuine-facts L area r cells g h k);
       }
 
   pub delete-refused :
       (c : Refusal) → Check.Refused c ≡ deletes → (a : Start) → a ≡ refusedStart r c →
-      StartPromise L freely (delete k) r area cells work work a
-  delete-refused c e a is = start-refused L freely (delete k) r area cells work deleteTests delete-causes c e a is
+      StartPromise L (reaching t) (delete k) r area cells work work a
+  delete-refused c e a is = start-refused L (reaching t) (delete k) r area cells work deleteTests delete-causes c e a is
 
   module _ (passed : Check.Passed ≡ deletes) where
-    pub deleted : DeletePassed L r (lentLengths area cells work) (factsFor L r area cells k)
-    deleted = delete-passed L r (lentLengths area cells work) (factsFor L r area cells k) (checked-none _ passed)
+    pub deleted : DeletePassed L r (lentLengths area cells work) (reaching t) k (factsFor L r area cells k)
+    deleted = delete-passed L r (lentLengths area cells work) (reaching t) k (factsFor L r area cells k) (checked-none _ passed)
 
     pub delete-ready : Roomy L → EntryReady L r 0 (length work)
     delete-ready roomy =
@@ -229,10 +234,10 @@ module _ (L : Layout) (r : Record) (area cells work : List ℕ) (k : Key) where
     pub delete-laid :
         noRoom r (entrySize L 0) ≡ false → (work′ : List ℕ) (a : Start) →
         record { start = a; work = work′ } ≡ laidBegun r (laidEntry L r (entryOf L (L .tombstoneKind) k (r .next) [])) work →
-        StartPromise L freely (delete k) r area cells work work′ a
+        StartPromise L (reaching t) (delete k) r area cells work work′ a
     unfolding laid
     delete-laid room work′ a h =
-        start-laid L freely (delete k) r area cells work deleteTests delete-causes passed work′ a (laid-long r _ work work′ a h)
+        start-laid L (reaching t) (delete k) r area cells work deleteTests delete-causes passed work′ a (laid-long r _ work work′ a h)
         (λ g.
         h ∙ ap (λ (e : Entry). laidBegun r (laidEntry L r e) work) delete-said
         ∙ ap (λ (x : Laid). laidBegun r x work) (sym (pick-false (noRoom r (entrySize L 0)) _ _ room)))

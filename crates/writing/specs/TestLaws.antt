@@ -5,7 +5,7 @@ use mathlib.Core.Bool.{Bool, true, false, not}
 use mathlib.Core.List.{List, [], _∷_, _++_}
 use lib.Dec.{eqb, ltb, leb}
 use lib.ListN.{getD}
-use borrow.Author.Tests.{lt-ltb, le-ltb, eq-eqb, ne-eqb}
+use borrow.Author.Tests.{lt-ltb, le-ltb, eq-eqb, ne-eqb, not-false}
 use Rattle.segment.specs.Choice.{both, both-true, both-false-left, both-false-right, isNone, orZero}
 use Rattle.segment.specs.Layout.{Layout, objectKind, entrySize, digestSize, versionLimit, numberLimit}
 use Rattle.segment.specs.LayoutLaws.{object-kind}
@@ -18,20 +18,24 @@ use Rattle.record.specs.Range.{fitsLent}
 use Rattle.record.specs.declared.Expected.{Expected}
 use Rattle.record.specs.declared.Expected.the-variants.{Any, Only}
 use Rattle.record.specs.declared.Refusal.{Refusal}
-use Rattle.record.specs.declared.Refusal.the-variants.{BadRecord, ValueLength, VersionsSpent, NumbersSpent, KeysFull, NoRoom, OtherVersion}
+use Rattle.record.specs.declared.Refusal.the-variants.{BadRecord, ValueLength, VersionsSpent, NumbersSpent, KeysFull, NoRoom, OtherVersion, OutsideTables}
 use Rattle.record.specs.declared.Record.{Record}
+use Rattle.record.specs.declared.Tables.{Tables}
+use Rattle.record.specs.Reach.{holdsTable}
+use Rattle.record.specs.RangeLaws.{Lent, lent}
 use Rattle.model.specs.Causes.{Cause, when, firstCause}
-use Rattle.model.specs.Refused.{Lengths, Terms, KeyFacts, expectsOther, writeCauses, deleteCauses, noRoom}
+use Rattle.model.specs.Refused.{Lengths, Terms, reaching, KeyFacts, expectsOther, reachCauses, writeCauses, deleteCauses, noRoom}
 use Rattle.laws.specs.Entering.{Roomy}
+use Rattle.laws.specs.CauseLaws.{no-cause}
 use Rattle.index.specs.Search.{searchFor}
 use Rattle.index.specs.declared.Found.{Found}
 use Rattle.index.specs.declared.Found.the-variants.{At, Free, Full}
 use Rattle.starting.specs.declared.Check.{Check}
 use Rattle.starting.specs.Checks.{checked, idleCauses}
-use Rattle.starting.specs.CheckLaws.{refused, skipped, passed, part-refused, part-passed, record-bad, idle-refuses, idle-goes}
+use Rattle.starting.specs.CheckLaws.{refused, skipped, passed, checked-none, part-refused, part-passed, record-bad}
 use Rattle.writing.specs.declared.Presence.{Presence}
 use Rattle.writing.specs.declared.Presence.the-variants.{Object, Tombstone, Nothing, Forbidden}
-use Rattle.writing.specs.Tests.{factsOf, presenceOf, presenceAt, presenceFor, versionTests, expectedTests, keyTests, numberTests, roomTests, entryTests}
+use Rattle.writing.specs.Tests.{factsOf, presenceOf, presenceAt, presenceFor, firstTests, versionTests, expectedTests, keyTests, numberTests, roomTests, entryTests}
 
 -- ---- 21
 
@@ -156,37 +160,59 @@ module _ (L : Layout) (r : Record) (k : KeyFacts) (n : ℕ) where
     unfolding entryTests
     entry-room h g = skipped _ _ (ne-eqb (r .next .0) (versionLimit L) left) (part-passed (keyTests r k) (roomTests r n) h g)
 
--- t is what the code finds for the range and the lengths, and p for the key
-module _ (L : Layout) (r : Record) (l : Lengths) (q : Terms) (p : Presence) (n : ℕ) {t : Bool} (e : t ≡ fitsLent L r (l .area) (l .index)) where
+-- ---- 4, 22, 3 and 5: x is what the code finds for the range and the lengths, and y for the key's table
+
+module _ (L : Layout) (r : Record) (l : Lengths) (t : Tables) (k : Key) {x : Bool} (e : x ≡ fitsLent L r (l .area) (l .index)) where
+  pub first-bad : not x ≡ true → Check.Refused BadRecord ≡ checked (firstCause (firstTests L r l t k))
+  unfolding firstTests
+  first-bad h = refused _ _ (record-bad L r l e h)
+
+  module _ (fits : not x ≡ false) {y : Bool} (d : y ≡ holdsTable t (k .table)) where
+    pub first-outside : not y ≡ true → Check.Refused OutsideTables ≡ checked (firstCause (firstTests L r l t k))
+    unfolding firstTests
+    first-outside h = skipped _ _ (sym (ap not e) ∙ fits) (refused _ _ (sym (ap not d) ∙ h))
+
+    pub first-idle : {a : Check} → not y ≡ false → a ≡ checked (firstCause (idleCauses r (l .work))) → a ≡ checked (firstCause (firstTests L r l t k))
+    unfolding firstTests
+    first-idle h g = skipped _ _ (sym (ap not e) ∙ fits) (skipped _ _ (sym (ap not d) ∙ h) g)
+
+-- what they leave
+pub first-lent :
+    (L : Layout) (r : Record) (l : Lengths) (t : Tables) (k : Key) → Check.Passed ≡ checked (firstCause (firstTests L r l t k)) →
+    Lent L r (l .area) (l .index)
+unfolding firstTests
+first-lent L r l t k h =
+    lent L r (l .area) (l .index)
+    (not-false (fitsLent L r (l .area) (l .index)) (no-cause (reachCauses L r l t k ++ idleCauses r (l .work)) (checked-none _ h) .0))
+
+-- ---- a write: p is what the code finds for the key
+
+module _ (L : Layout) (r : Record) (l : Lengths) (q : Terms) (j : Key) (p : Presence) (n : ℕ) where
   abbrev WriteIs : Check → Type 0
-  WriteIs a = a ≡ checked (firstCause (writeCauses L r l q (factsOf p) n))
+  WriteIs a = a ≡ checked (firstCause (writeCauses L r l q j (factsOf p) n))
 
-  pub write-bad : not t ≡ true → WriteIs (Check.Refused BadRecord)
-  write-bad h = refused _ _ (record-bad L r l e h)
+  pub write-first : (c : Refusal) → Check.Refused c ≡ checked (firstCause (firstTests L r l (q .tables) j)) → WriteIs (Check.Refused c)
+  unfolding firstTests idleCauses
+  write-first c h = part-refused (firstTests L r l (q .tables) j) _ c h
 
-  module _ (fits : not t ≡ false) where
-    pub write-idle : (c : Refusal) → Check.Refused c ≡ checked (firstCause (idleCauses r (l .work))) → WriteIs (Check.Refused c)
-    unfolding idleCauses
-    write-idle c h = idle-refuses L r l e fits _ c h
+  module _ (first : Check.Passed ≡ checked (firstCause (firstTests L r l (q .tables) j))) where
+    pub write-value : (m : ℕ) → m ≡ orZero (objectKind L n) → m ≡ 0 → WriteIs (Check.Refused ValueLength)
+    unfolding firstTests idleCauses
+    write-value m d z = part-passed (firstTests L r l (q .tables) j) _ first (refused _ _ (kind-none L n m d z))
 
-    module _ (idle : Check.Passed ≡ checked (firstCause (idleCauses r (l .work)))) where
-      pub write-value : (m : ℕ) → m ≡ orZero (objectKind L n) → m ≡ 0 → WriteIs (Check.Refused ValueLength)
-      unfolding idleCauses
-      write-value m d z = idle-goes L r l e fits _ idle (refused _ _ (kind-none L n m d z))
+    module _ (m : ℕ) (d : m ≡ orZero (objectKind L n)) (some-kind : m ≡ 0 → ⊥) where
+      goes-on :
+          {a : Check} → a ≡ checked (firstCause (expectedTests (q .expected) (factsOf p) ++ entryTests L r (factsOf p) (entrySize L n))) → WriteIs a
+      unfolding firstTests idleCauses expectedTests entryTests keyTests roomTests numberTests
+      goes-on h = part-passed (firstTests L r l (q .tables) j) _ first (skipped _ _ (kind-some L n m d some-kind) h)
 
-      module _ (m : ℕ) (d : m ≡ orZero (objectKind L n)) (some-kind : m ≡ 0 → ⊥) where
-        goes-on :
-            {a : Check} → a ≡ checked (firstCause (expectedTests (q .expected) (factsOf p) ++ entryTests L r (factsOf p) (entrySize L n))) → WriteIs a
-        unfolding idleCauses expectedTests entryTests keyTests roomTests numberTests
-        goes-on h = idle-goes L r l e fits _ idle (skipped _ _ (kind-some L n m d some-kind) h)
+      pub write-expected : (c : Refusal) → Check.Refused c ≡ checked (firstCause (expectedTests (q .expected) (factsOf p))) → WriteIs (Check.Refused c)
+      write-expected c h = goes-on (part-refused (expectedTests (q .expected) (factsOf p)) (entryTests L r (factsOf p) (entrySize L n)) c h)
 
-        pub write-expected : (c : Refusal) → Check.Refused c ≡ checked (firstCause (expectedTests (q .expected) (factsOf p))) → WriteIs (Check.Refused c)
-        write-expected c h = goes-on (part-refused (expectedTests (q .expected) (factsOf p)) (entryTests L r (factsOf p) (entrySize L n)) c h)
-
-        pub write-entry :
-            {a : Check} → Check.Passed ≡ checked (firstCause (expectedTests (q .expected) (factsOf p))) →
-            a ≡ checked (firstCause (entryTests L r (factsOf p) (entrySize L n))) → WriteIs a
-        write-entry h g = goes-on (part-passed (expectedTests (q .expected) (factsOf p)) (entryTests L r (factsOf p) (entrySize L n)) h g)
+      pub write-entry :
+          {a : Check} → Check.Passed ≡ checked (firstCause (expectedTests (q .expected) (factsOf p))) →
+          a ≡ checked (firstCause (entryTests L r (factsOf p) (entrySize L n))) → WriteIs a
+      write-entry h g = goes-on (part-passed (expectedTests (q .expected) (factsOf p)) (entryTests L r (factsOf p) (entrySize L n)) h g)
 
 -- ---- what the index says of a key
 
@@ -208,42 +234,39 @@ module _ (L : Layout) (S : ℕ) (area cells : List ℕ) (k : Key) where
 
 -- ---- a delete: p is what the code finds for the key
 
-module _ (L : Layout) (r : Record) (l : Lengths) (p : Presence) {t : Bool} (e : t ≡ fitsLent L r (l .area) (l .index)) where
+module _ (L : Layout) (r : Record) (l : Lengths) (t : Tables) (j : Key) (p : Presence) where
   abbrev DeleteIs : Check → Type 0
-  DeleteIs a = a ≡ checked (firstCause (deleteCauses L r l (factsOf p)))
+  DeleteIs a = a ≡ checked (firstCause (deleteCauses L r l (reaching t) j (factsOf p)))
 
-  pub delete-bad : not t ≡ true → DeleteIs (Check.Refused BadRecord)
-  delete-bad h = refused _ _ (record-bad L r l e h)
+  pub delete-first : (c : Refusal) → Check.Refused c ≡ checked (firstCause (firstTests L r l t j)) → DeleteIs (Check.Refused c)
+  unfolding firstTests idleCauses
+  delete-first c h = part-refused (firstTests L r l t j) _ c h
 
-  module _ (fits : not t ≡ false) where
-    pub delete-idle : (c : Refusal) → Check.Refused c ≡ checked (firstCause (idleCauses r (l .work))) → DeleteIs (Check.Refused c)
-    unfolding idleCauses
-    delete-idle c h = idle-refuses L r l e fits _ c h
+  module _ (first : Check.Passed ≡ checked (firstCause (firstTests L r l t j))) where
+    pub delete-forbidden : Forbidden ≡ p → DeleteIs (Check.Refused BadRecord)
+    unfolding firstTests idleCauses factsOf
+    delete-forbidden q = part-passed (firstTests L r l t j) _ first (refused _ _ (ap (λ (x : Presence). factsOf x .forbidden) (sym q)))
 
-    module _ (idle : Check.Passed ≡ checked (firstCause (idleCauses r (l .work)))) where
-      pub delete-forbidden : Forbidden ≡ p → DeleteIs (Check.Refused BadRecord)
-      unfolding idleCauses factsOf
-      delete-forbidden q = idle-goes L r l e fits _ idle (refused _ _ (ap (λ (x : Presence). factsOf x .forbidden) (sym q)))
+    pub delete-absent : (x : Presence) → x ≡ p → factsOf x .forbidden ≡ false → factsOf x .absent ≡ true → DeleteIs (Check.Refused Refusal.Absent)
+    unfolding firstTests idleCauses
+    delete-absent x q sound absent =
+        part-passed (firstTests L r l t j) _ first
+        (skipped _ _ (ap (λ (y : Presence). factsOf y .forbidden) (sym q) ∙ sound)
+        (refused _ _ (ap (λ (y : Presence). factsOf y .absent) (sym q) ∙ absent)))
 
-      pub delete-absent : (x : Presence) → x ≡ p → factsOf x .forbidden ≡ false → factsOf x .absent ≡ true → DeleteIs (Check.Refused Refusal.Absent)
-      unfolding idleCauses
-      delete-absent x q sound absent =
-          idle-goes L r l e fits _ idle
-          (skipped _ _ (ap (λ (y : Presence). factsOf y .forbidden) (sym q) ∙ sound)
-          (refused _ _ (ap (λ (y : Presence). factsOf y .absent) (sym q) ∙ absent)))
+    module _ (v : Version) (q : Object v ≡ p) where
+      known-goes : {a : Check} (cs : List Cause) → a ≡ checked (firstCause cs) →
+          a ≡ checked (firstCause (when (factsOf p .forbidden) BadRecord ∷ when (factsOf p .absent) Refusal.Absent ∷ cs))
+      unfolding factsOf
+      known-goes cs h =
+          skipped _ _ (ap (λ (y : Presence). factsOf y .forbidden) (sym q)) (skipped _ _ (ap (λ (y : Presence). factsOf y .absent) (sym q)) h)
 
-      module _ (v : Version) (q : Object v ≡ p) where
-        known-goes : {a : Check} (cs : List Cause) → a ≡ checked (firstCause cs) →
-            a ≡ checked (firstCause (when (factsOf p .forbidden) BadRecord ∷ when (factsOf p .absent) Refusal.Absent ∷ cs))
-        unfolding factsOf
-        known-goes cs h =
-            skipped _ _ (ap (λ (y : Presence). factsOf y .forbidden) (sym q)) (skipped _ _ (ap (λ (y : Presence). factsOf y .absent) (sym q)) h)
+      pub delete-spent : r .next .0 ≡ versionLimit L → DeleteIs (Check.Refused VersionsSpent)
+      unfolding firstTests idleCauses
+      delete-spent h = part-passed (firstTests L r l t j) _ first (known-goes _ (refused _ _ (eq-eqb (r .next .0) (versionLimit L) h)))
 
-        pub delete-spent : r .next .0 ≡ versionLimit L → DeleteIs (Check.Refused VersionsSpent)
-        unfolding idleCauses
-        delete-spent h = idle-goes L r l e fits _ idle (known-goes _ (refused _ _ (eq-eqb (r .next .0) (versionLimit L) h)))
-
-        pub delete-number :
-            {a : Check} → (r .next .0 ≡ versionLimit L → ⊥) → a ≡ checked (firstCause (numberTests r (entrySize L 0))) → DeleteIs a
-        unfolding idleCauses numberTests
-        delete-number left g = idle-goes L r l e fits _ idle (known-goes _ (skipped _ _ (ne-eqb (r .next .0) (versionLimit L) left) g))
+      pub delete-number :
+          {a : Check} → (r .next .0 ≡ versionLimit L → ⊥) → a ≡ checked (firstCause (numberTests r (entrySize L 0))) → DeleteIs a
+      unfolding firstTests idleCauses numberTests
+      delete-number left g =
+          part-passed (firstTests L r l t j) _ first (known-goes _ (skipped _ _ (ne-eqb (r .next .0) (versionLimit L) left) g))

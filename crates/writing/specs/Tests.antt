@@ -1,7 +1,7 @@
 -- What the starts of a write and of a delete find out about a key from area and index in place of the log, and the parts of
 -- the lists of causes that functions of their own test.
 use Prim.Native.Nat.{ℕ, _-_}
-use mathlib.Core.Bool.{Bool, true, false}
+use mathlib.Core.Bool.{true, false}
 use mathlib.Core.List.{List, [], _∷_, _++_}
 use lib.ListN.{getD}
 use Rattle.segment.specs.Layout.{Layout}
@@ -11,8 +11,10 @@ use Rattle.segment.specs.declared.Read.{Read}
 use Rattle.record.specs.declared.Expected.{Expected}
 use Rattle.record.specs.declared.Refusal.the-variants.{BadRecord, VersionsSpent, NumbersSpent, KeysFull, NoRoom, OtherVersion}
 use Rattle.record.specs.declared.Record.{Record}
+use Rattle.record.specs.declared.Tables.{Tables}
 use Rattle.model.specs.Causes.{Cause, when}
-use Rattle.model.specs.Refused.{KeyFacts, expectsOther, versionsSpent, keysFull, noRoom, noNumber}
+use Rattle.model.specs.Refused.{Lengths, reachCauses, KeyFacts, expectsOther, versionsSpent, keysFull, noRoom, noNumber}
+use Rattle.starting.specs.Checks.{idleCauses}
 use Rattle.index.specs.Search.{searchFor}
 use Rattle.index.specs.declared.Found.{Found}
 use Rattle.index.specs.declared.Found.the-variants.{At, Free, Full}
@@ -48,6 +50,10 @@ abbrev pub factsFor : Layout → Record → List ℕ → List ℕ → Key → Ke
 factsFor L r area cells k = factsOf (presenceFor L (r .size) area cells k)
 
 -- ---- parts of the lists of causes
+
+-- 4, 22, 3 and 5
+unfoldable pub firstTests : Layout → Record → Lengths → Tables → Key → List Cause
+firstTests L r l t k = reachCauses L r l t k ++ idleCauses r (l .work)
 
 -- 21, for a key of version v
 unfoldable pub versionTests : Expected → ℕ → List Cause

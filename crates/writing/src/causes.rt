@@ -4,7 +4,9 @@ use crate::find::find;
 use record::Expected;
 use record::Record;
 use record::Refusal;
+use record::Tables;
 use record::range::fits_lent;
+use record::reach::holds_table;
 use segment::Key;
 use segment::Version;
 use segment::layout::HEAD_SIZE;
@@ -19,10 +21,33 @@ ghost use lib.Dec.{leb};
 ghost use lib.ListN.{length};
 ghost use Rattle.segment.specs.Layout.{edition1};
 ghost use Rattle.model.specs.Causes.{firstCause};
-ghost use Rattle.model.specs.Refused.{noRoom, writeCauses, deleteCauses};
+ghost use Rattle.model.specs.Refused.{noRoom, reaching, writeCauses, deleteCauses};
 ghost use Rattle.starting.specs.Checks.{checked};
 ghost use Rattle.writing.specs.declared.Presence.{Presence};
-ghost use Rattle.writing.specs.Tests.{versionTests, expectedTests, keyTests, numberTests, roomTests, entryTests, factsOf, factsFor};
+ghost use Rattle.writing.specs.Tests.{firstTests, versionTests, expectedTests, keyTests, numberTests, roomTests, entryTests, factsOf, factsFor};
+
+// 4, 22, 3 and 5: what the record, the lengths and the caller's reach tell.
+fn check_first(
+    rec: Record,
+    area: usize,
+    index: usize,
+    work: usize,
+    tables: Tables,
+    key: Key,
+) -> Check
+    ensures { λ r.
+        ⌜
+        r ≡ checked (firstCause (firstTests edition1 rec (record { area = area; index = index; work = work }) tables key))
+        ⌝ }
+{
+    if !fits_lent(rec, area, index) {
+        return Check::Refused(Refusal::BadRecord);
+    }
+    if !holds_table(tables, key.table) {
+        return Check::Refused(Refusal::OutsideTables);
+    }
+    check_idle(rec, work)
+}
 
 // Whether an entry of that length fits the head; it may end exactly at S.
 pub fn fits_head(rec: Record, length: usize) -> bool
@@ -135,12 +160,13 @@ fn check_entry(rec: Record, presence: Presence, length: usize) -> Check
     }
 }
 
-// Write: 4, 3, 5, 7, 21, 9, 11, 12, 10, for a value of so many bytes.
+// Write: 4, 22, 3, 5, 7, 21, 9, 11, 12, 10, for a value of so many bytes.
 pub fn check_write(
     rec: Record,
     area: &[u8],
     index: &[u32],
     work: usize,
+    tables: Tables,
     expected: Expected,
     key: Key,
     value: usize,
@@ -151,13 +177,11 @@ pub fn check_write(
         (firstCause
         (writeCauses edition1 rec
         (record { area = length (now (area .entry)); index = length (now (index .entry)); work = work })
-        (record { expected = expected }) (factsFor edition1 rec (now (area .entry)) (now (index .entry)) key) value))
+        (record { tables = tables; expected = expected }) key
+        (factsFor edition1 rec (now (area .entry)) (now (index .entry)) key) value))
         ⌝ }
 {
-    if !fits_lent(rec, area.len(), index.len()) {
-        return Check::Refused(Refusal::BadRecord);
-    }
-    match check_idle(rec, work) {
+    match check_first(rec, area.len(), index.len(), work, tables, key) {
         Check::Refused(c) => Check::Refused(c),
         Check::Passed => {
             if object_kind(value) == 0 {
@@ -172,21 +196,25 @@ pub fn check_write(
     }
 }
 
-// Delete: 4, 3, 5, 8, 9, 10.
-pub fn check_delete(rec: Record, area: &[u8], index: &[u32], work: usize, key: Key) -> Check
+// Delete: 4, 22, 3, 5, 8, 9, 10.
+pub fn check_delete(
+    rec: Record,
+    area: &[u8],
+    index: &[u32],
+    work: usize,
+    tables: Tables,
+    key: Key,
+) -> Check
     ensures { λ r.
         ⌜
         r ≡ checked
         (firstCause
         (deleteCauses edition1 rec
         (record { area = length (now (area .entry)); index = length (now (index .entry)); work = work })
-        (factsFor edition1 rec (now (area .entry)) (now (index .entry)) key)))
+        (reaching tables) key (factsFor edition1 rec (now (area .entry)) (now (index .entry)) key)))
         ⌝ }
 {
-    if !fits_lent(rec, area.len(), index.len()) {
-        return Check::Refused(Refusal::BadRecord);
-    }
-    match check_idle(rec, work) {
+    match check_first(rec, area.len(), index.len(), work, tables, key) {
         Check::Refused(c) => Check::Refused(c),
         Check::Passed => match find(rec.size as usize, area, index, key) {
             Presence::Forbidden => Check::Refused(Refusal::BadRecord),

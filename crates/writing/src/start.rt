@@ -4,13 +4,14 @@ use crate::lay::lay_entry;
 use record::Expected;
 use record::Record;
 use record::Start;
+use record::Tables;
 use segment::Key;
 use segment::layout::object_kind;
 use starting::Check;
 use starting::answer::refused;
 ghost use Rattle.segment.specs.Layout.{edition1};
 ghost use Rattle.model.specs.Operations.{write};
-ghost use Rattle.model.specs.Refused.{freely};
+ghost use Rattle.model.specs.Refused.{reaching};
 ghost use Rattle.model.specs.Promises.{StartPromise};
 
 // A value is to come under a key, if the key has the version that is expected.
@@ -19,17 +20,27 @@ pub fn write_expecting(
     area: &[u8],
     index: &[u32],
     work: &mut [u8],
+    tables: Tables,
     expected: Expected,
     key: Key,
     value: &[u8],
 ) -> Start
     ensures { λ r.
         ⌜
-        StartPromise edition1 (record { expected = expected }) (write key (now (value .entry))) rec (now (area .entry))
-        (now (index .entry)) (now (work .entry)) (now (work .exit)) r
+        StartPromise edition1 (record { tables = tables; expected = expected }) (write key (now (value .entry))) rec
+        (now (area .entry)) (now (index .entry)) (now (work .entry)) (now (work .exit)) r
         ⌝ }
 {
-    match check_write(rec, area, index, work.len(), expected, key, value.len()) {
+    match check_write(
+        rec,
+        area,
+        index,
+        work.len(),
+        tables,
+        expected,
+        key,
+        value.len(),
+    ) {
         Check::Refused(c) => refused(rec, c),
         Check::Passed => lay_entry(rec, work, object_kind(value.len()), key, value),
     }
@@ -41,14 +52,15 @@ pub fn write(
     area: &[u8],
     index: &[u32],
     work: &mut [u8],
+    tables: Tables,
     key: Key,
     value: &[u8],
 ) -> Start
     ensures { λ r.
         ⌜
-        StartPromise edition1 freely (write key (now (value .entry))) rec (now (area .entry)) (now (index .entry)) (now (work .entry))
-        (now (work .exit)) r
+        StartPromise edition1 (reaching tables) (write key (now (value .entry))) rec (now (area .entry)) (now (index .entry))
+        (now (work .entry)) (now (work .exit)) r
         ⌝ }
 {
-    write_expecting(rec, area, index, work, Expected::Any, key, value)
+    write_expecting(rec, area, index, work, tables, Expected::Any, key, value)
 }

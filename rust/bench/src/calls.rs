@@ -5,7 +5,9 @@ use std::hint::black_box;
 use crate::image::{full, lay_out, At, Entry};
 use crate::recoveries::recovery;
 use crate::report::{Call, Keys, Report};
-use crate::store::{proved_key, reference_key, Operation, Store, CELLS, LOG, SLOTS};
+use crate::store::{
+    proved_key, reference_key, Operation, Store, ALL, CELLS, LOG, PROVED_ALL, SLOTS,
+};
 use crate::timing::{compare, Timing};
 use crate::versions::meeting;
 
@@ -94,25 +96,34 @@ impl Chosen {
                 &mut store,
                 |store| {
                     let key = proved_key(black_box(key));
-                    let _ = black_box(store.proved.read(&store.area, &store.index, key));
+                    let _ = black_box(store.proved.read(
+                        &store.area,
+                        &store.index,
+                        PROVED_ALL,
+                        key,
+                    ));
                 },
                 |store| {
                     let key = reference_key(black_box(key));
                     let record = black_box(&store.reference);
-                    let _ = black_box(reference::read(record, &store.area, &store.index, key));
+                    let _ = black_box(reference::read(record, &store.area, &store.index, ALL, key));
                 },
             );
             self.call(report, Call::Read, case, timing);
         }
     }
 
-    /// Starts and steps of a write of 56 bytes and the start of a delete, of the key found last.
+    /// Starts and steps of writes of 56 bytes and the start of a delete, of the key found last.
     fn writes(&self, report: &mut Report) {
         let mut store = self.one_entry_each();
         let key = self.last_present(&store);
         let (write, delete) = (Operation::Write(key, &VALUE), Operation::Delete(key));
         let timing = store.time_start(write, Ok(68));
         self.call(report, Call::WriteStart, "start of a write", timing);
+        let conditional = Operation::WriteExpecting(key, store.version(key), &VALUE);
+        let timing = store.time_start(conditional, Ok(68));
+        let case = "start of a conditional write";
+        self.call(report, Call::ConditionalWriteStart, case, timing);
         let timing = store.time_start(delete, Ok(12));
         self.call(report, Call::DeleteStart, "start of a delete", timing);
         let timing = self.one_entry_each().time_step(write, 34);

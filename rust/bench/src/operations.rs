@@ -4,7 +4,7 @@ use std::hint::black_box;
 
 use crate::image::{full, At, Entry, SLOT_BYTES};
 use crate::report::{Call, Keys, Report};
-use crate::store::{Operation, Store, CELLS, SLOTS};
+use crate::store::{Operation, Store, ALL, CELLS, PROVED_ALL, SLOTS};
 use crate::timing::compare;
 
 /// The cases.
@@ -26,7 +26,11 @@ fn reads(report: &mut Report) {
                     table,
                     key: next(proved),
                 };
-                let _ = black_box(store.proved.read(&store.area, &store.index, key));
+                let _ = black_box(
+                    store
+                        .proved
+                        .read(&store.area, &store.index, PROVED_ALL, key),
+                );
             },
             |(_, reference)| {
                 let key = reference::Key {
@@ -34,27 +38,36 @@ fn reads(report: &mut Report) {
                     key: next(reference),
                 };
                 let record = black_box(&store.reference);
-                let _ = black_box(reference::read(record, &store.area, &store.index, key));
+                let _ = black_box(reference::read(record, &store.area, &store.index, ALL, key));
             },
         );
         report.call(Call::Read, Keys::Plain, case, timing);
     }
 }
 
-/// A write of 8 bytes with all its steps: into a head with room, and into a new head.
+/// A store with two slots in the log, whose head has room or none.
+fn two_slots(room: bool) -> Store {
+    let mut area = full(3, |at| at.object(at.count % 60));
+    area.resize(SLOTS * SLOT_BYTES, 0);
+    if room {
+        area[SLOT_BYTES + 13] = 0;
+    }
+    Store::new(area, 256)
+}
+
+/// A write of 8 bytes with all its steps: into a head with room, into a new head, and over the version that the key has.
 fn writes(report: &mut Report) {
     for (case, room) in [
         ("write with its steps, appended", true),
         ("write with its steps, new head", false),
     ] {
-        let mut area = full(3, |at| at.object(at.count % 60));
-        area.resize(SLOTS * SLOT_BYTES, 0);
-        if room {
-            area[SLOT_BYTES + 13] = 0;
-        }
-        let timing = Store::new(area, 256).time_whole(Operation::Write(5, &[9; 8]));
+        let timing = two_slots(room).time_whole(Operation::Write(5, &[9; 8]));
         report.line(case, timing);
     }
+    let mut store = two_slots(true);
+    let write = Operation::WriteExpecting(5, store.version(5), &[9; 8]);
+    let case = "conditional write with its steps, appended";
+    report.line(case, store.time_whole(write));
 }
 
 /// Objects of which, in the first two slots, every second one is overwritten later.

@@ -9,6 +9,8 @@ pub enum Call {
     Read,
     /// The start of a write.
     WriteStart,
+    /// The start of a write that expects a version.
+    ConditionalWriteStart,
     /// The start of a delete.
     DeleteStart,
     /// The start of a cleaning.
@@ -24,9 +26,10 @@ pub enum Call {
 }
 
 impl Call {
-    const ALL: [(Call, &'static str); 8] = [
+    const ALL: [(Call, &'static str); 9] = [
         (Call::Read, "read"),
         (Call::WriteStart, "start of a write"),
+        (Call::ConditionalWriteStart, "start of a conditional write"),
         (Call::DeleteStart, "start of a delete"),
         (Call::CleanStart, "start of a cleaning"),
         (Call::MiddleStep, "a step before the last"),

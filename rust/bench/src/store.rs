@@ -12,11 +12,17 @@ pub const LOG: usize = SLOTS - 1;
 /// Cells of the largest index (M).
 pub const CELLS: usize = 4096;
 
+/// The tables of every caller, as the reference takes them and as the proved store does.
+pub const ALL: reference::Tables = reference::Tables::ALL;
+pub const PROVED_ALL: kurdavel::Tables = kurdavel::Tables::ALL;
+
 /// An operation, with the key in the one table.
 #[derive(Clone, Copy)]
 pub enum Operation<'a> {
     /// A write of a value.
     Write(u32, &'a [u8]),
+    /// A write of a value under a key that has this version.
+    WriteExpecting(u32, u32, &'a [u8]),
     /// A delete.
     Delete(u32),
     /// A cleaning of a map of victims.
@@ -47,9 +53,15 @@ pub fn start(
 ) -> reference::Started {
     match operation {
         Operation::Write(key, value) => {
-            reference::write(record, area, index, work, reference_key(key), value)
+            reference::write(record, area, index, work, ALL, reference_key(key), value)
         }
-        Operation::Delete(key) => reference::delete(record, area, index, work, reference_key(key)),
+        Operation::WriteExpecting(key, version, value) => {
+            let (key, expected) = (reference_key(key), reference::Version(version));
+            reference::write_expecting(record, area, index, work, ALL, key, expected, value)
+        }
+        Operation::Delete(key) => {
+            reference::delete(record, area, index, work, ALL, reference_key(key))
+        }
         Operation::Clean(map) => {
             reference::clean(record, area, index, work, reference::SlotMap(map))
         }
@@ -91,14 +103,27 @@ impl Store {
         }
     }
 
+    /// The version of a present key.
+    pub fn version(&self, key: u32) -> u32 {
+        let (area, index) = (&self.area, &self.index);
+        let found = reference::read(&self.reference, area, index, ALL, reference_key(key));
+        found.expect("a present key").version.0
+    }
+
     /// Starts an operation of the proved store, whose own record stays.
     #[inline(always)]
     pub fn start_proved(&mut self, operation: Operation) -> (kurdavel::Record, Answer) {
         let mut record = self.proved;
         let (area, index, work) = (&self.area, &self.index, &mut self.work);
         let answer = match operation {
-            Operation::Write(key, value) => record.write(area, index, work, proved_key(key), value),
-            Operation::Delete(key) => record.delete(area, index, work, proved_key(key)),
+            Operation::Write(key, value) => {
+                record.write(area, index, work, PROVED_ALL, proved_key(key), value)
+            }
+            Operation::WriteExpecting(key, version, value) => {
+                let (key, expected) = (proved_key(key), kurdavel::Version(version));
+                record.write_expecting(area, index, work, PROVED_ALL, key, expected, value)
+            }
+            Operation::Delete(key) => record.delete(area, index, work, PROVED_ALL, proved_key(key)),
             Operation::Clean(map) => record.clean(area, index, work, kurdavel::SlotMap(map)),
         };
         (record, answer.map_err(kurdavel::Refusal::number))

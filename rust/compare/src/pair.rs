@@ -4,7 +4,9 @@ use std::fmt::Write;
 
 use reference::book::Operation;
 use reference::index::rule_holds;
-use reference::{Key, SlotMap};
+use reference::rng::Rng;
+use reference::testing::calls::Given;
+use reference::{Key, SlotMap, Started, Tables, Version};
 
 use crate::guarded::Guarded;
 use crate::{same, translate, Fault};
@@ -12,6 +14,9 @@ use crate::{same, translate, Fault};
 /// What a cut leaves in memory that it loses.
 const LOST_CELL: u32 = 0xDEAD_BEEF;
 const LOST_BYTE: u8 = 0x5A;
+
+/// What a read tells: version and kind, or the refusal.
+pub type Told = Result<(u32, u8), u32>;
 
 /// One implementation's memory.
 #[derive(Clone, Debug)]
@@ -32,6 +37,57 @@ impl Memory {
 
     fn is_intact(&self) -> bool {
         self.area.is_intact() && self.index.is_intact() && self.work.is_intact()
+    }
+
+    /// Starts an operation of the proved store.
+    fn start_proved(
+        &mut self,
+        mut record: kurdavel::Record,
+        operation: &Operation,
+        given: Given,
+    ) -> (kurdavel::Record, Result<u32, kurdavel::Refusal>) {
+        let Memory { area, index, work } = self;
+        let work = &mut work[..given.work_bytes];
+        let tables = translate::tables(given.tables);
+        let answer = match operation {
+            Operation::Write(key, value) => {
+                let key = translate::key(*key);
+                match given.expected.map(|version| kurdavel::Version(version.0)) {
+                    None => record.write(area, index, work, tables, key, value),
+                    Some(expected) => {
+                        record.write_expecting(area, index, work, tables, key, expected, value)
+                    }
+                }
+            }
+            Operation::Delete(key) => {
+                record.delete(area, index, work, tables, translate::key(*key))
+            }
+            Operation::Clean(victims) => {
+                record.clean(area, index, work, kurdavel::SlotMap(victims.0))
+            }
+        };
+        (record, answer)
+    }
+
+    /// Starts an operation of the reference.
+    fn start_reference(
+        &mut self,
+        record: reference::Record,
+        operation: &Operation,
+        given: Given,
+    ) -> Started {
+        let Memory { area, index, work } = self;
+        let (work, tables) = (&mut work[..given.work_bytes], given.tables);
+        match operation {
+            Operation::Write(key, value) => match given.expected {
+                None => reference::write(record, area, index, work, tables, *key, value),
+                Some(expected) => reference::write_expecting(
+                    record, area, index, work, tables, *key, expected, value,
+                ),
+            },
+            Operation::Delete(key) => reference::delete(record, area, index, work, tables, *key),
+            Operation::Clean(victims) => reference::clean(record, area, index, work, *victims),
+        }
     }
 }
 
@@ -240,34 +296,17 @@ impl Pair {
         }
     }
 
-    /// Starts an operation on both, with the first bytes of the work buffer.
-    pub fn start(&mut self, operation: &Operation, lent: usize) -> Result<Result<u32, u32>, Fault> {
-        let (mut record, before) = self.records.expect("an accepted recovery came before");
-        let Memory { area, index, work } = &mut self.proved;
-        let work = &mut work[..lent];
-        let answer = match operation {
-            Operation::Write(key, value) => {
-                record.write(area, index, work, translate::key(*key), value)
-            }
-            Operation::Delete(key) => record.delete(area, index, work, translate::key(*key)),
-            Operation::Clean(victims) => {
-                record.clean(area, index, work, kurdavel::SlotMap(victims.0))
-            }
-        };
-        let Memory { area, index, work } = &mut self.reference;
-        let work = &mut work[..lent];
-        let (after, owed) = match operation {
-            Operation::Write(key, value) => {
-                reference::write(before, area, index, work, *key, value)
-            }
-            Operation::Delete(key) => reference::delete(before, area, index, work, *key),
-            Operation::Clean(victims) => reference::clean(before, area, index, work, *victims),
-        };
+    /// Starts an operation on both, with what it is given.
+    pub fn start(
+        &mut self,
+        operation: &Operation,
+        given: Given,
+    ) -> Result<Result<u32, u32>, Fault> {
+        let (record, before) = self.records.expect("an accepted recovery came before");
+        let (record, answer) = self.proved.start_proved(record, operation, given);
+        let (after, owed) = self.reference.start_reference(before, operation, given);
         let answer = translate::proved(answer);
-        self.tell(format_args!(
-            "{}, work {lent}: {answer:?}",
-            named(operation)
-        ));
+        self.tell(format_args!("{}, {given:?}: {answer:?}", named(operation)));
         same!("start", answer, translate::reference(owed));
         self.records = Some((record, after));
         same!("index of a start", self.proved.index[..], self.settled[..]);
@@ -277,7 +316,25 @@ impl Pair {
 
     /// Starts an operation with the whole work buffer.
     pub fn begin(&mut self, operation: &Operation) -> Result<Result<u32, u32>, Fault> {
-        self.start(operation, self.work_bytes())
+        self.start(operation, Given::plain(self.work_bytes()))
+    }
+
+    /// Starts an operation with anything that it may be given.
+    pub fn start_somehow(
+        &mut self,
+        rng: &mut Rng,
+        operation: &Operation,
+    ) -> Result<Result<u32, u32>, Fault> {
+        let (record, whole) = (self.record(), self.work_bytes());
+        let given = Given::random(rng, operation, record, |key| self.version(key), whole);
+        self.start(operation, given)
+    }
+
+    /// The version of a key, as the reference reads it; none where it is absent.
+    pub fn version(&self, key: Key) -> Version {
+        let Memory { area, index, .. } = &self.reference;
+        let found = reference::read(&self.record(), area, index, Tables::ALL, key);
+        found.map_or(Version::NONE, |found| found.version)
     }
 
     /// Makes one step on both.
@@ -311,16 +368,22 @@ impl Pair {
         Ok(())
     }
 
-    /// Reads a key from both. Version, kind, value and the value's place are the same.
-    pub fn read(&self, key: Key) -> Result<Result<(u32, u8), u32>, Fault> {
+    /// Reads a key from both, for a caller of all tables.
+    pub fn read(&self, key: Key) -> Result<Told, Fault> {
+        self.read_in(Tables::ALL, key).map(|(found, _)| found)
+    }
+
+    /// Reads a key from both, for a caller with these tables. Version, kind, value and the value's place are the same.
+    pub fn read_in(&self, tables: Tables, key: Key) -> Result<(Told, &[u8]), Fault> {
         let (record, owed) = self.records.expect("an accepted recovery came before");
         let Memory { area, index, .. } = &self.proved;
-        let found = record.read(area, index, translate::key(key));
-        let value = record.read_value(area, index, translate::key(key));
+        let (proved_tables, proved_key) = (translate::tables(tables), translate::key(key));
+        let found = record.read(area, index, proved_tables, proved_key);
+        let value = record.read_value(area, index, proved_tables, proved_key);
         let place = value.as_ptr() as usize - area.as_ptr() as usize;
         let Memory { area, index, .. } = &self.reference;
-        let owed_found = reference::read(&owed, area, index, key);
-        let owed_value = reference::read_value(&owed, area, index, key);
+        let owed_found = reference::read(&owed, area, index, tables, key);
+        let owed_value = reference::read_value(&owed, area, index, tables, key);
         let owed_place = owed_value.as_ptr() as usize - area.as_ptr() as usize;
         let found = translate::proved(found.map(|found| (found.version.0, found.kind)));
         let owed_found = owed_found.map(|found| (found.version.0, found.kind));
@@ -331,7 +394,7 @@ impl Pair {
         );
         same!(format!("value of {key:?}"), value, owed_value);
         same!(format!("place of {key:?}"), place, owed_place);
-        Ok(found)
+        Ok((found, value))
     }
 }
 

@@ -10,6 +10,14 @@ pub fn key(key: reference::Key) -> kurdavel::Key {
     }
 }
 
+/// The wrapper's tables.
+pub fn tables(tables: reference::Tables) -> kurdavel::Tables {
+    kurdavel::Tables {
+        first: tables.first,
+        last: tables.last,
+    }
+}
+
 /// The record's words.
 pub fn record(record: reference::Record) -> Record {
     Record::of(Fields {

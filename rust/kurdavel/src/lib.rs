@@ -5,7 +5,7 @@
 //! caller lends all memory; nothing is allocated.
 //!
 //! ```
-//! use kurdavel::{format, recover, Key, Progress, Version};
+//! use kurdavel::{format, recover, Key, Progress, Tables, Version};
 //!
 //! // The medium: 4 slots of 256 bytes, all that survives a cut.
 //! let mut area = [0; 4 * 256];
@@ -17,7 +17,7 @@
 //!
 //! // A write: its start stores nothing, and each step stores one byte.
 //! let key = Key { table: 7, key: 9 };
-//! let stores = record.write(&area, &index, &mut work, key, &[0x11; 8])?;
+//! let stores = record.write(&area, &index, &mut work, Tables::ALL, key, &[0x11; 8])?;
 //! assert_eq!(stores, 20);
 //! for left in (1..stores).rev() {
 //!     let progress = record.step(&mut area, &mut index, &work)?;
@@ -30,7 +30,7 @@
 //!
 //! // A cut: the area alone gives everything back, in whatever order its slots are read.
 //! let record = recover(4, 256, &[3, 1, 0, 2], &area, &mut index)?;
-//! assert_eq!(record.read_value(&area, &index, key), &[0x11; 8]);
+//! assert_eq!(record.read_value(&area, &index, Tables::ALL, key), &[0x11; 8]);
 //! assert_eq!(record.next(), Version(2));
 //! # Ok::<(), kurdavel::Refusal>(())
 //! ```
@@ -52,6 +52,19 @@
 //!
 //! An operation that is not to be finished is given up by a [`recover`], without a cut. The rules leave no other way: a
 //! copy of the record from before the start is not the newest one.
+//!
+//! # Several writers of one value
+//!
+//! Where several parts of a firmware change the same value, each writes with
+//! [`write_expecting`](Record::write_expecting) over the version that it read. The one that comes too late is refused
+//! with [`OtherVersion`](Refusal::OtherVersion) (21), reads again and decides anew, so that no update is lost.
+//!
+//! # Two owners of one store
+//!
+//! Every read, write and delete is given the [`Tables`] that its caller may use, and is refused with
+//! [`OutsideTables`](Refusal::OutsideTables) (22) for a key in another. Owners whose tables have none in common can neither
+//! read nor change each other's values, and what one gets does not depend on the bytes that the other writes. The other's
+//! keys, lengths and number of calls do show: `include/kurdavel.h` says where.
 //!
 //! # The medium
 //!
@@ -77,4 +90,4 @@ mod values;
 pub use record::{Fields, Pending, Record, WORDS};
 pub use refusal::Refusal;
 pub use store::{format, recover, Found, Progress};
-pub use values::{DigestNumber, Key, SlotMap, Version};
+pub use values::{DigestNumber, Key, SlotMap, Tables, Version};

@@ -50,11 +50,15 @@ pub enum Refusal {
     /// The log has more keys than the index takes. The index is then all 0, and a recovery has to be accepted before a
     /// record is used again.
     TooManyKeys = 20,
+    /// The key has another version than the caller expects. Read it again, and decide anew what to write.
+    OtherVersion = 21,
+    /// The key's table is not one that the caller may use.
+    OutsideTables = 22,
 }
 
 impl Refusal {
     /// All causes, by number.
-    pub const ALL: [Refusal; 20] = [
+    pub const ALL: [Refusal; 22] = [
         Refusal::Geometry,
         Refusal::Cells,
         Refusal::WorkShort,
@@ -75,6 +79,8 @@ impl Refusal {
         Refusal::DamagedLog,
         Refusal::SharedVersion,
         Refusal::TooManyKeys,
+        Refusal::OtherVersion,
+        Refusal::OutsideTables,
     ];
 
     /// The number of the cause.

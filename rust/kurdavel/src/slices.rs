@@ -5,6 +5,8 @@
 //!
 //! A refused call leaves the numbers that it would tell as they were, but [`read`] and [`read_value`] make them 0.
 //!
+//! `first` and `last` are the tables that the caller may use, both included.
+//!
 //! This is the only module with `unsafe` code. What the library asks of its pointers is, in every call here, what Rust
 //! already knows of the references that they come from: valid for the length that goes with them, not null, aligned,
 //! and unlike every other one that the call may write through.
@@ -60,10 +62,13 @@ pub fn recover(
 
 /// Tells version and kind of a key's object; both are 0 where the call is refused.
 #[inline]
+#[allow(clippy::too_many_arguments)]
 pub fn read(
     record: &[u32],
     area: &[u8],
     index: &[u32],
+    first: u16,
+    last: u16,
     table: u16,
     key: u32,
     version: &mut u32,
@@ -78,6 +83,8 @@ pub fn read(
             area.len(),
             index.as_ptr(),
             index.len(),
+            first,
+            last,
             table,
             key,
             version,
@@ -88,10 +95,13 @@ pub fn read(
 
 /// Tells place and length of the value of a key's object; both are 0 where the call is refused.
 #[inline]
+#[allow(clippy::too_many_arguments)]
 pub fn read_value(
     record: &[u32],
     area: &[u8],
     index: &[u32],
+    first: u16,
+    last: u16,
     table: u16,
     key: u32,
     place: &mut u32,
@@ -106,6 +116,8 @@ pub fn read_value(
             area.len(),
             index.as_ptr(),
             index.len(),
+            first,
+            last,
             table,
             key,
             place,
@@ -122,6 +134,8 @@ pub fn write(
     area: &[u8],
     index: &[u32],
     work: &mut [u8],
+    first: u16,
+    last: u16,
     table: u16,
     key: u32,
     value: &[u8],
@@ -138,6 +152,8 @@ pub fn write(
             index.len(),
             work.as_mut_ptr(),
             work.len(),
+            first,
+            last,
             table,
             key,
             value.as_ptr(),
@@ -147,13 +163,55 @@ pub fn write(
     }
 }
 
+/// Starts to write a value under a key that has the expected version, 0 if it is absent; tells the stores to come.
+#[inline]
+#[allow(clippy::too_many_arguments)]
+pub fn write_expecting(
+    record: &mut [u32],
+    area: &[u8],
+    index: &[u32],
+    work: &mut [u8],
+    first: u16,
+    last: u16,
+    table: u16,
+    key: u32,
+    expected: u32,
+    value: &[u8],
+    stores: &mut u32,
+) -> u32 {
+    // SAFETY: each pointer and length are those of one slice; `record`, `work` and `stores` are exclusive.
+    unsafe {
+        kurdavel_write_expecting(
+            record.as_mut_ptr(),
+            record.len(),
+            area.as_ptr(),
+            area.len(),
+            index.as_ptr(),
+            index.len(),
+            work.as_mut_ptr(),
+            work.len(),
+            first,
+            last,
+            table,
+            key,
+            expected,
+            value.as_ptr(),
+            value.len(),
+            stores,
+        )
+    }
+}
+
 /// Starts to delete a key; tells the stores to come.
 #[inline]
+#[allow(clippy::too_many_arguments)]
 pub fn delete(
     record: &mut [u32],
     area: &[u8],
     index: &[u32],
     work: &mut [u8],
+    first: u16,
+    last: u16,
     table: u16,
     key: u32,
     stores: &mut u32,
@@ -169,6 +227,8 @@ pub fn delete(
             index.len(),
             work.as_mut_ptr(),
             work.len(),
+            first,
+            last,
             table,
             key,
             stores,

@@ -1,9 +1,9 @@
-//! The seven calls and the value read, with types.
+//! The calls and the value read, with types.
 
 use crate::record::{Record, WORDS};
 use crate::refusal::Refusal;
 use crate::slices;
-use crate::values::{Key, SlotMap, Version};
+use crate::values::{Key, SlotMap, Tables, Version};
 
 /// What a read tells of a present key besides its value.
 #[derive(Clone, Copy, PartialEq, Eq, Debug)]
@@ -76,18 +76,29 @@ impl Record {
     /// # kurdavel::format(4, 256, &mut area)?;
     /// # let mut index = [0; 16];
     /// # let record = kurdavel::recover(4, 256, &[0, 1, 2, 3], &area, &mut index)?;
-    /// use kurdavel::{Key, Refusal};
-    /// let absent = record.read(&area, &index, Key { table: 1, key: 2 });
+    /// use kurdavel::{Key, Refusal, Tables};
+    /// let key = Key { table: 1, key: 2 };
+    /// let absent = record.read(&area, &index, Tables::ALL, key);
     /// assert_eq!(absent, Err(Refusal::Absent));
+    /// let servo = Tables { first: 2, last: 99 };
+    /// assert_eq!(record.read(&area, &index, servo, key), Err(Refusal::OutsideTables));
     /// # Ok::<(), Refusal>(())
     /// ```
     #[inline]
-    pub fn read(&self, area: &[u8], index: &[u32], key: Key) -> Result<Found, Refusal> {
+    pub fn read(
+        &self,
+        area: &[u8],
+        index: &[u32],
+        tables: Tables,
+        key: Key,
+    ) -> Result<Found, Refusal> {
         let (mut version, mut kind) = (0, 0);
         let answer = slices::read(
             &self.words,
             area,
             index,
+            tables.first,
+            tables.last,
             key.table,
             key.key,
             &mut version,
@@ -110,12 +121,20 @@ impl Record {
     /// The library stays within the area for genuine stores and others alike; a place outside it, which it never
     /// tells, would give the empty part too.
     #[inline]
-    pub fn read_value<'a>(&self, area: &'a [u8], index: &[u32], key: Key) -> &'a [u8] {
+    pub fn read_value<'a>(
+        &self,
+        area: &'a [u8],
+        index: &[u32],
+        tables: Tables,
+        key: Key,
+    ) -> &'a [u8] {
         let (mut place, mut bytes) = (0, 0);
         slices::read_value(
             &self.words,
             area,
             index,
+            tables.first,
+            tables.last,
             key.table,
             key.key,
             &mut place,
@@ -133,6 +152,7 @@ impl Record {
         area: &[u8],
         index: &[u32],
         work: &mut [u8],
+        tables: Tables,
         key: Key,
         value: &[u8],
     ) -> Result<u32, Refusal> {
@@ -142,8 +162,68 @@ impl Record {
             area,
             index,
             work,
+            tables.first,
+            tables.last,
             key.table,
             key.key,
+            value,
+            &mut stores,
+        );
+        Refusal::unless_accepted(answer).map(|()| stores)
+    }
+
+    /// Starts to write a value under a key that has the expected version: the one that a read told, or
+    /// [`Version::NONE`] where the key is to be absent, never written or deleted. Answers how many stores are to come.
+    ///
+    /// Once accepted it is the operation of [`write`](Record::write). Nothing can come between the comparison and the last
+    /// step, so that what it replaces is what the caller expected.
+    ///
+    /// ```
+    /// # let mut area = [0; 1024];
+    /// # kurdavel::format(4, 256, &mut area)?;
+    /// # let (mut index, mut work) = ([0; 16], [0; 256]);
+    /// # let mut record = kurdavel::recover(4, 256, &[0, 1, 2, 3], &area, &mut index)?;
+    /// use kurdavel::{Key, Refusal, Tables, Version};
+    /// let head = Key { table: 1, key: 2 };
+    /// record.write_expecting(&area, &index, &mut work, Tables::ALL, head, Version::NONE, &[7; 8])?;
+    /// while record.left() > 0 {
+    ///     record.step(&mut area, &mut index, &work)?;
+    /// }
+    ///
+    /// // Two passes read the value. The first one to write replaces it; the other has read an old one.
+    /// let read = record.read(&area, &index, Tables::ALL, head)?.version;
+    /// record.write_expecting(&area, &index, &mut work, Tables::ALL, head, read, &[8; 8])?;
+    /// while record.left() > 0 {
+    ///     record.step(&mut area, &mut index, &work)?;
+    /// }
+    /// let late = record.write_expecting(&area, &index, &mut work, Tables::ALL, head, read, &[9; 8]);
+    /// assert_eq!(late, Err(Refusal::OtherVersion));
+    /// assert_eq!(record.read_value(&area, &index, Tables::ALL, head), &[8; 8]);
+    /// # Ok::<(), Refusal>(())
+    /// ```
+    #[inline]
+    #[allow(clippy::too_many_arguments)]
+    pub fn write_expecting(
+        &mut self,
+        area: &[u8],
+        index: &[u32],
+        work: &mut [u8],
+        tables: Tables,
+        key: Key,
+        expected: Version,
+        value: &[u8],
+    ) -> Result<u32, Refusal> {
+        let mut stores = 0;
+        let answer = slices::write_expecting(
+            &mut self.words,
+            area,
+            index,
+            work,
+            tables.first,
+            tables.last,
+            key.table,
+            key.key,
+            expected.0,
             value,
             &mut stores,
         );
@@ -157,6 +237,7 @@ impl Record {
         area: &[u8],
         index: &[u32],
         work: &mut [u8],
+        tables: Tables,
         key: Key,
     ) -> Result<u32, Refusal> {
         let mut stores = 0;
@@ -165,6 +246,8 @@ impl Record {
             area,
             index,
             work,
+            tables.first,
+            tables.last,
             key.table,
             key.key,
             &mut stores,
@@ -214,8 +297,9 @@ impl Record {
     /// # kurdavel::format(4, 256, &mut area)?;
     /// # let (mut index, mut work) = ([0; 16], [0; 256]);
     /// # let mut record = kurdavel::recover(4, 256, &[0, 1, 2, 3], &area, &mut index)?;
-    /// use kurdavel::Key;
-    /// record.write(&area, &index, &mut work, Key { table: 1, key: 2 }, &[7; 8])?;
+    /// use kurdavel::{Key, Tables};
+    /// let key = Key { table: 1, key: 2 };
+    /// record.write(&area, &index, &mut work, Tables::ALL, key, &[7; 8])?;
     /// assert_eq!(record.left(), 20);
     /// record.step(&mut area, &mut index, &work)?;
     /// assert_eq!(record.left(), 19);

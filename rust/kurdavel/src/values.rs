@@ -4,6 +4,11 @@
 #[derive(Clone, Copy, PartialEq, Eq, PartialOrd, Ord, Hash, Debug)]
 pub struct Version(pub u32);
 
+impl Version {
+    /// What an absent key has, for a write that expects absence; also what the last step of a cleaning tells.
+    pub const NONE: Version = Version(0);
+}
+
 /// The number of a digest.
 #[derive(Clone, Copy, PartialEq, Eq, PartialOrd, Ord, Hash, Debug)]
 pub struct DigestNumber(pub u32);
@@ -26,6 +31,35 @@ impl SlotMap {
     /// Whether a slot is in the map.
     pub const fn has(self, slot: u32) -> bool {
         slot < 32 && self.0 >> slot & 1 == 1
+    }
+}
+
+/// The tables that a caller may use, from the first to the last, both included; none if the first is above the last.
+#[derive(Clone, Copy, PartialEq, Eq, Hash, Debug)]
+pub struct Tables {
+    /// The lowest table.
+    pub first: u16,
+    /// The highest table.
+    pub last: u16,
+}
+
+impl Tables {
+    /// Every table.
+    pub const ALL: Tables = Tables {
+        first: 0,
+        last: u16::MAX,
+    };
+
+    /// Whether a table is among them.
+    ///
+    /// ```
+    /// use kurdavel::Tables;
+    /// let media = Tables { first: 100, last: 199 };
+    /// assert!(media.has(100) && media.has(199) && !media.has(200));
+    /// assert!(!Tables { first: 2, last: 1 }.has(1));
+    /// ```
+    pub const fn has(self, table: u16) -> bool {
+        self.first <= table && table <= self.last
     }
 }
 

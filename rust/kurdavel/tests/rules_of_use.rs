@@ -1,7 +1,7 @@
 //! What happens where the rule of use after a recovery refused with 20 is broken, and that keeping it is enough; how an
 //! operation is given up; and how long the place of a value may be used.
 
-use kurdavel::{format, recover, slices, Key, Progress, Record, Refusal, SlotMap};
+use kurdavel::{format, recover, slices, Key, Progress, Record, Refusal, SlotMap, Tables};
 
 const ORDER: [u8; 4] = [0, 1, 2, 3];
 const KEYS: u32 = 20;
@@ -42,7 +42,9 @@ impl Store {
 
     fn start_write(&mut self, number: u32, value: &[u8]) {
         let (area, index, work) = (&self.area, &self.index, &mut self.work);
-        let answer = self.record.write(area, index, work, key(number), value);
+        let answer = self
+            .record
+            .write(area, index, work, Tables::ALL, key(number), value);
         answer.unwrap();
     }
 
@@ -53,7 +55,9 @@ impl Store {
 
     fn start_delete(&mut self, number: u32) {
         let (area, index, work) = (&self.area, &self.index, &mut self.work);
-        let answer = self.record.delete(area, index, work, key(number));
+        let answer = self
+            .record
+            .delete(area, index, work, Tables::ALL, key(number));
         answer.unwrap();
     }
 
@@ -67,7 +71,9 @@ impl Store {
         let (mut place, mut bytes) = (0, 0);
         let Key { table, key } = key(number);
         let (words, area, index) = (self.record.words(), &self.area, &self.index);
-        let answer = slices::read_value(words, area, index, table, key, &mut place, &mut bytes);
+        let answer = slices::read_value(
+            words, area, index, table, table, table, key, &mut place, &mut bytes,
+        );
         assert_eq!((answer, bytes), (0, 8));
         place as usize..(place + bytes) as usize
     }
@@ -76,8 +82,10 @@ impl Store {
     fn present(&self) -> usize {
         let reads = |&number: &u32| {
             let (area, index) = (&self.area, &self.index);
-            let read = self.record.read(area, index, key(number));
-            let value = self.record.read_value(area, index, key(number));
+            let read = self.record.read(area, index, Tables::ALL, key(number));
+            let value = self
+                .record
+                .read_value(area, index, Tables::ALL, key(number));
             match read {
                 Ok(_) => assert_eq!(value, [number as u8; 8]),
                 Err(refusal) => assert_eq!(refusal, Refusal::Absent),

@@ -63,6 +63,14 @@ impl Book {
         }
     }
 
+    /// The version of a key, [`Version::NONE`] where it is not present: what an accepted start
+    /// with an expectation must have expected.
+    pub fn version(&self, key: Key) -> Version {
+        self.keys
+            .get(&key)
+            .map_or(Version::NONE, |(version, _)| *version)
+    }
+
     /// Takes in one line. For an accepted step, gives the answer that the step must give.
     pub fn feed(&mut self, event: &Event) -> Option<Progress> {
         match event {

@@ -43,7 +43,8 @@ fn start<R: Rules>(
     work: &mut [u8],
     victims: SlotMap,
 ) -> Result<Pending, Refusal> {
-    record.check_start(area, index, work)?;
+    record.check(area, index)?;
+    record.check_idle(work)?;
     if victims == SlotMap::EMPTY || !victims.is_within(record.map) {
         return Err(Refusal::Victims);
     }

@@ -9,7 +9,7 @@
 pub struct Version(pub u32);
 
 impl Version {
-    /// Told by the last step of a cleaning, which gives no version.
+    /// Told by the last step of a cleaning, which gives no version; also what an absent key has.
     pub const NONE: Version = Version(0);
     /// The highest version that an entry can have.
     pub const LAST: Version = Version(u32::MAX - 1);

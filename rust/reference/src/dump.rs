@@ -7,6 +7,7 @@ use crate::record::Record;
 use crate::recovery::recover;
 use crate::refusal::Refusal;
 use crate::segment::{Key, TOMBSTONE_BYTES};
+use crate::tables::Tables;
 
 /// The output for an input of N (1 byte), S (2 bytes) and the area.
 pub fn dump(input: &[u8]) -> String {
@@ -46,7 +47,7 @@ fn present_keys(record: &Record, area: &[u8], index: &[u32]) -> Vec<(Key, u32, u
         .filter_map(|&mark| area.get(mark as usize - 1..)?.first_chunk())
         .filter_map(|entry: &[u8; TOMBSTONE_BYTES]| {
             let key = Key::of_entry(entry);
-            let found = crate::read::read(record, area, index, key).ok()?;
+            let found = crate::read::read(record, area, index, Tables::ALL, key).ok()?;
             Some((key, found.version.0, found.kind))
         })
         .collect();

@@ -6,7 +6,7 @@ use crate::counters::Version;
 use crate::layout::{geometry_holds, index_holds};
 use crate::log::walk;
 use crate::refusal::Refusal;
-use crate::segment::{version_of_entry, Fields, Key, TOMBSTONE_BYTES};
+use crate::segment::{read_entry, version_of_entry, Entry, Fields, Key, TOMBSTONE_BYTES};
 use crate::slot_map::SlotMap;
 
 /// Where the search for a key ended.
@@ -60,6 +60,21 @@ pub(crate) fn search(area: &[u8], index: &[u32], key: Key) -> Search {
         }
     }
     Search::Broken
+}
+
+/// Place and fields of the object that a search came to; none if the key is absent. Refuses
+/// with 4 what no log leads to.
+#[inline]
+pub(crate) fn object_at(area: &[u8], found: Search) -> Result<Option<(usize, Fields)>, Refusal> {
+    match found {
+        Search::Found { place, .. } => match read_entry(area, place) {
+            Entry::Object(fields) => Ok(Some((place, fields))),
+            Entry::Tombstone(_) => Ok(None),
+            Entry::End | Entry::Damage => Err(Refusal::Record),
+        },
+        Search::Free { .. } => Ok(None),
+        Search::Broken => Err(Refusal::Record),
+    }
 }
 
 /// Leads the key's cell to an entry that is newer than all others of the key. Says

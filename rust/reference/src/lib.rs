@@ -1,4 +1,5 @@
-//! The drive parameter store of document 01, as a plain library on borrowed memory.
+//! The drive parameter store of document 01 with the requests of 02 that have landed, as a
+//! plain library on borrowed memory.
 //!
 //! Every call is a function on slices and a [`Record`] that is copied in and handed
 //! back. None of the calls allocates, and none panics: what it cannot accept it
@@ -29,13 +30,14 @@ pub mod rules;
 pub mod segment;
 pub mod slot_map;
 pub mod step;
+pub mod tables;
 pub mod testing;
 mod versions;
 
 pub use cleaning::clean;
 pub use counters::{DigestNumber, Version};
 pub use dump::dump;
-pub use operations::{delete, format, write, Started};
+pub use operations::{delete, format, write, write_expecting, Started};
 pub use read::{read, read_value, Found};
 pub use record::{Pending, Record};
 pub use recovery::recover;
@@ -43,3 +45,4 @@ pub use refusal::Refusal;
 pub use segment::Key;
 pub use slot_map::SlotMap;
 pub use step::{next_store, step, step_kept, Progress, Stepped, Store};
+pub use tables::Tables;

@@ -1,17 +1,17 @@
-//! Format, and the starts of write and delete (01, "Operations, store by store").
+//! Format, and the starts of write and delete (01, "Operations, store by store"; 02, R-1 and R-2).
 
 use crate::counters::{DigestNumber, Version};
-use crate::index::{search, Search};
+use crate::index::{object_at, search, Search};
 use crate::layout::geometry_holds;
 use crate::record::{Pending, Record};
 use crate::refusal::Refusal;
 use crate::rules::{AsWritten, Rules};
 use crate::segment::{
-    lay_entry, object_kind, read_entry, Digest, Entry, Key, DIGEST_BYTES, END, TOMBSTONE,
-    TOMBSTONE_BYTES,
+    lay_entry, object_kind, Digest, Key, DIGEST_BYTES, END, TOMBSTONE, TOMBSTONE_BYTES,
 };
 use crate::slot_map::SlotMap;
 use crate::step::{append_stores, new_head_stores};
+use crate::tables::Tables;
 
 /// The answer of a start: the record, changed only if the start was accepted, and how
 /// many stores are to come or the refusal.
@@ -41,29 +41,65 @@ pub fn write(
     area: &[u8],
     index: &[u32],
     work: &mut [u8],
+    tables: Tables,
     key: Key,
     value: &[u8],
 ) -> Started {
-    write_by::<AsWritten>(record, area, index, work, key, value)
+    write_by::<AsWritten>(record, area, index, work, tables, key, None, value)
 }
 
-/// [`write()`] by chosen rules.
+/// Starts to write a value under a key that has the expected version: [`Version::NONE`] if
+/// it is absent. The operation is the same as that of [`write()`].
+#[allow(clippy::too_many_arguments)]
+pub fn write_expecting(
+    record: Record,
+    area: &[u8],
+    index: &[u32],
+    work: &mut [u8],
+    tables: Tables,
+    key: Key,
+    expected: Version,
+    value: &[u8],
+) -> Started {
+    write_by::<AsWritten>(
+        record,
+        area,
+        index,
+        work,
+        tables,
+        key,
+        Some(expected),
+        value,
+    )
+}
+
+/// [`write()`], or [`write_expecting`] where a version is expected, by chosen rules.
+#[allow(clippy::too_many_arguments)]
 pub fn write_by<R: Rules>(
     record: Record,
     area: &[u8],
     index: &[u32],
     work: &mut [u8],
+    tables: Tables,
     key: Key,
+    expected: Option<Version>,
     value: &[u8],
 ) -> Started {
-    let pending = check_write(&record, area, index, work, key, value)
+    let pending = check_write(&record, area, index, work, tables, key, expected, value)
         .map(|(kind, room)| lay::<R>(&record, work, room, kind, key, value));
     hand_back(record, pending)
 }
 
 /// Starts to delete a key.
-pub fn delete(record: Record, area: &[u8], index: &[u32], work: &mut [u8], key: Key) -> Started {
-    delete_by::<AsWritten>(record, area, index, work, key)
+pub fn delete(
+    record: Record,
+    area: &[u8],
+    index: &[u32],
+    work: &mut [u8],
+    tables: Tables,
+    key: Key,
+) -> Started {
+    delete_by::<AsWritten>(record, area, index, work, tables, key)
 }
 
 /// [`delete`] by chosen rules.
@@ -72,9 +108,10 @@ pub fn delete_by<R: Rules>(
     area: &[u8],
     index: &[u32],
     work: &mut [u8],
+    tables: Tables,
     key: Key,
 ) -> Started {
-    let pending = check_delete(&record, area, index, work, key)
+    let pending = check_delete(&record, area, index, work, tables, key)
         .map(|room| lay::<R>(&record, work, room, TOMBSTONE, key, &[]));
     hand_back(record, pending)
 }
@@ -95,49 +132,60 @@ enum Room {
     NewHead(u32),
 }
 
-/// The checks of a write in 01's order; gives the kind of the object and its room.
+/// The checks of a write in 02's order; gives the kind of the object and its room. The key is
+/// looked for only where the answer depends on it.
+#[allow(clippy::too_many_arguments)]
 fn check_write(
     record: &Record,
     area: &[u8],
     index: &[u32],
     work: &[u8],
+    tables: Tables,
     key: Key,
+    expected: Option<Version>,
     value: &[u8],
 ) -> Result<(u8, Room), Refusal> {
-    record.check_start(area, index, work)?;
+    record.check_start_on(area, index, work, tables, key)?;
     let kind = object_kind(value.len()).ok_or(Refusal::ValueLength)?;
+    let full = record.keys == record.cells - 1;
+    let found = (full || expected.is_some()).then(|| search(area, index, key));
+    if let (Some(expected), Some(found)) = (expected, found) {
+        check_expected(area, found, expected)?;
+    }
     if record.next == Version::SPENT {
         return Err(Refusal::VersionsSpent);
     }
-    if record.keys == record.cells - 1 {
-        match search(area, index, key) {
-            Search::Found { .. } => {}
-            Search::Free { .. } => return Err(Refusal::KeysFull),
-            Search::Broken => return Err(Refusal::Record),
-        }
+    match found {
+        Some(Search::Free { .. }) if full => return Err(Refusal::KeysFull),
+        Some(Search::Broken) => return Err(Refusal::Record),
+        _ => {}
     }
     let room = find_room(record, TOMBSTONE_BYTES + value.len())?;
     Ok((kind, room))
 }
 
-/// The checks of a delete in 01's order; gives the room of the tombstone.
+/// Refuses with 21 unless the key that was looked for has the expected version.
+fn check_expected(area: &[u8], found: Search, expected: Version) -> Result<(), Refusal> {
+    let object = object_at(area, found)?;
+    let version = object.map_or(Version::NONE, |(_, fields)| fields.version);
+    if version == expected {
+        Ok(())
+    } else {
+        Err(Refusal::OtherVersion)
+    }
+}
+
+/// The checks of a delete in 02's order; gives the room of the tombstone.
 fn check_delete(
     record: &Record,
     area: &[u8],
     index: &[u32],
     work: &[u8],
+    tables: Tables,
     key: Key,
 ) -> Result<Room, Refusal> {
-    record.check_start(area, index, work)?;
-    match search(area, index, key) {
-        Search::Found { place, .. } => match read_entry(area, place) {
-            Entry::Object(_) => {}
-            Entry::Tombstone(_) => return Err(Refusal::Absent),
-            Entry::End | Entry::Damage => return Err(Refusal::Record),
-        },
-        Search::Free { .. } => return Err(Refusal::Absent),
-        Search::Broken => return Err(Refusal::Record),
-    }
+    record.check_start_on(area, index, work, tables, key)?;
+    object_at(area, search(area, index, key))?.ok_or(Refusal::Absent)?;
     if record.next == Version::SPENT {
         return Err(Refusal::VersionsSpent);
     }

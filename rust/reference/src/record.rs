@@ -4,8 +4,9 @@
 use crate::counters::{DigestNumber, Version};
 use crate::layout::{geometry_holds, CELLS, SLOTS, SLOT_BYTES};
 use crate::refusal::Refusal;
-use crate::segment::DIGEST_BYTES;
+use crate::segment::{Key, DIGEST_BYTES};
 use crate::slot_map::SlotMap;
+use crate::tables::Tables;
 
 /// An operation that was started and whose stores are not all made. The stores left come
 /// first in every variant, so that they lie at one place whatever the operation is.
@@ -128,6 +129,21 @@ impl Record {
         }
     }
 
+    /// The checks that every start on a key begins with: 4, 22, 3 and 5.
+    #[inline]
+    pub(crate) fn check_start_on(
+        &self,
+        area: &[u8],
+        index: &[u32],
+        work: &[u8],
+        tables: Tables,
+        key: Key,
+    ) -> Result<(), Refusal> {
+        self.check(area, index)?;
+        tables.check(key)?;
+        self.check_idle(work)
+    }
+
     /// Refuses with 3 unless the work buffer has room for a slot.
     #[inline]
     pub(crate) fn check_work(&self, work: &[u8]) -> Result<(), Refusal> {
@@ -137,15 +153,9 @@ impl Record {
         Ok(())
     }
 
-    /// The checks that every start begins with: 4, 3 and 5.
+    /// Refuses with 3 and 5: a start needs room in the work buffer, and nothing pending.
     #[inline]
-    pub(crate) fn check_start(
-        &self,
-        area: &[u8],
-        index: &[u32],
-        work: &[u8],
-    ) -> Result<(), Refusal> {
-        self.check(area, index)?;
+    pub(crate) fn check_idle(&self, work: &[u8]) -> Result<(), Refusal> {
         self.check_work(work)?;
         if !matches!(self.pending, Pending::None) {
             return Err(Refusal::Pending);

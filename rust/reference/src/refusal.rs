@@ -1,6 +1,6 @@
-//! The causes of refusal and their numbers (01, "Refused calls").
+//! The causes of refusal and their numbers (01, "Refused calls", and 02).
 
-/// Why a call was refused. The discriminant is the number in 01's table.
+/// Why a call was refused. The discriminant is the number in 01's table, which 02's requests go on with.
 #[derive(Clone, Copy, PartialEq, Eq, PartialOrd, Ord, Hash, Debug)]
 #[repr(u8)]
 pub enum Refusal {
@@ -46,11 +46,15 @@ pub enum Refusal {
     VersionShared = 19,
     /// The log has more than M - 1 keys.
     TooManyKeys = 20,
+    /// The key has another version than the caller expects.
+    OtherVersion = 21,
+    /// The key's table is not one of those that the caller may use.
+    OutsideTables = 22,
 }
 
 impl Refusal {
     /// All causes, by number.
-    pub const ALL: [Refusal; 20] = [
+    pub const ALL: [Refusal; 22] = [
         Refusal::Geometry,
         Refusal::IndexLength,
         Refusal::WorkLength,
@@ -71,6 +75,8 @@ impl Refusal {
         Refusal::Entry,
         Refusal::VersionShared,
         Refusal::TooManyKeys,
+        Refusal::OtherVersion,
+        Refusal::OutsideTables,
     ];
 
     /// The number in 01's table.

@@ -11,7 +11,7 @@ decode-requires c κs = search needs
 
 returns : tie.Need-returns
 unfolding toldBy
-returns c = read-crossed (looked-none _ _ _ _ (c .before .before .decode .ensures) (c .if1 .taken)) refl refl refl refl refl
+returns c = read-crossed (looked-none _ _ _ _ _ (c .before .before .decode .ensures) (c .if1 .taken)) refl refl refl refl refl
 
 find-requires : tie.Need-find-requires
 find-requires c κs = search needs
@@ -33,12 +33,12 @@ cast-kind c = search needs
 
 returns-2 : tie.Need-returns-2
 returns-2 c =
-    read-crossed (looked-crossed _ _ _ _ (c .before .before .before .before .before .before .before .before .before .decode .ensures) (c .before .before .before .before .before .find .ensures)) (c .before .before .before .before .told .ensures) (c .before .before .answer .given .1)
+    read-crossed (looked-crossed _ _ _ _ _ (c .before .before .before .before .before .before .before .before .before .decode .ensures) (c .before .before .before .before .before .find .ensures)) (c .before .before .before .before .told .ensures) (c .before .before .answer .given .1)
     (c .number .ensures) refl refl
 
 returns-3 : tie.Need-returns-3
 returns-3 c =
-    read-crossed (looked-crossed _ _ _ _ (c .before .before .before .before .before .before .before .before .decode .ensures) (c .before .before .before .before .find .ensures)) (c .before .before .before .told .ensures) (c .before .answer2 .given .1)
+    read-crossed (looked-crossed _ _ _ _ _ (c .before .before .before .before .before .before .before .before .decode .ensures) (c .before .before .before .before .find .ensures)) (c .before .before .before .told .ensures) (c .before .answer2 .given .1)
     refl refl refl
 
 pub kurdavel-read-spec : {M : Type 1} → statement M

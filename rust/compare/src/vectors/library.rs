@@ -1,10 +1,10 @@
 //! The static library, through its wrapper, as a replay drives it.
 
-use kurdavel::{DigestNumber, Fields, Pending, Refusal, SlotMap, Version};
+use kurdavel::{DigestNumber, Fields, Key, Pending, Refusal, SlotMap, Tables, Version};
 
-use super::event::{Field, Geometry, Key, Record};
+use super::event::{Field, Geometry, Record};
 use super::subject::{
-    part_of, without_edition, without_expected, without_range, Answer, Asked, Memory, No, Progress,
+    narrow_expected, part_of, range_of, without_edition, Answer, Asked, Memory, No, Progress,
     Start, Subject,
 };
 
@@ -16,11 +16,18 @@ fn refused(refusal: Refusal) -> No {
     No::Refused(refusal.number())
 }
 
-fn key_of(key: Key) -> kurdavel::Key {
-    kurdavel::Key {
-        table: key.table,
-        key: key.key,
-    }
+/// Tables and key, as the implementation takes them.
+fn of(asked: Asked) -> (Tables, Key) {
+    let range = range_of(asked);
+    let tables = Tables {
+        first: range.first,
+        last: range.last,
+    };
+    let key = Key {
+        table: asked.key.table,
+        key: asked.key.key,
+    };
+    (tables, key)
 }
 
 impl Subject for Library {
@@ -42,10 +49,18 @@ impl Subject for Library {
         let Memory { area, index, work } = memory;
         let stores = match start {
             Start::Write(writing) => {
-                let (key, value) = without_expected(writing)?;
-                record.write(area, index, work, key_of(key), value)
+                let ((tables, key), value) = (of(writing.asked), writing.value);
+                match narrow_expected(writing)?.map(Version) {
+                    None => record.write(area, index, work, tables, key, value),
+                    Some(expected) => {
+                        record.write_expecting(area, index, work, tables, key, expected, value)
+                    }
+                }
             }
-            Start::Delete(asked) => record.delete(area, index, work, key_of(without_range(asked)?)),
+            Start::Delete(asked) => {
+                let (tables, key) = of(asked);
+                record.delete(area, index, work, tables, key)
+            }
             Start::Clean(victims) => record.clean(area, index, work, SlotMap(victims)),
         };
         stores.map_err(refused)
@@ -60,8 +75,8 @@ impl Subject for Library {
     }
 
     fn read(record: &kurdavel::Record, memory: &Memory, asked: Asked) -> Answer<(u64, u32)> {
-        let key = key_of(without_range(asked)?);
-        let found = record.read(&memory.area, &memory.index, key);
+        let (tables, key) = of(asked);
+        let found = record.read(&memory.area, &memory.index, tables, key);
         let found = found.map_err(refused)?;
         Ok((found.version.0.into(), found.kind.into()))
     }
@@ -71,8 +86,8 @@ impl Subject for Library {
         memory: &Memory,
         asked: Asked,
     ) -> Answer<(usize, usize)> {
-        let key = key_of(without_range(asked)?);
-        let value = record.read_value(&memory.area, &memory.index, key);
+        let (tables, key) = of(asked);
+        let value = record.read_value(&memory.area, &memory.index, tables, key);
         Ok(part_of(&memory.area, value))
     }
 

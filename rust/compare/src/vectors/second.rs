@@ -1,10 +1,10 @@
 //! The second implementation, as a replay drives it.
 
-use reference::{DigestNumber, Pending, Refusal, SlotMap, Version};
+use reference::{DigestNumber, Key, Pending, Refusal, SlotMap, Tables, Version};
 
-use super::event::{Field, Geometry, Key, Record};
+use super::event::{Field, Geometry, Record};
 use super::subject::{
-    part_of, without_edition, without_expected, without_range, Answer, Asked, Memory, No, Progress,
+    narrow_expected, part_of, range_of, without_edition, Answer, Asked, Memory, No, Progress,
     Start, Subject,
 };
 
@@ -16,11 +16,18 @@ fn refused(refusal: Refusal) -> No {
     No::Refused(refusal.number())
 }
 
-fn key_of(key: Key) -> reference::Key {
-    reference::Key {
-        table: key.table,
-        key: key.key,
-    }
+/// Tables and key, as the implementation takes them.
+fn of(asked: Asked) -> (Tables, Key) {
+    let range = range_of(asked);
+    let tables = Tables {
+        first: range.first,
+        last: range.last,
+    };
+    let key = Key {
+        table: asked.key.table,
+        key: asked.key.key,
+    };
+    (tables, key)
 }
 
 impl Subject for Second {
@@ -42,12 +49,17 @@ impl Subject for Second {
         let Memory { area, index, work } = memory;
         let (after, stores) = match start {
             Start::Write(writing) => {
-                let (key, value) = without_expected(writing)?;
-                reference::write(*record, area, index, work, key_of(key), value)
+                let ((tables, key), value) = (of(writing.asked), writing.value);
+                match narrow_expected(writing)?.map(Version) {
+                    None => reference::write(*record, area, index, work, tables, key, value),
+                    Some(expected) => reference::write_expecting(
+                        *record, area, index, work, tables, key, expected, value,
+                    ),
+                }
             }
             Start::Delete(asked) => {
-                let key = key_of(without_range(asked)?);
-                reference::delete(*record, area, index, work, key)
+                let (tables, key) = of(asked);
+                reference::delete(*record, area, index, work, tables, key)
             }
             Start::Clean(victims) => reference::clean(*record, area, index, work, SlotMap(victims)),
         };
@@ -66,8 +78,8 @@ impl Subject for Second {
     }
 
     fn read(record: &reference::Record, memory: &Memory, asked: Asked) -> Answer<(u64, u32)> {
-        let key = key_of(without_range(asked)?);
-        let found = reference::read(record, &memory.area, &memory.index, key);
+        let (tables, key) = of(asked);
+        let found = reference::read(record, &memory.area, &memory.index, tables, key);
         let found = found.map_err(refused)?;
         Ok((found.version.0.into(), found.kind.into()))
     }
@@ -77,8 +89,8 @@ impl Subject for Second {
         memory: &Memory,
         asked: Asked,
     ) -> Answer<(usize, usize)> {
-        let key = key_of(without_range(asked)?);
-        let value = reference::read_value(record, &memory.area, &memory.index, key);
+        let (tables, key) = of(asked);
+        let value = reference::read_value(record, &memory.area, &memory.index, tables, key);
         Ok(part_of(&memory.area, value))
     }
 

@@ -108,20 +108,18 @@ pub fn part_of(buffer: &[u8], part: &[u8]) -> (usize, usize) {
     (place, part.len())
 }
 
-/// Refuses a range for an implementation that takes none.
-pub fn without_range(asked: Asked) -> Answer<Key> {
-    match asked.range {
-        None => Ok(asked.key),
-        Some(_) => Err(No::Missing("a range of tables with read, write and delete")),
-    }
+/// The tables that the caller may use: all where the level has no ranges.
+pub fn range_of(asked: Asked) -> Range {
+    asked.range.unwrap_or(Range {
+        first: 0,
+        last: u16::MAX,
+    })
 }
 
-/// Refuses an expected version for an implementation that takes none.
-pub fn without_expected(writing: Writing<'_>) -> Answer<(Key, &[u8])> {
-    match writing.expected {
-        None => Ok((without_range(writing.asked)?, writing.value)),
-        Some(_) => Err(No::Missing("a write with an expected version")),
-    }
+/// Refuses an expected version that is too wide for an implementation with versions of 32 bits.
+pub fn narrow_expected(writing: Writing<'_>) -> Answer<Option<u32>> {
+    let narrow = |version: u64| u32::try_from(version).map_err(|_| No::Missing("wide versions"));
+    writing.expected.map(narrow).transpose()
 }
 
 /// Refuses an edition for an implementation that takes none.

@@ -13,7 +13,7 @@ use reference::Key;
 struct Tally {
     recovered: u32,
     accepted: u32,
-    refused: [u32; 21],
+    refused: [u32; 23],
 }
 
 impl Tally {
@@ -36,7 +36,7 @@ fn go_on(rng: &mut Rng, image: &Image, cells: usize, tally: &mut Tally) -> Resul
     let keys: Vec<Key> = (0..8).map(|_| image.some_key(rng)).collect();
     for _ in 0..8 {
         let operation = calls::operation(rng, &keys, pair.record(), 4);
-        tally.count(pair.begin(&operation)?);
+        tally.count(pair.start_somehow(rng, &operation)?);
         if rng.one_in(4) {
             for _ in 0..calls::steps(rng, pair.record().pending.left()) {
                 let _ = pair.step()?;
@@ -77,7 +77,7 @@ fn play_all(seed: u64, rounds: u32, damages: u32) -> Tally {
 fn valid_images_live_on() {
     let tally = play_all(31, 4000, 0);
     assert!(tally.recovered > 2000 && tally.accepted > 10_000);
-    for cause in [7, 8, 11, 12, 13, 14] {
+    for cause in [7, 8, 11, 12, 13, 14, 21, 22] {
         assert!(tally.refused[cause] > 10, "{:?}", tally.refused);
     }
 }

@@ -1,12 +1,14 @@
 //! The proved store beside the reference. The tests print how much they ran.
 
 mod damaged_images;
+mod expected_versions;
 mod images_in_use;
 mod not_genuine;
 mod random_histories;
 mod refused_calls;
 mod replay_program;
 mod short_histories;
+mod two_owners;
 mod vectors;
 mod vectors_changed;
 mod vectors_faulty;

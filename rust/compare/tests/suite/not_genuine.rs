@@ -5,8 +5,8 @@
 use compare::guarded::Guarded;
 use compare::translate;
 use reference::rng::Rng;
-use reference::testing::forged;
 use reference::testing::images::Shape;
+use reference::testing::{calls, forged};
 use reference::{Key, Pending, Record};
 
 /// What is lent to the calls of one round.
@@ -29,40 +29,43 @@ impl Lent {
         self.area.is_intact() && self.index.is_intact() && self.work.is_intact()
     }
 
-    /// A read and the three starts. Gives how many were accepted.
+    /// A read and the starts. Gives how many were accepted.
     fn read_and_start(&mut self, rng: &mut Rng) -> u32 {
         let key = Key {
             table: rng.below(3) as u16,
             key: rng.below(20),
         };
+        let tables = translate::tables(calls::tables(rng, key.table));
         let key = translate::key(key);
         let before = (self.area.to_vec(), self.index.to_vec(), self.work.to_vec());
         let record = translate::record(self.record);
         let Lent {
             area, index, work, ..
         } = self;
-        let found = translate::proved(record.read(area, index, key).map(|_| 0));
-        let value = record.read_value(area, index, key);
+        let found = translate::proved(record.read(area, index, tables, key).map(|_| 0));
+        let value = record.read_value(area, index, tables, key);
         assert!(value.len() <= 56);
         assert!(area.as_ptr_range().contains(&value.as_ptr()));
-        let mut records = [record; 3];
+        let mut records = [record; 4];
         let value = vec![3; *rng.pick(&[8, 24, 56, 0, 70])];
         let victims = kurdavel::SlotMap(match rng.below(3) {
             0 => self.record.map.0,
             1 => self.record.map.0 & rng.bits() as u32,
             _ => rng.bits() as u32,
         });
+        let expected = kurdavel::Version(*rng.pick(&[0, 1, self.record.next.0, u32::MAX]));
         let starts = [
-            records[0].write(area, index, work, key, &value),
-            records[1].delete(area, index, work, key),
-            records[2].clean(area, index, work, victims),
+            records[0].write(area, index, work, tables, key, &value),
+            records[1].write_expecting(area, index, work, tables, key, expected, &value),
+            records[2].delete(area, index, work, tables, key),
+            records[3].clean(area, index, work, victims),
         ];
         assert_eq!((&area[..], &index[..]), (&before.0[..], &before.1[..]));
         assert!(self.is_intact());
         if !self.passes() {
             assert_eq!(found, Err(4));
-            assert_eq!(starts.map(translate::proved), [Err(4); 3]);
-            assert_eq!(records, [record; 3]);
+            assert_eq!(starts.map(translate::proved), [Err(4); 4]);
+            assert_eq!(records, [record; 4]);
             assert_eq!(self.work[..], before.2[..]);
         }
         starts.iter().map(|start| u32::from(start.is_ok())).sum()

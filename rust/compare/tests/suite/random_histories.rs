@@ -12,7 +12,7 @@ use reference::Key;
 struct Tally {
     operations: u32,
     cuts: u32,
-    refused: [u32; 21],
+    refused: [u32; 23],
 }
 
 impl Tally {
@@ -109,7 +109,8 @@ impl Player {
             6 | 7 => self.few_steps()?,
             8..=11 => {
                 let key = *self.rng.pick(&self.keys);
-                let answer = self.pair.read(key)?;
+                let tables = calls::tables(&mut self.rng, key.table);
+                let (answer, _) = self.pair.read_in(tables, key)?;
                 self.tally.count(answer);
             }
             _ => {
@@ -129,8 +130,7 @@ impl Player {
     fn start(&mut self) -> Result<(), Fault> {
         let (rng, record) = (&mut self.rng, self.pair.record());
         let operation = calls::operation(rng, &self.keys, record, self.clean_rarity);
-        let lent = calls::lent(rng, self.pair.slot_bytes(), self.pair.work_bytes());
-        let answer = self.pair.start(&operation, lent)?;
+        let answer = self.pair.start_somehow(rng, &operation)?;
         self.tally.count(answer);
         Ok(())
     }
@@ -209,7 +209,7 @@ fn play_all(seeds: std::ops::Range<u64>, actions: u32) -> Tally {
 #[test]
 fn many_histories() {
     let total = play_all(0..20_000, 40);
-    for cause in (2..=3).chain(5..=15).chain([20]) {
+    for cause in (2..=3).chain(5..=15).chain(20..=22) {
         assert!(total.refused[cause] > 0, "{:?}", total.refused);
     }
 }

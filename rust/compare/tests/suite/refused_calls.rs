@@ -35,11 +35,15 @@ fn refuse_all(words: &[u32], area: &[u8], index: &[u32], work_bytes: usize) {
     let mut work = Guarded::new(&vec![0x77; work_bytes], 5);
     let (mut first, mut second) = (71, 72);
     let (table, key) = (KEY.table, KEY.key);
+    // Tables that do not hold the key's: 4 comes before 22.
+    let (low, high) = (table + 1, table - 1);
     let record = &mut record;
     let read = slices::read(
         record,
         &lent_area,
         &lent_index,
+        low,
+        high,
         table,
         key,
         &mut first,
@@ -53,8 +57,23 @@ fn refuse_all(words: &[u32], area: &[u8], index: &[u32], work_bytes: usize) {
             &lent_area,
             &lent_index,
             &mut work,
+            low,
+            high,
             table,
             key,
+            &[3; 8],
+            &mut first,
+        ),
+        slices::write_expecting(
+            record,
+            &lent_area,
+            &lent_index,
+            &mut work,
+            low,
+            high,
+            table,
+            key,
+            1,
             &[3; 8],
             &mut first,
         ),
@@ -63,6 +82,8 @@ fn refuse_all(words: &[u32], area: &[u8], index: &[u32], work_bytes: usize) {
             &lent_area,
             &lent_index,
             &mut work,
+            low,
+            high,
             table,
             key,
             &mut first,
@@ -77,12 +98,14 @@ fn refuse_all(words: &[u32], area: &[u8], index: &[u32], work_bytes: usize) {
             &mut second,
         ),
     ];
-    assert_eq!(answers, [4; 4], "{words:?}");
+    assert_eq!(answers, [4; 5], "{words:?}");
     assert_eq!((first, second), (71, 72));
     let value = slices::read_value(
         record,
         &lent_area,
         &lent_index,
+        low,
+        high,
         table,
         key,
         &mut first,
@@ -150,6 +173,8 @@ fn longer_records() {
         &area,
         &index,
         &mut work,
+        7,
+        7,
         7,
         9,
         &[1; 8],

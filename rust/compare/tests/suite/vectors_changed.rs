@@ -113,12 +113,35 @@ fn inputs_of(event: &Event, words: &[&str]) -> Vec<(usize, String)> {
             new_words.push((2, not_an_order(words[2])));
             new_words
         }
-        Event::Write { owed: Ok(_), .. } => others(&[1, 2, 3]),
-        Event::Delete { owed: Ok(_), .. } | Event::Read { owed: Ok(_), .. } => others(&[1, 2]),
+        Event::Write {
+            owed: Ok(_),
+            expected,
+            ..
+        } => match expected {
+            None => [others(&[1, 2, 3]), other_tables(words, 5)].concat(),
+            Some(_) => [others(&[1, 2, 3, 4]), other_tables(words, 5)].concat(),
+        },
+        Event::Delete { owed: Ok(_), .. } | Event::Read { owed: Ok(_), .. } => {
+            [others(&[1, 2]), other_tables(words, 3)].concat()
+        }
         Event::Clean { owed: Ok(_), .. } => vec![(1, "0".into())],
         Event::Steps(_) => others(&[1]),
         _ => Vec::new(),
     }
+}
+
+/// Ranges that begin above the table or end below it, where the level has ranges: they stand from this place on.
+fn other_tables(words: &[&str], place: usize) -> Vec<(usize, String)> {
+    if !level().has(Part::Range) {
+        return Vec::new();
+    }
+    let table: u16 = words[1].parse().unwrap();
+    let above = table.checked_add(1).map(|first| (place, first));
+    let below = table.checked_sub(1).map(|last| (place + 1, last));
+    let changed = above.into_iter().chain(below);
+    changed
+        .map(|(place, end)| (place, end.to_string()))
+        .collect()
 }
 
 /// An order that names its first slot twice.
@@ -291,34 +314,28 @@ fn named(text: &str) -> Vec<usize> {
 }
 
 /// What the changes must be about, at the least.
-const TRIED: [&str; 26] = [
-    "history",
-    "format",
-    "image",
-    "patch",
-    "recover",
-    "present",
-    "write",
-    "delete",
-    "clean",
-    "step,",
-    "steps",
-    "read",
-    "end",
-    "with area",
-    "with index",
-    "with work",
-    "with n",
-    "with s",
-    "with m",
-    "with head",
-    "with end",
-    "with number",
-    "with map",
-    "with next",
-    "with keys",
-    "with left",
+const TRIED: [&str; 13] = [
+    "history", "format", "image", "patch", "recover", "present", "write", "delete", "clean",
+    "step,", "steps", "read", "end",
 ];
+
+/// The buffers and fields that a single `with` of the file changes before a call that is refused with 1, 3 or 4. The
+/// stores left are changed on records without an operation too, where there is nothing to set them back to.
+fn changed_alone(lines: &[&str]) -> BTreeSet<String> {
+    let is_with = |line: &str| line.starts_with("with ");
+    let refused = |line: &str| {
+        [" 1", " 3", " 4"]
+            .iter()
+            .any(|end| line.ends_with(&format!("refused{end}")))
+    };
+    let alone = |part: &&[&str]| !is_with(part[0]) && is_with(part[1]) && refused(part[2]);
+    let named = lines.windows(3).filter(alone);
+    let words = named.filter_map(|part| part[1].rsplit_once(' '));
+    words
+        .map(|(start, _)| start.to_string())
+        .filter(|start| start != "with left")
+        .collect()
+}
 
 /// One change of each kind, in a copy of the file's history, through the whole replay: the right line is named.
 #[test]
@@ -341,7 +358,9 @@ fn each_kind() {
         assert!(right, "{change:?}: {named:?}");
     }
     println!("{} kinds of changes caught", kinds.len());
-    for tried in TRIED {
+    let alone = changed_alone(&lines);
+    assert!(alone.len() >= 6, "{alone:?}");
+    for tried in TRIED.into_iter().chain(alone.iter().map(String::as_str)) {
         let is_tried = kinds.iter().any(|kind| kind.starts_with(tried));
         assert!(is_tried, "{tried} was not tried");
     }

@@ -150,8 +150,14 @@ fn first_fault<const FAULT: u32>() -> String {
 }
 
 fn caught<const FAULT: u32>(field: &str) {
+    caught_as::<FAULT>(&[field]);
+}
+
+/// A fault that shows in one of these fields, whichever event of the file comes first.
+fn caught_as<const FAULT: u32>(fields: &[&str]) {
     let found = first_fault::<FAULT>();
-    assert!(found.starts_with(field), "fault {FAULT}: {field}, {found}");
+    let named = fields.iter().any(|field| found.starts_with(field));
+    assert!(named, "fault {FAULT}: {fields:?}, {found}");
 }
 
 #[test]
@@ -159,9 +165,9 @@ fn faulty_implementations() {
     assert_eq!(first_fault::<NO_FAULT>(), "");
     caught::<STEP_CHANGES_WORK>("work buffer at");
     caught::<STEP_CHANGES_INDEX>("index at");
-    caught::<STEP_STORES_TWICE>("place");
+    caught_as::<STEP_STORES_TWICE>(&["place", "area"]);
     caught::<LAST_STEP_LEAVES_INDEX>("index");
-    caught::<ZERO_NOT_STORED>("place");
+    caught_as::<ZERO_NOT_STORED>(&["place", "FNV of the area"]);
     caught::<START_STORES>("area at");
     caught::<START_CHANGES_INDEX>("index at");
     caught::<START_FILLS_MORE>("work buffer at");

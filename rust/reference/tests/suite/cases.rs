@@ -2,7 +2,7 @@
 
 use reference::book::Operation;
 use reference::rules::AsWritten;
-use reference::{read, DigestNumber, Key, Progress, Refusal, SlotMap, Version};
+use reference::{read, DigestNumber, Key, Progress, Refusal, SlotMap, Tables, Version};
 
 use crate::rig::Rig;
 
@@ -54,7 +54,7 @@ fn case_3_cut_before_and_after_the_last_store() {
     let mut early = rig.clone();
     early.cut();
     early.must_recover(&[3, 1, 0, 2]).unwrap();
-    let absent = read(&early.record(), &early.area, &early.index, KEY);
+    let absent = read(&early.record(), &early.area, &early.index, Tables::ALL, KEY);
     assert_eq!(absent, Err(Refusal::Absent));
     assert_eq!(early.record().next, Version(1));
 
@@ -62,7 +62,7 @@ fn case_3_cut_before_and_after_the_last_store() {
     assert_eq!(rig.step().unwrap(), Ok(Progress::Done { version }));
     rig.cut();
     rig.must_recover(&[3, 1, 0, 2]).unwrap();
-    let found = read(&rig.record(), &rig.area, &rig.index, KEY).unwrap();
+    let found = read(&rig.record(), &rig.area, &rig.index, Tables::ALL, KEY).unwrap();
     assert_eq!((found.version, found.kind), (version, 1));
 }
 

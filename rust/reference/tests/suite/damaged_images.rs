@@ -4,7 +4,7 @@
 use reference::index::rule_holds;
 use reference::rng::Rng;
 use reference::testing::images::{Image, Shape};
-use reference::{dump, read, read_value, recover, Record, Refusal};
+use reference::{dump, read, read_value, recover, Record, Refusal, Tables};
 
 use crate::naive::{view, View};
 
@@ -43,8 +43,8 @@ fn recover_as_naive(rng: &mut Rng, image: &Image, cells: usize) -> u32 {
 
 fn check_reads(record: &Record, image: &Image, index: &[u32], view: &View) {
     for (key, line) in view.newest() {
-        let found = read(record, &image.area, index, key);
-        let value = read_value(record, &image.area, index, key);
+        let found = read(record, &image.area, index, Tables::ALL, key);
+        let value = read_value(record, &image.area, index, Tables::ALL, key);
         if line.is_object() {
             let found = found.map(|found| (found.version.0, found.kind));
             assert_eq!(found, Ok((line.version, line.bytes[0])));

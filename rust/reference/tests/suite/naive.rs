@@ -201,26 +201,32 @@ impl View {
             .collect()
     }
 
-    /// What a start must answer on this store, nothing pending and enough work buffer lent.
-    pub fn plan(&self, operation: &Operation) -> Result<Plan, u32> {
+    /// What a start must answer on this store, nothing pending and enough work buffer lent; a
+    /// write may expect a version.
+    pub fn plan(&self, operation: &Operation, expected: Option<Version>) -> Result<Plan, u32> {
         match operation {
-            Operation::Write(key, value) => self.plan_write(*key, value),
+            Operation::Write(key, value) => self.plan_write(*key, expected, value),
             Operation::Delete(key) => self.plan_delete(*key),
             Operation::Clean(victims) => self.plan_clean(victims.0),
         }
     }
 
-    fn plan_write(&self, key: Key, value: &[u8]) -> Result<Plan, u32> {
+    fn plan_write(&self, key: Key, expected: Option<Version>, value: &[u8]) -> Result<Plan, u32> {
         let kind = match value.len() {
             8 => 1,
             24 => 2,
             56 => 3,
             _ => return Err(7),
         };
+        let newest = self.newest();
+        let object = newest.get(&key).filter(|line| line.is_object());
+        let version = object.map_or(0, |line| line.version);
+        if expected.is_some_and(|expected| expected.0 != version) {
+            return Err(21);
+        }
         if self.record.next.0 == u32::MAX {
             return Err(9);
         }
-        let newest = self.newest();
         if !newest.contains_key(&key) && newest.len() as u32 == self.record.cells - 1 {
             return Err(11);
         }

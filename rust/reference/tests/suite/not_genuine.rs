@@ -2,10 +2,11 @@
 //! runs on, a start stores nothing, and a step alters at most one byte of the area.
 
 use reference::rng::Rng;
-use reference::testing::forged;
 use reference::testing::images::Shape;
+use reference::testing::{calls, forged};
 use reference::{
-    clean, delete, next_store, read, read_value, recover, step, write, Key, Record, SlotMap,
+    clean, delete, next_store, read, read_value, recover, step, write, write_expecting, Key,
+    Record, SlotMap, Tables, Version,
 };
 
 /// Every call once on what was forged.
@@ -14,11 +15,14 @@ fn call_all(rng: &mut Rng, record: Record, area: &mut [u8], index: &mut [u32], w
         table: rng.below(3) as u16,
         key: rng.below(20),
     };
+    let tables = calls::tables(rng, key.table);
     let value = vec![3; *rng.pick(&[8, 24, 56, 0, 70])];
-    let _ = read(&record, area, index, key);
-    assert!(read_value(&record, area, index, key).len() <= 56);
-    let _ = write(record, area, index, work, key, &value);
-    let _ = delete(record, area, index, work, key);
+    let _ = read(&record, area, index, tables, key);
+    assert!(read_value(&record, area, index, tables, key).len() <= 56);
+    let _ = write(record, area, index, work, tables, key, &value);
+    let expected = Version(*rng.pick(&[0, 1, record.next.0, u32::MAX]));
+    let _ = write_expecting(record, area, index, work, tables, key, expected, &value);
+    let _ = delete(record, area, index, work, tables, key);
     let victims = match rng.below(3) {
         0 => record.map,
         1 => SlotMap(record.map.0 & rng.bits() as u32),
@@ -80,8 +84,13 @@ fn lengths_not_the_records_own_are_refused() {
     let record = recover(slots, slot_bytes, &image.area, &mut index, &order).unwrap();
     let key = Key { table: 0, key: 0 };
     let short = &image.area[1..];
-    assert_eq!(read(&record, short, &index, key).unwrap_err().number(), 4);
-    let answer = read(&record, &image.area, &index[1..], key);
+    assert_eq!(
+        read(&record, short, &index, Tables::ALL, key)
+            .unwrap_err()
+            .number(),
+        4
+    );
+    let answer = read(&record, &image.area, &index[1..], Tables::ALL, key);
     assert_eq!(answer.unwrap_err().number(), 4);
-    assert!(read_value(&record, &[], &index, key).is_empty());
+    assert!(read_value(&record, &[], &index, Tables::ALL, key).is_empty());
 }

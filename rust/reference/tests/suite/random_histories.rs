@@ -3,15 +3,18 @@
 
 use reference::rng::Rng;
 use reference::rules::AsWritten;
+use reference::testing::calls::Given;
 use reference::testing::{calls, forged};
-use reference::{clean, delete, format, read, step, write, Pending, Refusal, Version};
+use reference::{
+    clean, delete, format, read, step, write, write_expecting, Pending, Refusal, Version,
+};
 
 use crate::rig::{same, Fault, Rig};
 
 /// Which refusals and how many operations a run met.
 #[derive(Default)]
 struct Tally {
-    refused: [u32; 21],
+    refused: [u32; 23],
     operations: u32,
     cuts: u32,
 }
@@ -91,7 +94,8 @@ impl Player {
             6 | 7 => self.few_steps()?,
             8 | 9 => {
                 let key = *self.rng.pick(&self.rig.keys);
-                self.rig.check_read(key)?;
+                let tables = calls::tables(&mut self.rng, key.table);
+                self.rig.check_read_in(tables, key)?;
             }
             _ => {
                 if self.rig.record().pending == Pending::None {
@@ -110,8 +114,9 @@ impl Player {
     fn start(&mut self) -> Result<(), Fault> {
         let (rng, record) = (&mut self.rng, self.rig.record());
         let operation = calls::operation(rng, &self.rig.keys, record, self.clean_rarity);
-        let lent = calls::lent(rng, self.rig.slot_bytes, self.rig.work.len());
-        let answer = self.rig.start_with(&operation, lent)?;
+        let (book, whole) = (&self.rig.book, self.rig.work.len());
+        let given = Given::random(rng, &operation, record, |key| book.version(key), whole);
+        let answer = self.rig.start_with(&operation, given)?;
         self.tally.count(answer);
         Ok(())
     }
@@ -154,14 +159,15 @@ impl Player {
         Ok(())
     }
 
-    /// Calls with a record out of range or memory of other lengths: all answer 4 and
-    /// leave everything.
+    /// Calls with a record out of range or memory of other lengths: all answer 4, whatever
+    /// tables are given, and leave everything.
     fn misuse(&mut self) -> Result<(), Fault> {
         let genuine = self.rig.record();
         let record = forged::out_of_range(&mut self.rng, genuine);
         let lent = self.rng.below(3);
         let record = if lent == 0 { record } else { genuine };
         let key = self.rig.keys[0];
+        let tables = calls::tables(&mut self.rng, key.table);
         let (mut area, mut index) = (self.rig.area.clone(), self.rig.index.clone());
         match lent {
             0 => {}
@@ -171,8 +177,18 @@ impl Player {
         let (area_before, index_before) = (area.clone(), index.clone());
         let mut work = self.rig.work.clone();
         let starts = [
-            write(record, &area, &index, &mut work, key, &[0; 8]),
-            delete(record, &area, &index, &mut work, key),
+            write(record, &area, &index, &mut work, tables, key, &[0; 8]),
+            write_expecting(
+                record,
+                &area,
+                &index,
+                &mut work,
+                tables,
+                key,
+                Version::NONE,
+                &[0; 8],
+            ),
+            delete(record, &area, &index, &mut work, tables, key),
             clean(record, &area, &index, &mut work, genuine.map),
         ];
         for started in starts {
@@ -180,7 +196,7 @@ impl Player {
         }
         let stepped = step(record, &mut area, &mut index, &work);
         same!("misused step", stepped, (record, Err(Refusal::Record)));
-        let found = read(&record, &area, &index, key);
+        let found = read(&record, &area, &index, tables, key);
         same!("misused read", found, Err(Refusal::Record));
         same!("work buffer of misuse", work, self.rig.work);
         same!("area of misuse", area, area_before);
@@ -220,7 +236,7 @@ fn play_all(seeds: std::ops::Range<u64>, actions: u32) {
         "{} operations, {} cuts, refused {:?}",
         total.operations, total.cuts, total.refused
     );
-    for cause in (2..=15).chain([20]) {
+    for cause in (2..=15).chain(20..=22) {
         assert!(total.refused[cause] > 0, "{:?}", total.refused);
     }
 }

@@ -4,7 +4,8 @@
 use reference::book::Operation;
 use reference::rules::AsWritten;
 use reference::{
-    clean, delete, format, read, read_value, recover, step, write, Key, Pending, Refusal, SlotMap,
+    clean, delete, format, read, read_value, recover, step, write, write_expecting, Key, Pending,
+    Record, Refusal, SlotMap, Started, Tables, Version,
 };
 
 use crate::rig::Rig;
@@ -42,14 +43,32 @@ fn run(rig: &mut Rig<AsWritten>, operations: &[Operation]) {
 
 /// The number with which a start is refused; it must leave all as it was.
 fn refused_with(rig: &Rig<AsWritten>, operation: &Operation, work_bytes: usize) -> u32 {
+    refused_in(rig, Tables::ALL, operation, work_bytes)
+}
+
+/// The same for a caller with these tables.
+fn refused_in(
+    rig: &Rig<AsWritten>,
+    tables: Tables,
+    operation: &Operation,
+    work_bytes: usize,
+) -> u32 {
+    let (record, area, index) = (rig.record(), &rig.area, &rig.index);
+    refused_start(rig, work_bytes, |work| match operation {
+        Operation::Write(key, value) => write(record, area, index, work, tables, *key, value),
+        Operation::Delete(key) => delete(record, area, index, work, tables, *key),
+        Operation::Clean(victims) => clean(record, area, index, work, *victims),
+    })
+}
+
+fn refused_start(
+    rig: &Rig<AsWritten>,
+    work_bytes: usize,
+    start: impl FnOnce(&mut [u8]) -> Started,
+) -> u32 {
     let record = rig.record();
     let mut work = rig.work[..work_bytes].to_vec();
-    let (area, index) = (&rig.area, &rig.index);
-    let (after, answer) = match operation {
-        Operation::Write(key, value) => write(record, area, index, &mut work, *key, value),
-        Operation::Delete(key) => delete(record, area, index, &mut work, *key),
-        Operation::Clean(victims) => clean(record, area, index, &mut work, *victims),
-    };
+    let (after, answer) = start(&mut work);
     assert_eq!(after.pending == record.pending, answer.is_err());
     let Err(refusal) = answer else { return 0 };
     assert_eq!(after, record);
@@ -61,10 +80,55 @@ fn refused(rig: &Rig<AsWritten>, operation: &Operation) -> u32 {
     refused_with(rig, operation, rig.work.len())
 }
 
+/// The number with which a write of so many bytes is refused that expects a version.
+fn refused_expecting(rig: &Rig<AsWritten>, number: u32, expected: u32, bytes: usize) -> u32 {
+    refused_expecting_in(rig, Tables::ALL, number, expected, bytes)
+}
+
+/// The same for a caller with these tables.
+fn refused_expecting_in(
+    rig: &Rig<AsWritten>,
+    tables: Tables,
+    number: u32,
+    expected: u32,
+    bytes: usize,
+) -> u32 {
+    let (record, area, index) = (rig.record(), &rig.area, &rig.index);
+    let (key, expected, value) = (key(number), Version(expected), vec![0x11; bytes]);
+    refused_start(rig, rig.work.len(), |work| {
+        write_expecting(record, area, index, work, tables, key, expected, &value)
+    })
+}
+
+/// The one version that a write of 8 bytes may expect, of all that are worth a try; the others
+/// are refused with 21.
+fn accepted_expectation(rig: &Rig<AsWritten>, number: u32) -> u32 {
+    let next = rig.record().next.0;
+    let accepted: Vec<u32> = (0..20)
+        .chain(next.saturating_sub(3)..=next)
+        .chain([u32::MAX - 1, u32::MAX])
+        .filter(
+            |&expected| match refused_expecting(rig, number, expected, 8) {
+                0 => true,
+                cause => {
+                    assert_eq!(cause, 21, "{expected}");
+                    false
+                }
+            },
+        )
+        .collect();
+    assert!(accepted.windows(2).all(|pair| pair[0] == pair[1]));
+    accepted[0]
+}
+
 fn refused_read(rig: &Rig<AsWritten>, key: Key) -> u32 {
+    refused_read_in(rig, Tables::ALL, key)
+}
+
+fn refused_read_in(rig: &Rig<AsWritten>, tables: Tables, key: Key) -> u32 {
     let record = rig.record();
-    let value = read_value(&record, &rig.area, &rig.index, key);
-    match read(&record, &rig.area, &rig.index, key) {
+    let value = read_value(&record, &rig.area, &rig.index, tables, key);
+    match read(&record, &rig.area, &rig.index, tables, key) {
         Ok(_) => 0,
         Err(refusal) => {
             assert_eq!(value.len(), 0);
@@ -127,7 +191,7 @@ fn numbers_and_causes_agree() {
         assert_eq!(Refusal::from_number(place as u32 + 1), Some(refusal));
     }
     assert_eq!(Refusal::from_number(0), None);
-    assert_eq!(Refusal::from_number(21), None);
+    assert_eq!(Refusal::from_number(23), None);
 }
 
 #[test]
@@ -410,6 +474,141 @@ fn causes_18_19_and_20_in_order_over_the_whole_log() {
     assert_eq!(refused_recovery(4, 256, &area, 16, &[1, 0, 2, 3]), 18);
     let first = two_slots(&[&[9]], &[&shared, &shared]);
     assert_eq!(refused_recovery(4, 256, &first, 16, &[1, 2, 3, 0]), 18);
+}
+
+/// A key's version is that of its object, and 0 where it was never written or is deleted.
+#[test]
+fn cause_21_other_version() {
+    let mut rig = fresh();
+    assert_eq!(accepted_expectation(&rig, 1), 0);
+    run(&mut rig, &[write_of(1, 8), write_of(2, 8), write_of(1, 24)]);
+    assert_eq!(accepted_expectation(&rig, 1), 3);
+    assert_eq!(accepted_expectation(&rig, 2), 2);
+    run(&mut rig, &[Operation::Delete(key(1))]);
+    assert_eq!(accepted_expectation(&rig, 1), 0, "not its tombstone's 4");
+    run(&mut rig, &[Operation::Clean(SlotMap(1))]);
+    assert_eq!(accepted_expectation(&rig, 1), 0);
+    assert_eq!(accepted_expectation(&rig, 2), 2);
+    // Nothing is compared in a write that expects nothing.
+    assert_eq!(refused(&rig, &write_of(2, 8)), 0);
+    rig.cut();
+    rig.must_recover(&ORDER).unwrap();
+    assert_eq!(accepted_expectation(&rig, 2), 2);
+}
+
+/// 21 after 3, 5 and 7, and before 9, 11, 12 and 10.
+#[test]
+fn cause_21_in_order() {
+    let mut rig = fresh();
+    assert_eq!(refused_expecting(&rig, 1, 5, 9), 7);
+    rig.start(&write_of(1, 8)).unwrap().unwrap();
+    assert_eq!(refused_expecting(&rig, 1, 5, 9), 5);
+
+    let mut spent = store(16, 1, u32::MAX - 1);
+    run(&mut spent, &[write_of(1, 8)]);
+    for (expected, cause) in [(u32::MAX - 1, 9), (u32::MAX, 21), (0, 21)] {
+        assert_eq!(refused_expecting(&spent, 1, expected, 8), cause);
+    }
+    assert_eq!(refused_expecting(&spent, 2, 0, 8), 9);
+    assert_eq!(refused_expecting(&spent, 2, 1, 8), 21);
+
+    let mut full = Rig::<AsWritten>::new(32, 256, 16, vec![0; 32 * 256]);
+    for number in 0..15 {
+        run(&mut full, &[write_of(number, 8)]);
+    }
+    assert_eq!(refused_expecting(&full, 99, 0, 8), 11);
+    assert_eq!(refused_expecting(&full, 99, 1, 8), 21);
+    assert_eq!(accepted_expectation(&full, 3), 4);
+}
+
+/// An expectation counts also where the entry needs a new head: 21 before 12 and 10.
+#[test]
+fn cause_21_with_a_new_head() {
+    let mut rig = store(16, u32::MAX - 2, 1);
+    for _ in 0..3 {
+        run(&mut rig, &[write_of(1, 56)]);
+    }
+    assert_eq!(refused_expecting(&rig, 1, 2, 56), 21);
+    assert_eq!(refused_expecting(&rig, 1, 3, 56), 0);
+    for _ in 0..6 {
+        run(&mut rig, &[write_of(1, 56)]);
+    }
+    assert_eq!(refused_expecting(&rig, 1, 8, 56), 21);
+    assert_eq!(refused_expecting(&rig, 1, 9, 56), 12);
+    let mut last = store(16, u32::MAX, 1);
+    for _ in 0..3 {
+        run(&mut last, &[write_of(1, 56)]);
+    }
+    assert_eq!(refused_expecting(&last, 1, 0, 56), 21);
+    assert_eq!(refused_expecting(&last, 1, 3, 56), 10);
+}
+
+const fn tables(first: u16, last: u16) -> Tables {
+    Tables { first, last }
+}
+
+/// Both ends are allowed; a range whose first table is above its last has none.
+#[test]
+fn cause_22_outside_tables() {
+    let mut rig = fresh();
+    let lowest = Key { table: 0, key: 1 };
+    let highest = Key {
+        table: u16::MAX,
+        key: 1,
+    };
+    for key in [lowest, key(1), highest] {
+        run(&mut rig, &[Operation::Write(key, vec![1; 8])]);
+        let table = key.table;
+        let write = Operation::Write(key, vec![2; 8]);
+        let (above, below) = (table.saturating_add(1), table.saturating_sub(1));
+        for range in [
+            (table, table),
+            (0, table),
+            (table, u16::MAX),
+            (below, above),
+        ] {
+            let range = tables(range.0, range.1);
+            assert_eq!(refused_read_in(&rig, range, key), 0);
+            assert_eq!(refused_in(&rig, range, &write, 256), 0);
+            assert_eq!(refused_in(&rig, range, &Operation::Delete(key), 256), 0);
+        }
+    }
+    for range in [(0, 6), (8, u16::MAX), (8, 6), (7, 6), (8, 7), (u16::MAX, 0)] {
+        let range = tables(range.0, range.1);
+        assert_eq!(refused_read_in(&rig, range, key(1)), 22);
+        assert_eq!(refused_in(&rig, range, &write_of(1, 8), 256), 22);
+        assert_eq!(refused_expecting_in(&rig, range, 1, 2, 8), 22);
+        assert_eq!(refused_in(&rig, range, &Operation::Delete(key(1)), 256), 22);
+        assert_eq!(
+            refused_in(&rig, range, &Operation::Clean(SlotMap(1)), 256),
+            0
+        );
+    }
+}
+
+/// 22 after 4, and before all else: before 3, 5, 7, 21, 9 and 8.
+#[test]
+fn cause_22_in_order() {
+    let other = tables(8, 9);
+    let mut rig = store(16, 1, u32::MAX);
+    assert_eq!(refused_read_in(&rig, other, key(1)), 22);
+    for operation in [write_of(1, 7), Operation::Delete(key(1))] {
+        assert_eq!(refused_in(&rig, other, &operation, 256), 22);
+        assert_eq!(refused_in(&rig, other, &operation, 255), 22);
+    }
+    assert_eq!(refused_expecting_in(&rig, other, 1, 5, 7), 22);
+    let genuine = rig.record();
+    for (left, cause) in [(20, 22), (0, 4)] {
+        let pending = Pending::Append { length: 19, left };
+        rig.record = Some(Record { pending, ..genuine });
+        assert_eq!(refused_read_in(&rig, other, key(1)), cause);
+        assert_eq!(refused_in(&rig, other, &write_of(1, 7), 0), cause);
+        assert_eq!(
+            refused_in(&rig, other, &Operation::Delete(key(1)), 0),
+            cause
+        );
+        assert_eq!(refused_expecting_in(&rig, other, 1, 5, 7), cause);
+    }
 }
 
 /// A recovery that is refused with 15 leaves a pending operation pending; one that is

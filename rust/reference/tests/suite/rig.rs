@@ -11,7 +11,10 @@ use reference::operations::{delete_by, write_by};
 use reference::recovery::recover_by;
 use reference::rules::Rules;
 use reference::step::step_by;
-use reference::{format, read, read_value, Key, Pending, Progress, Record, Refusal, Started};
+use reference::testing::calls::Given;
+use reference::{
+    format, read, read_value, Key, Pending, Progress, Record, Refusal, Started, Tables,
+};
 
 use crate::naive::{view, Plan, View};
 
@@ -118,27 +121,36 @@ impl<R: Rules> Rig<R> {
         .map_err(|cause| format!("the area is no store: {cause}"))
     }
 
-    fn call(&mut self, operation: &Operation, work_bytes: usize) -> Started {
+    fn call(&mut self, operation: &Operation, given: Given) -> Started {
         let record = self.record();
         let (area, index) = (&self.area, &self.index);
-        let work = &mut self.work[..work_bytes];
+        let (work, tables) = (&mut self.work[..given.work_bytes], given.tables);
         match operation {
-            Operation::Write(key, value) => write_by::<R>(record, area, index, work, *key, value),
-            Operation::Delete(key) => delete_by::<R>(record, area, index, work, *key),
+            Operation::Write(key, value) => write_by::<R>(
+                record,
+                area,
+                index,
+                work,
+                tables,
+                *key,
+                given.expected,
+                value,
+            ),
+            Operation::Delete(key) => delete_by::<R>(record, area, index, work, tables, *key),
             Operation::Clean(victims) => clean_by::<R>(record, area, index, work, *victims),
         }
     }
 
     /// Starts an operation with the whole work buffer.
     pub fn start(&mut self, operation: &Operation) -> Result<Result<u32, Refusal>, Fault> {
-        self.start_with(operation, self.work.len())
+        self.start_with(operation, Given::plain(self.work.len()))
     }
 
-    /// Starts an operation with a part of the work buffer.
+    /// Starts an operation with what it is given. An expectation is held to the book.
     pub fn start_with(
         &mut self,
         operation: &Operation,
-        work_bytes: usize,
+        given: Given,
     ) -> Result<Result<u32, Refusal>, Fault> {
         let before = self.record();
         let work_before = if self.strict {
@@ -146,25 +158,54 @@ impl<R: Rules> Rig<R> {
         } else {
             Vec::new()
         };
-        let (record, answer) = self.call(operation, work_bytes);
+        let (record, answer) = self.call(operation, given);
         self.record = Some(record);
         if self.strict {
-            let expected = self.plan(operation, work_bytes, before)?;
+            let expected = self.plan(operation, given, before)?;
             self.check_start(expected, before, &work_before, answer)?;
         }
+        self.check_expectation(operation, given, answer)?;
         self.feed(Event::Start(operation.clone(), answer.ok()));
         Ok(answer)
     }
 
     /// What a start must answer by the naive reading.
-    fn plan(&self, operation: &Operation, work: usize, before: Record) -> Result<Expected, Fault> {
-        if work < self.slot_bytes as usize {
+    fn plan(&self, operation: &Operation, given: Given, before: Record) -> Result<Expected, Fault> {
+        if !may_use(given.tables, operation) {
+            return Ok(Err(22));
+        }
+        if given.work_bytes < self.slot_bytes as usize {
             return Ok(Err(3));
         }
         if before.pending != Pending::None {
             return Ok(Err(5));
         }
-        Ok(self.view()?.plan(operation))
+        Ok(self.view()?.plan(operation, given.expected))
+    }
+
+    /// An accepted write has the book's version of its key if it expected one; 21 says that the
+    /// book has another.
+    fn check_expectation(
+        &self,
+        operation: &Operation,
+        given: Given,
+        answer: Result<u32, Refusal>,
+    ) -> Result<(), Fault> {
+        let (Operation::Write(key, _), Some(expected)) = (operation, given.expected) else {
+            same!(
+                "21 without expectation",
+                answer == Err(Refusal::OtherVersion),
+                false
+            );
+            return Ok(());
+        };
+        let agrees = self.book.version(*key) == expected;
+        match answer {
+            Ok(_) => same!("expectation of an accepted write", agrees, true),
+            Err(Refusal::OtherVersion) => same!("expectation refused with 21", agrees, false),
+            Err(_) => {}
+        }
+        Ok(())
     }
 
     fn check_start(
@@ -349,9 +390,27 @@ impl<R: Rules> Rig<R> {
 
     /// Holds one read to the book.
     pub fn check_read(&self, key: Key) -> Result<(), Fault> {
+        self.check_read_in(Tables::ALL, key)
+    }
+
+    /// Holds one read to the book, and to the tables of its caller.
+    pub fn check_read_in(&self, tables: Tables, key: Key) -> Result<(), Fault> {
         let record = self.record();
-        let found = read(&record, &self.area, &self.index, key);
-        let value = read_value(&record, &self.area, &self.index, key);
+        let found = read(&record, &self.area, &self.index, tables, key);
+        let value = read_value(&record, &self.area, &self.index, tables, key);
+        if !(tables.first..=tables.last).contains(&key.table) {
+            same!(
+                format!("read of {key:?}"),
+                found,
+                Err(Refusal::OutsideTables)
+            );
+            same!(
+                "value outside the tables",
+                value.as_ptr_range(),
+                self.area[..0].as_ptr_range()
+            );
+            return Ok(());
+        }
         match self.book.keys.get(&key) {
             None => {
                 same!(format!("read of {key:?}"), found, Err(Refusal::Absent));
@@ -385,6 +444,16 @@ impl<R: Rules> Rig<R> {
         }
         tell_steps(&mut text, &mut steps);
         text
+    }
+}
+
+/// Whether the operation has no key, or one in a table of the caller.
+fn may_use(tables: Tables, operation: &Operation) -> bool {
+    match operation {
+        Operation::Write(key, _) | Operation::Delete(key) => {
+            (tables.first..=tables.last).contains(&key.table)
+        }
+        Operation::Clean(_) => true,
     }
 }
 

@@ -19,7 +19,7 @@ bytes c i = omega (arith, c .shared-slice-known .given i)
 -- the tests are passed
 passed : (t : tie.After-enum-told) →
     let a = t .before .before .before .before .before .before .args in
-    Check.Passed ≡ deletes edition1 (a .rec) (now (a .area)) (now (a .index)) (now (a .work)) (a .key)
+    Check.Passed ≡ deletes edition1 (a .tables) (a .rec) (now (a .area)) (now (a .index)) (now (a .work)) (a .key)
 passed t = sym (t .enum-told .given .1) ∙ t .before .before .check-delete .ensures
 
 check-delete-requires : tie.Need-check-delete-requires
@@ -37,14 +37,14 @@ enum-told c = search needs
 no-room-requires : tie.Need-no-room-requires
 no-room-requires c κs =
     let a = c .before .before .before .before .before .before .args in
-    (omega arith, delete-lent edition1 (a .rec) (now (a .area)) (now (a .index)) (now (a .work)) (a .key) (passed c) .map-below)
+    (omega arith, delete-lent edition1 (a .tables) (a .rec) (now (a .area)) (now (a .index)) (now (a .work)) (a .key) (passed c) .map-below)
 
 forget-requires : tie.Need-forget-requires
 unfolding edition1
 forget-requires c κs =
     let t = c .before .before .before in
     let a = t .before .before .before .before .before .before .args in
-    forget-ready edition1 (a .rec) (now (a .area)) (now (a .index)) (now (a .work)) (a .key) (passed t)
+    forget-ready edition1 (a .tables) (a .rec) (now (a .area)) (now (a .index)) (now (a .work)) (a .key) (passed t)
     (sym (c .before .before .no-room .ensures) ∙ c .before .if1 .taken)
 
 same-length : tie.Need-same-length
@@ -56,7 +56,7 @@ returns c =
     let f = c .before .before .before .before in
     let t = f .before .before in
     let a = t .before .before .before .before .before .before .args in
-    forget-promise edition1 (a .rec) (now (a .area)) (now (a .index)) (now (a .work)) (a .key) (passed t)
+    forget-promise edition1 (a .tables) (a .rec) (now (a .area)) (now (a .index)) (now (a .work)) (a .key) (passed t)
     (sym (f .before .no-room .ensures) ∙ f .if1 .taken) (bytes (t .before .before .before .before .before)) _ _ (c .before .before .forget .ensures)
 
 sub-lay-entry : tie.Need-sub-lay-entry
@@ -73,13 +73,13 @@ unfolding edition1
 lay-entry-requires c κs =
     let t = c .before .before .before .before in
     let a = t .before .before .before .before .before .before .args in (
-      delete-ready edition1 (a .rec) (now (a .area)) (now (a .index)) (now (a .work)) (a .key) (passed t) edition1-roomy,
-      (delete-number edition1 (a .rec) (now (a .area)) (now (a .index)) (now (a .work)) (a .key) (passed t), tombstone-length edition1),
+      delete-ready edition1 (a .tables) (a .rec) (now (a .area)) (now (a .index)) (now (a .work)) (a .key) (passed t) edition1-roomy,
+      (delete-number edition1 (a .tables) (a .rec) (now (a .area)) (now (a .index)) (now (a .work)) (a .key) (passed t), tombstone-length edition1),
     )
 
 returns-2 : tie.Need-returns-2
 returns-2 c =
-    delete-refused edition1 _ _ _ _ _ _ (sym (c .before .before .c .given .1) ∙ c .before .before .before .before .check-delete .ensures) _
+    delete-refused edition1 _ _ _ _ _ _ _ (sym (c .before .before .c .given .1) ∙ c .before .before .before .before .check-delete .ensures) _
     (c .refused .ensures)
 
 same-length-2 : tie.Need-same-length-2
@@ -90,7 +90,7 @@ unfolding edition1
 returns-3 c =
     let f = c .before .before .before .before .before in
     let t = f .before .before in
-    delete-laid edition1 _ _ _ _ _ (passed t) (sym (f .before .no-room .ensures) ∙ f .if1 .left) _ _ (c .before .before .lay-entry .ensures)
+    delete-laid edition1 _ _ _ _ _ _ (passed t) (sym (f .before .no-room .ensures) ∙ f .if1 .left) _ _ (c .before .before .lay-entry .ensures)
 
 pub delete-spec : {M : Type 1} → statement M
 delete-spec =

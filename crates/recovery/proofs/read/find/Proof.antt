@@ -5,8 +5,9 @@ use lib.ListN.{length}
 use borrow.Author.Tests.{not-true, not-false}
 use Rattle.segment.specs.Layout.{edition1}
 use Rattle.record.specs.Range.{fitsLent}
+use Rattle.record.specs.Reach.{holdsTable}
 use Rattle.recovery.specs.Lookups.{lookupAt}
-use Rattle.recovery.specs.LookupLaws.{looked-unfit, looked-fit, reached}
+use Rattle.recovery.specs.LookupLaws.{looked-unfit, looked-outside, looked-fit, reached}
 use borrow.Author.Needs.{needs}
 use Rattle.recovery.proofs.read.find.Statement.{statement}
 use Rattle.recovery.proofs.read.find.Tie as tie
@@ -15,11 +16,20 @@ fit : (c : tie.Else1)
     → let a = c .before .before .before .before .args in fitsLent edition1 (a .rec) (length (a .area .now)) (length (a .index .now)) ≡ true
 fit c = sym (c .before .fits-lent .ensures) ∙ not-false _ (c .if1 .left)
 
+held : (c : tie.Else2) → let a = c .before .before .before .before .before .before .args in holdsTable (a .tables) (a .key .table) ≡ true
+held c = sym (c .before .holds-table .ensures) ∙ not-false _ (c .if2 .left)
+
 fits-lent-requires : tie.Need-fits-lent-requires
 fits-lent-requires c κs = search needs
 
 returns : tie.Need-returns
-returns c = sym (looked-unfit edition1 _ _ _ _ (sym (c .before .fits-lent .ensures) ∙ not-true _ (c .if1 .taken)))
+returns c = sym (looked-unfit edition1 _ _ _ _ _ (sym (c .before .fits-lent .ensures) ∙ not-true _ (c .if1 .taken)))
+
+holds-table-requires : tie.Need-holds-table-requires
+holds-table-requires c κs = search needs
+
+returns-2 : tie.Need-returns-2
+returns-2 c = sym (looked-outside edition1 _ _ _ _ _ (fit (c .before .before)) (sym (c .before .holds-table .ensures) ∙ not-true _ (c .if2 .taken)))
 
 cast-look-at : tie.Need-cast-look-at
 cast-look-at c = search needs
@@ -28,14 +38,26 @@ search-requires : tie.Need-search-requires
 search-requires c κs = search needs
 
 look-at-requires : tie.Need-look-at-requires
-look-at-requires c κs = λ i e. reached edition1 _ _ _ _ (fit (c .before .before)) i (sym (c .search .ensures) ∙ e)
+look-at-requires c κs =
+    let e = c .before .before in
+    λ i f. reached edition1 _ _ _ _ _ (fit (e .before .before)) (held e) i (sym (c .search .ensures) ∙ f)
 
-returns-2 : tie.Need-returns-2
-returns-2 c =
+returns-3 : tie.Need-returns-3
+returns-3 c =
+    let e = c .before .before .before in
     c .look-at .ensures
     ∙ ap (lookupAt edition1 _ _ _) (c .before .search .ensures)
-    ∙ sym (looked-fit edition1 _ _ _ _ (fit (c .before .before .before)))
+    ∙ sym (looked-fit edition1 _ _ _ _ _ (fit (e .before .before)) (held e))
 
 pub find-spec : {M : Type 1} → statement M
 find-spec =
-    tie.close (tie.spec fits-lent-requires returns cast-look-at search-requires look-at-requires returns-2)
+    tie.close
+    (tie.spec
+    fits-lent-requires
+    returns
+    holds-table-requires
+    returns-2
+    cast-look-at
+    search-requires
+    look-at-requires
+    returns-3)

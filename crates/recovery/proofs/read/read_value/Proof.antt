@@ -13,7 +13,7 @@ use Rattle.recovery.proofs.read.read_value.Tie as tie
 
 inside : (c : tie.After-place)
     → ObjectInside edition1 (c .before .before .before .before .before .args .area .now) (c .place .given .0 .0) (c .place .given .0 .1 .1 .1 .0)
-inside c = object-inside edition1 _ _ _ _ _ _ _ _ (sym (c .before .before .find .ensures) ∙ c .place .given .1)
+inside c = object-inside edition1 _ _ _ _ _ _ _ _ _ (sym (c .before .before .find .ensures) ∙ c .place .given .1)
 
 find-requires : tie.Need-find-requires
 find-requires c κs = search needs
@@ -65,6 +65,18 @@ part-result-start-3 c = search needs
 part-result-end-3 : tie.Need-part-result-end-3
 part-result-end-3 c = search needs
 
+enum-told-3 : tie.Need-enum-told-3
+enum-told-3 c = search needs
+
+sub-result-4 : tie.Need-sub-result-4
+sub-result-4 c = search needs
+
+part-result-start-4 : tie.Need-part-result-start-4
+part-result-start-4 c = search needs
+
+part-result-end-4 : tie.Need-part-result-end-4
+part-result-end-4 c = search needs
+
 returns : tie.Need-returns
 unfolding edition1 partBy
 returns c =
@@ -82,7 +94,7 @@ returns c =
             starts = refl;
             holds = ap (λ (m : ℕ). take m (drop (p + 11) (k .before .before .before .before .before .args .area .now))) long;
           };
-      promised = value-promise edition1 _ _ _ _ _ (sym (k .place .given .1) ∙ k .before .before .find .ensures);
+      promised = value-promise edition1 _ _ _ _ _ _ (sym (k .place .given .1) ∙ k .before .before .find .ensures);
     }
 
 returns-2 : tie.Need-returns-2
@@ -91,7 +103,7 @@ returns-2 c =
     record {
       part = nowhere;
       refers = record { inside = omega arith; same-block = refl; starts = refl; holds = refl };
-      promised = value-promise edition1 _ _ _ _ _ (sym (c .before .enum-told .given .1) ∙ c .before .before .before .find .ensures);
+      promised = value-promise edition1 _ _ _ _ _ _ (sym (c .before .enum-told .given .1) ∙ c .before .before .before .find .ensures);
     }
 
 returns-3 : tie.Need-returns-3
@@ -100,7 +112,16 @@ returns-3 c =
     record {
       part = nowhere;
       refers = record { inside = omega arith; same-block = refl; starts = refl; holds = refl };
-      promised = value-promise edition1 _ _ _ _ _ (sym (c .before .enum-told2 .given .1) ∙ c .before .before .before .find .ensures);
+      promised = value-promise edition1 _ _ _ _ _ _ (sym (c .before .enum-told2 .given .1) ∙ c .before .before .before .find .ensures);
+    }
+
+returns-4 : tie.Need-returns-4
+unfolding edition1 partBy
+returns-4 c =
+    record {
+      part = nowhere;
+      refers = record { inside = omega arith; same-block = refl; starts = refl; holds = refl };
+      promised = value-promise edition1 _ _ _ _ _ _ (sym (c .before .enum-told3 .given .1) ∙ c .before .before .before .find .ensures);
     }
 
 pub read-value-spec : {M : Type 1} → statement M
@@ -122,6 +143,11 @@ read-value-spec =
     sub-result-3
     part-result-start-3
     part-result-end-3
+    enum-told-3
+    sub-result-4
+    part-result-start-4
+    part-result-end-4
     returns
     returns-2
-    returns-3)
+    returns-3
+    returns-4)

@@ -30,6 +30,9 @@ enum-told c = search needs
 enum-told-2 : tie.Need-enum-told-2
 enum-told-2 c = search needs
 
+enum-told-3 : tie.Need-enum-told-3
+enum-told-3 c = search needs
+
 same-length : tie.Need-same-length
 same-length c = search needs
 
@@ -45,6 +48,10 @@ returns-3 : tie.Need-returns-3
 unfolding lineFound
 returns-3 c = within-same (sym (ap (lineFound _) (c .enum-told2 .given .1)) ∙ line (c .before .before)) (within-none _ _ _)
 
+returns-4 : tie.Need-returns-4
+unfolding lineFound
+returns-4 c = within-same (sym (ap (lineFound _) (c .enum-told3 .given .1)) ∙ line (c .before .before)) (within-none _ _ _)
+
 pub put-line-spec : {M : Type 1} → statement M
 put-line-spec =
     tie.close
@@ -54,7 +61,9 @@ put-line-spec =
     put-key-requires
     enum-told
     enum-told-2
+    enum-told-3
     same-length
     returns
     returns-2
-    returns-3)
+    returns-3
+    returns-4)

@@ -7,35 +7,26 @@ use Rattle.segment.specs.Layout.{edition1}
 use Rattle.record.specs.RangeLaws.{Lent}
 use Rattle.model.specs.Causes.{firstCause}
 use Rattle.starting.specs.declared.Check.{Check}
-use Rattle.starting.specs.Checks.{checked, idleCauses}
-use Rattle.starting.specs.CheckLaws.{record-lent}
+use Rattle.starting.specs.Checks.{checked}
 use Rattle.writing.specs.declared.Presence.the-variants.{Tombstone, Nothing}
-use Rattle.writing.specs.Tests.{factsOf}
-use Rattle.writing.specs.TestLaws.{delete-bad, delete-idle, delete-forbidden, delete-absent, delete-spent, delete-number}
+use Rattle.writing.specs.Tests.{factsOf, firstTests}
+use Rattle.writing.specs.TestLaws.{first-lent, delete-first, delete-forbidden, delete-absent, delete-spent, delete-number}
 use borrow.Author.Needs.{needs}
 use Rattle.writing.proofs.causes.check_delete.Statement.{statement}
 use Rattle.writing.proofs.causes.check_delete.Tie as tie
 
--- what is known once 4 is passed, and 3 and 5
+-- what is known once 4, 22, 3 and 5 are passed
+first : (c : tie.After-enum-told) →
+    let a = c .before .before .before .before .before .args in
+    Check.Passed ≡ checked (firstCause (firstTests edition1 (a .rec) (record { area = length (now (a .area)); index = length (now (a .index)); work = a .work }) (a .tables) (a .key)))
+first c = sym (c .enum-told .given .1) ∙ c .before .before .check-first .ensures
+
 lent : (c : tie.After-enum-told) →
-    let a = c .before .before .before .before .before .before .before .args in Lent edition1 (a .rec) (length (now (a .area))) (length (now (a .index)))
-lent c =
-    let a = c .before .before .before .before .before .before .before .args in
-    record-lent edition1 (a .rec) (record { area = length (now (a .area)); index = length (now (a .index)); work = a .work })
-    (c .before .before .before .before .fits-lent .ensures) (c .before .before .before .if1 .left)
+    let a = c .before .before .before .before .before .args in Lent edition1 (a .rec) (length (now (a .area))) (length (now (a .index)))
+lent c = first-lent edition1 _ _ _ _ (first c)
 
-idle : (c : tie.After-enum-told) →
-    let a = c .before .before .before .before .before .before .before .args in Check.Passed ≡ checked (firstCause (idleCauses (a .rec) (a .work)))
-idle c = sym (c .enum-told .given .1) ∙ c .before .before .check-idle .ensures
-
-fits-lent-requires : tie.Need-fits-lent-requires
-fits-lent-requires c κs = search needs
-
-returns : tie.Need-returns
-returns c = delete-bad edition1 _ _ _ (c .before .fits-lent .ensures) (c .if1 .taken)
-
-check-idle-requires : tie.Need-check-idle-requires
-check-idle-requires c κs = search needs
+check-first-requires : tie.Need-check-first-requires
+check-first-requires c κs = search needs
 
 enum-known-c : tie.Need-enum-known-c
 enum-known-c c = search needs
@@ -61,57 +52,44 @@ enum-told-4 c = search needs
 enum-told-5 : tie.Need-enum-told-5
 enum-told-5 c = search needs
 
-returns-2 : tie.Need-returns-2
+returns : tie.Need-returns
 unfolding edition1
-returns-2 c =
+returns c =
     let f = c .before .before .before .before .before in
-    let t = f .before .before in
-    delete-spent edition1 _ _ _ (t .before .before .before .before .fits-lent .ensures) (t .before .before .before .if1 .left) (idle t)
-    _ (sym (c .before .before .before .enum-told5 .given .1) ∙ f .find .ensures) (c .if2 .taken)
+    delete-spent edition1 _ _ _ _ _ (first (f .before .before)) _ (sym (c .before .before .before .enum-told5 .given .1) ∙ f .find .ensures) (c .if1 .taken)
 
 check-number-requires : tie.Need-check-number-requires
 check-number-requires c κs = omega arith
 
+returns-2 : tie.Need-returns-2
+returns-2 c = delete-first edition1 _ _ _ _ _ _ (sym (c .before .c .given .1) ∙ c .before .before .before .check-first .ensures)
+
 returns-3 : tie.Need-returns-3
 returns-3 c =
-    let s = c .before .before .before in
-    delete-idle edition1 _ _ _ (s .before .before .fits-lent .ensures) (s .before .if1 .left) _ (sym (c .before .c .given .1) ∙ s .check-idle .ensures)
+    delete-forbidden edition1 _ _ _ _ _ (first (c .before .before .before .before)) (sym (c .enum-told2 .given .1) ∙ c .before .before .find .ensures)
 
 returns-4 : tie.Need-returns-4
+unfolding factsOf
 returns-4 c =
-    let t = c .before .before .before .before in
-    delete-forbidden edition1 _ _ _ (t .before .before .before .before .fits-lent .ensures) (t .before .before .before .if1 .left) (idle t)
-    (sym (c .enum-told2 .given .1) ∙ c .before .before .find .ensures)
+    delete-absent edition1 _ _ _ _ _ (first (c .before .before .before .before)) Nothing (sym (c .enum-told3 .given .1) ∙ c .before .before .find .ensures) refl refl
 
 returns-5 : tie.Need-returns-5
 unfolding factsOf
 returns-5 c =
-    let t = c .before .before .before .before in
-    delete-absent edition1 _ _ _ (t .before .before .before .before .fits-lent .ensures) (t .before .before .before .if1 .left) (idle t)
-    Nothing (sym (c .enum-told3 .given .1) ∙ c .before .before .find .ensures) refl refl
+    delete-absent edition1 _ _ _ _ _ (first (c .before .before .before .before)) Tombstone (sym (c .enum-told4 .given .1) ∙ c .before .before .find .ensures) refl refl
 
 returns-6 : tie.Need-returns-6
-unfolding factsOf
-returns-6 c =
-    let t = c .before .before .before .before in
-    delete-absent edition1 _ _ _ (t .before .before .before .before .fits-lent .ensures) (t .before .before .before .if1 .left) (idle t)
-    Tombstone (sym (c .enum-told4 .given .1) ∙ c .before .before .find .ensures) refl refl
-
-returns-7 : tie.Need-returns-7
 unfolding edition1
-returns-7 c =
+returns-6 c =
     let f = c .before .before .before .before .before .before in
-    let t = f .before .before in
-    delete-number edition1 _ _ _ (t .before .before .before .before .fits-lent .ensures) (t .before .before .before .if1 .left) (idle t)
-    _ (sym (c .before .before .before .before .enum-told5 .given .1) ∙ f .find .ensures) (c .before .if2 .left) (c .check-number .ensures)
+    delete-number edition1 _ _ _ _ _ (first (f .before .before)) _ (sym (c .before .before .before .before .enum-told5 .given .1) ∙ f .find .ensures)
+    (c .before .if1 .left) (c .check-number .ensures)
 
 pub check-delete-spec : {M : Type 1} → statement M
 check-delete-spec =
     tie.close
     (tie.spec
-    fits-lent-requires
-    returns
-    check-idle-requires
+    check-first-requires
     enum-known-c
     enum-told
     cast-find
@@ -120,10 +98,10 @@ check-delete-spec =
     enum-told-3
     enum-told-4
     enum-told-5
-    returns-2
+    returns
     check-number-requires
+    returns-2
     returns-3
     returns-4
     returns-5
-    returns-6
-    returns-7)
+    returns-6)

@@ -29,10 +29,10 @@ lay-entry-requires c κs =
     let t = c .before .before in
     let a = t .before .before .before .before .before .before .before .args in
     let passed = sym (t .enum-told .given .1) ∙ t .before .before .check-write .ensures in (
-      write-ready edition1 (record { expected = a .expected }) (a .rec) (now (a .area)) (now (a .index)) (now (a .work)) (a .key) (now (a .value)) passed edition1-roomy,
+      write-ready edition1 (record { tables = a .tables; expected = a .expected }) (a .rec) (now (a .area)) (now (a .index)) (now (a .work)) (a .key) (now (a .value)) passed edition1-roomy,
       (
-        write-number edition1 (record { expected = a .expected }) (a .rec) (now (a .area)) (now (a .index)) (now (a .work)) (a .key) (now (a .value)) passed,
-        write-known edition1 (record { expected = a .expected }) (a .rec) (now (a .area)) (now (a .index)) (now (a .work)) (a .key) (now (a .value)) passed _ (c .object-kind .ensures),
+        write-number edition1 (record { tables = a .tables; expected = a .expected }) (a .rec) (now (a .area)) (now (a .index)) (now (a .work)) (a .key) (now (a .value)) passed,
+        write-known edition1 (record { tables = a .tables; expected = a .expected }) (a .rec) (now (a .area)) (now (a .index)) (now (a .work)) (a .key) (now (a .value)) passed _ (c .object-kind .ensures),
       ),
     )
 

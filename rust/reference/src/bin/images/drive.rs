@@ -1,7 +1,7 @@
 //! A store that is run by the calls, for images as operations and cuts leave them.
 
 use reference::book::Operation;
-use reference::{clean, delete, format, recover, step, write, Record, Refusal};
+use reference::{clean, delete, format, recover, step, write, Record, Refusal, Tables};
 
 use crate::image::Image;
 
@@ -44,8 +44,10 @@ impl Drive {
     pub fn start(&mut self, operation: &Operation) -> Result<u32, Refusal> {
         let (area, index, work) = (&self.image.area, &self.index, &mut self.work);
         let (record, started) = match operation {
-            Operation::Write(key, value) => write(self.record, area, index, work, *key, value),
-            Operation::Delete(key) => delete(self.record, area, index, work, *key),
+            Operation::Write(key, value) => {
+                write(self.record, area, index, work, Tables::ALL, *key, value)
+            }
+            Operation::Delete(key) => delete(self.record, area, index, work, Tables::ALL, *key),
             Operation::Clean(victims) => clean(self.record, area, index, work, *victims),
         };
         self.record = record;

@@ -3,7 +3,7 @@
 
 use std::fmt::Write;
 
-use reference::{read, read_value, recover, Key, Record, Refusal};
+use reference::{read, read_value, recover, Key, Record, Refusal, Tables};
 
 use crate::bundle::Item;
 
@@ -49,12 +49,12 @@ fn recovered(record: &Record, item: &Item, index: &[u32]) -> String {
 fn read_line(record: &Record, area: &[u8], index: &[u32], key: Key) -> String {
     let mut line = format!("  {} {}", key.table, key.key);
     // Writing to a string does not fail.
-    let _ = match read(record, area, index, key) {
+    let _ = match read(record, area, index, Tables::ALL, key) {
         Ok(found) => write!(line, " version {} kind {}", found.version.0, found.kind),
         Err(refusal) => write!(line, " refused {}", refusal.number()),
     };
     line += " value";
-    for byte in read_value(record, area, index, key) {
+    for byte in read_value(record, area, index, Tables::ALL, key) {
         let _ = write!(line, " {byte:02x}");
     }
     line + "\n"

@@ -6,7 +6,7 @@ use reference::book::{self, Book, Operation};
 use reference::segment::{object_kind, Digest, DIGEST_BYTES};
 use reference::{
     clean, delete, format, read, read_value, recover, step, write, DigestNumber, Pending, Record,
-    SlotMap, Started, Version,
+    SlotMap, Started, Tables, Version,
 };
 
 use crate::history::{Event, KEYS};
@@ -45,8 +45,8 @@ fn hex(bytes: &[u8]) -> String {
 /// Whether next version and reads are the book's.
 fn agrees(record: &Record, area: &[u8], index: &[u32], book: &Book) -> bool {
     let key_agrees = |key| {
-        let found = read(record, area, index, key);
-        let value = read_value(record, area, index, key);
+        let found = read(record, area, index, Tables::ALL, key);
+        let value = read_value(record, area, index, Tables::ALL, key);
         match (found, book.keys.get(&key)) {
             (Ok(found), Some((version, bytes))) => {
                 found.version == *version
@@ -204,10 +204,18 @@ impl Player {
     fn start(&mut self, operation: &Operation) -> Started {
         let (record, work) = (self.record(), &mut self.work);
         match operation {
-            Operation::Write(key, value) => {
-                write(record, &self.area, &self.index, work, *key, value)
+            Operation::Write(key, value) => write(
+                record,
+                &self.area,
+                &self.index,
+                work,
+                Tables::ALL,
+                *key,
+                value,
+            ),
+            Operation::Delete(key) => {
+                delete(record, &self.area, &self.index, work, Tables::ALL, *key)
             }
-            Operation::Delete(key) => delete(record, &self.area, &self.index, work, *key),
             Operation::Clean(victims) => clean(record, &self.area, &self.index, work, *victims),
         }
     }

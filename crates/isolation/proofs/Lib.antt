@@ -1,0 +1,12 @@
+-- What is the same in two stores that differ in hidden values.
+pub mod Hidden
+pub mod Alike
+pub mod Twin
+pub mod Operations
+pub mod Pair
+pub mod PairStarts
+pub mod PairSteps
+pub mod PairReads
+pub mod PairRecoveries
+pub mod Theorem
+pub mod Lists

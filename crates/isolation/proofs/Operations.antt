@@ -1,0 +1,316 @@
+-- Two operations that differ in hidden values alone, on two stores that do: they are refused by the same cause, have as many stores
+-- and the same pending operation, and leave stores that are alike, with one record.
+use Prim.Native.Nat.{ℕ, suc, _+_, _-_, _*_, _≤_, _<_}
+use native.Mathlib.Omega.{arith}
+use mathlib.Core.Path.{_≡_, refl, sym, ap, _∙_, subst}
+use mathlib.Core.Bool.{Bool, true, false}
+use mathlib.Core.List.{List, [], _∷_, _++_}
+use mathlib.Core.Option.{Option, none, some}
+use lib.Dec.{leb, ltb}
+use lib.ListN.{length, getD, take, drop, length-append, length-drop}
+use borrow.Author.Tests.{leb-true, ltb-false, not-false, eqb-false}
+use Rattle.segment.specs.Choice.{pick, isNone, either-false-right}
+use Rattle.segment.specs.Layout.{Layout, digestSize, numberLimit}
+use Rattle.segment.specs.Entry.{Entry, WellFormed, bytesIn, kindOf, encoded, sizeOf}
+use Rattle.segment.specs.EntryLaws.{length-encoded, formed-known}
+use Rattle.segment.specs.Digest.{encodedDigest}
+use Rattle.segment.specs.declared.Key.{Key}
+use Rattle.slot_map.specs.Bit.{within}
+use Rattle.record.specs.declared.Pending.{Pending}
+use Rattle.record.specs.declared.Pending.the-variants.{Idle, Append, NewHead, Clean}
+use Rattle.record.specs.declared.Record.{Record}
+use Rattle.model.specs.Log.{Placed, present}
+use Rattle.model.specs.Recovery.{recovered}
+use Rattle.model.specs.Operations.{Operation, write, delete, clean, logNow, writtenEntry, tombstoneEntry, fitsHead, newSlot, newDigest, kept, allEncoded, Laid, laidAppend, laidHead, laidEntry, laid, storesFrom, commit, planOf, storesFor, stored, appendedRecord, headedRecord, entryRecord, finishedRecord}
+use Rattle.model.specs.Refused.{Lengths, Terms, versionIn, KeyFacts, keyFacts, keptLength, writeCauses, deleteCauses, cleanCauses, startCauses}
+use Rattle.laws.specs.Stores.{length-storesFrom}
+use Rattle.laws.specs.Scans.{encoded-one}
+use Rattle.laws.specs.NewHeadBytes.{headPlan, formed-one}
+use Rattle.laws.specs.Operated.{Accepted, planAt, OperationLaws}
+use Rattle.laws.specs.Entering.{Roomy, Entering, idle-lent, idle-number, write-enters, delete-enters}
+use Rattle.laws.specs.Headed.{none-within}
+use Rattle.laws.specs.Planned.{log-formed, kept-in}
+use Rattle.laws.specs.Passed.{CleanPassed, clean-passed}
+use Rattle.laws.specs.OperationsKept.{operation-laws}
+use Rattle.history.proofs.Invariant.{recovered-is}
+use Rattle.isolation.proofs.Hidden.{zeroed, hiddenValue, hidden, hiddenLog, hiddenOne, pick-ap, zeroed-length, size-hidden, present-hidden, has-hidden, kept-hidden, encoded-hidden}
+use Rattle.isolation.proofs.Alike.{Alike, records-same, logs-same}
+use Rattle.isolation.proofs.Twin.{Formed, Twin, appends, heads, twin-cut, twin-done}
+
+-- an operation, the value that it writes hidden if its table is one of those
+unfoldable pub hiddenOperation : (ℕ → Bool) → Operation → Operation
+hiddenOperation of (write k v) = write k (zeroed (of (k .table)) v)
+hiddenOperation of (delete k) = delete k
+hiddenOperation of (clean victims) = clean victims
+
+-- ---- causes
+
+one-none : (of : ℕ → Bool) (o : Option Placed) → isNone (hiddenOne of o) ≡ isNone o
+unfolding hiddenOne isNone
+one-none of none = refl
+one-none of (some x) = refl
+
+one-version : (of : ℕ → Bool) (o : Option Placed) → versionIn (hiddenOne of o) ≡ versionIn o
+unfolding hiddenOne versionIn
+one-version of none = refl
+one-version of (some x) = refl
+
+module _ (of any : ℕ → Bool) where
+  pub absent-hidden : (log : List Placed) (k : Key) → isNone (present (hiddenLog of log) k) ≡ isNone (present log k)
+  absent-hidden log k = ap isNone (present-hidden of log k) ∙ one-none of (present log k)
+
+  facts-hidden : (log : List Placed) (k : Key) → keyFacts (hiddenLog of log) k ≡ keyFacts log k
+  facts-hidden log k = rw (has-hidden of log k, absent-hidden log k, ap versionIn (present-hidden of log k) ∙ one-version of (present log k))
+
+  kept-long-hidden : (L : Layout) (log : List Placed) (victims : ℕ) → keptLength L (hiddenLog of log) victims ≡ keptLength L log victims
+  kept-long-hidden L log victims = ap (λ (es : List Entry). length (allEncoded L es)) (kept-hidden of victims log) ∙ encoded-hidden of L (kept victims log)
+
+  causes-hidden :
+      (L : Layout) (r : Record) (log : List Placed) (l : Lengths) (q : Terms) (o : Operation) →
+      startCauses L r (hiddenLog of log) l q (hiddenOperation any o) ≡ startCauses L r log l q o
+  unfolding startCauses hiddenOperation
+  causes-hidden L r log l q (write k v) =
+      ap (λ (f : KeyFacts). writeCauses L r l q k f (length (zeroed (any (k .table)) v))) (facts-hidden log k) ∙
+      ap (writeCauses L r l q k (keyFacts log k)) (zeroed-length (any (k .table)) v)
+  causes-hidden L r log l q (delete k) = ap (deleteCauses L r l q k) (facts-hidden log k)
+  causes-hidden L r log l q (clean victims) = ap (λ (n : ℕ). cleanCauses L r l n victims) (kept-long-hidden L log victims)
+
+  -- ---- what a start lays down
+
+  entry-pending : (L : Layout) (r : Record) (e : Entry) (k : ℕ) → laidEntry L r (hidden any e) .pending k ≡ laidEntry L r e .pending k
+  entry-pending L r e k =
+      ap
+      (λ (n : ℕ). pick (leb (r .end + n) (r .size)) (laidAppend L (hidden any e)) (laidHead L r (hidden any e)) .pending k)
+      (size-hidden any L e) ∙ go (fitsHead L r e)
+    where
+      go :
+          (t : Bool) → pick t (laidAppend L (hidden any e)) (laidHead L r (hidden any e)) .pending k ≡ pick t (laidAppend L e) (laidHead L r e) .pending k
+      go true = unfold pick in rw (size-hidden any L e)
+      go false = unfold pick in rw (size-hidden any L e)
+
+  encoded-long : (L : Layout) (e : Entry) → length (encoded L (hidden any e)) ≡ length (encoded L e)
+  encoded-long L e = length-encoded L (hidden any e) ∙ size-hidden any L e ∙ sym (length-encoded L e)
+
+  entry-long : (L : Layout) (r : Record) (e : Entry) → length (laidEntry L r (hidden any e) .bytes) ≡ length (laidEntry L r e .bytes)
+  entry-long L r e =
+      ap
+      (λ (n : ℕ). length (pick (leb (r .end + n) (r .size)) (laidAppend L (hidden any e)) (laidHead L r (hidden any e)) .bytes))
+      (size-hidden any L e) ∙ go (fitsHead L r e)
+    where
+      go :
+          (t : Bool) → length (pick t (laidAppend L (hidden any e)) (laidHead L r (hidden any e)) .bytes) ≡ length (pick t (laidAppend L e) (laidHead L r e) .bytes)
+      go true = unfold pick in encoded-long L e
+      go false =
+          unfold pick in
+          length-append (encodedDigest L (newDigest r 0)) (encoded L (hidden any e)) ∙
+          ap (λ (n : ℕ). length (encodedDigest L (newDigest r 0)) + n) (encoded-long L e) ∙
+          sym (length-append (encodedDigest L (newDigest r 0)) (encoded L e))
+
+  pending-hidden :
+      (L : Layout) (r : Record) (log : List Placed) (o : Operation) (k : ℕ) →
+      laid L r (hiddenLog of log) (hiddenOperation any o) .pending k ≡ laid L r log o .pending k
+  unfolding laid hiddenOperation hiddenValue
+  pending-hidden L r log (write j v) k = entry-pending L r (writtenEntry r j v) k
+  pending-hidden L r log (delete j) k = refl
+  pending-hidden L r log (clean victims) k = rw (kept-long-hidden L log victims)
+
+  bytes-hidden :
+      (L : Layout) (r : Record) (log : List Placed) (o : Operation) →
+      length (laid L r (hiddenLog of log) (hiddenOperation any o) .bytes) ≡ length (laid L r log o .bytes)
+  unfolding laid hiddenOperation hiddenValue
+  bytes-hidden L r log (write j v) = entry-long L r (writtenEntry r j v)
+  bytes-hidden L r log (delete j) = refl
+  bytes-hidden L r log (clean victims) =
+      length-append (encodedDigest L (newDigest r victims)) (allEncoded L (kept victims (hiddenLog of log))) ∙
+      ap (λ (n : ℕ). length (encodedDigest L (newDigest r victims)) + n) (kept-long-hidden L log victims) ∙
+      sym (length-append (encodedDigest L (newDigest r victims)) (allEncoded L (kept victims log)))
+
+-- ---- as many stores
+
+commit-long : (S i at : ℕ) (b c : List ℕ) → length b ≡ length c → length (commit S i at b) ≡ length (commit S i at c)
+commit-long S i at b c e = one b ∙ ap (λ (n : ℕ). n - 1 + (pick (ltb (at + n) S) 1 0 + 1)) e ∙ sym (one c)
+  where
+    ending : List ℕ → List (ℕ × ℕ)
+    ending l = pick (ltb (at + length l) S) ((i * S + at + length l, 0) ∷ []) []
+
+    one : (l : List ℕ) → length (commit S i at l) ≡ length l - 1 + (pick (ltb (at + length l) S) 1 0 + 1)
+    one l =
+        length-append (storesFrom (i * S + at + 1) (drop 1 l) ++ ending l) ((i * S + at, getD l 0 0) ∷ []) ∙
+        ap (λ (n : ℕ). n + 1) (length-append (storesFrom (i * S + at + 1) (drop 1 l)) (ending l)) ∙
+        omega (
+          arith,
+          length-storesFrom (i * S + at + 1) (drop 1 l),
+          length-drop 1 l,
+          pick-ap {A = List (ℕ × ℕ)} length (ltb (at + length l) S) ((i * S + at + length l, 0) ∷ []) [],
+        )
+
+plan-long : (r : Record) (p : Pending) (b c : List ℕ) → length b ≡ length c → length (planOf r p b) ≡ length (planOf r p c)
+unfolding planOf
+plan-long r Idle b c e = refl
+plan-long r (Append n k) b c e = commit-long (r .size) (r .head) (r .end) b c e
+plan-long r (NewHead i n k) b c e = ap suc (commit-long (r .size) i 0 b c e)
+plan-long r (Clean i v n k) b c e = ap suc (commit-long (r .size) i 0 b c e)
+
+-- ---- two logs and two operations
+
+module _ (of any : ℕ → Bool) (L : Layout) (r : Record) (log log′ : List Placed) (o o′ : Operation) (logs : hiddenLog of log ≡ hiddenLog of log′)
+    (same : hiddenOperation any o ≡ hiddenOperation any o′)
+  where
+    pub causes-same : (l : Lengths) (q : Terms) → startCauses L r log l q o ≡ startCauses L r log′ l q o′
+    causes-same l q =
+        sym (causes-hidden of any L r log l q o) ∙ ap (λ (x : List Placed). startCauses L r x l q (hiddenOperation any o)) logs ∙
+        ap (startCauses L r (hiddenLog of log′) l q) same ∙ causes-hidden of any L r log′ l q o′
+
+    pub pending-same : (k : ℕ) → laid L r log o .pending k ≡ laid L r log′ o′ .pending k
+    pending-same k =
+        sym (pending-hidden of any L r log o k) ∙ ap (λ (x : List Placed). laid L r x (hiddenOperation any o) .pending k) logs ∙
+        ap (λ (x : Operation). laid L r (hiddenLog of log′) x .pending k) same ∙ pending-hidden of any L r log′ o′ k
+
+    long-same : length (laid L r log o .bytes) ≡ length (laid L r log′ o′ .bytes)
+    long-same =
+        sym (bytes-hidden of any L r log o) ∙ ap (λ (x : List Placed). length (laid L r x (hiddenOperation any o) .bytes)) logs ∙
+        ap (λ (x : Operation). length (laid L r (hiddenLog of log′) x .bytes)) same ∙ bytes-hidden of any L r log′ o′
+
+    pub stores-same : storesFor L r log o ≡ storesFor L r log′ o′
+    stores-same =
+        plan-long r (laid L r log o .pending 0) (laid L r log o .bytes) (laid L r log′ o′ .bytes) long-same ∙
+        ap (λ (p : Pending). length (planOf r p (laid L r log′ o′ .bytes))) (pending-same 0)
+
+-- ---- the plans of two accepted operations
+
+module _ (of : ℕ → Bool) (L : Layout) (roomy : Roomy L) (before before′ : List ℕ) (idle : Record) where
+  twin-entry :
+      (e e′ : Entry) → Entering L before idle e → Entering L before′ idle e′ → hidden of e ≡ hidden of e′ → 256 ≤ idle .size →
+      Twin of L idle (planOf idle (laidEntry L idle e .pending 0) (laidEntry L idle e .bytes))
+      (planOf idle (laidEntry L idle e′ .pending 0) (laidEntry L idle e′ .bytes)) (entryRecord L idle (logNow L before idle) e .map)
+  unfolding pick planOf
+  twin-entry e e′ f f′ same big = subst (λ (t : Bool). shape (fitsHead L idle e) t) fits-same (go (fitsHead L idle e) refl)
+    where
+      lay : Bool → Entry → Laid
+      lay t x = pick t (laidAppend L x) (laidHead L idle x)
+
+      shape : Bool → Bool → Type 0
+      shape t u =
+          Twin of L idle (planOf idle (lay t e .pending 0) (lay t e .bytes)) (planOf idle (lay u e′ .pending 0) (lay u e′ .bytes))
+          (pick t (appendedRecord L idle (logNow L before idle) e) (headedRecord L idle (logNow L before idle) e) .map)
+
+      sizes : sizeOf L e ≡ sizeOf L e′
+      sizes = sym (size-hidden of L e) ∙ ap (sizeOf L) same ∙ size-hidden of L e′
+
+      fits-same : fitsHead L idle e ≡ fitsHead L idle e′
+      fits-same = ap (λ (n : ℕ). leb (idle .end + n) (idle .size)) sizes
+
+      plan-of : List ℕ → List (ℕ × ℕ)
+      plan-of b =
+          (newSlot idle * idle .size, 0) ∷ commit (idle .size) (newSlot idle) 0 (encodedDigest L (newDigest idle 0) ++ b)
+
+      go : (t : Bool) → fitsHead L idle e ≡ t → shape t t
+      go true p = appends e e′ (f .formed) (f′ .formed) same (leb-true (idle .end + sizeOf L e) (idle .size) p)
+      go false p =
+          subst (λ (b : List ℕ). Twin of L idle (plan-of b) (plan-of (encoded L e′)) (newDigest idle 0 .map)) (encoded-one L e)
+          (subst (λ (b : List ℕ). Twin of L idle (plan-of (allEncoded L (e ∷ []))) (plan-of b) (newDigest idle 0 .map)) (encoded-one L e′)
+          (heads 0 (e ∷ []) (e′ ∷ []) (none-within (idle .map)) (omega (arith, f .number-left p)) (formed-one L e (f .formed)) (formed-one L e′ (f′ .formed))
+          (ap (λ (x : Entry). x ∷ []) same)
+          (omega (arith, ap length (encoded-one L e), length-encoded L e, roomy .room (kindOf L e) (length (bytesIn (e .value))) (formed-known L e (f .formed))))))
+
+  -- what a cleaning keeps is of the layout
+  kept-formed : (area : List ℕ) (victims : ℕ) → Accepted L area idle (clean victims) → Formed L (kept victims (logNow L area idle))
+  kept-formed area victims a x i =
+      let y = kept-in victims (logNow L area idle) x i in
+      subst (WellFormed L) (y .2) (log-formed L (idle .slots) (idle .size) (idle .cells) area idle (a .area-bytes) (a .recovers) (y .0) (y .1))
+
+  twin-clean :
+      (victims : ℕ) → Accepted L before idle (clean victims) → Accepted L before′ idle (clean victims) →
+      hiddenLog of (logNow L before idle) ≡ hiddenLog of (logNow L before′ idle) →
+      Twin of L idle (headPlan L (idle .size) (newSlot idle) (newDigest idle victims) (kept victims (logNow L before idle)))
+      (headPlan L (idle .size) (newSlot idle) (newDigest idle victims) (kept victims (logNow L before′ idle))) (newDigest idle victims .map)
+  unfolding startCauses
+  twin-clean victims a a′ logs =
+      heads victims (kept victims (logNow L before idle)) (kept victims (logNow L before′ idle))
+      (not-false (within victims (idle .map)) (either-false-right _ _ (tests .victims-good)))
+      (omega (arith, idle-number L before idle (clean victims) a, eqb-false (idle .digest .0) numberLimit (tests .number-left)))
+      (kept-formed before victims a) (kept-formed before′ victims a′)
+      (sym (kept-hidden of victims (logNow L before idle)) ∙ ap (kept victims) logs ∙ kept-hidden of victims (logNow L before′ idle))
+      (ltb-false (idle .size) (digestSize L + length (allEncoded L (kept victims (logNow L before idle)))) (tests .kept-fits))
+    where
+      tests : CleanPassed L idle (a .lengths) (keptLength L (logNow L before idle) victims) victims
+      tests = clean-passed L idle (a .lengths) (keptLength L (logNow L before idle) victims) victims (a .no-cause)
+
+  pub twins :
+      (o o′ : Operation) → Accepted L before idle o → Accepted L before′ idle o′ →
+      hiddenLog of (logNow L before idle) ≡ hiddenLog of (logNow L before′ idle) → hiddenOperation of o ≡ hiddenOperation of o′ →
+      Twin of L idle (planAt L before idle o) (planAt L before′ idle o′) (finishedRecord L before idle o .map)
+  unfolding laid planOf finishedRecord hiddenOperation hiddenValue
+  twins (write k v) (write j u) a a′ logs same =
+      twin-entry (writtenEntry idle k v) (writtenEntry idle j u) (write-enters L before idle k v a) (write-enters L before′ idle j u a′)
+      (λ i. record { table = keys i .table; key = keys i .key; version = idle .next .0; value = some (values i) })
+      (idle-lent L before idle (write k v) a .size-low)
+    where
+      keys : k ≡ j
+      keys = cc
+
+      values : zeroed (of (k .table)) v ≡ zeroed (of (j .table)) u
+      values = cc
+  twins (delete k) (delete j) a a′ logs same =
+      twin-entry (tombstoneEntry idle k) (tombstoneEntry idle j) (delete-enters L before idle k a) (delete-enters L before′ idle j a′)
+      (ap (λ (x : Key). tombstoneEntry idle x) keys) (idle-lent L before idle (delete k) a .size-low)
+    where
+      keys : k ≡ j
+      keys = cc
+  twins (clean victims) (clean other) a a′ logs same =
+      subst
+      (λ (x : ℕ).
+      Accepted L before′ idle (clean x) →
+      Twin of L idle (planAt L before idle (clean victims)) (planAt L before′ idle (clean x)) (newDigest idle victims .map))
+      keys (λ b. twin-clean victims a b logs) a′
+    where
+      keys : victims ≡ other
+      keys = cc
+  twins (write k v) (delete j) a a′ logs same = let z : _≡_ {A = ℕ} 0 1 = cc in absurd (omega arith)
+  twins (write k v) (clean j) a a′ logs same = let z : _≡_ {A = ℕ} 0 1 = cc in absurd (omega arith)
+  twins (delete k) (write j u) a a′ logs same = let z : _≡_ {A = ℕ} 0 1 = cc in absurd (omega arith)
+  twins (delete k) (clean j) a a′ logs same = let z : _≡_ {A = ℕ} 0 1 = cc in absurd (omega arith)
+  twins (clean k) (write j u) a a′ logs same = let z : _≡_ {A = ℕ} 0 1 = cc in absurd (omega arith)
+  twins (clean k) (delete j) a a′ logs same = let z : _≡_ {A = ℕ} 0 1 = cc in absurd (omega arith)
+
+  -- ---- what they leave
+
+  module _ (o o′ : Operation) (acc : Accepted L before idle o) (acc′ : Accepted L before′ idle o′)
+      (a : Alike of L (idle .slots) (idle .size) (idle .map) before before′) (same : hiddenOperation of o ≡ hiddenOperation of o′)
+    where
+      laws : OperationLaws L
+      laws = operation-laws L roomy
+
+      both : Twin of L idle (planAt L before idle o) (planAt L before′ idle o′) (finishedRecord L before idle o .map)
+      both = twins o o′ acc acc′ (logs-same of L idle before before′ a) same
+
+      -- After every proper prefix the areas are alike under the old record,
+      pub cut-alike :
+          (k : ℕ) → k < length (planAt L before idle o) → k < length (planAt L before′ idle o′) →
+          Alike of L (idle .slots) (idle .size) (idle .map) (stored before (take k (planAt L before idle o))) (stored before′ (take k (planAt L before′ idle o′)))
+      cut-alike k h h′ = twin-cut of L idle before before′ (acc .recovers) (acc′ .recovers) a both k h h′
+
+      -- and after the whole plans under the finished one,
+      pub done-alike :
+          Alike of L (idle .slots) (idle .size) (finishedRecord L before idle o .map) (stored before (planAt L before idle o))
+          (stored before′ (planAt L before′ idle o′))
+      done-alike = twin-done of L idle before before′ (acc .recovers) (acc′ .recovers) a both (acc .area-bytes) (acc′ .area-bytes)
+
+      -- which is one record.
+      pub finished-same : finishedRecord L before idle o ≡ finishedRecord L before′ idle o′
+      finished-same =
+          recovered-is L (idle .slots) (idle .size) (idle .cells) (stored before (planAt L before idle o)) (finishedRecord L before idle o) done ∙
+          records-same of L (idle .slots) (idle .size) (stored before (planAt L before idle o)) (stored before′ (planAt L before′ idle o′))
+          (subst
+          (λ (m : ℕ).
+          Alike of L (idle .slots) (idle .size) m (stored before (planAt L before idle o)) (stored before′ (planAt L before′ idle o′)))
+          (ap (λ (x : Record). x .map) (recovered-is L (idle .slots) (idle .size) (idle .cells) (stored before (planAt L before idle o)) (finishedRecord L before idle o) done))
+          done-alike)
+          (idle .cells) (idle .cells) (finishedRecord L before idle o) done ∙
+          sym (recovered-is L (idle .slots) (idle .size) (idle .cells) (stored before′ (planAt L before′ idle o′)) (finishedRecord L before′ idle o′) done′)
+        where
+          done : recovered L (idle .slots) (idle .size) (idle .cells) (stored before (planAt L before idle o)) ≡ some (finishedRecord L before idle o)
+          done = laws .finish-recovers before idle o acc
+
+          done′ : recovered L (idle .slots) (idle .size) (idle .cells) (stored before′ (planAt L before′ idle o′)) ≡ some (finishedRecord L before′ idle o′)
+          done′ = laws .finish-recovers before′ idle o′ acc′

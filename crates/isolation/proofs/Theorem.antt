@@ -1,0 +1,306 @@
+-- Isolation, by an invariant of two runs: their worlds differ in the values of media's tables alone.
+use Prim.Native.Nat.{ℕ, max}
+use native.Mathlib.Omega.{arith}
+use mathlib.Core.Path.{_≡_, refl, sym, ap, _∙_, subst, subst⁻¹}
+use mathlib.Core.Bool.{Bool, true, false}
+use mathlib.Core.List.{List, [], _∷_}
+use mathlib.Core.Option.{none}
+use lib.ListN.{length, replicate}
+use borrow.Author.Tests.{not-false}
+use Rattle.segment.specs.Choice.{pick, pick-true, both-true, either-true-left, either-true-right}
+use Rattle.segment.specs.Layout.{Layout, edition1}
+use Rattle.segment.specs.declared.Key.{Key}
+use Rattle.record.specs.declared.Record.{Record}
+use Rattle.model.specs.Recovery.{recordFrom}
+use Rattle.model.specs.Operations.{Operation, write, delete, clean, logNow}
+use Rattle.record.specs.declared.Tables.{Tables}
+use Rattle.model.specs.Log.{Placed}
+use Rattle.model.specs.Causes.{firstCause}
+use Rattle.record.specs.Reach.{holdsTable}
+use Rattle.model.specs.Refused.{Lengths, Terms, readCauses}
+use Rattle.model.specs.Promises.{RecoverPromise, StartPromise, Genuine, ReadPromise, ValuePromise, partOf, readLengths, lentLengths}
+use Rattle.laws.specs.CauseLaws.{no-cause}
+use Rattle.laws.specs.Starts.{StartInside, start-inside}
+use Rattle.laws.specs.Entering.{Roomy}
+use Rattle.laws.specs.Operated.{OperationLaws}
+use Rattle.laws.specs.OperationsKept.{operation-laws, edition1-roomy}
+use Rattle.history.specs.Book.{Question, reads, readsValue, Call, starts, steps, asks, recovers, Answer, saying, giving, Event, called, cut, Book, freshBook, feed, versionTold}
+use Rattle.history.specs.Runs.{World, freshWorld, Asked, read, readValue, Moves, start, step, ask, recover, cuts, Run, stop, go}
+use Rattle.history.proofs.Invariant.{Inv, HeldGood, baseCells}
+use Rattle.history.proofs.Theorem.{move-keeps, fresh}
+use Rattle.isolation.specs.Owners.{Owner, servo, media, blankedOperation, blanked, SameCall, SameInput, SameInputs, SameAnswer, SameAnswers, sameOwner, startRange, rangeOf, rangeHolds, gives}
+use Rattle.isolation.specs.Isolation.{IsolationFor, Isolation}
+use Rattle.isolation.proofs.Hidden.{zeroed}
+use Rattle.isolation.proofs.Operations.{hiddenOperation}
+use Rattle.isolation.proofs.Pair.{HeldBoth, Pair}
+use Rattle.isolation.proofs.PairStarts.{held-alike, start-both}
+use Rattle.isolation.proofs.PairSteps.{step-both}
+use Rattle.isolation.proofs.PairReads.{read-both, value-both}
+use Rattle.isolation.proofs.PairRecoveries.{cut-both, recover-both}
+
+-- ---- what the same input says
+
+blanked-same : (who : Owner) (c c′ : Call) → SameCall who c c′ → blanked c ≡ blanked c′
+unfolding SameCall
+blanked-same servo c c′ e = cc
+blanked-same media c c′ e = e
+
+-- Two calls that are the same but for value bytes are both starts, both steps, the same question or the same recovery.
+data SameKind : Call → Call → Type 0 where
+  both-start : (q q′ : Terms) (o o′ : Operation) → q ≡ q′ → blankedOperation o ≡ blankedOperation o′ → SameKind (starts q o) (starts q′ o′)
+  both-step : SameKind steps steps
+  both-ask : (q q′ : Question) → q ≡ q′ → SameKind (asks q) (asks q′)
+  both-recover : (n n′ s s′ : ℕ) (order order′ : List ℕ) → order ≡ order′ → SameKind (recovers n s order) (recovers n′ s′ order′)
+
+same-kind : (c c′ : Call) → blanked c ≡ blanked c′ → SameKind c c′
+unfolding blanked
+same-kind (starts q o) (starts q′ o′) e =
+    let terms : q ≡ q′ = cc in let blank : blankedOperation o ≡ blankedOperation o′ = cc in both-start q q′ o o′ terms blank
+same-kind steps steps e = both-step
+same-kind (asks q) (asks q′) e = both-ask q q′ cc
+same-kind (recovers n s order) (recovers n′ s′ order′) e = both-recover n n′ s s′ order order′ cc
+same-kind (starts q o) steps e = let z : _≡_ {A = ℕ} 0 1 = cc in absurd (omega arith)
+same-kind (starts q o) (asks x) e = let z : _≡_ {A = ℕ} 0 1 = cc in absurd (omega arith)
+same-kind (starts q o) (recovers n s order) e = let z : _≡_ {A = ℕ} 0 1 = cc in absurd (omega arith)
+same-kind steps (starts q o) e = let z : _≡_ {A = ℕ} 0 1 = cc in absurd (omega arith)
+same-kind steps (asks q) e = let z : _≡_ {A = ℕ} 0 1 = cc in absurd (omega arith)
+same-kind steps (recovers n s order) e = let z : _≡_ {A = ℕ} 0 1 = cc in absurd (omega arith)
+same-kind (asks x) (starts q o) e = let z : _≡_ {A = ℕ} 0 1 = cc in absurd (omega arith)
+same-kind (asks q) steps e = let z : _≡_ {A = ℕ} 0 1 = cc in absurd (omega arith)
+same-kind (asks q) (recovers n s order) e = let z : _≡_ {A = ℕ} 0 1 = cc in absurd (omega arith)
+same-kind (recovers n s order) (starts q o) e = let z : _≡_ {A = ℕ} 0 1 = cc in absurd (omega arith)
+same-kind (recovers n s order) steps e = let z : _≡_ {A = ℕ} 0 1 = cc in absurd (omega arith)
+same-kind (recovers n s order) (asks q) e = let z : _≡_ {A = ℕ} 0 1 = cc in absurd (omega arith)
+
+-- what is the same whole serves either owner
+answer-own : (who : Owner) (c c′ : Call) (l l′ : Lengths) (a : Answer) → SameAnswer who (called c l a) (called c′ l′ a)
+unfolding SameAnswer
+answer-own servo c c′ l l′ a = refl
+answer-own media c c′ l l′ a = refl
+
+answer-same : (who : Owner) (c c′ : Call) (l l′ : Lengths) (a a′ : Answer) → a ≡ a′ → SameAnswer who (called c l a) (called c′ l′ a′)
+answer-same who c c′ l l′ a a′ e = subst (λ (x : Answer). SameAnswer who (called c l a) (called c′ l′ x)) e (answer-own who c c′ l l′ a)
+
+-- ---- the hidden tables
+
+-- A range given by media lies within the hidden tables, one given by servo outside.
+unfoldable Covers : (ℕ → Bool) → Owner → Event → Type 0
+Covers of servo e = (t : ℕ) → rangeHolds (rangeOf e) t ≡ true → of t ≡ false
+Covers of media e = (t : ℕ) → rangeHolds (rangeOf e) t ≡ true → of t ≡ true
+
+-- all bytes hidden
+abbrev any : ℕ → Bool
+any t = true
+
+any-blanked : (o : Operation) → hiddenOperation any o ≡ blankedOperation o
+unfolding hiddenOperation blankedOperation zeroed pick
+any-blanked (write k v) = refl
+any-blanked (delete k) = refl
+any-blanked (clean victims) = refl
+
+-- a write to a hidden table is blanked; no other operation has bytes to hide
+unfoldable bytesHidden : (ℕ → Bool) → Operation → Bool
+bytesHidden of (write k v) = of (k .table)
+bytesHidden of (delete k) = true
+bytesHidden of (clean victims) = true
+
+hidden-blanked : (of : ℕ → Bool) (o : Operation) → bytesHidden of o ≡ true → hiddenOperation of o ≡ blankedOperation o
+unfolding hiddenOperation blankedOperation zeroed bytesHidden
+hidden-blanked of (write k v) h = ap (write k) (pick-true (of (k .table)) (replicate (length v) 0) v h)
+hidden-blanked of (delete k) h = refl
+hidden-blanked of (clean victims) h = refl
+
+blanked-hides : (of : ℕ → Bool) (o : Operation) → bytesHidden of (blankedOperation o) ≡ bytesHidden of o
+unfolding bytesHidden blankedOperation
+blanked-hides of (write k v) = refl
+blanked-hides of (delete k) = refl
+blanked-hides of (clean victims) = refl
+
+-- media's operation is one of these where the range given with it holds its table
+media-hides : (of : ℕ → Bool) (q : Terms) (o : Operation) (l : Lengths) (a : Answer) → Covers of media (called (starts q o) l a) → StartInside q o → bytesHidden of o ≡ true
+unfolding Covers rangeOf startRange rangeHolds StartInside bytesHidden
+media-hides of q (write k v) l a c inside = c (k .table) inside
+media-hides of q (delete k) l a c inside = refl
+media-hides of q (clean victims) l a c inside = refl
+
+-- the operations of one owner differ in hidden values alone
+hidden-same :
+    (of : ℕ → Bool) (who : Owner) (q q′ : Terms) (o o′ : Operation) (l : Lengths) (a : Answer) → SameCall who (starts q o) (starts q′ o′) →
+    blankedOperation o ≡ blankedOperation o′ → Covers of who (called (starts q o) l a) → StartInside q o → hiddenOperation of o ≡ hiddenOperation of o′
+unfolding SameCall
+hidden-same of servo q q′ o o′ l a e blank c inside = let same : o ≡ o′ = cc in ap (hiddenOperation of) same
+hidden-same of media q q′ o o′ l a e blank c inside =
+    let hides = media-hides of q o l a c inside in
+    hidden-blanked of o hides ∙ blank ∙
+    sym (hidden-blanked of o′ (sym (blanked-hides of o′) ∙ ap (bytesHidden of) (sym blank) ∙ blanked-hides of o ∙ hides))
+
+-- what an accepted read has tested
+read-inside :
+    (L : Layout) (r : Record) (log : List Placed) (l : Lengths) (u : Tables) (k : Key) → firstCause (readCauses L r log l u k) ≡ none →
+    holdsTable u (k .table) ≡ true
+read-inside L r log l u k e = not-false (holdsTable u (k .table)) (no-cause (readCauses L r log l u k) e .1 .0)
+
+module _ (L : Layout) (roomy : Roomy L) (n s : ℕ) (of : ℕ → Bool) where
+  laws : OperationLaws L
+  laws = operation-laws L roomy
+
+  -- ---- one event in both runs
+
+  asked-both :
+      {w w′ : World} {q q′ : Question} {l l′ : Lengths} {a a′ : Answer} (b b′ : Book) (t t′ : ℕ) (who : Owner) → Asked L w q l a → Asked L w′ q′ l′ a′ →
+      Inv L n s w b t → Inv L n s w′ b′ t′ → Pair of L n s w w′ → q ≡ q′ → l ≡ l′ → Covers of who (called (asks q) l a) →
+      SameAnswer who (called (asks q) l a) (called (asks q′) l′ a′)
+  unfolding HeldGood HeldBoth
+  asked-both b b′ t t′ who (read {area} {h} {m} {v = u} {k} {a} ty p) (read {area = area′} {h = h′} {m = m′} {v = u′} {k = k′} {a = a′} ty′ p′) inv inv′ pair e lent c =
+      answer-same who (asks (reads u k)) (asks (reads u′ k′)) (readLengths area (h .cells)) (readLengths area′ (h′ .cells)) _ _
+      (ap saying
+      (read-both of L laws area area′ (h .cells) (h′ .cells) (h .rec) (held-alike of L n s area area′ m b h (inv .held) (pair .alike))
+      (inv .held .genuine)
+      (subst⁻¹ (λ (r : Record). Genuine L area′ r (h′ .cells)) (pair .held .rec-same) (inv′ .held .genuine)) lent u k a a′ p
+      (subst⁻¹ (λ (v : Tables). ReadPromise L (h .rec) area′ (h′ .cells) v k a′) tables
+      (subst⁻¹ (λ (j : Key). ReadPromise L (h .rec) area′ (h′ .cells) u′ j a′) keys
+      (subst⁻¹ (λ (r : Record). ReadPromise L r area′ (h′ .cells) u′ k′ a′) (pair .held .rec-same) p′)))))
+    where
+      tables : u ≡ u′
+      tables = cc
+
+      keys : k ≡ k′
+      keys = cc
+  asked-both b b′ t t′ who (readValue {area} {h} {m} {v = u} {k} {p} ty q) (readValue {area = area′} {h = h′} {m = m′} {v = u′} {k = k′} {p = p′} ty′ q′) inv inv′ pair e lent c = by-owner who c
+    where
+      tables : u ≡ u′
+      tables = cc
+
+      keys : k ≡ k′
+      keys = cc
+
+      by-owner :
+          (who : Owner) → Covers of who (called (asks (readsValue u k)) (readLengths area (h .cells)) (giving (partOf area p))) →
+          SameAnswer who (called (asks (readsValue u k)) (readLengths area (h .cells)) (giving (partOf area p)))
+          (called (asks (readsValue u′ k′)) (readLengths area′ (h′ .cells)) (giving (partOf area′ p′)))
+      by-owner media c = unfold SameAnswer in refl
+      by-owner servo c =
+          unfold SameAnswer Covers rangeOf rangeHolds in
+          ap giving
+          (value-both of L laws area area′ (h .cells) (h′ .cells) (h .rec) (held-alike of L n s area area′ m b h (inv .held) (pair .alike))
+          (inv .held .genuine)
+          (subst⁻¹ (λ (r : Record). Genuine L area′ r (h′ .cells)) (pair .held .rec-same) (inv′ .held .genuine)) lent u k (inv .bytes) (inv′ .bytes) p p′
+          (λ e. c (k .table) (read-inside L (h .rec) (logNow L area (h .rec)) (readLengths area (h .cells)) u k e)) q
+          (subst⁻¹ (λ (v : Tables). ValuePromise L (h .rec) area′ (h′ .cells) v k p′) tables
+          (subst⁻¹ (λ (j : Key). ValuePromise L (h .rec) area′ (h′ .cells) u′ j p′) keys
+          (subst⁻¹ (λ (r : Record). ValuePromise L r area′ (h′ .cells) u′ k′ p′) (pair .held .rec-same) q′))))
+  asked-both b b′ t t′ who (read ty p) (readValue ty′ q′) inv inv′ pair e lent c = let z : _≡_ {A = ℕ} 0 1 = cc in absurd (omega arith)
+  asked-both b b′ t t′ who (readValue ty q) (read ty′ p′) inv inv′ pair e lent c = let z : _≡_ {A = ℕ} 0 1 = cc in absurd (omega arith)
+
+  abbrev Both : Owner → World → World → Event → Event → Type 0
+  Both who x x′ e e′ = Pair of L n s x x′ × SameAnswer who e e′
+
+  started :
+      {w w′ x x′ : World} {q q′ : Terms} {o o′ : Operation} {l l′ : Lengths} {a a′ : Answer} (b b′ : Book) (t t′ : ℕ) (who : Owner) →
+      Moves L n s w (called (starts q o) l a) x → Moves L n s w′ (called (starts q′ o′) l′ a′) x′ → Inv L n s w b t → Inv L n s w′ b′ t′ →
+      Pair of L n s w w′ → SameCall who (starts q o) (starts q′ o′) → q ≡ q′ → blankedOperation o ≡ blankedOperation o′ → l ≡ l′ →
+      Covers of who (called (starts q o) l a) → Both who x x′ (called (starts q o) l a) (called (starts q′ o′) l′ a′)
+  unfolding HeldGood HeldBoth
+  started b b′ t t′ who (start {area} {work} {work′ = work₁} {h} {m} {q} {o} {a} ty p) (start {area = area′} {work = work′} {work′ = work₁′} {h = h′} {m = m′} {q = q′} {o = o′} {a = a′} ty′ p′) inv inv′ pair same terms blank lent c =
+      let all =
+      start-both of any L roomy area area′ h h′ q o o′ work work′ work₁ work₁′ a a′ (inv .bytes) (inv′ .bytes) ty ty′ (pair .held)
+      (held-alike of L n s area area′ m b h (inv .held) (pair .alike)) (inv .held .genuine) (inv′ .held .genuine) lent
+      (any-blanked o ∙ blank ∙ sym (any-blanked o′)) (λ e. hidden-same of who q q′ o o′ _ _ same blank c (start-inside L (h .rec) (logNow L area (h .rec)) (lentLengths area (h .cells) work) q o e)) p
+      (subst⁻¹ (λ (x : Terms). StartPromise L x o′ (h′ .rec) area′ (h′ .cells) work′ work₁′ a′) terms p′) in
+      (record { alike = pair .alike; held = all .0 }, answer-same who _ _ _ _ _ _ (ap saying (all .1)))
+
+  stepped-both :
+      {w w′ x x′ : World} {l l′ : Lengths} {a a′ : Answer} (b b′ : Book) (t t′ : ℕ) (who : Owner) → Moves L n s w (called steps l a) x →
+      Moves L n s w′ (called steps l′ a′) x′ → Inv L n s w b t → Inv L n s w′ b′ t′ → Pair of L n s w w′ → l ≡ l′ →
+      Both who x x′ (called steps l a) (called steps l′ a′)
+  unfolding HeldGood HeldBoth
+  stepped-both b b′ t t′ who (step {area} {area′ = area₁} {cells′ = cells₁} {work} {h} {m} {a} own p) (step {area = area′} {area′ = area₁′} {cells′ = cells₁′} {work = work′} {h = h′} {m = m′} {a = a′} own′ p′) inv inv′ pair lent =
+      let all =
+      step-both of L roomy n s h h′ area area′ area₁ area₁′ cells₁ cells₁′ work work′ a a′ (inv .held .slots-same) (inv .held .size-same) (pair .alike)
+      (pair .held) (inv .held .genuine) (inv′ .held .genuine) lent own own′ p p′ in
+      (record { alike = all .0; held = all .1 }, answer-same who _ _ _ _ _ _ (ap saying (all .2)))
+
+  recovered-both :
+      {w w′ x x′ : World} {k k′ j j′ : ℕ} {order order′ : List ℕ} {l l′ : Lengths} {a a′ : Answer} (b b′ : Book) (t t′ : ℕ) (who : Owner) →
+      Moves L n s w (called (recovers k j order) l a) x → Moves L n s w′ (called (recovers k′ j′ order′) l′ a′) x′ → Inv L n s w b t →
+      Inv L n s w′ b′ t′ → Pair of L n s w w′ → order ≡ order′ → l ≡ l′ →
+      Both who x x′ (called (recovers k j order) l a) (called (recovers k′ j′ order′) l′ a′)
+  recovered-both b b′ t t′ who (recover {w} {order} {cells} {cells′ = cells₁} {r} p) (recover {w = w′} {order = order′} {cells = cells′} {cells′ = cells₁′} {r = r′} p′) inv inv′ pair same lent =
+      let all =
+      recover-both of L n s w w′ pair (baseCells (w .cells)) (recordFrom L n s (baseCells (w .cells)) (w .area)) (inv .base) order cells cells′ cells₁ cells₁′
+      r r′ lent p (subst⁻¹ (λ (l : List ℕ). RecoverPromise L n s l (w′ .area) cells′ cells₁′ r′) same p′) in
+      (all .0, answer-same who _ _ _ _ _ _ (ap saying (all .1)))
+
+  called-both :
+      {w w′ x x′ : World} {c c′ : Call} {l l′ : Lengths} {a a′ : Answer} (b b′ : Book) (t t′ : ℕ) (who : Owner) → SameKind c c′ →
+      Moves L n s w (called c l a) x → Moves L n s w′ (called c′ l′ a′) x′ → Inv L n s w b t → Inv L n s w′ b′ t′ → Pair of L n s w w′ →
+      SameCall who c c′ → l ≡ l′ → Covers of who (called c l a) → Both who x x′ (called c l a) (called c′ l′ a′)
+  called-both b b′ t t′ who (both-start q q′ o o′ d e) m m′ inv inv′ pair same lent c = started b b′ t t′ who m m′ inv inv′ pair same d e lent c
+  called-both b b′ t t′ who both-step m m′ inv inv′ pair same lent c = stepped-both b b′ t t′ who m m′ inv inv′ pair lent
+  called-both b b′ t t′ who (both-ask q q′ e) (ask p) (ask p′) inv inv′ pair same lent c =
+      (pair, asked-both b b′ t t′ who p p′ inv inv′ pair e lent c)
+  called-both b b′ t t′ who (both-recover k k′ j j′ order order′ e) m m′ inv inv′ pair same lent c = recovered-both b b′ t t′ who m m′ inv inv′ pair e lent
+
+  move-both :
+      {w w′ x x′ : World} (e e′ : Event) (b b′ : Book) (t t′ : ℕ) (who : Owner) → Moves L n s w e x → Moves L n s w′ e′ x′ → Inv L n s w b t →
+      Inv L n s w′ b′ t′ → Pair of L n s w w′ → SameInput who e e′ → Covers of who e → Both who x x′ e e′
+  unfolding SameInput SameAnswer
+  move-both (called c l a) (called c′ l′ a′) b b′ t t′ who m m′ inv inv′ pair same cov =
+      called-both b b′ t t′ who (same-kind c c′ (blanked-same who c c′ (same .0))) m m′ inv inv′ pair (same .0) (same .1) cov
+  move-both cut cut b b′ t t′ who (cuts {w}) (cuts {w = w′}) inv inv′ pair same cov = (cut-both of L n s w w′ pair, tt)
+  move-both (called c l a) cut b b′ t t′ who m m′ inv inv′ pair same cov = absurd same
+  move-both cut (called c l a) b b′ t t′ who m m′ inv inv′ pair same cov = absurd same
+
+  -- ---- two lists of events
+
+  -- every range given in the list
+  abbrev CoversAll : List Owner → List Event → Type 0
+  CoversAll owners es = ((t : ℕ) → gives servo owners es t ≡ true → of t ≡ false) × ((t : ℕ) → gives media owners es t ≡ true → of t ≡ true)
+
+  covers-first : (who : Owner) (owners : List Owner) (e : Event) (es : List Event) → CoversAll (who ∷ owners) (e ∷ es) → Covers of who e
+  unfolding Covers gives sameOwner
+  covers-first servo owners e es c = λ t h. c .0 t (either-true-left _ _ (both-true _ _ refl h))
+  covers-first media owners e es c = λ t h. c .1 t (either-true-left _ _ (both-true _ _ refl h))
+
+  covers-rest : (who : Owner) (owners : List Owner) (e : Event) (es : List Event) → CoversAll (who ∷ owners) (e ∷ es) → CoversAll owners es
+  unfolding gives
+  covers-rest who owners e es c = (λ t h. c .0 t (either-true-right _ _ h), λ t h. c .1 t (either-true-right _ _ h))
+
+  runs-both :
+      {w w′ x x′ : World} {es es′ : List Event} (owners : List Owner) (b b′ : Book) (t t′ : ℕ) → Run L n s w es x → Run L n s w′ es′ x′ →
+      Inv L n s w b t → Inv L n s w′ b′ t′ → Pair of L n s w w′ → SameInputs owners es es′ → CoversAll owners es → SameAnswers owners es es′
+  unfolding SameInputs SameAnswers
+  runs-both [] b b′ t t′ stop stop inv inv′ pair same c = tt
+  runs-both (who ∷ owners) b b′ t t′ (go {e = e} {es = es} m r) (go {e = e′} {es = es′} m′ r′) inv inv′ pair same c =
+      let one = move-both e e′ b b′ t t′ who m m′ inv inv′ pair (same .0) (covers-first who owners e es c) in
+      let kept = move-keeps L laws n s b t m inv in
+      let kept′ = move-keeps L laws n s b′ t′ m′ inv′ in (
+        one .1,
+        runs-both owners (feed b e) (feed b′ e′) (max t (versionTold e)) (max t′ (versionTold e′)) r r′ (kept .0) (kept′ .0) (one .0) (same .1)
+            (covers-rest who owners e es c),
+      )
+  runs-both [] b b′ t t′ stop (go m′ r′) inv inv′ pair same c = absurd same
+  runs-both [] b b′ t t′ (go m r) r′ inv inv′ pair same c = absurd same
+  runs-both (who ∷ owners) b b′ t t′ stop r′ inv inv′ pair same c = absurd same
+  runs-both (who ∷ owners) b b′ t t′ (go m r) stop inv inv′ pair same c = absurd same
+
+-- a world is one of a pair with itself where nothing is held
+fresh-pair : (of : ℕ → Bool) (L : Layout) (n s : ℕ) (area : List ℕ) → Pair of L n s (freshWorld area) (freshWorld area)
+unfolding HeldBoth
+fresh-pair of L n s area =
+    record { alike = record { long = refl; views = record { digests = λ i l. refl; scans = λ i l e. refl } }; held = tt }
+
+-- Isolation for every layout of which each entry fits a fresh segment.
+pub isolation-for : (L : Layout) → Roomy L → IsolationFor L
+isolation-for L roomy n s area₀ area ab p owners es es′ w w′ run run′ same apart =
+    let start′ = fresh L (operation-laws L roomy) n s area₀ area ab p in
+    runs-both L roomy n s (gives media owners es) owners freshBook freshBook 0 0 run run′ start′ start′
+    (fresh-pair (gives media owners es) L n s area) same (λ t h. outside t h (gives media owners es t) refl, λ t h. h)
+  where
+    outside : (t : ℕ) → gives servo owners es t ≡ true → (u : Bool) → gives media owners es t ≡ u → u ≡ false
+    outside t h true e = absurd (apart t h e)
+    outside t h false e = refl
+
+-- Isolation.
+pub isolation : Isolation
+isolation = isolation-for edition1 edition1-roomy
