@@ -31,6 +31,7 @@ use Rattle.history.specs.Book.{Question, reads, readsValue, Call, starts
 use Rattle.history.specs.Runs.{World, freshWorld, Run}
 use Rattle.history.specs.Demand3.{LargeEnough, bookAnswer, bookValue, GivesBook, StepAgrees, QuestionAgrees, EventAgrees, EventsAgree, Demand3Of}
 use Rattle.history.specs.Finishing.{isWriteOf, lastOfWrite, finishesWrite, noWrite, Finishes}
+use Rattle.history.proofs.Books.{list-keeps}
 use Rattle.history.proofs.Theorem.{demand-3}
 
 -- ---- a list in two parts
@@ -208,35 +209,9 @@ finish-rises b (write k value) = omega arith
 finish-rises b (delete k) = omega arith
 finish-rises b (clean victims) = omega arith
 
-one-rises : (b : Book) (o : Operation) (m : ℕ) → b .next ≤ oneOff b o m .next
-unfolding oneOff
-one-rises b o zero = finish-rises b o
-one-rises b o (suc m) = omega arith
-
-step-rises : (b : Book) (p : Option Awaited) → b .next ≤ takeOne b p .next
-unfolding takeOne
-step-rises b none = omega arith
-step-rises b (some p) = go (p .left - 1)
-  where
-    go : (m : ℕ) → b .next ≤ oneOff b (p .operation) m .next
-    go m = one-rises b (p .operation) m
-
-event-rises : (b : Book) (e : Event) → b .next ≤ feed b e .next
-unfolding feed feedCall pick
-event-rises b (called c l a) = go (accepted a) c
-  where
-    go : (t : Bool) (c : Call) → b .next ≤ pick t (feedCall b c (a .said .stores)) b .next
-    go true (starts t o) = omega arith
-    go true steps = step-rises b (b .pending)
-    go true (asks q) = omega arith
-    go true (recovers n s order) = omega arith
-    go false c = omega arith
-event-rises b cut = omega arith
-
 pub list-rises : (b : Book) (es : List Event) → b .next ≤ bookAfter b es .next
-unfolding bookAfter
-list-rises b [] = omega arith
-list-rises b (e ∷ es) = omega (arith, event-rises b e, list-rises (feed b e) es)
+list-rises b es =
+    list-keeps (λ (c : Book). b .next ≤ c .next) (λ c p h. h) (λ c o h. omega (arith, finish-rises c o, h)) b es (omega arith)
 
 -- a version that is told and not 0 is the book's next, which then goes up
 told-is : (b : Book) (o : Operation) → (versionFor b o ≡ 0 → ⊥) → (versionFor b o ≡ b .next) × (b .next < finish b o .next)

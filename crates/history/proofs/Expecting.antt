@@ -24,10 +24,11 @@ use Rattle.model.specs.Log.{sameKeys}
 use Rattle.model.specs.Operations.{Operation, write, delete, clean}
 use Rattle.model.specs.Refused.{Lengths, Terms}
 use Rattle.model.specs.Promises.{FormatPromise}
-use Rattle.history.specs.Book.{reads, Call, starts, steps, asks, recovers, Answer, saying, Event, called, cut, accepted, Kept, bookVersion, Awaited, Book, freshBook, finish, versionFor, oneOff, takeOne, feedCall, feed, bookAfter, bookOf}
+use Rattle.history.specs.Book.{reads, starts, steps, asks, recovers, Answer, saying, Event, called, cut, accepted, Kept, bookVersion, Awaited, Book, freshBook, finish, versionFor, oneOff, takeOne, feedCall, feed, bookAfter, bookOf}
 use Rattle.history.specs.Runs.{World}
 use Rattle.history.specs.Demand3.{bookAnswer, Expects, StartAgrees, QuestionAgrees, EventAgrees, EventsAgree}
 use Rattle.history.specs.Finishing.{goesOn, allGoOn, Finishes}
+use Rattle.history.proofs.Books.{list-keeps}
 use Rattle.history.proofs.Corollaries.{agree-at, agree-behind, book-append, sameKeys-own, told-at, book-at, Leads, demanded}
 
 -- ---- a pending operation that nothing breaks off
@@ -118,32 +119,9 @@ finish-fate n x k b (delete j) h =
     record { fate = pick-fate n x (sameKeys k j) none (b .keys k) gone (h .fate); risen = omega (arith, h .risen) }
 finish-fate n x k b (clean victims) h = record { fate = h .fate; risen = h .risen }
 
-one-fate : (n : ℕ) (x : Kept) (k : Key) (b : Book) (o : Operation) (m : ℕ) → Since n x k b → Since n x k (oneOff b o m)
-unfolding oneOff
-one-fate n x k b o zero h = finish-fate n x k b o h
-one-fate n x k b o (suc m) h = record { fate = h .fate; risen = h .risen }
-
-step-fate : (n : ℕ) (x : Kept) (k : Key) (b : Book) (p : Option Awaited) → Since n x k b → Since n x k (takeOne b p)
-unfolding takeOne
-step-fate n x k b none h = h
-step-fate n x k b (some p) h = one-fate n x k b (p .operation) (p .left - 1) h
-
-event-fate : (n : ℕ) (x : Kept) (k : Key) (b : Book) (e : Event) → Since n x k b → Since n x k (feed b e)
-unfolding feed feedCall pick
-event-fate n x k b (called c l a) h = go (accepted a) c
-  where
-    go : (t : Bool) (c : Call) → Since n x k (pick t (feedCall b c (a .said .stores)) b)
-    go true (starts t o) = record { fate = h .fate; risen = h .risen }
-    go true steps = step-fate n x k b (b .pending) h
-    go true (asks q) = h
-    go true (recovers m s order) = record { fate = h .fate; risen = h .risen }
-    go false c = h
-event-fate n x k b cut h = record { fate = h .fate; risen = h .risen }
-
 list-fate : (n : ℕ) (x : Kept) (k : Key) (b : Book) (es : List Event) → Since n x k b → Since n x k (bookAfter b es)
-unfolding bookAfter
-list-fate n x k b [] h = h
-list-fate n x k b (e ∷ es) h = list-fate n x k (feed b e) es (event-fate n x k b e h)
+list-fate n x k b es h =
+    list-keeps (Since n x k) (λ c p g. record { fate = g .fate; risen = g .risen }) (λ c o g. finish-fate n x k c o g) b es h
 
 -- the same version, above 0 and below n, is the same object
 fate-same : (n : ℕ) (x : Kept) (y : Option Kept) → Fate n x y → 0 < x .version → x .version < n → x .version ≡ bookVersion y → y ≡ some x
@@ -188,35 +166,10 @@ finish-versioned b (delete j) h =
     }
 finish-versioned b (clean victims) h = record { some-next = h .some-next; versions = h .versions }
 
-one-versioned : (b : Book) (o : Operation) (m : ℕ) → Versioned b → Versioned (oneOff b o m)
-unfolding oneOff
-one-versioned b o zero h = finish-versioned b o h
-one-versioned b o (suc m) h = record { some-next = h .some-next; versions = h .versions }
-
-step-versioned : (b : Book) (p : Option Awaited) → Versioned b → Versioned (takeOne b p)
-unfolding takeOne
-step-versioned b none h = h
-step-versioned b (some p) h = one-versioned b (p .operation) (p .left - 1) h
-
-event-versioned : (b : Book) (e : Event) → Versioned b → Versioned (feed b e)
-unfolding feed feedCall pick
-event-versioned b (called c l a) h = go (accepted a) c
-  where
-    go : (t : Bool) (c : Call) → Versioned (pick t (feedCall b c (a .said .stores)) b)
-    go true (starts t o) = record { some-next = h .some-next; versions = h .versions }
-    go true steps = step-versioned b (b .pending) h
-    go true (asks q) = h
-    go true (recovers m s order) = record { some-next = h .some-next; versions = h .versions }
-    go false c = h
-event-versioned b cut h = record { some-next = h .some-next; versions = h .versions }
-
-list-versioned : (b : Book) (es : List Event) → Versioned b → Versioned (bookAfter b es)
-unfolding bookAfter
-list-versioned b [] h = h
-list-versioned b (e ∷ es) h = list-versioned (feed b e) es (event-versioned b e h)
-
 pub book-versioned : (es : List Event) → Versioned (bookOf es)
-book-versioned es = list-versioned freshBook es (record { some-next = omega arith; versions = λ k. nothing })
+book-versioned es =
+    list-keeps Versioned (λ b p h. record { some-next = h .some-next; versions = h .versions }) finish-versioned freshBook es
+    (record { some-next = omega arith; versions = λ k. nothing })
 
 -- ---- a read that was accepted told the version of what the book held
 
@@ -345,6 +298,5 @@ module _ (n s : ℕ) (area₀ area : List ℕ) (ab : Bytes area₀) (format : Fo
 
           since : Since (bookOf first .next) (told .object) k later
           since =
-              list-fate (bookOf first .next) (told .object) k (feed (bookOf first) (called (asks (reads v k)) j r)) mid
-              (event-fate (bookOf first .next) (told .object) k (bookOf first) (called (asks (reads v k)) j r)
-              (record { fate = subst (Fate (bookOf first .next) (told .object)) (sym (told .is-held)) held; risen = omega arith }))
+              list-fate (bookOf first .next) (told .object) k (bookOf first) (called (asks (reads v k)) j r ∷ mid)
+              (record { fate = subst (Fate (bookOf first .next) (told .object)) (sym (told .is-held)) held; risen = omega arith })

@@ -6,5 +6,6 @@ pub mod Steps
 pub mod Readings
 pub mod Recoveries
 pub mod Theorem
+pub mod Books
 pub mod Corollaries
 pub mod Expecting
