@@ -1,4 +1,4 @@
-//! The history that `play` plays: the cases of 01, and then a longer list with cuts.
+//! The history that `play` plays: the cases of 01, then a longer list with cuts, and a full store that is emptied.
 
 use reference::{Key, SlotMap};
 
@@ -123,5 +123,37 @@ pub const HISTORY: &[Event] = &[
     clean(0b100),
     clean(0b1),
     write(3, 56, 0xc0, 1),
+    Recover,
+    // Three slots are filled until no tombstone fits.
+    Format,
+    write(1, 56, 0x01, 1),
+    write(3, 56, 0x02, 1),
+    write(1, 56, 0x03, 1),
+    write(3, 24, 0x04, 1),
+    write(2, 56, 0x05, 1),
+    write(1, 56, 0x06, 1),
+    write(3, 56, 0x07, 1),
+    write(1, 24, 0x08, 1),
+    write(0, 56, 0x09, 1),
+    write(0, 56, 0x0a, 1),
+    write(1, 24, 0x0b, 1),
+    write(3, 56, 0x0c, 1),
+    write(3, 8, 0x0d, 1),
+    // The head is cleaned; a tombstone stands between two objects that are kept, for slots 0 and 1 have older ones of
+    // its key.
+    Fails(100),
+    Delete(1),
+    Delete(1),
+    // Two values fill the new head, but for one tombstone.
+    write(3, 56, 0x0e, 1),
+    write(3, 8, 0x0f, 1),
+    write(0, 8, 0x10, 1),
+    Delete(3),
+    // Slot 1 is cleaned, and nothing of it is kept: the digest alone has the version that was taken.
+    Fails(15),
+    Delete(2),
+    Delete(0),
+    // Nothing is left, and a write is accepted again.
+    write(2, 56, 0x11, 1),
     Recover,
 ];
