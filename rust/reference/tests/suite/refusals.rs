@@ -380,7 +380,7 @@ fn full_store_refuses_a_delete_with_the_other_causes() {
     assert_eq!(refused(&rig, &Operation::Delete(key(2))), 8);
     assert_eq!(refused(&rig, &delete), 0);
     let mut last = rig.clone();
-    run(&mut last, &[delete.clone()]);
+    run(&mut last, std::slice::from_ref(&delete));
     assert_eq!(last.record().next.0, u32::MAX);
     assert_eq!(last.record().digest.0, u32::MAX);
     last.cut();
