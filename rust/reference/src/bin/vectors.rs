@@ -6,7 +6,7 @@ use reference::fnv::fnv1a;
 use reference::segment::{read_entry, Digest, Entry, Fields, Key};
 
 fn main() -> io::Result<()> {
-    let text = [published(), keys(), worked(), ends_and_damage()].concat();
+    let text = [published(), keys(), worked(), ends_and_damage(), kinds()].concat();
     io::stdout().lock().write_all(text.as_bytes())
 }
 
@@ -124,4 +124,15 @@ fn ends_and_damage() -> String {
         named("version 4294967295", &entry(4, u32::MAX)),
     ]
     .concat()
+}
+
+/// What each kind makes of the same bytes, which are as long as the longest entry; and that entry, a byte short.
+fn kinds() -> String {
+    let of = |kind: u8| [&[kind][..], &[0x11; 130]].concat();
+    let lines: String = [0, 1, 2, 3, 4, 5, 6, 7, 8, 255]
+        .iter()
+        .map(|&kind| format!("kind {kind}: {}\n", found(&of(kind), 0)))
+        .collect();
+    let short = found(&of(7)[..130], 0);
+    format!("Kinds\n{lines}kind 7, a byte short: {short}\n")
 }
