@@ -8,14 +8,15 @@ pub use recovery::format::format;
 // 1, 2 or 15 to 20; the index stays, but at 20 it is all 0.
 pub use recovery::recover::recover;
 
-// The version and kind of a key, by its highest version in the log. Refused with 4 or 8. Allowed during an operation.
+// The version and kind of a key within the caller's tables, by its highest version in the log. Refused with 4, 22 or 8. Allowed
+// during an operation.
 pub use recovery::read::read;
 
 // The value of a key, as a part of the area; the empty part at its start where read refuses.
 pub use recovery::read::read_value;
 
 // Starts a write: checks, fills the work buffer, and answers the number of stores to come. Nothing is stored in the area.
-// Refused with 4, 3, 5, 7, 9, 11, 12 or 10, it changes nothing.
+// Refused with 4, 22, 3, 5, 7, 9, 11, 12 or 10, it changes nothing.
 pub use writing::start::write;
 
 // Starts a write over the version that the caller expects the key to have, 0 where it expects the key to be absent. Refused also
