@@ -162,8 +162,8 @@ extern "C" {
 #define KURDAVEL_STACK_READ_VALUE 256u
 #define KURDAVEL_STACK_WRITE 768u
 #define KURDAVEL_STACK_WRITE_EXPECTING 768u
-#define KURDAVEL_STACK_DELETE 1024u
-#define KURDAVEL_STACK_CLEAN 1024u
+#define KURDAVEL_STACK_DELETE 1152u
+#define KURDAVEL_STACK_CLEAN 1152u
 #define KURDAVEL_STACK_STEP 896u
 
 /* The words of a record. The store is the library's to change: read these, and write none. */
