@@ -63,11 +63,12 @@
  *
  * WHAT THE CALLS COST
  *   A step before the last does the same little work whatever the store holds. A read, the start of a write or delete
- *   and the last step of either search the index once. Recovery, the start of a cleaning of slots that hold tombstones
- *   and the last step of every cleaning look at each entry of the log (at most (N - 1) * ((S - 13) / 11) of them), with a
- *   search for each; recovery and that last step also write all M words of the index. A search looks at few words while
- *   M is well above the number of keys, and never at more than the keys and one more. docs/PERFORMANCE.md has bounds and
- *   measured worst cases.
+ *   and the last step of either search the index once, but for a delete that is done as a cleaning (kurdavel_delete).
+ *   Recovery, the start of a cleaning of slots that hold tombstones, the start of such a delete and the last step of
+ *   every cleaning and of every such delete look at each entry of the log (at most (N - 1) * ((S - 13) / 11) of them),
+ *   with a search for each; recovery and these last steps also write all M words of the index. A search looks at few
+ *   words while M is well above the number of keys, and never at more than the keys and one more. docs/PERFORMANCE.md
+ *   has bounds and measured worst cases.
  *
  * THE PROMISE ABOUT CUTS, AND THE RULES OF USE THAT IT RESTS ON
  *   Wherever the power fails, the next recovery is accepted and gives exactly what the finished operations left,
@@ -106,7 +107,8 @@
  *   away, together. (N - 1) * ((S - 13) / 11) + 1 cells, in whole numbers, are enough for any log, where that is no
  *   more than 4,096. A search is shorter where more cells are free, and faster where M is a power of two.
  *   One slot is always kept free for cleaning. An entry takes 11 bytes and its value (19, 35, 67 or 131), a tombstone
- *   11, and a slot holds S - 13 bytes of them.
+ *   11, and a slot holds S - 13 bytes of them. A delete needs no room: a store that is full of live objects can be
+ *   emptied again, one key after another.
  *
  *   What helps after a refusal
  *    9  Only a format, which empties the store: no version is left. Reads and cleanings go on.
@@ -116,8 +118,8 @@
  *       first; or recover with a larger index.
  *   12  Clean. A cleaning takes one free slot and frees its victims: several at once, of which little still counts,
  *       give slots back; a single one gives back the room of those of its entries that no longer count. It does not
- *       help a store full of live objects; there even a delete, whose tombstone needs 11 bytes, may be refused with
- *       12. So leave room from the start.
+ *       help a store full of live objects: delete some, which is never refused with 12, and clean where the room that
+ *       they leave is not in the head.
  *   14  Name fewer victims. What a single one holds always fits.
  *   21  Read the key again: another write or a delete came between. The value to be written may rest on an old one.
  *   22  Nothing: the key is another owner's.
@@ -137,7 +139,7 @@ extern "C" {
  * written by an earlier one may be refused; MINOR when something is added.
  */
 #define KURDAVEL_VERSION_MAJOR 2u
-#define KURDAVEL_VERSION_MINOR 1u
+#define KURDAVEL_VERSION_MINOR 2u
 #define KURDAVEL_VERSION (KURDAVEL_VERSION_MAJOR * 1000u + KURDAVEL_VERSION_MINOR)
 
 /* Sizes. */
@@ -160,8 +162,8 @@ extern "C" {
 #define KURDAVEL_STACK_READ_VALUE 256u
 #define KURDAVEL_STACK_WRITE 768u
 #define KURDAVEL_STACK_WRITE_EXPECTING 768u
-#define KURDAVEL_STACK_DELETE 512u
-#define KURDAVEL_STACK_CLEAN 1024u
+#define KURDAVEL_STACK_DELETE 1152u
+#define KURDAVEL_STACK_CLEAN 1152u
 #define KURDAVEL_STACK_STEP 896u
 
 /* The words of a record. The store is the library's to change: read these, and write none. */
@@ -187,7 +189,8 @@ enum kurdavel_pending {
     KURDAVEL_PENDING_IDLE = 0,
     KURDAVEL_PENDING_APPEND = 1,   /* a write or delete at the end of the head */
     KURDAVEL_PENDING_NEW_HEAD = 2, /* a write or delete into a new head */
-    KURDAVEL_PENDING_CLEAN = 3
+    KURDAVEL_PENDING_CLEAN = 3,
+    KURDAVEL_PENDING_FORGET = 4    /* a delete that found no room: the slot of its object is cleaned */
 };
 
 /* The answers: 0, or the number of the first cause that refuses the call. */
@@ -205,7 +208,8 @@ enum kurdavel_answer {
     KURDAVEL_REFUSED_VERSIONS_SPENT = 9,   /* no version is left to give */
     KURDAVEL_REFUSED_NUMBERS_SPENT = 10,   /* a new head is needed, and no digest number is left for it */
     KURDAVEL_REFUSED_KEYS_FULL = 11,       /* a new key, and M - 1 others have entries in the log */
-    KURDAVEL_REFUSED_NO_ROOM = 12,         /* no room in the head, and a new head would take the last free slot */
+    KURDAVEL_REFUSED_NO_ROOM = 12,         /* a write: no room in the head, and a new head would take the last free
+                                              slot */
     KURDAVEL_REFUSED_BAD_VICTIMS = 13,     /* the victims are none, or not all in the log */
     KURDAVEL_REFUSED_KEPT_TOO_LONG = 14,   /* what is kept of the victims is too long for one slot */
     KURDAVEL_REFUSED_BAD_ORDER = 15,       /* the order is not each slot once */
@@ -250,7 +254,8 @@ uint32_t kurdavel_read(const uint32_t *record, size_t record_words, const uint8_
  * are 0.
  * The place may be used until the last step of the next operation, which may be the one that replaces or deletes the
  * value. The bytes there stay longer: no store touches an entry while its slot is in the log. A slot leaves the log
- * with the last step of a cleaning that names it, and the next new head may then be stored over it.
+ * with the last step of a cleaning that names it, or of a delete that is done as a cleaning of it (kurdavel_delete),
+ * and the next new head may then be stored over it.
  * Refused: 4, 22, 8, in this order.
  */
 uint32_t kurdavel_read_value(const uint32_t *record, size_t record_words, const uint8_t *area, size_t area_bytes,
@@ -279,7 +284,10 @@ uint32_t kurdavel_write_expecting(uint32_t *record, size_t record_words, const u
 
 /*
  * Starts to delete a key. Tells how many stores are to come.
- * Refused: 4, 22, 3, 5, 8, 9, 12, 10, in this order.
+ * Where its tombstone has no room in the head and a new head would take the last free slot, the slot that holds the
+ * key's value is cleaned, as by kurdavel_clean, and the value is not among what is kept: so a delete is never refused
+ * for want of room. Its stores are then as many as those of a cleaning, and its last step tells the delete's version.
+ * Refused: 4, 22, 3, 5, 8, 9, 10, in this order.
  */
 uint32_t kurdavel_delete(uint32_t *record, size_t record_words, const uint8_t *area, size_t area_bytes,
                          const uint32_t *index, size_t index_words, uint8_t *work, size_t work_bytes, uint16_t first,

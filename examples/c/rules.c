@@ -1,6 +1,7 @@
 /*
  * The edges of the interface: refusals and what they leave, an operation that is given up, an index that is too small
- * for the log, two passes that write over what they read, two owners with tables of their own, and the longest value.
+ * for the log, two passes that write over what they read, two owners with tables of their own, the longest value, and a
+ * full store that is emptied.
  * Prints what is answered; `rules.stdout` beside this file is what it must print.
  */
 #include "kurdavel.h"
@@ -83,7 +84,7 @@ static void outputs(const struct kurdavel_store *store) {
     answer = (unsigned)kurdavel_step(copy.record.words, KURDAVEL_RECORD_WORDS - 1, medium, sizeof medium, cells, CELLS,
                                      work, sizeof work, &left, &version);
     printf("step with a short record: %u, left %u as it was\n", answer, (unsigned)left);
-    copy.record.words[KURDAVEL_WORD_PENDING] = 4;
+    copy.record.words[KURDAVEL_WORD_PENDING] = KURDAVEL_PENDING_FORGET + 1;
     printf("step with words that are no record: %u\n", (unsigned)kurdavel_store_step(&copy, &left, &version));
     answer = (unsigned)kurdavel_recover(SLOTS - 1, SLOT_BYTES, order, sizeof order, medium, sizeof medium, cells, CELLS,
                                         copy.record.words, KURDAVEL_RECORD_WORDS - 1);
@@ -189,6 +190,38 @@ static void longest_value(struct kurdavel_store *store) {
     printf(", version %u, kind %u\n", (unsigned)version, (unsigned)kind);
 }
 
+/*
+ * A store filled until a write is refused with 12. A delete is accepted all the same: where its tombstone has no room,
+ * the slot of the value is cleaned. So every key can be deleted, and a cleaning of what is left gives all room back.
+ */
+static void full_store(struct kurdavel_store *store) {
+    static const uint8_t value[KURDAVEL_VALUE_MAX] = {0xf1};
+    static const size_t lengths[3] = {120, 56, 24};
+    uint32_t stores = 0, number = 0, filled = 0, version = 0;
+    expect_accepted("format", kurdavel_store_format(&store->area));
+    expect_accepted("recover", kurdavel_store_recover(store, order, sizeof order));
+    while (kurdavel_store_write(store, servo, key_of(filled), value, lengths[filled % 3], &stores) ==
+           KURDAVEL_ACCEPTED) {
+        finish(store, stores);
+        filled++;
+    }
+    printf("%u keys present, a write of 8 bytes: %u\n", present(store),
+           (unsigned)kurdavel_store_write(store, servo, key_of(0), value, 8, &stores));
+    for (number = 0; number < filled; number++) {
+        expect_accepted("delete", kurdavel_store_delete(store, servo, key_of(number), &stores));
+        if (store->record.words[KURDAVEL_WORD_PENDING] == KURDAVEL_PENDING_FORGET) {
+            printf("delete of key %u: slots %u are cleaned, %u stores\n", (unsigned)number,
+                   (unsigned)store->record.words[KURDAVEL_WORD_VICTIMS], (unsigned)stores);
+        }
+        version = finish(store, stores);
+    }
+    printf("all deleted, the last with version %u: %u keys present\n", (unsigned)version, present(store));
+    expect_accepted("clean", kurdavel_store_clean(store, store->record.words[KURDAVEL_WORD_MAP], &stores));
+    finish(store, stores);
+    expect_accepted("write", kurdavel_store_write(store, servo, key_of(0), value, sizeof value, &stores));
+    printf("cleaned, and written again with version %u\n", (unsigned)finish(store, stores));
+}
+
 int main(void) {
     struct kurdavel_store store;
     uint32_t number, stores = 0, version;
@@ -214,5 +247,6 @@ int main(void) {
     printf("%u keys present\n", present(&store));
     two_owners(&store);
     longest_value(&store);
+    full_store(&store);
     return 0;
 }

@@ -40,11 +40,14 @@ keptTest L area cells marks h place = keptAt L area cells marks (h .key) (h .tom
 abbrev pub keptEntry : Layout → List ℕ → List ℕ → List ℕ → Header → ℕ → List ℕ
 keptEntry L area cells marks h place = pick (keptTest L area cells marks h place) (take (h .length) (drop place area)) []
 
--- those of a list of entries, one after the other
-unfoldable pub gathered : Layout → List ℕ → List ℕ → List ℕ → ℕ → List Placed → List ℕ
-gathered L area cells marks S [] = []
-gathered L area cells marks S (x ∷ xs) =
-    keptEntry L area cells marks (headerOf L (x .entry)) (placeOf S x) ++ gathered L area cells marks S xs
+-- what each entry of a list gives by its header and place, one after the other
+unfoldable pub gatherBy : Layout → (Header → ℕ → List ℕ) → ℕ → List Placed → List ℕ
+gatherBy L part S [] = []
+gatherBy L part S (x ∷ xs) = part (headerOf L (x .entry)) (placeOf S x) ++ gatherBy L part S xs
+
+-- the bytes of those kept
+abbrev pub gathered : Layout → List ℕ → List ℕ → List ℕ → ℕ → List Placed → List ℕ
+gathered L area cells marks S xs = gatherBy L (keptEntry L area cells marks) S xs
 
 -- those of a slot; nothing where it is no victim; and those of the slots below n
 abbrev pub keptSlot : Layout → List ℕ → List ℕ → List ℕ → ℕ → ℕ → List ℕ

@@ -21,7 +21,7 @@ use Rattle.index.specs.Search.{searchFor}
 use Rattle.index.specs.declared.Found.{Found}
 use Rattle.cleaning.specs.Marks.{isMarked}
 use Rattle.cleaning.specs.EntriesLaws.{Meets, entries-meets}
-use Rattle.cleaning.specs.Kept.{cellKept, keptAt, keptTest, keptEntry, gathered, keptSlot, keptPart, keptBelow}
+use Rattle.cleaning.specs.Kept.{cellKept, keptAt, keptTest, keptEntry, gatherBy, keptSlot, keptPart, keptBelow}
 use Rattle.cleaning.specs.declared.Split.{Split}
 
 module _ (L : Layout) (area cells marks : List ℕ) where
@@ -71,12 +71,28 @@ module _ (L : Layout) (area cells marks : List ℕ) where
         go true e = rw (entry-kept e) (simp length-take (omega arith))
         go false e = rw (entry-dropped e) (omega arith)
 
-module _ (L : Layout) (area cells marks : List ℕ) (S : ℕ) where
-  -- ---- a turn of the loop over a segment
+-- ---- a turn of a loop over a segment
 
+module _ (L : Layout) (part : Header → ℕ → List ℕ) (S : ℕ) where
+  -- what the entries of slot i, of the bytes s, give from an offset on
+  abbrev pub partsFrom : ℕ → List ℕ → ℕ → List ℕ
+  partsFrom i s at = gatherBy L part S (placedIn i (entriesAt L s at))
+
+  module _ (i : ℕ) (s : List ℕ) (at : ℕ) where
+    pub parts-stop : entriesAt L s at ≡ [] → partsFrom i s at ≡ []
+    unfolding gatherBy placedIn
+    parts-stop e = ap (λ (is : List Item). gatherBy L part S (placedIn i is)) e
+
+    pub parts-entry : {h : Header} → Meets L s at h → partsFrom i s at ≡ part h (i * S + at) ++ partsFrom i s (at + h .length)
+    unfolding gatherBy placedIn
+    parts-entry {h} m =
+        ap (λ (is : List Item). gatherBy L part S (placedIn i is)) (entries-meets L s at m)
+        ∙ ap (λ (g : Header). part g (i * S + at) ++ partsFrom i s (at + h .length)) (m .its)
+
+module _ (L : Layout) (area cells marks : List ℕ) (S : ℕ) where
   -- what is kept of slot i, of the bytes s, from an offset on
   abbrev pub keptFrom : ℕ → List ℕ → ℕ → List ℕ
-  keptFrom i s at = gathered L area cells marks S (placedIn i (entriesAt L s at))
+  keptFrom i s at = partsFrom L (keptEntry L area cells marks) S i s at
 
   module _ (i : ℕ) (s : List ℕ) where
     pub from-whole : s ≡ segmentOf area S i → keptFrom i s (digestSize L) ≡ keptSlot L area cells marks S i
@@ -87,15 +103,11 @@ module _ (L : Layout) (area cells marks : List ℕ) (S : ℕ) where
 
     module _ (at : ℕ) where
       pub from-stop : entriesAt L s at ≡ [] → keptFrom i s at ≡ []
-      unfolding gathered placedIn
-      from-stop e = ap (λ (is : List Item). gathered L area cells marks S (placedIn i is)) e
+      from-stop e = parts-stop L (keptEntry L area cells marks) S i s at e
 
       pub from-entry : {h : Header} → Meets L s at h →
           keptFrom i s at ≡ keptEntry L area cells marks h (i * S + at) ++ keptFrom i s (at + h .length)
-      unfolding gathered placedIn
-      from-entry {h} m =
-          ap (λ (is : List Item). gathered L area cells marks S (placedIn i is)) (entries-meets L s at m)
-          ∙ ap (λ (g : Header). keptEntry L area cells marks g (i * S + at) ++ keptFrom i s (at + h .length)) (m .its)
+      from-entry m = parts-entry L (keptEntry L area cells marks) S i s at m
 
       -- the lengths: total is that of what came before
       module _ (total whole : ℕ) (so-far : total + length (keptFrom i s at) ≡ whole) where

@@ -39,7 +39,7 @@ use Rattle.index.specs.Area.{AllIn, area-picks}
 use Rattle.index.specs.BuildLaws.{log-in-area}
 use Rattle.index.specs.declared.Found.{Found}
 use Rattle.cleaning.specs.Entries.{slotItems}
-use Rattle.cleaning.specs.Kept.{cellKept, keptAt, keptTest, keptEntry, gathered, keptPart, keptBelow, keptBytes}
+use Rattle.cleaning.specs.Kept.{cellKept, keptAt, keptTest, keptEntry, gatherBy, gathered, keptPart, keptBelow, keptBytes}
 use Rattle.cleaning.specs.KeptLaws.{part-victim, part-other}
 use Rattle.cleaning.specs.Tombstones.{anyTombstone, no-tombstone}
 use Rattle.cleaning.specs.Marks.{isMarked, markOutside, markNeeded, marksOf, clear-marks}
@@ -60,11 +60,11 @@ module _ (L : Layout) where
   encoded-append (x ∷ a) b = ap (λ (l : List ℕ). encoded L x ++ l) (encoded-append a b) ∙ sym (append-assoc (encoded L x) (allEncoded L a) (allEncoded L b))
 
   module _ (victims : ℕ) (log : List Placed) where
-    kept-front : (x : Placed) (xs : List Placed) → isKept victims log x ≡ true → keptOf victims log (x ∷ xs) ≡ x .entry ∷ keptOf victims log xs
+    pub kept-front : (x : Placed) (xs : List Placed) → isKept victims log x ≡ true → keptOf victims log (x ∷ xs) ≡ x .entry ∷ keptOf victims log xs
     unfolding keptOf
     kept-front x xs e = pick-true (isKept victims log x) (x .entry ∷ keptOf victims log xs) (keptOf victims log xs) e
 
-    kept-behind : (x : Placed) (xs : List Placed) → isKept victims log x ≡ false → keptOf victims log (x ∷ xs) ≡ keptOf victims log xs
+    pub kept-behind : (x : Placed) (xs : List Placed) → isKept victims log x ≡ false → keptOf victims log (x ∷ xs) ≡ keptOf victims log xs
     unfolding keptOf
     kept-behind x xs e = pick-false (isKept victims log x) (x .entry ∷ keptOf victims log xs) (keptOf victims log xs) e
 
@@ -122,7 +122,7 @@ module _ (L : Layout) (area cells : List ℕ) (r : Record) (g : Genuine L area r
         let s : List ℕ = segmentOf area (r .size) (x .slot) in
         scans-found (scan-scans L s (scan-whole (scan L s) (scans (x .slot) (w .below) (w .picked)))) (w .item)
 
-    inside : x .offset + sizeOf L (x .entry) ≤ r .size
+    pub inside : x .offset + sizeOf L (x .entry) ≤ r .size
     inside =
         omega (
           arith,
@@ -131,13 +131,13 @@ module _ (L : Layout) (area cells : List ℕ) (r : Record) (g : Genuine L area r
         )
 
     -- its own bytes in the area
-    own-part : Bytes area → take (sizeOf L (x .entry)) (drop (placeOf (r .size) x) area) ≡ encoded L (x .entry)
+    pub own-part : Bytes area → take (sizeOf L (x .entry)) (drop (placeOf (r .size) x) area) ≡ encoded L (x .entry)
     own-part bytes =
         sym (field-at (sizeOf L (x .entry)) (x .offset) (r .size) (x .slot * r .size) area inside)
         ∙ found-stands L (segmentOf area (r .size) (x .slot)) (x .offset) (x .entry) found (bytes-take (r .size) _ (bytes-drop (x .slot * r .size) area bytes)) .same
 
   -- entries of one place are one
-  place-one : (x y : Placed) → In x log → In y log → placeOf (r .size) x ≡ placeOf (r .size) y → x ≡ y
+  pub place-one : (x y : Placed) → In x log → In y log → placeOf (r .size) x ≡ placeOf (r .size) y → x ≡ y
   place-one x y mx my e = go (ℕ-discrete (x .slot) (y .slot))
     where
       low : x .slot < y .slot → ⊥
@@ -163,13 +163,13 @@ module _ (L : Layout) (area cells : List ℕ) (r : Record) (g : Genuine L area r
   -- ---- the cell of a key
 
   -- The latest entry of a key, and the cell in which the search for the key ends.
-  record KeyCell (k : Key) : Type 0 where
-    top : Placed
-    is : latest log k ≡ some top
-    cell : HasCell (r .size) cells top
-    finds : searchFor L area cells k ≡ Found.At (cell .cell)
+  pub record KeyCell (k : Key) : Type 0 where
+    pub top : Placed
+    pub is : latest log k ≡ some top
+    pub cell : HasCell (r .size) cells top
+    pub finds : searchFor L area cells k ≡ Found.At (cell .cell)
 
-  key-cell : (x : Placed) → In x log → KeyCell (keyOf (x .entry))
+  pub key-cell : (x : Placed) → In x log → KeyCell (keyOf (x .entry))
   key-cell x m = go (latest log (keyOf (x .entry))) refl
     where
       go : (o : Option Placed) → latest log (keyOf (x .entry)) ≡ o → KeyCell (keyOf (x .entry))
@@ -245,10 +245,10 @@ module _ (L : Layout) (area cells : List ℕ) (r : Record) (g : Genuine L area r
             }))
 
     -- a key's cell is marked exactly if an object of the key stands outside the victims, once the walk is made
-    abbrev walked : List ℕ
+    abbrev pub walked : List ℕ
     walked = markOutside L area cells (splitOf r victims) (replicate 128 0)
 
-    marked-outside : (k : Key) (c : KeyCell k) → isMarked walked (c .cell .cell) ≡ objectOutside victims log k
+    pub marked-outside : (k : Key) (c : KeyCell k) → isMarked walked (c .cell .cell) ≡ objectOutside victims log k
     marked-outside k c =
         below-mark L area cells k (c .cell .cell) (omega (arith, c .cell .below)) (splitOf r victims) (replicate 128 0) (length-replicate {A = ℕ} 128 0)
         (clear-marks (c .cell .cell)) (tells k c) (r .slots) (omega arith)
@@ -261,9 +261,17 @@ module _ (L : Layout) (area cells : List ℕ) (r : Record) (g : Genuine L area r
         no-tombstone L area (splitOf r victims) e (x .slot) (w .below) n (itemOf x)
         (subst (λ (is : List Item). In (itemOf x) is) (sym (slot-items L area (r .size) (r .map) (r .slots) scans (x .slot) (w .below) (w .picked))) (w .item))
 
-    needed-same : (x : Placed) → In x log → named victims (x .slot) ≡ true → (c : KeyCell (keyOf (x .entry))) →
-        either (not (isTombstone (x .entry))) (isMarked marks (c .cell .cell)) ≡
+    -- marks by which a victim's tombstones are kept as the model keeps them
+    abbrev pub MarksTell : List ℕ → Type 0
+    MarksTell ms =
+        (x : Placed) → In x log → named victims (x .slot) ≡ true → (c : KeyCell (keyOf (x .entry))) →
+        either (not (isTombstone (x .entry))) (isMarked ms (c .cell .cell)) ≡
         either (not (isTombstone (x .entry))) (objectOutside victims log (keyOf (x .entry)))
+
+    pub walked-tells : MarksTell walked
+    walked-tells x m n c = ap (either (not (isTombstone (x .entry)))) (marked-outside (keyOf (x .entry)) c)
+
+    needed-same : MarksTell marks
     unfolding markNeeded pick either
     needed-same x m n c = go (anyTombstone L area (splitOf r victims)) refl
       where
@@ -273,20 +281,20 @@ module _ (L : Layout) (area cells : List ℕ) (r : Record) (g : Genuine L area r
         go true e = ap (either (not (isTombstone (x .entry)))) (marked-outside (keyOf (x .entry)) c)
         go false e = rw (no-dead e x m n)
 
-    kept-same : (x : Placed) → In x log → named victims (x .slot) ≡ true →
-        keptTest L area cells marks (headerOf L (x .entry)) (placeOf (r .size) x) ≡ isKept victims log x
+    pub kept-same : (ms : List ℕ) → MarksTell ms → (x : Placed) → In x log → named victims (x .slot) ≡ true →
+        keptTest L area cells ms (headerOf L (x .entry)) (placeOf (r .size) x) ≡ isKept victims log x
     unfolding keptAt cellKept both
-    kept-same x m e =
+    kept-same ms tell x m e =
         let c = key-cell x m in
-        ap (cellKept cells marks (isTombstone (x .entry)) (placeOf (r .size) x)) (c .finds)
-        ∙ ap (λ (b : Bool). both b (either (not (isTombstone (x .entry))) (isMarked marks (c .cell .cell)))) (cell-highest x m c)
-        ∙ ap (both (isHighest log (x .entry))) (needed-same x m e c)
+        ap (cellKept cells ms (isTombstone (x .entry)) (placeOf (r .size) x)) (c .finds)
+        ∙ ap (λ (b : Bool). both b (either (not (isTombstone (x .entry))) (isMarked ms (c .cell .cell)))) (cell-highest x m c)
+        ∙ ap (both (isHighest log (x .entry))) (tell x m e c)
         ∙ sym (ap (λ (b : Bool). both b (both (isHighest log (x .entry)) (either (not (isTombstone (x .entry))) (objectOutside victims log (keyOf (x .entry)))))) e)
 
     module _ (bytes : Bytes area) where
       gathered-kept : (xs : List Placed) → Within xs log → ((x : Placed) → In x xs → named victims (x .slot) ≡ true) →
           gathered L area cells marks (r .size) xs ≡ allEncoded L (keptOf victims log xs)
-      unfolding gathered allEncoded keptOf
+      unfolding gatherBy allEncoded keptOf
       gathered-kept [] w f = refl
       gathered-kept (x ∷ xs) w f = go (isKept victims log x) refl (gathered-kept xs (λ y m. w y (List·Memᴰ·tail m)) (λ y m. f y (List·Memᴰ·tail m)))
         where
@@ -294,7 +302,7 @@ module _ (L : Layout) (area cells : List ℕ) (r : Record) (g : Genuine L area r
           entry-part = keptEntry L area cells marks (headerOf L (x .entry)) (placeOf (r .size) x)
 
           same : (t : Bool) → isKept victims log x ≡ t → keptTest L area cells marks (headerOf L (x .entry)) (placeOf (r .size) x) ≡ t
-          same t e = kept-same x (w x first) (f x first) ∙ e
+          same t e = kept-same marks needed-same x (w x first) (f x first) ∙ e
 
           go : (t : Bool) → isKept victims log x ≡ t → gathered L area cells marks (r .size) xs ≡ allEncoded L (keptOf victims log xs) →
               entry-part ++ gathered L area cells marks (r .size) xs ≡ allEncoded L (keptOf victims log (x ∷ xs))

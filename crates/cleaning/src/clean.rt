@@ -44,7 +44,7 @@ fn victims_bad(rec: Record, victims: u32) -> bool
 }
 
 // The log's slots, parted by the victims.
-fn split_of(rec: Record, victims: u32) -> Split
+pub fn split_of(rec: Record, victims: u32) -> Split
     ensures { λ r. ⌜ r ≡ splitOf rec victims ⌝ }
 {
     Split {
@@ -108,8 +108,9 @@ fn begin(
         (keptBytes edition1 (now (area .entry)) (now (index .entry)) (now (marks .entry)) split) none
         ⌝ }
 {
+    let next = rec.next;
     let slot = next_free(rec.slots, rec.map, rec.head);
-    write_digest(work, 0, new_digest(rec, victims, slot));
+    write_digest(work, 0, new_digest(rec, victims, slot, next));
     let count = copy_kept(area, index, marks, split, work, DIGEST_SIZE);
     let left = head_stores(rec.size as usize, count) as u32;
     let length = count as u32;

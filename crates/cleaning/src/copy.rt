@@ -18,7 +18,7 @@ ghost use Rattle.cleaning.specs.Copied.{Copied};
 
 // The bytes of an entry, if it is kept, from an offset of the work buffer on. Like the others here it answers the offset
 // behind what it copied.
-fn copy_entry(
+pub fn copy_entry(
     area: &[u8],
     cells: &[u32],
     marks: &[u32],

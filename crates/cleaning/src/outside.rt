@@ -83,7 +83,7 @@ fn mark_part(area: &[u8], cells: &[u32], marks: &mut [u32], split: Split, slot: 
 }
 
 // Marks the cells of the keys of all objects outside the victims.
-fn mark_outside(area: &[u8], cells: &[u32], marks: &mut [u32], split: Split)
+pub fn mark_outside(area: &[u8], cells: &[u32], marks: &mut [u32], split: Split)
     requires { ⌜ SplitFits split (now area) (now marks) ⌝ }
     ensures { λ _. ⌜ now (marks .exit) ≡ markOutside edition1 (now (area .entry)) (now (cells .entry)) split (now (marks .entry)) ⌝ }
 {

@@ -1,7 +1,7 @@
 -- What the last store of an operation does to the record is what it does to the book.
 use Prim.Native.Nat.{ℕ, _+_, _<_}
 use native.Mathlib.Omega.{arith}
-use mathlib.Core.Path.{_≡_, refl, sym, ap}
+use mathlib.Core.Path.{_≡_, refl, sym, ap, _∙_}
 use mathlib.Core.Bool.{Bool, true, false}
 use mathlib.Core.List.{List}
 use mathlib.Core.Option.{Option, none, some}
@@ -16,6 +16,7 @@ use Rattle.record.specs.declared.Record.{Record}
 use Rattle.model.specs.Log.{Placed, sameKey, sameKeys}
 use Rattle.model.specs.Operations.{Operation, write, delete, clean, logNow, writtenEntry, tombstoneEntry, fitsHead, appendedRecord, headedRecord, finishedRecord, toldVersion}
 use Rattle.laws.specs.Operated.{mapAfter}
+use Rattle.laws.specs.OperationsKept.{deleted-next}
 use Rattle.history.specs.Book.{Kept, Book, finish, versionFor}
 use Rattle.history.proofs.Invariant.{bookEntry}
 
@@ -36,7 +37,7 @@ module _ (L : Layout) (before : List ℕ) (idle : Record) (b : Book) (same : idl
   pub finished-next : (o : Operation) → finishedRecord L before idle o .next .0 ≡ finish b o .next
   unfolding finishedRecord finish
   finished-next (write k value) = entry-next (fitsHead L idle (writtenEntry idle k value)) (writtenEntry idle k value) (logNow L before idle)
-  finished-next (delete k) = entry-next (fitsHead L idle (tombstoneEntry idle k)) (tombstoneEntry idle k) (logNow L before idle)
+  finished-next (delete k) = deleted-next L before idle k ∙ ap (λ (n : ℕ). n + 1) same
   finished-next (clean victims) = same
 
   -- the version that the last step tells

@@ -9,7 +9,7 @@ use mathlib.Core.Option.{Option, none, some}
 use lib.ListN.{length}
 use Rattle.word.specs.Number.{Bytes}
 use Rattle.segment.specs.Choice.{pick, isNone}
-use Rattle.segment.specs.Layout.{Layout}
+use Rattle.segment.specs.Layout.{Layout, entrySize}
 use Rattle.segment.specs.Entry.{Entry, kindOf, bytesIn}
 use Rattle.segment.specs.declared.Key.{Key}
 use Rattle.record.specs.Answers.{readSaid, refusal, withPending, storesLeft}
@@ -27,7 +27,7 @@ use Rattle.record.specs.declared.Tables.{Tables}
 use Rattle.model.specs.Log.{Placed, present}
 use Rattle.model.specs.Causes.{when, firstCause}
 use Rattle.model.specs.Recovery.{recovered}
-use Rattle.model.specs.Operations.{Operation, write, delete, clean, logNow, writtenEntry, tombstoneEntry, fitsHead, laidAppend, laidHead, laid, storesFor}
+use Rattle.model.specs.Operations.{Operation, write, delete, clean, logNow, writtenEntry, tombstoneEntry, fitsHead, noRoom, laidAppend, laidHead, laidEntry, laidForget, laid, storesFor}
 use Rattle.model.specs.Refused.{Lengths, recordBad, keyAbsent, outsideTables, readCauses}
 use Rattle.model.specs.Promises.{ReadPromise, ValuePromise, readAnswer, presentAnswer, readLengths, Part, partOf, valueAnswer, valuePart}
 use Rattle.laws.specs.CauseLaws.{cause-skip, cause-first}
@@ -62,9 +62,13 @@ laid-left L r log o k = go o
     entry true e = refl
     entry false e = refl
 
+    gone : (t : Bool) (j : Key) → storesLeft (pick t (laidForget L r log j) (laidEntry L r (tombstoneEntry r j)) .pending k) ≡ k
+    gone true j = refl
+    gone false j = entry (fitsHead L r (tombstoneEntry r j)) (tombstoneEntry r j)
+
     go : (o : Operation) → storesLeft (laid L r log o .pending k) ≡ k
     go (write j value) = entry (fitsHead L r (writtenEntry r j value)) (writtenEntry r j value)
-    go (delete j) = entry (fitsHead L r (tombstoneEntry r j)) (tombstoneEntry r j)
+    go (delete j) = gone (noRoom r (entrySize L 0)) j
     go (clean victims) = refl
 
 module _ (L : Layout) (laws : OperationLaws L) (n s : ℕ) where

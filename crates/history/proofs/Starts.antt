@@ -20,7 +20,7 @@ use Rattle.record.specs.Refusals.{numberOfRefusal}
 use Rattle.record.specs.declared.Expected.{Expected}
 use Rattle.record.specs.declared.Expected.the-variants.{Any, Only}
 use Rattle.record.specs.declared.Pending.{Pending}
-use Rattle.record.specs.declared.Pending.the-variants.{Idle, Append, NewHead, Clean}
+use Rattle.record.specs.declared.Pending.the-variants.{Idle, Append, NewHead, Clean, Forget}
 use Rattle.record.specs.declared.Refusal.{Refusal}
 use Rattle.record.specs.declared.Start.{Start}
 use Rattle.record.specs.declared.StartAnswer.{StartAnswer}
@@ -50,6 +50,7 @@ not-pending Idle e = refl
 not-pending (Append n k) e = cc
 not-pending (NewHead i n k) e = cc
 not-pending (Clean i v n k) e = cc
+not-pending (Forget i v n k) e = cc
 
 -- ---- what an accepted write expected
 

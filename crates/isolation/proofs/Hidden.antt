@@ -1,18 +1,19 @@
 -- What is left of entries, scans and logs where the values of some tables are hidden: of such a value only the length is told, and
 -- every byte of it is 0. Whatever decides an answer of the store, but for a value itself, is the same with values hidden.
-use Prim.Native.Nat.{ℕ, zero, suc, _+_}
+use Prim.Native.Nat.{ℕ, zero, suc, _+_, _^_}
 use mathlib.Core.Path.{_≡_, refl, sym, ap, _∙_}
 use mathlib.Core.Bool.{Bool, true, false}
 use mathlib.Core.List.{List, [], _∷_, _++_, map}
 use mathlib.Core.Option.{Option, none, some}
-use lib.Dec.{ltb}
+use lib.Dec.{eqb, ltb}
 use lib.ListN.{length, replicate, length-replicate}
 use Rattle.segment.specs.Choice.{pick, either, isNone, orZero}
 use Rattle.segment.specs.Layout.{Layout, objectKind, entrySize}
 use Rattle.segment.specs.Entry.{Entry, bytesIn, kindFor, sizeOf, isTombstone, keyOf}
 use Rattle.segment.specs.declared.Key.{Key}
+use Rattle.record.specs.declared.Record.{Record}
 use Rattle.model.specs.Log.{Item, Scan, damaged, scanned, itemsOf, endOf, isDamaged, View, Placed, placedIn, logOf, sameKey, laterOf, latest, objectOnly, present, hasKey, keysOf, hasVersion, versionShared, highest}
-use Rattle.model.specs.Operations.{isVersion, objectOutside, isKept, keptOf, kept, allEncoded}
+use Rattle.model.specs.Operations.{isVersion, objectOutside, isKept, keptOf, kept, allEncoded, tombstoneEntry, replaced, replacedBy, slotOf, forgottenLog, forgetVictim, forgetKept}
 use Rattle.laws.specs.Scans.{itemAt, itemsFrom, length-allEncoded}
 
 -- ---- definitions
@@ -209,6 +210,41 @@ module _ (of : ℕ → Bool) where
 
   pub kept-hidden : (victims : ℕ) (log : List Placed) → kept victims (hiddenLog of log) ≡ map (hidden of) (kept victims log)
   kept-hidden victims log = kept-of-hidden victims log log
+
+  -- ---- a tombstone in the place of a live object
+
+  replaced-hidden : (v : ℕ) (e : Entry) → hidden of e ≡ e → (log : List Placed) → replaced v e (hiddenLog of log) ≡ hiddenLog of (replaced v e log)
+  unfolding replaced
+  replaced-hidden v e own [] = refl
+  replaced-hidden v e own (x ∷ log) =
+      λ i. record { slot = x .slot; offset = x .offset; entry = go (eqb (x .entry .version) v) i } ∷ replaced-hidden v e own log i
+    where
+      go : (t : Bool) → pick t e (hidden of (x .entry)) ≡ hidden of (pick t e (x .entry))
+      go true = unfold pick in sym own
+      go false = unfold pick in refl
+
+  by-hidden : (e : Entry) → hidden of e ≡ e → (log : List Placed) (o : Option Placed) →
+      replacedBy e (hiddenLog of log) (hiddenOne of o) ≡ hiddenLog of (replacedBy e log o)
+  unfolding replacedBy hiddenOne
+  by-hidden e own log none = refl
+  by-hidden e own log (some x) = replaced-hidden (x .entry .version) e own log
+
+  slot-hidden : (o : Option Placed) → slotOf (hiddenOne of o) ≡ slotOf o
+  unfolding slotOf hiddenOne
+  slot-hidden none = refl
+  slot-hidden (some x) = refl
+
+  pub forgotten-hidden : (r : Record) (log : List Placed) (k : Key) → forgottenLog r (hiddenLog of log) k ≡ hiddenLog of (forgottenLog r log k)
+  unfolding hiddenValue
+  forgotten-hidden r log k =
+      ap (replacedBy (tombstoneEntry r k) (hiddenLog of log)) (present-hidden log k) ∙ by-hidden (tombstoneEntry r k) refl log (present log k)
+
+  pub victim-hidden : (log : List Placed) (k : Key) → forgetVictim (hiddenLog of log) k ≡ forgetVictim log k
+  victim-hidden log k = ap (λ (i : ℕ). 2 ^ i) (ap slotOf (present-hidden log k) ∙ slot-hidden (present log k))
+
+  pub forget-kept-hidden : (r : Record) (log : List Placed) (k : Key) → forgetKept r (hiddenLog of log) k ≡ map (hidden of) (forgetKept r log k)
+  forget-kept-hidden r log k =
+      (λ i. kept (victim-hidden log k i) (forgotten-hidden r log k i)) ∙ kept-hidden (forgetVictim log k) (forgottenLog r log k)
 
   -- ---- entries one behind the other
 

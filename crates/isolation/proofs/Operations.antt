@@ -1,6 +1,6 @@
 -- Two operations that differ in hidden values alone, on two stores that do: they are refused by the same cause, have as many stores
 -- and the same pending operation, and leave stores that are alike, with one record.
-use Prim.Native.Nat.{ℕ, suc, _+_, _-_, _*_, _≤_, _<_}
+use Prim.Native.Nat.{ℕ, suc, _+_, _-_, _*_, _^_, _≤_, _<_}
 use native.Mathlib.Omega.{arith}
 use mathlib.Core.Path.{_≡_, refl, sym, ap, _∙_, subst}
 use mathlib.Core.Bool.{Bool, true, false}
@@ -8,34 +8,34 @@ use mathlib.Core.List.{List, [], _∷_, _++_}
 use mathlib.Core.Option.{Option, none, some}
 use lib.Dec.{leb, ltb}
 use lib.ListN.{length, getD, take, drop, length-append, length-drop}
-use borrow.Author.Tests.{leb-true, ltb-false, not-false, eqb-false}
-use Rattle.segment.specs.Choice.{pick, isNone, either-false-right}
-use Rattle.segment.specs.Layout.{Layout, digestSize, numberLimit}
-use Rattle.segment.specs.Entry.{Entry, WellFormed, bytesIn, kindOf, encoded, sizeOf}
+use borrow.Author.Tests.{leb-true}
+use Rattle.segment.specs.Choice.{pick, isNone}
+use Rattle.segment.specs.Layout.{Layout, entrySize, digestSize}
+use Rattle.segment.specs.Entry.{Entry, bytesIn, kindOf, encoded, sizeOf}
 use Rattle.segment.specs.EntryLaws.{length-encoded, formed-known}
 use Rattle.segment.specs.Digest.{encodedDigest}
 use Rattle.segment.specs.declared.Key.{Key}
-use Rattle.slot_map.specs.Bit.{within}
+use Rattle.segment.specs.declared.Version.{Version}
 use Rattle.record.specs.declared.Pending.{Pending}
-use Rattle.record.specs.declared.Pending.the-variants.{Idle, Append, NewHead, Clean}
+use Rattle.record.specs.declared.Pending.the-variants.{Idle, Append, NewHead, Clean, Forget}
 use Rattle.record.specs.declared.Record.{Record}
 use Rattle.model.specs.Log.{Placed, present}
 use Rattle.model.specs.Recovery.{recovered}
-use Rattle.model.specs.Operations.{Operation, write, delete, clean, logNow, writtenEntry, tombstoneEntry, fitsHead, newSlot, newDigest, kept, allEncoded, Laid, laidAppend, laidHead, laidEntry, laid, storesFrom, commit, planOf, storesFor, stored, appendedRecord, headedRecord, entryRecord, finishedRecord}
+use Rattle.model.specs.Operations.{Operation, write, delete, clean, logNow, writtenEntry, tombstoneEntry, fitsHead, noRoom, newSlot, digestWith, newDigest, nextAfter, kept, allEncoded, forgottenLog, forgetVictim, forgetKept, forgetDigest, Laid, laidAppend, laidHead, laidEntry, laidForget, laidDelete, laid, storesFrom, commit, planOf, storesFor, stored, appendedRecord, headedRecord, entryRecord, forgottenRecord, deletedRecord, finishedRecord}
 use Rattle.model.specs.Refused.{Lengths, Terms, versionIn, KeyFacts, keyFacts, keptLength, writeCauses, deleteCauses, cleanCauses, startCauses}
 use Rattle.laws.specs.Stores.{length-storesFrom}
 use Rattle.laws.specs.Scans.{encoded-one}
-use Rattle.laws.specs.NewHeadBytes.{headPlan, formed-one}
+use Rattle.laws.specs.NewHeadBytes.{headPlan, length-headBytes, formed-one}
 use Rattle.laws.specs.Operated.{Accepted, planAt, OperationLaws}
-use Rattle.laws.specs.Entering.{Roomy, Entering, idle-lent, idle-number, write-enters, delete-enters}
+use Rattle.laws.specs.Entering.{Roomy, Entering, idle-lent, write-enters, delete-enters}
 use Rattle.laws.specs.Headed.{none-within}
-use Rattle.laws.specs.Planned.{log-formed, kept-in}
-use Rattle.laws.specs.Passed.{CleanPassed, clean-passed}
+use Rattle.laws.specs.Cleanings.{Cleaning, clean-cleans, forget-cleans}
+use Rattle.laws.specs.Planned.{new-next-fits}
 use Rattle.laws.specs.OperationsKept.{operation-laws}
 use Rattle.history.proofs.Invariant.{recovered-is}
-use Rattle.isolation.proofs.Hidden.{zeroed, hiddenValue, hidden, hiddenLog, hiddenOne, pick-ap, zeroed-length, size-hidden, present-hidden, has-hidden, kept-hidden, encoded-hidden}
+use Rattle.isolation.proofs.Hidden.{zeroed, hiddenValue, hidden, hiddenLog, hiddenOne, pick-ap, zeroed-length, size-hidden, present-hidden, has-hidden, kept-hidden, forgotten-hidden, victim-hidden, forget-kept-hidden, encoded-hidden}
 use Rattle.isolation.proofs.Alike.{Alike, records-same, logs-same}
-use Rattle.isolation.proofs.Twin.{Formed, Twin, appends, heads, twin-cut, twin-done}
+use Rattle.isolation.proofs.Twin.{Twin, appends, heads, twin-cut, twin-done}
 
 -- an operation, the value that it writes hidden if its table is one of those
 unfoldable pub hiddenOperation : (ℕ → Bool) → Operation → Operation
@@ -106,12 +106,42 @@ module _ (of any : ℕ → Bool) where
           ap (λ (n : ℕ). length (encodedDigest L (newDigest r 0)) + n) (encoded-long L e) ∙
           sym (length-append (encodedDigest L (newDigest r 0)) (encoded L e))
 
+  -- a delete that cleans
+  forget-long-hidden : (L : Layout) (r : Record) (log : List Placed) (k : Key) →
+      length (allEncoded L (forgetKept r (hiddenLog of log) k)) ≡ length (allEncoded L (forgetKept r log k))
+  forget-long-hidden L r log k =
+      ap (λ (es : List Entry). length (allEncoded L es)) (forget-kept-hidden of r log k) ∙ encoded-hidden of L (forgetKept r log k)
+
+  delete-pending : (L : Layout) (r : Record) (log : List Placed) (j : Key) (k : ℕ) →
+      laidDelete L r (hiddenLog of log) j .pending k ≡ laidDelete L r log j .pending k
+  delete-pending L r log j k = go (noRoom r (entrySize L 0))
+    where
+      go : (t : Bool) →
+          pick t (laidForget L r (hiddenLog of log) j) (laidEntry L r (tombstoneEntry r j)) .pending k ≡
+          pick t (laidForget L r log j) (laidEntry L r (tombstoneEntry r j)) .pending k
+      go true = unfold pick in λ i. Forget (newSlot r) (victim-hidden of log j i) (digestSize L + forget-long-hidden L r log j i) k
+      go false = unfold pick in refl
+
+  delete-long : (L : Layout) (r : Record) (log : List Placed) (j : Key) →
+      length (laidDelete L r (hiddenLog of log) j .bytes) ≡ length (laidDelete L r log j .bytes)
+  delete-long L r log j = go (noRoom r (entrySize L 0))
+    where
+      one : (l : List Placed) →
+          length (laidForget L r l j .bytes) ≡ digestSize L + length (allEncoded L (forgetKept r l j))
+      one l = length-headBytes L (forgetDigest r l j) (forgetKept r l j)
+
+      go : (t : Bool) →
+          length (pick t (laidForget L r (hiddenLog of log) j) (laidEntry L r (tombstoneEntry r j)) .bytes) ≡
+          length (pick t (laidForget L r log j) (laidEntry L r (tombstoneEntry r j)) .bytes)
+      go true = unfold pick in one (hiddenLog of log) ∙ ap (λ (n : ℕ). digestSize L + n) (forget-long-hidden L r log j) ∙ sym (one log)
+      go false = unfold pick in refl
+
   pending-hidden :
       (L : Layout) (r : Record) (log : List Placed) (o : Operation) (k : ℕ) →
       laid L r (hiddenLog of log) (hiddenOperation any o) .pending k ≡ laid L r log o .pending k
   unfolding laid hiddenOperation hiddenValue
   pending-hidden L r log (write j v) k = entry-pending L r (writtenEntry r j v) k
-  pending-hidden L r log (delete j) k = refl
+  pending-hidden L r log (delete j) k = delete-pending L r log j k
   pending-hidden L r log (clean victims) k = rw (kept-long-hidden L log victims)
 
   bytes-hidden :
@@ -119,7 +149,7 @@ module _ (of any : ℕ → Bool) where
       length (laid L r (hiddenLog of log) (hiddenOperation any o) .bytes) ≡ length (laid L r log o .bytes)
   unfolding laid hiddenOperation hiddenValue
   bytes-hidden L r log (write j v) = entry-long L r (writtenEntry r j v)
-  bytes-hidden L r log (delete j) = refl
+  bytes-hidden L r log (delete j) = delete-long L r log j
   bytes-hidden L r log (clean victims) =
       length-append (encodedDigest L (newDigest r victims)) (allEncoded L (kept victims (hiddenLog of log))) ∙
       ap (λ (n : ℕ). length (encodedDigest L (newDigest r victims)) + n) (kept-long-hidden L log victims) ∙
@@ -150,6 +180,7 @@ plan-long r Idle b c e = refl
 plan-long r (Append n k) b c e = commit-long (r .size) (r .head) (r .end) b c e
 plan-long r (NewHead i n k) b c e = ap suc (commit-long (r .size) i 0 b c e)
 plan-long r (Clean i v n k) b c e = ap suc (commit-long (r .size) i 0 b c e)
+plan-long r (Forget i v n k) b c e = ap suc (commit-long (r .size) i 0 b c e)
 
 -- ---- two logs and two operations
 
@@ -180,11 +211,11 @@ module _ (of any : ℕ → Bool) (L : Layout) (r : Record) (log log′ : List Pl
 
 module _ (of : ℕ → Bool) (L : Layout) (roomy : Roomy L) (before before′ : List ℕ) (idle : Record) where
   twin-entry :
-      (e e′ : Entry) → Entering L before idle e → Entering L before′ idle e′ → hidden of e ≡ hidden of e′ → 256 ≤ idle .size →
+      (e e′ : Entry) → Entering L before idle e → Entering L before′ idle e′ → hidden of e ≡ hidden of e′ → 256 ≤ idle .size → idle .next .0 < 256 ^ L .width →
       Twin of L idle (planOf idle (laidEntry L idle e .pending 0) (laidEntry L idle e .bytes))
       (planOf idle (laidEntry L idle e′ .pending 0) (laidEntry L idle e′ .bytes)) (entryRecord L idle (logNow L before idle) e .map)
   unfolding pick planOf
-  twin-entry e e′ f f′ same big = subst (λ (t : Bool). shape (fitsHead L idle e) t) fits-same (go (fitsHead L idle e) refl)
+  twin-entry e e′ f f′ same big wide = subst (λ (t : Bool). shape (fitsHead L idle e) t) fits-same (go (fitsHead L idle e) refl)
     where
       lay : Bool → Entry → Laid
       lay t x = pick t (laidAppend L x) (laidHead L idle x)
@@ -209,32 +240,72 @@ module _ (of : ℕ → Bool) (L : Layout) (roomy : Roomy L) (before before′ : 
       go false p =
           subst (λ (b : List ℕ). Twin of L idle (plan-of b) (plan-of (encoded L e′)) (newDigest idle 0 .map)) (encoded-one L e)
           (subst (λ (b : List ℕ). Twin of L idle (plan-of (allEncoded L (e ∷ []))) (plan-of b) (newDigest idle 0 .map)) (encoded-one L e′)
-          (heads 0 (e ∷ []) (e′ ∷ []) (none-within (idle .map)) (omega (arith, f .number-left p)) (formed-one L e (f .formed)) (formed-one L e′ (f′ .formed))
+          (heads 0 (idle .next) (e ∷ []) (e′ ∷ []) (none-within (idle .map)) (omega (arith, f .number-left p)) wide (formed-one L e (f .formed)) (formed-one L e′ (f′ .formed))
           (ap (λ (x : Entry). x ∷ []) same)
           (omega (arith, ap length (encoded-one L e), length-encoded L e, roomy .room (kindOf L e) (length (bytesIn (e .value))) (formed-known L e (f .formed))))))
 
-  -- what a cleaning keeps is of the layout
-  kept-formed : (area : List ℕ) (victims : ℕ) → Accepted L area idle (clean victims) → Formed L (kept victims (logNow L area idle))
-  kept-formed area victims a x i =
-      let y = kept-in victims (logNow L area idle) x i in
-      subst (WellFormed L) (y .2) (log-formed L (idle .slots) (idle .size) (idle .cells) area idle (a .area-bytes) (a .recovers) (y .0) (y .1))
+  -- a next version fits its bytes
+  next-wide : (o : Operation) → Accepted L before idle o → idle .next .0 < 256 ^ L .width
+  next-wide o a = new-next-fits L before idle (a .recovers) (a .area-bytes)
 
+  -- cleanings that go by logs which differ in hidden values alone, also those that delete
   twin-clean :
-      (victims : ℕ) → Accepted L before idle (clean victims) → Accepted L before′ idle (clean victims) →
-      hiddenLog of (logNow L before idle) ≡ hiddenLog of (logNow L before′ idle) →
-      Twin of L idle (headPlan L (idle .size) (newSlot idle) (newDigest idle victims) (kept victims (logNow L before idle)))
-      (headPlan L (idle .size) (newSlot idle) (newDigest idle victims) (kept victims (logNow L before′ idle))) (newDigest idle victims .map)
-  unfolding startCauses
-  twin-clean victims a a′ logs =
-      heads victims (kept victims (logNow L before idle)) (kept victims (logNow L before′ idle))
-      (not-false (within victims (idle .map)) (either-false-right _ _ (tests .victims-good)))
-      (omega (arith, idle-number L before idle (clean victims) a, eqb-false (idle .digest .0) numberLimit (tests .number-left)))
-      (kept-formed before victims a) (kept-formed before′ victims a′)
-      (sym (kept-hidden of victims (logNow L before idle)) ∙ ap (kept victims) logs ∙ kept-hidden of victims (logNow L before′ idle))
-      (ltb-false (idle .size) (digestSize L + length (allEncoded L (kept victims (logNow L before idle)))) (tests .kept-fits))
+      (victims : ℕ) (next : Version) (stand stand′ : List Placed) → Cleaning L before idle victims next stand →
+      Cleaning L before′ idle victims next stand′ → hiddenLog of stand ≡ hiddenLog of stand′ →
+      Twin of L idle (headPlan L (idle .size) (newSlot idle) (digestWith idle victims next) (kept victims stand))
+      (headPlan L (idle .size) (newSlot idle) (digestWith idle victims next) (kept victims stand′)) (newDigest idle victims .map)
+  twin-clean victims next stand stand′ c c′ logs =
+      heads victims next (kept victims stand) (kept victims stand′) (c .sub) (c .number-left) (c .next-fits) (c .formed) (c′ .formed)
+      (sym (kept-hidden of victims stand) ∙ ap (kept victims) logs ∙ kept-hidden of victims stand′) (c .room)
+
+  -- a delete, by whether its tombstone finds room
+  module _ (k : Key) (a : Accepted L before idle (delete k)) (a′ : Accepted L before′ idle (delete k))
+      (logs : hiddenLog of (logNow L before idle) ≡ hiddenLog of (logNow L before′ idle))
     where
-      tests : CleanPassed L idle (a .lengths) (keptLength L (logNow L before idle) victims) victims
-      tests = clean-passed L idle (a .lengths) (keptLength L (logNow L before idle) victims) victims (a .no-cause)
+      victims-same : forgetVictim (logNow L before idle) k ≡ forgetVictim (logNow L before′ idle) k
+      victims-same =
+          sym (victim-hidden of (logNow L before idle) k) ∙ ap (λ (l : List Placed). forgetVictim l k) logs ∙ victim-hidden of (logNow L before′ idle) k
+
+      stands-same : hiddenLog of (forgottenLog idle (logNow L before idle) k) ≡ hiddenLog of (forgottenLog idle (logNow L before′ idle) k)
+      stands-same =
+          sym (forgotten-hidden of idle (logNow L before idle) k) ∙ ap (λ (l : List Placed). forgottenLog idle l k) logs ∙
+          forgotten-hidden of idle (logNow L before′ idle) k
+
+      twin-forget : noRoom idle (entrySize L 0) ≡ true →
+          Twin of L idle
+          (headPlan L (idle .size) (newSlot idle) (forgetDigest idle (logNow L before idle) k) (forgetKept idle (logNow L before idle) k))
+          (headPlan L (idle .size) (newSlot idle) (forgetDigest idle (logNow L before′ idle) k) (forgetKept idle (logNow L before′ idle) k))
+          (newDigest idle (forgetVictim (logNow L before idle) k) .map)
+      twin-forget full =
+          subst
+          (λ (w : ℕ).
+          Twin of L idle
+          (headPlan L (idle .size) (newSlot idle) (forgetDigest idle (logNow L before idle) k) (forgetKept idle (logNow L before idle) k))
+          (headPlan L (idle .size) (newSlot idle) (digestWith idle w (nextAfter idle)) (kept w (forgottenLog idle (logNow L before′ idle) k)))
+          (newDigest idle (forgetVictim (logNow L before idle) k) .map))
+          victims-same
+          (twin-clean (forgetVictim (logNow L before idle) k) (nextAfter idle) (forgottenLog idle (logNow L before idle) k)
+          (forgottenLog idle (logNow L before′ idle) k) (forget-cleans L before idle k a full)
+          (subst (λ (w : ℕ). Cleaning L before′ idle w (nextAfter idle) (forgottenLog idle (logNow L before′ idle) k)) (sym victims-same)
+          (forget-cleans L before′ idle k a′ full)) stands-same)
+
+      twin-delete :
+          Twin of L idle (planAt L before idle (delete k)) (planAt L before′ idle (delete k)) (deletedRecord L before idle k .map)
+      unfolding laid planOf
+      twin-delete = go (noRoom idle (entrySize L 0)) refl
+        where
+          way : Bool → List Placed → Laid
+          way t log = pick t (laidForget L idle log k) (laidEntry L idle (tombstoneEntry idle k))
+
+          go : (t : Bool) → noRoom idle (entrySize L 0) ≡ t →
+              Twin of L idle (planOf idle (way t (logNow L before idle) .pending 0) (way t (logNow L before idle) .bytes))
+              (planOf idle (way t (logNow L before′ idle) .pending 0) (way t (logNow L before′ idle) .bytes))
+              (pick t (forgottenRecord L before idle k) (entryRecord L idle (logNow L before idle) (tombstoneEntry idle k)) .map)
+          go true full = unfold pick in twin-forget full
+          go false room =
+              unfold pick in
+              twin-entry (tombstoneEntry idle k) (tombstoneEntry idle k) (delete-enters L before idle k a room) (delete-enters L before′ idle k a′ room)
+              refl (idle-lent L before idle (delete k) a .size-low) (next-wide (delete k) a)
 
   pub twins :
       (o o′ : Operation) → Accepted L before idle o → Accepted L before′ idle o′ →
@@ -244,7 +315,7 @@ module _ (of : ℕ → Bool) (L : Layout) (roomy : Roomy L) (before before′ : 
   twins (write k v) (write j u) a a′ logs same =
       twin-entry (writtenEntry idle k v) (writtenEntry idle j u) (write-enters L before idle k v a) (write-enters L before′ idle j u a′)
       (λ i. record { table = keys i .table; key = keys i .key; version = idle .next .0; value = some (values i) })
-      (idle-lent L before idle (write k v) a .size-low)
+      (idle-lent L before idle (write k v) a .size-low) (next-wide (write k v) a)
     where
       keys : k ≡ j
       keys = cc
@@ -252,8 +323,11 @@ module _ (of : ℕ → Bool) (L : Layout) (roomy : Roomy L) (before before′ : 
       values : zeroed (of (k .table)) v ≡ zeroed (of (j .table)) u
       values = cc
   twins (delete k) (delete j) a a′ logs same =
-      twin-entry (tombstoneEntry idle k) (tombstoneEntry idle j) (delete-enters L before idle k a) (delete-enters L before′ idle j a′)
-      (ap (λ (x : Key). tombstoneEntry idle x) keys) (idle-lent L before idle (delete k) a .size-low)
+      subst
+      (λ (x : Key).
+      Accepted L before′ idle (delete x) →
+      Twin of L idle (planAt L before idle (delete k)) (planAt L before′ idle (delete x)) (deletedRecord L before idle k .map))
+      keys (λ b. twin-delete k a b logs) a′
     where
       keys : k ≡ j
       keys = cc
@@ -262,7 +336,11 @@ module _ (of : ℕ → Bool) (L : Layout) (roomy : Roomy L) (before before′ : 
       (λ (x : ℕ).
       Accepted L before′ idle (clean x) →
       Twin of L idle (planAt L before idle (clean victims)) (planAt L before′ idle (clean x)) (newDigest idle victims .map))
-      keys (λ b. twin-clean victims a b logs) a′
+      keys
+      (λ b.
+      twin-clean victims (idle .next) (logNow L before idle) (logNow L before′ idle) (clean-cleans L before idle victims a)
+      (clean-cleans L before′ idle victims b) logs)
+      a′
     where
       keys : victims ≡ other
       keys = cc
@@ -294,7 +372,7 @@ module _ (of : ℕ → Bool) (L : Layout) (roomy : Roomy L) (before before′ : 
       pub done-alike :
           Alike of L (idle .slots) (idle .size) (finishedRecord L before idle o .map) (stored before (planAt L before idle o))
           (stored before′ (planAt L before′ idle o′))
-      done-alike = twin-done of L idle before before′ (acc .recovers) (acc′ .recovers) a both (acc .area-bytes) (acc′ .area-bytes)
+      done-alike = twin-done of L idle before before′ (acc .recovers) (acc′ .recovers) a both
 
       -- which is one record.
       pub finished-same : finishedRecord L before idle o ≡ finishedRecord L before′ idle o′

@@ -8,17 +8,17 @@ use mathlib.Core.Bool.{Bool, true, not}
 use mathlib.Core.List.{List, [], _∷_, _++_, map, List·Memᴰ}
 use mathlib.Core.Option.{some}
 use lib.ListN.{length, take}
-use Rattle.word.specs.Number.{Bytes}
 use Rattle.segment.specs.Choice.{both-left}
 use Rattle.segment.specs.Layout.{Layout, digestSize}
 use Rattle.segment.specs.Entry.{Entry, WellFormed, encoded, sizeOf}
+use Rattle.segment.specs.declared.Version.{Version}
 use Rattle.slot_map.specs.Bit.{bit, named, within}
 use Rattle.slot_map.specs.NextLaws.{next-clear}
 use Rattle.record.specs.RangeLaws.{Lent, lent}
 use Rattle.record.specs.declared.Record.{Record}
 use Rattle.model.specs.Log.{View, Item, scanned, scan, itemsOf, segmentOf, viewsOf}
 use Rattle.model.specs.Recovery.{recovered}
-use Rattle.model.specs.Operations.{newSlot, newDigest, allEncoded, commit, stored}
+use Rattle.model.specs.Operations.{newSlot, digestWith, newDigest, allEncoded, commit, stored}
 use Rattle.laws.specs.Members.{clash}
 use Rattle.laws.specs.Stores.{length-stored}
 use Rattle.laws.specs.Scans.{itemAt, itemsFrom}
@@ -26,7 +26,7 @@ use Rattle.laws.specs.AppendBytes.{append-prefix, append-other, append-digest, 
 use Rattle.laws.specs.NewHeadBytes.{headPlan, new-head-prefix, new-head-other-prefix, new-head-other, new-head-view}
 use Rattle.laws.specs.RecoverLaws.{recovered-fits, recovered-scan}
 use Rattle.laws.specs.Headed.{new-others}
-use Rattle.laws.specs.Planned.{new-below, new-free, new-map-fits, new-next-fits}
+use Rattle.laws.specs.Planned.{new-below, new-free, new-map-fits}
 use Rattle.isolation.proofs.Hidden.{hidden, hiddenItem, hiddenScan, map-append, size-hidden, scan-items, encoded-hidden, items-hidden}
 use Rattle.isolation.proofs.Alike.{AlikeViews, Alike}
 
@@ -40,10 +40,11 @@ pub data Twin (of : ℕ → Bool) (L : Layout) (r : Record) : List (ℕ × ℕ) 
       (x x′ : Entry) → WellFormed L x → WellFormed L x′ → hidden of x ≡ hidden of x′ → r .end + sizeOf L x ≤ r .size →
       Twin of L r (commit (r .size) (r .head) (r .end) (encoded L x)) (commit (r .size) (r .head) (r .end) (encoded L x′)) (r .map)
   heads :
-      (victims : ℕ) (es es′ : List Entry) → within victims (r .map) ≡ true → r .digest .0 + 1 < 256 ^ 4 → Formed L es → Formed L es′ →
-      map (hidden of) es ≡ map (hidden of) es′ → digestSize L + length (allEncoded L es) ≤ r .size →
-      Twin of L r (headPlan L (r .size) (newSlot r) (newDigest r victims) es) (headPlan L (r .size) (newSlot r) (newDigest r victims) es′)
-      (newDigest r victims .map)
+      (victims : ℕ) (next : Version) (es es′ : List Entry) → within victims (r .map) ≡ true → r .digest .0 + 1 < 256 ^ 4 →
+      next .0 < 256 ^ L .width → Formed L es → Formed L es′ → map (hidden of) es ≡ map (hidden of) es′ →
+      digestSize L + length (allEncoded L es) ≤ r .size →
+      Twin of L r (headPlan L (r .size) (newSlot r) (digestWith r victims next) es)
+      (headPlan L (r .size) (newSlot r) (digestWith r victims next) es′) (newDigest r victims .map)
 
 -- ---- one slot changes in both
 
@@ -189,11 +190,11 @@ module _ (of : ℕ → Bool) (L : Layout) (r : Record) (area area′ : List ℕ)
           own′ = recovered-scan L (r .slots) (r .size) (r .cells) area′ r e′
 
     -- a new head
-    module _ (victims : ℕ) (es es′ : List Entry) (sub : within victims (r .map) ≡ true) (same : map (hidden of) es ≡ map (hidden of) es′)
+    module _ (victims : ℕ) (next : Version) (es es′ : List Entry) (sub : within victims (r .map) ≡ true) (same : map (hidden of) es ≡ map (hidden of) es′)
         (fits : digestSize L + length (allEncoded L es) ≤ r .size)
       where
         abbrev heading : List Entry → List (ℕ × ℕ)
-        heading l = headPlan L (r .size) (newSlot r) (newDigest r victims) l
+        heading l = headPlan L (r .size) (newSlot r) (digestWith r victims next) l
 
         fits-too : digestSize L + length (allEncoded L es′) ≤ r .size
         fits-too = omega (arith, long-same of L es es′ same)
@@ -208,23 +209,23 @@ module _ (of : ℕ → Bool) (L : Layout) (r : Record) (area area′ : List ℕ)
                   one-changed of (viewsOf L area (r .size)) (viewsOf L area′ (r .size))
                   (viewsOf L (stored area (take (suc k) (heading es))) (r .size)) (viewsOf L (stored area′ (take (suc k) (heading es′))) (r .size))
                   (r .slots) (newSlot r) (named (r .map)) (named (r .map)) (a .views)
-                  (new-head-other-prefix L (r .size) (newSlot r) area (newDigest r victims) es fits (suc k))
-                  (new-head-other-prefix L (r .size) (newSlot r) area′ (newDigest r victims) es′ fits-too (suc k))
-                  (new-head-prefix L (r .size) (newSlot r) area (newDigest r victims) es fits (suc k) (omega arith) h ∙
-                  sym (new-head-prefix L (r .size) (newSlot r) area′ (newDigest r victims) es′ fits-too (suc k) (omega arith) h′))
+                  (new-head-other-prefix L (r .size) (newSlot r) area (digestWith r victims next) es fits (suc k))
+                  (new-head-other-prefix L (r .size) (newSlot r) area′ (digestWith r victims next) es′ fits-too (suc k))
+                  (new-head-prefix L (r .size) (newSlot r) area (digestWith r victims next) es fits (suc k) (omega arith) h ∙
+                  sym (new-head-prefix L (r .size) (newSlot r) area′ (digestWith r victims next) es′ fits-too (suc k) (omega arith) h′))
                   (λ t. absurd (clash (named (r .map) (newSlot r)) t (new-free L area r e))) (λ i o t. t);
             }
 
         head-done :
-            Formed L es → Formed L es′ → r .digest .0 + 1 < 256 ^ 4 → Bytes area → Bytes area′ → Left (newDigest r victims .map) (heading es) (heading es′)
-        head-done f f′ number ab ab′ =
+            Formed L es → Formed L es′ → r .digest .0 + 1 < 256 ^ 4 → next .0 < 256 ^ L .width → Left (newDigest r victims .map) (heading es) (heading es′)
+        head-done f f′ number next-fits =
             record {
               long = left-long (heading es) (heading es′);
               views =
                   one-changed of (viewsOf L area (r .size)) (viewsOf L area′ (r .size)) (viewsOf L (stored area (heading es)) (r .size))
                   (viewsOf L (stored area′ (heading es′)) (r .size)) (r .slots) (newSlot r) (named (r .map)) (named (newDigest r victims .map)) (a .views)
-                  (new-head-other L (r .size) (newSlot r) area (newDigest r victims) es fits)
-                  (new-head-other L (r .size) (newSlot r) area′ (newDigest r victims) es′ fits-too)
+                  (new-head-other L (r .size) (newSlot r) area (digestWith r victims next) es fits)
+                  (new-head-other L (r .size) (newSlot r) area′ (digestWith r victims next) es′ fits-too)
                   (ap (λ (x : View). x .digest) view ∙ sym (ap (λ (x : View). x .digest) view′))
                   (λ t.
                   ap (λ (x : View). hiddenScan of (x .scan)) view ∙ headed-scan of L (digestSize L) es es′ same ∙
@@ -238,16 +239,16 @@ module _ (of : ℕ → Bool) (L : Layout) (r : Record) (area area′ : List ℕ)
 
             view :
                 viewsOf L (stored area (heading es)) (r .size) (newSlot r) ≡
-                record { digest = some (newDigest r victims); scan = scanned (itemsFrom L (digestSize L) es) (digestSize L + length (allEncoded L es)) }
+                record { digest = some (digestWith r victims next); scan = scanned (itemsFrom L (digestSize L) es) (digestSize L + length (allEncoded L es)) }
             view =
-                new-head-view L (newDigest r victims) es number (new-map-fits L area r e victims sub) (new-next-fits L area r e ab) f (r .slots)
+                new-head-view L (digestWith r victims next) es number (new-map-fits L area r e victims sub) next-fits f (r .slots)
                 (r .size) (newSlot r) area (facts .area-own) (new-below L area r e) fits
 
             view′ :
                 viewsOf L (stored area′ (heading es′)) (r .size) (newSlot r) ≡
-                record { digest = some (newDigest r victims); scan = scanned (itemsFrom L (digestSize L) es′) (digestSize L + length (allEncoded L es′)) }
+                record { digest = some (digestWith r victims next); scan = scanned (itemsFrom L (digestSize L) es′) (digestSize L + length (allEncoded L es′)) }
             view′ =
-                new-head-view L (newDigest r victims) es′ number (new-map-fits L area′ r e′ victims sub) (new-next-fits L area′ r e′ ab′) f′ (r .slots)
+                new-head-view L (digestWith r victims next) es′ number (new-map-fits L area′ r e′ victims sub) next-fits f′ (r .slots)
                 (r .size) (newSlot r) area′ (facts′ .area-own) (new-below L area′ r e′) fits-too
 
     -- After a proper prefix of both plans the areas are alike under the old map,
@@ -255,9 +256,9 @@ module _ (of : ℕ → Bool) (L : Layout) (r : Record) (area area′ : List ℕ)
         {plan plan′ : List (ℕ × ℕ)} {m : ℕ} → Twin of L r plan plan′ m → (k : ℕ) → k < length plan → k < length plan′ →
         Left (r .map) (take k plan) (take k plan′)
     twin-cut (appends x x′ f f′ same fits) k h h′ = append-cut x x′ f f′ same fits k h h′
-    twin-cut (heads victims es es′ sub number f f′ same fits) k h h′ = head-cut victims es es′ sub same fits k h h′
+    twin-cut (heads victims next es es′ sub number wide f f′ same fits) k h h′ = head-cut victims next es es′ sub same fits k h h′
 
     -- and after both whole plans under the map that they leave.
-    pub twin-done : {plan plan′ : List (ℕ × ℕ)} {m : ℕ} → Twin of L r plan plan′ m → Bytes area → Bytes area′ → Left m plan plan′
-    twin-done (appends x x′ f f′ same fits) ab ab′ = append-done x x′ f f′ same fits
-    twin-done (heads victims es es′ sub number f f′ same fits) ab ab′ = head-done victims es es′ sub same fits f f′ number ab ab′
+    pub twin-done : {plan plan′ : List (ℕ × ℕ)} {m : ℕ} → Twin of L r plan plan′ m → Left m plan plan′
+    twin-done (appends x x′ f f′ same fits) = append-done x x′ f f′ same fits
+    twin-done (heads victims next es es′ sub number wide f f′ same fits) = head-done victims next es es′ sub same fits f f′ number wide

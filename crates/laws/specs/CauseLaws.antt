@@ -1,5 +1,6 @@
 -- Laws of the first cause, and of the numbers of refusals.
-use mathlib.Core.Path.{_≡_, refl, ap}
+use Prim.Native.Nat.{ℕ}
+use mathlib.Core.Path.{_≡_, refl, sym, ap, _∙_}
 use mathlib.Core.Bool.{Bool, true, false}
 use mathlib.Core.List.{List, [], _∷_, _++_}
 use mathlib.Core.Option.{Option, none, some}
@@ -127,3 +128,19 @@ refusal-number SharedVersion = refl
 refusal-number TooManyKeys = refl
 refusal-number OtherVersion = refl
 refusal-number OutsideTables = refl
+
+-- ---- a number that no cause of a list has
+
+abbrev pub Without : ℕ → List Cause → Type 0
+Without n [] = Unit {0}
+Without n (c ∷ cs) = (eqb (numberOfRefusal (c .refusal)) n ≡ false) × Without n cs
+
+pub never-met : (n : ℕ) (cs : List Cause) → Without n cs → (c : Refusal) → firstCause cs ≡ some c → eqb (numberOfRefusal c) n ≡ false
+unfolding firstCause pick
+never-met n [] w c e = cc
+never-met n (x ∷ cs) w c e = go (x .holds) e (λ p. never-met n cs (w .1) c p)
+  where
+    go : (t : Bool) → pick t (some (x .refusal)) (firstCause cs) ≡ some c → (firstCause cs ≡ some c → eqb (numberOfRefusal c) n ≡ false) →
+        eqb (numberOfRefusal c) n ≡ false
+    go true p ih = let same : x .refusal ≡ c = cc in ap (λ (d : Refusal). eqb (numberOfRefusal d) n) (sym same) ∙ w .0
+    go false p ih = ih p

@@ -1,6 +1,6 @@
 -- Demand 2, three theorems at the layout of 01: the map that the rule of versions reads after the last store of a write, a delete and a
 -- cleaning, from the one that it read before the start. A cleaning may have any victims of the log, the head among them. For other layouts the same facts are `finish-recovers` and `finish-map` of their laws.
-use Prim.Native.Nat.{ℕ}
+use Prim.Native.Nat.{ℕ, _+_}
 use mathlib.Core.Path.{_≡_}
 use mathlib.Core.List.{List}
 use mathlib.Core.Option.{Option, none, some}
@@ -14,7 +14,7 @@ use Rattle.model.specs.Recovery.{recovered}
 use Rattle.model.specs.Operations.{Operation, write, delete, clean, logNow, writtenEntry, tombstoneEntry, stored, finishedRecord}
 use Rattle.laws.specs.MapLaws.{valueAt}
 use Rattle.laws.specs.Operated.{Accepted, planAt, mapAfter}
-use Rattle.laws.specs.OperationsKept.{finishes, edition1-roomy}
+use Rattle.laws.specs.OperationsKept.{finishes, deleted-next, edition1-roomy}
 
 -- Bytes that read as a map: recovery of them gives this record, whose slot map is that of the newest digest, and in the segments
 -- that it names the highest version of each key decides what the map holds of it.
@@ -43,12 +43,16 @@ module _ (before : List ℕ) (idle : Record) where
   unfolding mapAfter
   demand-2-write k value a = read-after (write k value) a
 
-  -- a delete drops its key, and no other
+  -- a delete drops its key, and no other, also where it cleans for want of room
   pub demand-2-delete :
       (k : Key) → Accepted edition1 before idle (delete k) →
       Finished (delete k) (λ j. pick (sameKey j (tombstoneEntry idle k)) none (old j))
   unfolding mapAfter
   demand-2-delete k a = read-after (delete k) a
+
+  -- 02, R-4: it takes the next version whether or not an entry comes to have it.
+  pub delete-raises-next : (k : Key) → finishedRecord edition1 before idle (delete k) .next .0 ≡ idle .next .0 + 1
+  delete-raises-next k = deleted-next edition1 before idle k
 
   -- a cleaning changes no key
   pub demand-2-clean : (victims : ℕ) → Accepted edition1 before idle (clean victims) → Finished (clean victims) old

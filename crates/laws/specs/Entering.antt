@@ -18,7 +18,7 @@ use Rattle.slot_map.specs.Count.{used}
 use Rattle.record.specs.RangeLaws.{Lent, lent}
 use Rattle.record.specs.declared.Record.{Record}
 use Rattle.model.specs.Log.{Placed, hasKey, present, latest, objectOnly}
-use Rattle.model.specs.Operations.{Operation, write, delete, logNow, writtenEntry, tombstoneEntry, fitsHead, countNew}
+use Rattle.model.specs.Operations.{Operation, write, delete, logNow, writtenEntry, tombstoneEntry, fitsHead, noRoom, countNew}
 use Rattle.model.specs.Refused.{freely, keyFacts, startCauses}
 use Rattle.laws.specs.Latest.{latest-has}
 use Rattle.laws.specs.RecoverLaws.{recovered-fits, recovered-next, recovered-number}
@@ -81,6 +81,11 @@ present-has log k e = go (latest log k) refl e
     go none p q = cc
     go (some x) p q = latest-has log k x p
 
+some-of : (o : Option Placed) → isNone o ≡ false → (x : Placed) × o ≡ some x
+unfolding isNone
+some-of none e = let z : _≡_ {A = ℕ} 0 1 = cc in absurd (omega arith)
+some-of (some x) e = (x, refl)
+
 -- ---- write and delete
 
 module _ (L : Layout) (before : List ℕ) (idle : Record) (k : Key) where
@@ -110,37 +115,53 @@ module _ (L : Layout) (before : List ℕ) (idle : Record) (k : Key) where
       facts : Lent L idle (length before) (idle .cells)
       facts = idle-lent L before idle (write k value) a
 
-  pub delete-enters : Accepted L before idle (delete k) → Entering L before idle (tombstoneEntry idle k)
-  unfolding startCauses countNew lengthKnown bytesIn
-  delete-enters a =
-      record {
-        formed =
-            record {
-              length-known = refl;
-              table-fits = a .typed .0;
-              key-fits = a .typed .1;
-              version-good =
-                  version-good L (idle .next .0) (facts .next-some)
-                  (omega (arith, idle-next L before idle (delete k) a, eqb-false (idle .next .0) (versionLimit L) (tests .versions-left)));
-              value-bytes = λ i. omega arith;
-            };
-        takes =
-            record {
-              version = refl;
-              room = rw (present-has log k (tests .present)) (pick-room (idle .keys) (idle .cells) (facts .keys-high));
-            };
-        two-free =
-            λ f.
-            free-two (idle .slots) (used (idle .slots) (idle .map)) (omega (arith, facts .some-free))
-            (both-true-false _ _ (tests .room) (not-true-of _ f));
-        number-left =
-            λ f.
-            number-below (idle .digest .0) (idle-number L before idle (delete k) a)
-            (both-true-false _ _ (tests .number-left) (not-true-of _ f));
-      }
-    where
-      tests : DeletePassed L idle (a .lengths) freely k (keyFacts log k)
-      tests = delete-passed L idle (a .lengths) freely k (keyFacts log k) (a .no-cause)
+  -- the tombstone of an accepted delete
+  module _ (a : Accepted L before idle (delete k)) where
+    tests : DeletePassed L idle (a .lengths) freely k (keyFacts log k)
+    unfolding startCauses
+    tests = delete-passed L idle (a .lengths) freely k (keyFacts log k) (a .no-cause)
 
-      facts : Lent L idle (length before) (idle .cells)
-      facts = idle-lent L before idle (delete k) a
+    facts : Lent L idle (length before) (idle .cells)
+    facts = idle-lent L before idle (delete k) a
+
+    pub delete-next : idle .next .0 < versionLimit L
+    delete-next = omega (arith, idle-next L before idle (delete k) a, eqb-false (idle .next .0) (versionLimit L) (tests .versions-left))
+
+    pub delete-number : fitsHead L idle (tombstoneEntry idle k) ≡ false → idle .digest .0 < numberLimit
+    unfolding bytesIn
+    delete-number f =
+        number-below (idle .digest .0) (idle-number L before idle (delete k) a)
+        (both-true-false _ _ (tests .number-left) (not-true-of _ f))
+
+    pub delete-formed : WellFormed L (tombstoneEntry idle k)
+    unfolding lengthKnown bytesIn
+    delete-formed =
+        record {
+          length-known = refl;
+          table-fits = a .typed .0;
+          key-fits = a .typed .1;
+          version-good = version-good L (idle .next .0) (facts .next-some) delete-next;
+          value-bytes = λ i. omega arith;
+        }
+
+    -- the object that it is to delete
+    pub delete-live : (x : Placed) × present log k ≡ some x
+    delete-live = some-of (present log k) (tests .present)
+
+    -- where it finds room
+    pub delete-enters : noRoom idle (entrySize L 0) ≡ false → Entering L before idle (tombstoneEntry idle k)
+    unfolding countNew bytesIn
+    delete-enters room =
+        record {
+          formed = delete-formed;
+          takes =
+              record {
+                version = refl;
+                room = rw (present-has log k (tests .present)) (pick-room (idle .keys) (idle .cells) (facts .keys-high));
+              };
+          two-free =
+              λ f.
+              free-two (idle .slots) (used (idle .slots) (idle .map)) (omega (arith, facts .some-free))
+              (both-true-false _ _ room (not-true-of _ f));
+          number-left = delete-number;
+        }

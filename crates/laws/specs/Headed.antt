@@ -15,6 +15,7 @@ use Rattle.segment.specs.Layout.{Layout, digestSize}
 use Rattle.segment.specs.Entry.{Entry}
 use Rattle.segment.specs.EntryLaws.{length-encoded}
 use Rattle.segment.specs.declared.Digest.{Digest}
+use Rattle.segment.specs.declared.Version.{Version}
 use Rattle.slot_map.specs.Bit.{bit, named, within}
 use Rattle.slot_map.specs.BitLaws.{bit-cases, bit-of-zero, bit-add-same, bit-add-other, bit-sub, within-of-le, set-named, clear-named, add-below}
 use Rattle.slot_map.specs.Count.{used}
@@ -24,7 +25,7 @@ use Rattle.record.specs.RangeLaws.{map-in}
 use Rattle.record.specs.declared.Record.{Record}
 use Rattle.model.specs.Log.{View, Head, Placed, scanned, endOf, isDamaged, placedIn, viewsOf, logOf, keysOf, versionShared, highest, nextVersion}
 use Rattle.model.specs.Recovery.{logSlots, logUnder, recordUnder, recovered}
-use Rattle.model.specs.Operations.{logNow, newSlot, newDigest, outsideSlots, allEncoded, placedFrom, headedRecord}
+use Rattle.model.specs.Operations.{logNow, newSlot, digestWith, newDigest, outsideSlots, allEncoded, placedFrom, headedRecord}
 use Rattle.laws.specs.Scans.{itemsFrom, placed-items, encoded-one}
 use Rattle.laws.specs.HeadLaws.{top-new-head}
 use Rattle.laws.specs.LogLaws.{partOf, part-picked, part-passed, part-same, log-same, one-slot, OnePart, part-entered, Entered, entered-versions, entered-highest, entered-keys, scanned-undamaged, items-scanned, end-scanned}
@@ -74,9 +75,9 @@ pub record Heads (L : Layout) (v v′ : ℕ → View) (n j : ℕ) (d : Digest) (
   pub others : (i : ℕ) → i < n → (i ≡ j → ⊥) → v′ i ≡ v i
   pub own : v′ j ≡ record { digest = some d; scan = scanned (itemsFrom L (digestSize L) es) (digestSize L + length (allEncoded L es)) }
 
-module _ (L : Layout) (v v′ : ℕ → View) (n s m : ℕ) (h : Head) (victims : ℕ) (es : List Entry) (f : Sound v n m h)
+module _ (L : Layout) (v v′ : ℕ → View) (n s m : ℕ) (h : Head) (victims : ℕ) (next : Version) (es : List Entry) (f : Sound v n m h)
     (sub : within victims (h .digest .map) ≡ true)
-    (c : Heads L v v′ n (newSlot (recordUnder v n s m h)) (newDigest (recordUnder v n s m h) victims) es) where
+    (c : Heads L v v′ n (newSlot (recordUnder v n s m h)) (digestWith (recordUnder v n s m h) victims next) es) where
   -- the old record, the new slot and the new head
   abbrev r : Record
   r = recordUnder v n s m h
@@ -85,7 +86,7 @@ module _ (L : Layout) (v v′ : ℕ → View) (n s m : ℕ) (h : Head) (victims 
   j = newSlot (recordUnder v n s m h)
 
   abbrev g : Head
-  g = record { slot = newSlot (recordUnder v n s m h); digest = newDigest (recordUnder v n s m h) victims }
+  g = record { slot = newSlot (recordUnder v n s m h); digest = digestWith (recordUnder v n s m h) victims next }
 
   pub slot-below : j < n
   slot-below = next-below n (h .digest .map) (h .slot) (f .top .below) (map-in n (h .slot) (h .digest .map) (f .map-good) .some-free)
@@ -93,7 +94,7 @@ module _ (L : Layout) (v v′ : ℕ → View) (n s m : ℕ) (h : Head) (victims 
   pub slot-clear : bit (h .digest .map) j ≡ 0
   slot-clear = next-clear n (h .digest .map) (h .slot) (f .top .below) (map-in n (h .slot) (h .digest .map) (f .map-good) .some-free)
 
-  own-digest : v′ j .digest ≡ some (newDigest r victims)
+  own-digest : v′ j .digest ≡ some (digestWith r victims next)
   own-digest = ap (λ (w : View). w .digest) (c .own)
 
   own-scan : v′ j .scan ≡ scanned (itemsFrom L (digestSize L) es) (digestSize L + length (allEncoded L es))
@@ -126,16 +127,16 @@ module _ (L : Layout) (v v′ : ℕ → View) (n s m : ℕ) (h : Head) (victims 
           part-picked v′ (logSlots g) j (new-named (h .digest .map) victims j sub slot-clear) ∙
           ap (placedIn j) (items-scanned (v′ j .scan) own-scan) ∙ placed-items L j (digestSize L) es
 
-  pub new-sound : used n (newDigest r victims .map) < n → versionShared (logUnder v′ n g) ≡ false → length (keysOf (logUnder v′ n g)) ≤ m - 1
+  pub new-sound : 0 < next .0 → used n (digestWith r victims next .map) < n → versionShared (logUnder v′ n g) ≡ false → length (keysOf (logUnder v′ n g)) ≤ m - 1
       → Sound v′ n m g
-  new-sound room versions keys =
+  new-sound some-next room versions keys =
       record {
         top =
-            top-new-head v n h v′ j (newDigest r victims) (f .top) slot-below
+            top-new-head v n h v′ j (digestWith r victims next) (f .top) slot-below
             (λ i l o. ap (λ (w : View). w .digest) (c .others i l o)) own-digest (omega arith);
         numbered = λ z. omega arith;
         map-good =
-            in-map n j (newDigest r victims .map)
+            in-map n j (digestWith r victims next .map)
             (add-below n (h .digest .map - victims) j
             (omega (arith, map-in n (h .slot) (h .digest .map) (f .map-good) .below)) slot-below
             (clear-sub (h .digest .map) victims j sub slot-clear))
@@ -148,7 +149,7 @@ module _ (L : Layout) (v v′ : ℕ → View) (n s m : ℕ) (h : Head) (victims 
       }
     where
       digested : (i : ℕ) → i < n → logSlots g i ≡ true → Dec (i ≡ j) → (d : Digest) × (v′ i .digest ≡ some d)
-      digested i l q (yes o) = (newDigest r victims, ap (λ (k : ℕ). v′ k .digest) o ∙ own-digest)
+      digested i l q (yes o) = (digestWith r victims next, ap (λ (k : ℕ). v′ k .digest) o ∙ own-digest)
       digested i l q (no o) =
           let d = f .digests i l (old-slot i o q) in
           (d .0, ap (λ (w : View). w .digest) (c .others i l o) ∙ d .1)
@@ -183,7 +184,7 @@ module _ (L : Layout) (v v′ : ℕ → View) (n s m : ℕ) (h : Head) (x : Entr
       part-entered [] placed old after
       (subst (λ (l : List Placed). OnePart [] (placed ∷ []) l after)
       (log-same v v (logSlots h) (outsideSlots (h .digest .map) 0) n (λ i l. none-outside (h .digest .map) i) (λ i l q. refl))
-      (new-log L v v′ n s m h 0 (x ∷ []) f (none-within (h .digest .map)) c))
+      (new-log L v v′ n s m h 0 (recordUnder v n s m h .next) (x ∷ []) f (none-within (h .digest .map)) c))
 
   module _ (t : Takes (nextVersion (h .digest) old) (length (keysOf old)) m old x) where
     above : highest old < x .version
@@ -191,12 +192,12 @@ module _ (L : Layout) (v v′ : ℕ → View) (n s m : ℕ) (h : Head) (x : Entr
 
     pub headed-sound : used n (h .digest .map) + 2 ≤ n → Sound v′ n m headed
     headed-sound room =
-        new-sound L v v′ n s m h 0 (x ∷ []) f (none-within (h .digest .map)) c
+        new-sound L v v′ n s m h 0 (recordUnder v n s m h .next) (x ∷ []) f (none-within (h .digest .map)) c (omega arith)
         (omega (
           arith,
           used-renewed n (h .digest .map) 0 (newSlot (recordUnder v n s m h)) (none-within (h .digest .map))
-              (slot-below L v v′ n s m h 0 (x ∷ []) f (none-within (h .digest .map)) c)
-              (slot-clear L v v′ n s m h 0 (x ∷ []) f (none-within (h .digest .map)) c),
+              (slot-below L v v′ n s m h 0 (recordUnder v n s m h .next) (x ∷ []) f (none-within (h .digest .map)) c)
+              (slot-clear L v v′ n s m h 0 (recordUnder v n s m h .next) (x ∷ []) f (none-within (h .digest .map)) c),
         ))
         (entered-versions old placed after headed-log above (f .versions))
         (omega (arith, entered-keys old placed after headed-log, t .room))
@@ -207,7 +208,7 @@ module _ (L : Layout) (v v′ : ℕ → View) (n s m : ℕ) (h : Head) (x : Entr
     pub headed-record : recordUnder v′ n s m headed ≡ headedRecord L (recordUnder v n s m h) old x
     headed-record =
         rw (
-          new-end L v v′ n s m h 0 (x ∷ []) f (none-within (h .digest .map)) c,
+          new-end L v v′ n s m h 0 (recordUnder v n s m h .next) (x ∷ []) f (none-within (h .digest .map)) c,
           encoded-one L x,
           length-encoded L x,
           headed-next,

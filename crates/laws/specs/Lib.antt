@@ -8,6 +8,7 @@ pub mod Latest
 pub mod Versions
 pub mod Keys
 pub mod MapLaws
+pub mod Forgotten
 pub mod Stores
 pub mod Scans
 pub mod AppendBytes
@@ -21,9 +22,10 @@ pub mod Headed
 pub mod Cleaned
 pub mod Operated
 pub mod Entering
+pub mod Room
+pub mod Cleanings
 pub mod Planned
 pub mod EntryDone
 pub mod Fresh
 pub mod OperationsKept
 pub mod Demand2
-pub mod Room

@@ -15,16 +15,17 @@ use Rattle.segment.specs.Layout.{Layout, edition1, lookup, valueLength, digestS
 use Rattle.segment.specs.Entry.{Entry, WellFormed, isTombstone, bytesIn, sizeOf, entryAt, entry}
 use Rattle.segment.specs.EntryLaws.{Readable, found-readable, found-bytes}
 use Rattle.segment.specs.declared.Key.{Key}
+use Rattle.segment.specs.declared.Version.{Version}
 use Rattle.slot_map.specs.Bit.{named, within}
 use Rattle.record.specs.RangeLaws.{Lent, lent}
 use Rattle.record.specs.declared.Record.{Record}
 use Rattle.model.specs.Log.{Placed, placeOf, scan, segmentOf, viewsOf, present, latest, objectOnly, sameKey}
 use Rattle.model.specs.Recovery.{recovered, recordFrom}
-use Rattle.model.specs.Operations.{Operation, write, delete, clean, logNow, writtenEntry, tombstoneEntry, newSlot, newDigest, kept, allEncoded, placedFrom, laid, planOf, stored, cleanedRecord, finishedRecord}
+use Rattle.model.specs.Operations.{Operation, write, delete, clean, logNow, writtenEntry, tombstoneEntry, fitsHead, noRoom, newSlot, digestWith, kept, placedFrom, Laid, laidEntry, laidForget, laid, planOf, stored, appendedRecord, headedRecord, entryRecord, renewedRecord, forgottenRecord, finishedRecord}
 use Rattle.model.specs.Promises.{partOf, valuePart}
-use Rattle.model.specs.Refused.{keptLength, startCauses}
 use Rattle.laws.specs.Members.{In}
 use Rattle.laws.specs.Latest.{latest-some}
+use Rattle.laws.specs.Versions.{shared-apart}
 use Rattle.laws.specs.MapLaws.{valueAt, gives, log-clean}
 use Rattle.laws.specs.Stores.{length-stored, slot-inside, length-segment}
 use Rattle.laws.specs.Scans.{scan-scans, scans-found}
@@ -36,68 +37,48 @@ use Rattle.laws.specs.RecoverLaws.{recovered-case, recovered-fits, recov
 use Rattle.laws.specs.Headed.{Heads}
 use Rattle.laws.specs.Cleaned.{cleaned-cleaned, cleaned-recovered}
 use Rattle.laws.specs.Operated.{Accepted, planAt, mapAfter, OperationLaws}
-use Rattle.laws.specs.Entering.{Roomy, idle-lent, idle-number, write-enters, delete-enters}
-use Rattle.laws.specs.Planned.{log-formed, kept-in, planned, new-below, new-map-fits, new-next-fits, prefix-stays, prefix-bytes, plan-stores, plan-most, plan-fits}
+use Rattle.laws.specs.Entering.{Roomy, write-enters, delete-enters}
+use Rattle.laws.specs.Planned.{planned, new-below, new-map-fits, prefix-stays, prefix-bytes, plan-stores, plan-most, plan-fits}
 use Rattle.laws.specs.EntryDone.{entry-done}
-use Rattle.laws.specs.Passed.{CleanPassed, clean-passed}
+use Rattle.laws.specs.Cleanings.{Cleaning, clean-cleans, forget-value, forget-cleans}
 
--- ---- a finished cleaning
+-- ---- a finished cleaning, also one that deletes
 
-module _ (L : Layout) (before : List ℕ) (idle : Record) (victims : ℕ) (a : Accepted L before idle (clean victims)) where
+module _ (L : Layout) (before : List ℕ) (idle : Record) (victims : ℕ) (next : Version) (stand : List Placed)
+    (c : Cleaning L before idle victims next stand) where
   facts : Lent L idle (length before) (idle .cells)
-  facts = idle-lent L before idle (clean victims) a
-
-  tests : CleanPassed L idle (a .lengths) (keptLength L (logNow L before idle) victims) victims
-  unfolding startCauses
-  tests = clean-passed L idle (a .lengths) (keptLength L (logNow L before idle) victims) victims (a .no-cause)
-
-  sub : within victims (idle .map) ≡ true
-  sub = not-false (within victims (idle .map)) (either-false-right _ _ (tests .victims-good))
-
-  some-victim : 0 < victims
-  some-victim = omega (arith, eqb-false victims 0 (either-false-left _ _ (tests .victims-good)))
-
-  room : digestSize L + length (allEncoded L (kept victims (logNow L before idle))) ≤ idle .size
-  room = ltb-false (idle .size) (digestSize L + length (allEncoded L (kept victims (logNow L before idle)))) (tests .kept-fits)
-
-  number-left : idle .digest .0 + 1 < 256 ^ 4
-  number-left = omega (arith, idle-number L before idle (clean victims) a, eqb-false (idle .digest .0) numberLimit (tests .number-left))
+  facts = lent L idle (length before) (idle .cells) (recovered-fits L (idle .slots) (idle .size) (idle .cells) before idle (c .recovers))
 
   abbrev clean-plan : List (ℕ × ℕ)
-  clean-plan = headPlan L (idle .size) (newSlot idle) (newDigest idle victims) (kept victims (logNow L before idle))
-
-  formed : (x : Entry) → List·Memᴰ x (kept victims (logNow L before idle)) → WellFormed L x
-  formed x i =
-      let y = kept-in victims (logNow L before idle) x i in
-      subst (WellFormed L) (y .2)
-      (log-formed L (idle .slots) (idle .size) (idle .cells) before idle (a .area-bytes) (a .recovers) (y .0) (y .1))
+  clean-plan = headPlan L (idle .size) (newSlot idle) (digestWith idle victims next) (kept victims stand)
 
   views :
       Heads L (viewsOf L before (idle .size)) (viewsOf L (stored before clean-plan) (idle .size)) (idle .slots) (newSlot idle)
-      (newDigest idle victims) (kept victims (logNow L before idle))
+      (digestWith idle victims next) (kept victims stand)
   views =
       record {
         others =
             λ i l o.
-            new-head-other L (idle .size) (newSlot idle) before (newDigest idle victims) (kept victims (logNow L before idle)) room i o;
+            new-head-other L (idle .size) (newSlot idle) before (digestWith idle victims next) (kept victims stand) (c .room) i o;
         own =
-            new-head-view L (newDigest idle victims) (kept victims (logNow L before idle)) number-left
-            (new-map-fits L before idle (a .recovers) victims sub) (new-next-fits L before idle (a .recovers) (a .area-bytes)) formed
-            (idle .slots) (idle .size) (newSlot idle) before (facts .area-own) (new-below L before idle (a .recovers)) room;
+            new-head-view L (digestWith idle victims next) (kept victims stand) (c .number-left)
+            (new-map-fits L before idle (c .recovers) victims (c .sub)) (c .next-fits) (c .formed)
+            (idle .slots) (idle .size) (newSlot idle) before (facts .area-own) (new-below L before idle (c .recovers)) (c .room);
       }
 
+  -- Recovery gives the record of 01's formulas, and the map is that of the log by which the cleaning went.
   pub clean-done :
-      (recovered L (idle .slots) (idle .size) (idle .cells) (stored before clean-plan) ≡ some (cleanedRecord L before idle victims))
+      (recovered L (idle .slots) (idle .size) (idle .cells) (stored before clean-plan) ≡
+      some (renewedRecord L before idle victims (kept victims stand) next))
       × ((j : Key) →
-      valueAt (logNow L (stored before clean-plan) (cleanedRecord L before idle victims)) j ≡ valueAt (logNow L before idle) j)
+      valueAt (logNow L (stored before clean-plan) (renewedRecord L before idle victims (kept victims stand) next)) j ≡ valueAt stand j)
   clean-done = (
-    cleaned-recovered L (idle .slots) (idle .size) (idle .cells) before (stored before clean-plan) idle victims (a .recovers) sub views
-        (length-stored before clean-plan) some-victim,
-    log-clean victims (logNow L before idle)
-        (placedFrom L (newSlot idle) (digestSize L) (kept victims (logNow L before idle)))
-        (logNow L (stored before clean-plan) (cleanedRecord L before idle victims))
-        (cleaned-cleaned L (idle .slots) (idle .size) (idle .cells) before (stored before clean-plan) idle victims (a .recovers) sub views)
-        (recovered-apart L (idle .slots) (idle .size) (idle .cells) before idle (a .recovers)),
+    cleaned-recovered L (idle .slots) (idle .size) (idle .cells) before (stored before clean-plan) idle victims next stand (c .recovers)
+        (c .sub) (c .stands) views (length-stored before clean-plan) (c .some-victim),
+    log-clean victims stand (placedFrom L (newSlot idle) (digestSize L) (kept victims stand))
+        (logNow L (stored before clean-plan) (renewedRecord L before idle victims (kept victims stand) next))
+        (cleaned-cleaned L (idle .slots) (idle .size) (idle .cells) before (stored before clean-plan) idle victims next stand (c .recovers)
+        (c .sub) (c .stands) views) (shared-apart stand (c .stands .versions)),
   )
 
 -- ---- the three operations
@@ -118,6 +99,34 @@ module _ (L : Layout) (roomy : Roomy L) (before : List ℕ) (idle : Record) wher
       valueAt (logNow L (stored before (planAt L before idle o)) (finishedRecord L before idle o)) j ≡
       mapAfter idle o (valueAt (logNow L before idle)) j)
 
+  -- a delete, by whether its tombstone finds room
+  finishes-delete : (k : Key) → Accepted L before idle (delete k) → Finishes (delete k)
+  unfolding laid finishedRecord mapAfter planOf isNone pick
+  finishes-delete k a = go (noRoom idle (entrySize L 0)) refl
+    where
+      x : Entry
+      x = tombstoneEntry idle k
+
+      shape : Laid → Record → Type 0
+      shape l r =
+          (recovered L (idle .slots) (idle .size) (idle .cells) (stored before (planOf idle (l .pending 0) (l .bytes))) ≡ some r)
+          × ((j : Key) →
+          valueAt (logNow L (stored before (planOf idle (l .pending 0) (l .bytes))) r) j ≡ pick (sameKey j x) none (valueAt (logNow L before idle) j))
+
+      go : (t : Bool) → noRoom idle (entrySize L 0) ≡ t →
+          shape (pick t (laidForget L idle (logNow L before idle) k) (laidEntry L idle x))
+          (pick t (forgottenRecord L before idle k) (entryRecord L idle (logNow L before idle) x))
+      go true full =
+          let done = clean-done L before idle _ _ _ (forget-cleans L before idle k a full) in
+          (done .0, λ j. done .1 j ∙ forget-value L before idle k a j)
+      go false room =
+          let done = entry-done L roomy before idle x (a .recovers) (a .area-bytes) (delete-enters L before idle k a room) in (
+            done .0,
+            λ j.
+                done .1 j ∙
+                ap (λ (y : Option Entry). pick (sameKey j x) y (valueAt (logNow L before idle) j)) (gives-tombstone x refl),
+          )
+
   pub finishes : (o : Operation) → Accepted L before idle o → Finishes o
   unfolding laid finishedRecord mapAfter planOf isNone
   finishes (write k value) a =
@@ -129,17 +138,21 @@ module _ (L : Layout) (roomy : Roomy L) (before : List ℕ) (idle : Record) wher
             done .1 j ∙
             ap (λ (y : Option Entry). pick (sameKey j x) y (valueAt (logNow L before idle) j)) (gives-object x refl),
       )
-  finishes (delete k) a =
-      let x = tombstoneEntry idle k in
-      let f = delete-enters L before idle k a in
-      let done = entry-done L roomy before idle x (a .recovers) (a .area-bytes) f in (
-        done .0,
-        λ j.
-            done .1 j ∙
-            ap (λ (y : Option Entry). pick (sameKey j x) y (valueAt (logNow L before idle) j))
-            (gives-tombstone x refl),
-      )
-  finishes (clean victims) a = clean-done L before idle victims a
+  finishes (delete k) a = finishes-delete k a
+  finishes (clean victims) a = clean-done L before idle _ _ _ (clean-cleans L before idle victims a)
+
+-- a delete takes the next version, whether or not an entry comes to have it
+pub deleted-next : (L : Layout) (before : List ℕ) (idle : Record) (k : Key) → finishedRecord L before idle (delete k) .next .0 ≡ idle .next .0 + 1
+unfolding finishedRecord pick
+deleted-next L before idle k = go (noRoom idle (entrySize L 0)) (fitsHead L idle (tombstoneEntry idle k))
+  where
+    go : (full fits : Bool) →
+        pick full (forgottenRecord L before idle k)
+        (pick fits (appendedRecord L idle (logNow L before idle) (tombstoneEntry idle k))
+        (headedRecord L idle (logNow L before idle) (tombstoneEntry idle k))) .next .0 ≡ idle .next .0 + 1
+    go true fits = refl
+    go false true = refl
+    go false false = refl
 
 -- ---- reading a recovered log
 

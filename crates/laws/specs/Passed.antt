@@ -59,7 +59,6 @@ pub record DeletePassed (L : Layout) (r : Record) (l : Lengths) (t : Terms) (j :
   pub log-sound : k .forbidden ≡ false
   pub present : k .absent ≡ false
   pub versions-left : versionsSpent L r ≡ false
-  pub room : noRoom r (entrySize L 0) ≡ false
   pub number-left : noNumber r (entrySize L 0) ≡ false
 
 pub delete-passed :
@@ -75,8 +74,7 @@ delete-passed L r l t j k e =
       log-sound = x .1 .1 .1 .1 .0;
       present = x .1 .1 .1 .1 .1 .0;
       versions-left = x .1 .1 .1 .1 .1 .1 .0;
-      room = x .1 .1 .1 .1 .1 .1 .1 .0;
-      number-left = x .1 .1 .1 .1 .1 .1 .1 .1 .0;
+      number-left = x .1 .1 .1 .1 .1 .1 .1 .0;
     }
 
 pub record CleanPassed (L : Layout) (r : Record) (l : Lengths) (n victims : ℕ) : Type 0 where

@@ -13,11 +13,13 @@ use borrow.Author.Tests.{leb-true, ltb-false}
 use Rattle.word.specs.Number.{Bytes}
 use Rattle.word.specs.Laws.{bytes-take, bytes-drop}
 use Rattle.segment.specs.Choice.{pick}
-use Rattle.segment.specs.Layout.{Layout, digestSize}
+use Rattle.segment.specs.Layout.{Layout, digestSize, entrySize}
 use Rattle.segment.specs.Entry.{Entry, WellFormed, bytesIn, kindOf, encoded, sizeOf}
 use Rattle.segment.specs.EntryLaws.{length-encoded, formed-known}
 use Rattle.segment.specs.Digest.{encodedDigest}
 use Rattle.segment.specs.declared.Digest.{Digest}
+use Rattle.segment.specs.declared.Key.{Key}
+use Rattle.segment.specs.declared.Version.{Version}
 use Rattle.slot_map.specs.Bit.{named, within}
 use Rattle.slot_map.specs.BitLaws.{clear-named, add-below}
 use Rattle.slot_map.specs.CountLaws.{clear-sub}
@@ -26,10 +28,7 @@ use Rattle.record.specs.RangeLaws.{Lent, lent}
 use Rattle.record.specs.declared.Record.{Record}
 use Rattle.model.specs.Log.{View, Placed, scan, itemsOf, segmentOf, viewsOf, logOf}
 use Rattle.model.specs.Recovery.{recovered}
-use Rattle.model.specs.Operations.{Operation, write, delete, clean, logNow, writtenEntry, tombstoneEntry, fitsHead, newSlot, newDigest, isKept, kept, allEncoded, Laid, laidAppend, laidHead, laidEntry, laid, commit, planOf, stored}
-use Rattle.model.specs.Refused.{keptLength, startCauses}
-use Rattle.laws.specs.Members.{In, those, those-in, entry-of}
-use Rattle.laws.specs.MapLaws.{kept-those}
+use Rattle.model.specs.Operations.{Operation, write, delete, clean, logNow, writtenEntry, tombstoneEntry, fitsHead, noRoom, newSlot, digestWith, newDigest, kept, allEncoded, Laid, laidAppend, laidHead, laidEntry, laidForget, laidDelete, laid, commit, planOf, stored}
 use Rattle.laws.specs.Stores.{length-commit-within, length-commit-full, length-stored}
 use Rattle.laws.specs.Scans.{encoded-one, scan-scans, scans-stands}
 use Rattle.laws.specs.AppendBytes.{append-prefix, append-prefix-bytes}
@@ -38,7 +37,7 @@ use Rattle.laws.specs.LogLaws.{log-same, log-in, scan-whole}
 use Rattle.laws.specs.RecoverLaws.{recovered-case, recovered-fits, recovered-next, recovered-scan, views-recovered, cut-recovered, cut-log}
 use Rattle.laws.specs.Operated.{Accepted, planAt}
 use Rattle.laws.specs.Entering.{Roomy, Entering, idle-lent, write-enters, delete-enters}
-use Rattle.laws.specs.Passed.{CleanPassed, clean-passed}
+use Rattle.laws.specs.Cleanings.{Cleaning, clean-cleans, forget-cleans}
 
 -- Which plan it is, with what is known of its bytes.
 pub data Planned (L : Layout) (r : Record) : List ℕ → List (ℕ × ℕ) → Type 0 where
@@ -67,47 +66,40 @@ module _ (L : Layout) (roomy : Roomy L) (before : List ℕ) (idle : Record) wher
           (heads (newDigest idle 0) (e ∷ []) (formed-one L e (f .formed))
           (omega (arith, ap length (encoded-one L e), length-encoded L e, roomy .room (kindOf L e) (length (bytesIn (e .value))) (formed-known L e (f .formed)))))
 
--- every entry of a recovered log of bytes is well formed
-pub log-formed :
-    (L : Layout) (n s m : ℕ) (area : List ℕ) (r : Record) → Bytes area → recovered L n s m area ≡ some r → (x : Placed) →
-    In x (logOf (viewsOf L area s) (named (r .map)) n) → WellFormed L (x .entry)
-log-formed L n s m area r bytes e x =
-    recovered-case L n s m area
-    (λ (k : Record). In x (logOf (viewsOf L area s) (named (k .map)) n) → WellFormed L (x .entry))
-    (λ h l f i.
-    let at = log-in (viewsOf L area s) (named (h .digest .map)) n x i in
-    scans-stands (bytes-take s _ (bytes-drop (x .slot * s) area bytes))
-    (scan-scans L (segmentOf area s (x .slot)) (scan-whole (scan L (segmentOf area s (x .slot))) (f .scans (x .slot) (at .below) (at .picked))))
-    (at .item) .formed)
-    r e
-
-pub kept-in : (victims : ℕ) (log : List Placed) (e : Entry) → List·Memᴰ e (kept victims log) → (x : Placed) × In x log × x .entry ≡ e
-kept-in victims log e i =
-    let y = entry-of (those (isKept victims log) log) e (subst (List·Memᴰ e) (kept-those victims log log) i) in
-    (y .0, those-in (isKept victims log) log (y .0) (y .1) .0, y .2)
+module _ (L : Layout) (before : List ℕ) (idle : Record) where
+  planned-clean :
+      (victims : ℕ) (next : Version) (stand : List Placed) → Cleaning L before idle victims next stand →
+      Planned L idle (headBytes L (digestWith idle victims next) (kept victims stand))
+      (headPlan L (idle .size) (newSlot idle) (digestWith idle victims next) (kept victims stand))
+  planned-clean victims next stand c = heads (digestWith idle victims next) (kept victims stand) (c .formed) (c .room)
 
 module _ (L : Layout) (roomy : Roomy L) (before : List ℕ) (idle : Record) where
+  -- a delete, by whether its tombstone finds room
+  planned-delete :
+      (k : Key) → Accepted L before idle (delete k) →
+      Planned L idle (laidDelete L idle (logNow L before idle) k .bytes)
+      (planOf idle (laidDelete L idle (logNow L before idle) k .pending 0) (laidDelete L idle (logNow L before idle) k .bytes))
+  unfolding pick planOf
+  planned-delete k a = go (noRoom idle (entrySize L 0)) refl
+    where
+      shape : Laid → Type 0
+      shape l = Planned L idle (l .bytes) (planOf idle (l .pending 0) (l .bytes))
+
+      go : (t : Bool) → noRoom idle (entrySize L 0) ≡ t →
+          shape (pick t (laidForget L idle (logNow L before idle) k) (laidEntry L idle (tombstoneEntry idle k)))
+      go true full = planned-clean L before idle _ _ _ (forget-cleans L before idle k a full)
+      go false room =
+          planned-entry L roomy before idle (tombstoneEntry idle k) (delete-enters L before idle k a room)
+          (idle-lent L before idle (delete k) a .size-low)
+
   -- The plan of an accepted operation.
   pub planned : (o : Operation) → Accepted L before idle o → Planned L idle (laid L idle (logNow L before idle) o .bytes) (planAt L before idle o)
-  unfolding laid planOf startCauses
+  unfolding laid planOf
   planned (write k value) a =
       planned-entry L roomy before idle (writtenEntry idle k value) (write-enters L before idle k value a)
       (idle-lent L before idle (write k value) a .size-low)
-  planned (delete k) a =
-      planned-entry L roomy before idle (tombstoneEntry idle k) (delete-enters L before idle k a)
-      (idle-lent L before idle (delete k) a .size-low)
-  planned (clean victims) a =
-      heads (newDigest idle victims) (kept victims (logNow L before idle)) formed
-      (ltb-false (idle .size) (digestSize L + length (allEncoded L (kept victims (logNow L before idle)))) (tests .kept-fits))
-    where
-      tests : CleanPassed L idle (a .lengths) (keptLength L (logNow L before idle) victims) victims
-      tests = clean-passed L idle (a .lengths) (keptLength L (logNow L before idle) victims) victims (a .no-cause)
-
-      formed : (x : Entry) → List·Memᴰ x (kept victims (logNow L before idle)) → WellFormed L x
-      formed x i =
-          let y = kept-in victims (logNow L before idle) x i in
-          subst (WellFormed L) (y .2)
-          (log-formed L (idle .slots) (idle .size) (idle .cells) before idle (a .area-bytes) (a .recovers) (y .0) (y .1))
+  planned (delete k) a = planned-delete k a
+  planned (clean victims) a = planned-clean L before idle _ _ _ (clean-cleans L before idle victims a)
 
 -- ---- what it leaves
 

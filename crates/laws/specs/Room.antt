@@ -1,4 +1,4 @@
--- Room: one victim always fits a new head, a new head leaves a slot free, and a cleaning never leaves fewer free than before.
+-- Room: one victim always fits a new head, also of a delete that cleans it, a new head leaves a slot free, and a cleaning never leaves fewer free than before.
 use Prim.Native.Nat.{ℕ, zero, suc, _+_, _-_, _^_, _≤_, _<_}
 use native.Mathlib.Nat.{sub-zero}
 use native.Mathlib.Omega.{arith}
@@ -12,24 +12,28 @@ use lib.ListN.{length}
 use borrow.Author.Tests.{le-ltb, eq-eqb, ne-eqb}
 use Rattle.segment.specs.Choice.{both, both-true, both-false-right}
 use Rattle.segment.specs.Layout.{Layout, digestSize}
+use Rattle.segment.specs.Entry.{bytesIn, encoded}
+use Rattle.segment.specs.EntryLaws.{length-encoded}
+use Rattle.segment.specs.declared.Key.{Key}
 use Rattle.slot_map.specs.Bit.{named, within}
 use Rattle.slot_map.specs.BitLaws.{bit-pow-other, named-true, set-below}
-use Rattle.slot_map.specs.NextLaws.{next-clear}
+use Rattle.slot_map.specs.NextLaws.{next-below, next-clear}
 use Rattle.slot_map.specs.Count.{used, free}
 use Rattle.slot_map.specs.CountLaws.{renewed-le, used-add}
 use Rattle.record.specs.RangeLaws.{Lent, lent}
 use Rattle.record.specs.declared.Record.{Record}
-use Rattle.model.specs.Log.{View, Item, Placed, scan, scanned, itemsOf, endOf, isDamaged, segmentOf, viewsOf, logOf, placedIn}
+use Rattle.model.specs.Log.{View, Item, Placed, scan, scanned, itemsOf, endOf, isDamaged, segmentOf, viewsOf, logOf, placedIn, present}
 use Rattle.model.specs.Recovery.{recovered}
-use Rattle.model.specs.Operations.{logNow, newSlot, newDigest, kept, allEncoded}
+use Rattle.model.specs.Operations.{logNow, tombstoneEntry, newSlot, newDigest, kept, allEncoded, replaced, replacedBy, slotOf, forgetKept}
 use Rattle.model.specs.Refused.{keptTooLong, keptLength}
-use Rattle.laws.specs.Members.{entriesOf}
-use Rattle.laws.specs.MapLaws.{inSlot, kept-size-one}
+use Rattle.laws.specs.Members.{In, entriesOf}
+use Rattle.laws.specs.Latest.{latest-some}
+use Rattle.laws.specs.MapLaws.{inSlot, encoded-total, kept-size-one}
+use Rattle.laws.specs.Forgotten.{replaced-those, replaced-total, present-live}
 use Rattle.laws.specs.Stores.{slot-inside, length-segment}
 use Rattle.laws.specs.Scans.{itemEntries, Scans, scan-scans, scans-total, scans-high}
-use Rattle.laws.specs.LogLaws.{partOf, part-picked, part-passed, no-parts, log-those, scan-whole}
+use Rattle.laws.specs.LogLaws.{partOf, part-picked, part-passed, no-parts, log-those, log-in, scan-whole}
 use Rattle.laws.specs.RecoverLaws.{recovered-case, recovered-fits}
-use Rattle.laws.specs.Planned.{new-below}
 
 -- ---- the part of a log that one slot holds
 
@@ -52,9 +56,18 @@ one-picked v p i (suc n) l q o = go (ℕ-discrete i n) (λ h. one-picked v p i n
     go (no e) ih =
         ap (λ (l : List Placed). logOf v p n ++ l) (part-passed v p n (o n (λ z. e (sym z)))) ∙ append-nil (logOf v p n) ∙ ih (omega arith)
 
+-- the part of a log in one of its slots is what the slot holds
+pub slot-log : (v : ℕ → View) (map n i : ℕ) → i < n → named map i ≡ true → inSlot i (logOf v (named map) n) ≡ placedIn i (itemsOf (v i .scan))
+slot-log v map n i l q =
+    log-those v (named map) (λ j. eqb j i) n
+    ∙ one-picked v (λ j. both (named map j) (eqb j i)) i n l (both-true _ _ q (eq-eqb i i refl)) (λ j o. both-false-right _ _ (ne-eqb j i o))
+
 module _ (L : Layout) (area : List ℕ) (r : Record) (e : recovered L (r .slots) (r .size) (r .cells) area ≡ some r) where
   facts : Lent L r (length area) (r .cells)
   facts = lent L r (length area) (r .cells) (recovered-fits L (r .slots) (r .size) (r .cells) area r e)
+
+  new-below : newSlot r < r .slots
+  new-below = next-below (r .slots) (r .map) (r .head) (facts .head-below) (facts .some-free)
 
   -- what a log slot holds fits behind a digest
   slot-fits : (i : ℕ) → i < r .slots → named (r .map) i ≡ true → digestSize L + length (allEncoded L (entriesOf (inSlot i (logNow L area r)))) ≤ r .size
@@ -71,18 +84,19 @@ module _ (L : Layout) (area : List ℕ) (r : Record) (e : recovered L (r .slots)
       scans = scan-scans L (segmentOf area (r .size) i) whole
 
       held : entriesOf (inSlot i (logNow L area r)) ≡ itemEntries (itemsOf (scan L (segmentOf area (r .size) i)))
-      held =
-          ap entriesOf
-          (log-those (viewsOf L area (r .size)) (named (r .map)) (λ j. eqb j i) (r .slots) ∙
-          one-picked (viewsOf L area (r .size)) (λ j. both (named (r .map) j) (eqb j i)) i (r .slots) l
-          (both-true _ _ q (eq-eqb i i refl)) (λ j o. both-false-right _ _ (ne-eqb j i o))) ∙
-          entries-in i (itemsOf (scan L (segmentOf area (r .size) i)))
+      held = ap entriesOf (slot-log (viewsOf L area (r .size)) (r .map) (r .slots) i l q) ∙ entries-in i (itemsOf (scan L (segmentOf area (r .size) i)))
 
-  -- One victim always fits: 14 never holds for a single victim.
-  pub one-victim-fits : (i : ℕ) → named (r .map) i ≡ true → keptTooLong L r (keptLength L (logNow L area r) (2 ^ i)) ≡ false
-  one-victim-fits i q =
-      le-ltb (r .size) (digestSize L + length (allEncoded L (kept (2 ^ i) (logNow L area r))))
-      (omega (arith, kept-size-one L (2 ^ i) i (logNow L area r) only, slot-fits i (set-below (r .slots) (r .map) i (facts .map-below) (named-true (r .map) i q)) q))
+  -- what is kept of one slot fits, also by a log whose entries there take no more bytes
+  one-fits :
+      (i : ℕ) → named (r .map) i ≡ true → (stand : List Placed) →
+      length (allEncoded L (entriesOf (inSlot i stand))) ≤ length (allEncoded L (entriesOf (inSlot i (logNow L area r)))) →
+      digestSize L + length (allEncoded L (kept (2 ^ i) stand)) ≤ r .size
+  one-fits i q stand few =
+      omega (
+        arith,
+        kept-size-one L (2 ^ i) i stand only,
+        slot-fits i (set-below (r .slots) (r .map) i (facts .map-below) (named-true (r .map) i q)) q,
+      )
     where
       only : (j : ℕ) → named (2 ^ i) j ≡ true → j ≡ i
       only j p = go (ℕ-discrete j i)
@@ -91,13 +105,43 @@ module _ (L : Layout) (area : List ℕ) (r : Record) (e : recovered L (r .slots)
           go (yes h) = h
           go (no h) = absurd (omega (arith, named-true (2 ^ i) j p, bit-pow-other i j (λ z. h (sym z))))
 
+  -- One victim always fits: 14 never holds for a single victim.
+  pub one-victim-fits : (i : ℕ) → named (r .map) i ≡ true → keptTooLong L r (keptLength L (logNow L area r) (2 ^ i)) ≡ false
+  one-victim-fits i q =
+      le-ltb (r .size) (digestSize L + length (allEncoded L (kept (2 ^ i) (logNow L area r)))) (one-fits i q (logNow L area r) (omega arith))
+
+  -- 02, R-4: a delete that finds no room always fits its new head, for a tombstone is no longer than the object whose place it takes.
+  pub full-delete-fits : (k : Key) (x : Placed) → present (logNow L area r) k ≡ some x →
+      digestSize L + length (allEncoded L (forgetKept r (logNow L area r) k)) ≤ r .size
+  unfolding replacedBy slotOf bytesIn
+  full-delete-fits k x is =
+      rw is
+      (one-fits (x .slot) (log-in (viewsOf L area (r .size)) (named (r .map)) (r .slots) x member .picked)
+      (replaced (x .entry .version) (tombstoneEntry r k) (logNow L area r)) few)
+    where
+      member : In x (logNow L area r)
+      member = latest-some (logNow L area r) k x (present-live (logNow L area r) k x is .latest-of) .member
+
+      few :
+          length (allEncoded L (entriesOf (inSlot (x .slot) (replaced (x .entry .version) (tombstoneEntry r k) (logNow L area r))))) ≤
+          length (allEncoded L (entriesOf (inSlot (x .slot) (logNow L area r))))
+      few =
+          rw (replaced-those (x .entry .version) (tombstoneEntry r k) (λ j. eqb j (x .slot)) (logNow L area r))
+          (omega (
+            arith,
+            encoded-total L (entriesOf (replaced (x .entry .version) (tombstoneEntry r k) (inSlot (x .slot) (logNow L area r)))),
+            encoded-total L (entriesOf (inSlot (x .slot) (logNow L area r))),
+            replaced-total (x .entry .version) (tombstoneEntry r k) (λ d. length (encoded L d)) (inSlot (x .slot) (logNow L area r))
+                (λ y m. omega (arith, length-encoded L (tombstoneEntry r k), length-encoded L (y .entry))),
+          ))
+
   -- A new head for an entry, which asks for two free slots, leaves one.
   pub head-leaves-one : used (r .slots) (r .map) + 2 ≤ r .slots → used (r .slots) (newDigest r 0 .map) < r .slots
   head-leaves-one h =
       omega (
         arith,
         ap (λ (x : ℕ). used (r .slots) (x + 2 ^ newSlot r)) (sub-zero (r .map)),
-        used-add (r .slots) (r .map) (newSlot r) (new-below L area r e)
+        used-add (r .slots) (r .map) (newSlot r) new-below
             (next-clear (r .slots) (r .map) (r .head) (facts .head-below) (facts .some-free)),
       )
 
@@ -106,6 +150,6 @@ module _ (L : Layout) (area : List ℕ) (r : Record) (e : recovered L (r .slots)
   clean-leaves victims sub some-victim =
       omega (
         arith,
-        renewed-le (r .slots) (r .map) victims (newSlot r) sub (facts .map-below) some-victim (new-below L area r e)
+        renewed-le (r .slots) (r .map) victims (newSlot r) sub (facts .map-below) some-victim new-below
             (next-clear (r .slots) (r .map) (r .head) (facts .head-below) (facts .some-free)),
       )

@@ -1,14 +1,16 @@
 -- What holds of every start.
 use Prim.Native.Nat.{ℕ}
 use mathlib.Core.Path.{_≡_, refl, ap}
-use mathlib.Core.Bool.{true, not}
+use mathlib.Core.Bool.{true, false, not}
 use mathlib.Core.List.{List, [], _∷_}
 use mathlib.Core.Option.{Option, none, some}
+use lib.Dec.{eqb}
 use lib.ListN.{length}
 use lib.Seq.{length-sets}
 use borrow.Author.Tests.{not-false}
 use Rattle.segment.specs.Layout.{Layout}
 use Rattle.segment.specs.declared.Key.{Key}
+use Rattle.record.specs.Refusals.{numberOfRefusal}
 use Rattle.record.specs.declared.Refusal.{Refusal}
 use Rattle.record.specs.declared.Refusal.the-variants.{BadRecord, Absent}
 use Rattle.record.specs.declared.Tables.{Tables}
@@ -19,7 +21,7 @@ use Rattle.model.specs.Causes.{when, firstCause}
 use Rattle.model.specs.Operations.{Operation, write, delete, clean, Typed, laid}
 use Rattle.model.specs.Refused.{Lengths, Terms, freely, keyFacts, keyAbsent, expectsOther, recordBad, reachCauses, earlyCauses, readCauses, writeCauses, deleteCauses, startCauses}
 use Rattle.model.specs.Promises.{begun}
-use Rattle.laws.specs.CauseLaws.{cause-first, first-some, NoCause, no-cause, causes-none}
+use Rattle.laws.specs.CauseLaws.{cause-first, first-some, NoCause, no-cause, causes-none, never-met}
 
 -- the work buffer keeps its length
 pub begun-length : (L : Layout) (r : Record) (log : List Placed) (o : Operation) (work : List ℕ) (c : Option Refusal) →
@@ -75,3 +77,9 @@ unfolding startCauses StartInside
 start-inside L r log l t (write k value) e = not-false _ (no-cause (writeCauses L r l t k (keyFacts log k) (length value)) e .1 .0)
 start-inside L r log l t (delete k) e = not-false _ (no-cause (deleteCauses L r l t k (keyFacts log k)) e .1 .0)
 start-inside L r log l t (clean victims) e = tt
+
+-- 02, R-4: a delete never meets 12, whatever record and log it is given.
+pub delete-never-full : (L : Layout) (r : Record) (log : List Placed) (l : Lengths) (t : Terms) (k : Key) (c : Refusal) →
+    firstCause (startCauses L r log l t (delete k)) ≡ some c → eqb (numberOfRefusal c) 12 ≡ false
+unfolding startCauses
+delete-never-full L r log l t k c e = never-met 12 (deleteCauses L r l t k (keyFacts log k)) (refl, (refl, (refl, (refl, (refl, (refl, (refl, (refl, tt)))))))) c e

@@ -16,3 +16,4 @@ pub mod Play
 pub mod Cases
 pub mod MoreCases
 pub mod RequestCases
+pub mod FullCases

@@ -7,7 +7,7 @@ use Rattle.segment.specs.Layout.{edition1}
 use Rattle.segment.specs.Entry.{Entry}
 use Rattle.segment.specs.declared.Key.{Key}
 use Rattle.record.specs.declared.Pending.{Pending}
-use Rattle.record.specs.declared.Pending.the-variants.{Idle, Append, NewHead, Clean}
+use Rattle.record.specs.declared.Pending.the-variants.{Idle, Append, NewHead, Clean, Forget}
 use Rattle.record.specs.declared.Record.{Record}
 use Rattle.record.specs.Reach.{allTables}
 use Rattle.model.specs.Recovery.{recoverCauses, recovery}
@@ -18,10 +18,10 @@ use Rattle.model.specs.Expected.{holds, gives, refusedBy, toCome, remain
 use Rattle.model.specs.Table.{Row, row, failing, Hold, joined, rows-hold}
 
 -- an object of 8 bytes, one of 56 and one of 120
-abbrev small : Key → ℕ → Entry
+abbrev pub small : Key → ℕ → Entry
 small k v = object k v (replicate 8 v)
 
-abbrev large : Key → ℕ → Entry
+abbrev pub large : Key → ℕ → Entry
 large k v = object k v (replicate 56 v)
 
 abbrev long : Key → ℕ → Entry
@@ -33,13 +33,13 @@ tombstones zero = []
 tombstones (suc n) = tombstones n ++ tombstone (keyed 1 (suc n)) (suc n) ∷ []
 
 -- a slot with a digest and entries, and 255 behind them; one with a digest whose map and next version are nonsense; one with none
-abbrev seg : (number map next : ℕ) → List Entry → List ℕ
+abbrev pub seg : (number map next : ℕ) → List Entry → List ℕ
 seg number map next es = slotWith 255 (segmentWith number map next es)
 
 abbrev bare : ℕ → List ℕ
 bare number = seg number 0 0 []
 
-abbrev vacant : List ℕ
+abbrev pub vacant : List ℕ
 vacant = slotWith 255 []
 
 -- ---- what recovery refuses: a row's number is the refusal's
@@ -208,8 +208,8 @@ callRefusals =
     (4 ∷ 4 ∷ 4 ∷ 4 ∷ 4 ∷ 4 ∷ 4 ∷ 4 ∷ [])
     -- stores left: 0 and over S + 1
     ∷ row 4
-    (map (λ p. readsOf (busy p)) (Append 19 0 ∷ NewHead 1 32 0 ∷ Clean 1 1 13 0 ∷ Append 19 258 ∷ NewHead 1 32 258 ∷ Clean 1 1 13 258 ∷ []))
-    (4 ∷ 4 ∷ 4 ∷ 4 ∷ 4 ∷ 4 ∷ [])
+    (map (λ p. readsOf (busy p)) (Append 19 0 ∷ NewHead 1 32 0 ∷ Clean 1 1 13 0 ∷ Forget 1 1 13 0 ∷ Append 19 258 ∷ NewHead 1 32 258 ∷ Clean 1 1 13 258 ∷ Forget 1 1 13 258 ∷ []))
+    (replicate 8 4)
     -- all of these at their limits
     ∷ row 4
     (map readsOf
@@ -238,7 +238,8 @@ callRefusals =
     ∷ row 10 (startNumber (filled limit 3 1) (delete (keyed 1 1)) ∷ startNumber (filled 4294967294 3 1) (delete (keyed 1 1)) ∷ []) (10 ∷ 0 ∷ [])
     ∷ row 11 (map (startNumber (crowded limit 7 1)) (newKey 8 ∷ newKey 120 ∷ [])) (11 ∷ 11 ∷ [])
     ∷ row 12 (map (startNumber (crowded limit 7 1)) (oldKey 8 ∷ oldKey 120 ∷ [])) (12 ∷ 12 ∷ [])
-    ∷ row 12 (startNumber (filled limit 7 1) (delete (keyed 1 1)) ∷ []) (12 ∷ [])
+    -- a delete finds room where a write of its size would not
+    ∷ row 12 (startNumber (filled limit 7 1) (delete (keyed 1 1)) ∷ startNumber (filled 3 7 1) (delete (keyed 1 1)) ∷ []) (10 ∷ 0 ∷ [])
     -- two free slots are enough, and an entry that fits needs none
     ∷ row 12 (startNumber (crowded 3 3 1) (oldKey 8) ∷ startNumber (crowded 3 7 1) (delete (keyed 1 1)) ∷ []) (0 ∷ 0 ∷ [])
     ∷ row 13 (map (λ v. startNumber (crowded limit 7 1) (clean v)) (0 ∷ 8 ∷ 9 ∷ 16 ∷ [])) (13 ∷ 13 ∷ 13 ∷ 13 ∷ [])

@@ -7,21 +7,22 @@ use lib.Dec.{eqb, ltb, leb}
 use lib.ListN.{length, getD, take, drop, set}
 use Rattle.word.specs.Number.{Bytes}
 use Rattle.segment.specs.Choice.{pick, both, either}
-use Rattle.segment.specs.Layout.{Layout, digestSize}
+use Rattle.segment.specs.Layout.{Layout, entrySize, digestSize}
 use Rattle.segment.specs.Entry.{Entry, isTombstone, encoded, sizeOf, keyOf}
 use Rattle.segment.specs.Digest.{encodedDigest}
 use Rattle.segment.specs.declared.Digest.{Digest}
 use Rattle.segment.specs.declared.Key.{Key}
 use Rattle.segment.specs.declared.Version.{Version}
 use Rattle.slot_map.specs.Bit.{named}
+use Rattle.slot_map.specs.Count.{free}
 use Rattle.slot_map.specs.Next.{nextFree}
 use Rattle.record.specs.Answers.{withPending}
 use Rattle.record.specs.Committed.{committed}
 use Rattle.record.specs.declared.Commit.{Commit}
 use Rattle.record.specs.declared.Pending.{Pending}
-use Rattle.record.specs.declared.Pending.the-variants.{Idle, Append, NewHead, Clean}
+use Rattle.record.specs.declared.Pending.the-variants.{Idle, Append, NewHead, Clean, Forget}
 use Rattle.record.specs.declared.Record.{Record}
-use Rattle.model.specs.Log.{View, Placed, viewsOf, logOf, latest, hasKey, keysOf, sameKey}
+use Rattle.model.specs.Log.{View, Placed, viewsOf, logOf, latest, present, hasKey, keysOf, sameKey}
 
 -- The three operations: write a value under a key, delete a key, clean a slot map of victims.
 pub data Operation : Type 0 where
@@ -55,14 +56,26 @@ tombstoneEntry r k = record { table = k .table; key = k .key; version = r .next 
 abbrev pub fitsHead : Layout → Record → Entry → Bool
 fitsHead L r e = leb (r .end + sizeOf L e) (r .size)
 
+-- An entry of n bytes finds no room: it does not fit the head, and fewer than two slots are free.
+abbrev pub noRoom : Record → ℕ → Bool
+noRoom r n = both (not (leb (r .end + n) (r .size))) (ltb (free (r .slots) (r .map)) 2)
+
 -- The slot of a new head: from the old head upwards, and from slot 0 on again, the first that is free.
 abbrev pub newSlot : Record → ℕ
 newSlot r = nextFree (r .slots) (r .map) (r .head)
 
--- Its digest has the next number, names the new slot and no victim, and has the next version that the record had.
+-- Its digest has the next number, names the new slot and no victim, and has a next version,
+abbrev pub digestWith : Record → ℕ → Version → Digest
+digestWith r victims next =
+    record { number = record { 0 = r .digest .0 + 1 }; map = r .map - victims + 2 ^ newSlot r; next = next }
+
+-- which is the one that the record had.
 abbrev pub newDigest : Record → ℕ → Digest
-newDigest r victims =
-    record { number = record { 0 = r .digest .0 + 1 }; map = r .map - victims + 2 ^ newSlot r; next = r .next }
+newDigest r victims = digestWith r victims (r .next)
+
+-- The next version once the operation has taken its own.
+abbrev pub nextAfter : Record → Version
+nextAfter r = record { 0 = r .next .0 + 1 }
 
 -- An entry of the log is its key's highest version there.
 unfoldable pub isVersion : Option Placed → ℕ → Bool
@@ -126,9 +139,54 @@ laidClean L r log victims =
       bytes = encodedDigest L (newDigest r victims) ++ allEncoded L (kept victims log);
     }
 
+-- 02, R-4: a delete that finds no room cleans the one slot with the live object.
+
+-- the log with an entry in the place of the one that has version v
+unfoldable pub replaced : ℕ → Entry → List Placed → List Placed
+replaced v e [] = []
+replaced v e (x ∷ xs) =
+    record { slot = x .slot; offset = x .offset; entry = pick (eqb (x .entry .version) v) e (x .entry) } ∷ replaced v e xs
+
+-- the log with an entry in the place of a live object, and the slot of the object
+unfoldable pub replacedBy : Entry → List Placed → Option Placed → List Placed
+replacedBy e log none = log
+replacedBy e log (some x) = replaced (x .entry .version) e log
+
+unfoldable pub slotOf : Option Placed → ℕ
+slotOf none = 0
+slotOf (some x) = x .slot
+
+-- The log in which the tombstone stands where the key's live object stood,
+abbrev pub forgottenLog : Record → List Placed → Key → List Placed
+forgottenLog r log k = replacedBy (tombstoneEntry r k) log (present log k)
+
+-- and the slot map of the one victim.
+abbrev pub forgetVictim : List Placed → Key → ℕ
+forgetVictim log k = 2 ^ slotOf (present log k)
+
+-- What a cleaning of the victim keeps of that log: in the object's place the tombstone, if an object of the key stands outside the
+-- victim, and else nothing.
+abbrev pub forgetKept : Record → List Placed → Key → List Entry
+forgetKept r log k = kept (forgetVictim log k) (forgottenLog r log k)
+
+-- Its digest alone has the next version after the operation, since no entry may have the operation's own.
+abbrev pub forgetDigest : Record → List Placed → Key → Digest
+forgetDigest r log k = digestWith r (forgetVictim log k) (nextAfter r)
+
+abbrev pub laidForget : Layout → Record → List Placed → Key → Laid
+laidForget L r log k =
+    record {
+      pending = λ n. Forget (newSlot r) (forgetVictim log k) (digestSize L + length (allEncoded L (forgetKept r log k))) n;
+      bytes = encodedDigest L (forgetDigest r log k) ++ allEncoded L (forgetKept r log k);
+    }
+
+-- A delete goes that way if its tombstone finds no room.
+abbrev pub laidDelete : Layout → Record → List Placed → Key → Laid
+laidDelete L r log k = pick (noRoom r (entrySize L 0)) (laidForget L r log k) (laidEntry L r (tombstoneEntry r k))
+
 unfoldable pub laid : Layout → Record → List Placed → Operation → Laid
 laid L r log (write k value) = laidEntry L r (writtenEntry r k value)
-laid L r log (delete k) = laidEntry L r (tombstoneEntry r k)
+laid L r log (delete k) = laidDelete L r log k
 laid L r log (clean victims) = laidClean L r log victims
 
 -- ---- the stores, in order: each is a place in the area and a byte
@@ -151,6 +209,7 @@ planOf r Idle bytes = []
 planOf r (Append n k) bytes = commit (r .size) (r .head) (r .end) bytes
 planOf r (NewHead i n k) bytes = (i * r .size, 0) ∷ commit (r .size) i 0 bytes
 planOf r (Clean i v n k) bytes = (i * r .size, 0) ∷ commit (r .size) i 0 bytes
+planOf r (Forget i v n k) bytes = (i * r .size, 0) ∷ commit (r .size) i 0 bytes
 
 -- The stores of an operation that is started on this record and log, and how many they are.
 abbrev pub planFor : Layout → Record → List Placed → Operation → List (ℕ × ℕ)
@@ -192,7 +251,7 @@ placedFrom L i at (e ∷ es) = record { slot = i; offset = at; entry = e } ∷ p
 -- What the last store makes of the head and the counters: n more bytes in the head, and the next version is taken.
 abbrev pub appendCommit : Record → ℕ → Commit
 appendCommit r n =
-    record { head = r .head; end = r .end + n; digest = r .digest; map = r .map; next = record { 0 = r .next .0 + 1 } }
+    record { head = r .head; end = r .end + n; digest = r .digest; map = r .map; next = nextAfter r }
 
 -- A new head of n bytes in a slot, with this map and this next version; the digest number is one higher.
 abbrev pub headCommit : Record → ℕ → ℕ → ℕ → Version → Commit
@@ -204,28 +263,38 @@ appendedRecord L r log e = committed r (appendCommit r (sizeOf L e)) (r .keys + 
 
 abbrev pub headedRecord : Layout → Record → List Placed → Entry → Record
 headedRecord L r log e =
-    committed r (headCommit r (newSlot r) (digestSize L + sizeOf L e) (newDigest r 0 .map) (record { 0 = r .next .0 + 1 }))
+    committed r (headCommit r (newSlot r) (digestSize L + sizeOf L e) (newDigest r 0 .map) (nextAfter r))
     (r .keys + countNew log (keyOf e))
 
 abbrev pub entryRecord : Layout → Record → List Placed → Entry → Record
 entryRecord L r log e = pick (fitsHead L r e) (appendedRecord L r log e) (headedRecord L r log e)
 
--- The log that a cleaning leaves, but for the order of its slots: what stands outside the victims, and what is kept.
-abbrev pub cleanedLog : Layout → List ℕ → Record → ℕ → List Placed
-cleanedLog L area r victims =
-    logOf (viewsOf L area (r .size)) (outsideSlots (r .map) victims) (r .slots) ++
-    placedFrom L (newSlot r) (digestSize L) (kept victims (logNow L area r))
+-- The log that a cleaning leaves, but for the order of its slots: what stands outside the victims, and the entries kept.
+abbrev pub renewedLog : Layout → List ℕ → Record → ℕ → List Entry → List Placed
+renewedLog L area r victims es =
+    logOf (viewsOf L area (r .size)) (outsideSlots (r .map) victims) (r .slots) ++ placedFrom L (newSlot r) (digestSize L) es
 
+abbrev pub renewedRecord : Layout → List ℕ → Record → ℕ → List Entry → Version → Record
+renewedRecord L area r victims es next =
+    committed r (headCommit r (newSlot r) (digestSize L + length (allEncoded L es)) (newDigest r victims .map) next)
+    (length (keysOf (renewedLog L area r victims es)))
+
+-- A cleaning keeps the next version; a delete that cleans has taken it.
 abbrev pub cleanedRecord : Layout → List ℕ → Record → ℕ → Record
-cleanedRecord L area r victims =
-    committed r
-    (headCommit r (newSlot r) (digestSize L + length (allEncoded L (kept victims (logNow L area r)))) (newDigest r victims .map) (r .next))
-    (length (keysOf (cleanedLog L area r victims)))
+cleanedRecord L area r victims = renewedRecord L area r victims (kept victims (logNow L area r)) (r .next)
+
+abbrev pub forgottenRecord : Layout → List ℕ → Record → Key → Record
+forgottenRecord L area r k =
+    renewedRecord L area r (forgetVictim (logNow L area r) k) (forgetKept r (logNow L area r) k) (nextAfter r)
+
+abbrev pub deletedRecord : Layout → List ℕ → Record → Key → Record
+deletedRecord L area r k =
+    pick (noRoom r (entrySize L 0)) (forgottenRecord L area r k) (entryRecord L r (logNow L area r) (tombstoneEntry r k))
 
 -- The record after the last step of an operation that was started on this area and record.
 unfoldable pub finishedRecord : Layout → List ℕ → Record → Operation → Record
 finishedRecord L area r (write k value) = entryRecord L r (logNow L area r) (writtenEntry r k value)
-finishedRecord L area r (delete k) = entryRecord L r (logNow L area r) (tombstoneEntry r k)
+finishedRecord L area r (delete k) = deletedRecord L area r k
 finishedRecord L area r (clean victims) = cleanedRecord L area r victims
 
 -- ---- format

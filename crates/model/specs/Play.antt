@@ -23,7 +23,7 @@ use Rattle.record.specs.Reach.{holdsTable, allTables}
 use Rattle.model.specs.Log.{Placed, itemFirst, scanFrom, itemsOf, endOf, isDamaged, digestIn, newer, headOf, placedIn, logOf, sameKeys, sameKey, laterOf, latest, objectOnly, present, hasKey, keysOf, hasVersion, versionShared, highest}
 use Rattle.model.specs.Causes.{Cause, firstCause}
 use Rattle.model.specs.Recovery.{lists, listsBelow, headElse, hasNumber, sharing, namesNoDigest, logDamaged, recoveryFor, recovery, recordFrom}
-use Rattle.model.specs.Operations.{Operation, logNow, isVersion, objectOutside, keptOf, kept, allEncoded, laid, storesFrom, planOf, planFor, storesFor, stored, toldVersion, countNew, placedFrom, finishedRecord, cleared, formatted}
+use Rattle.model.specs.Operations.{Operation, logNow, isVersion, objectOutside, keptOf, kept, allEncoded, replaced, replacedBy, slotOf, laid, storesFrom, planOf, planFor, storesFor, stored, toldVersion, countNew, placedFrom, finishedRecord, cleared, formatted}
 use Rattle.model.specs.Refused.{Lengths, Terms, freely, versionIn, expectsOther, isPending, readCauses, startCauses}
 use Rattle.model.specs.Promises.{presentAnswer, readAnswer, partOf, valuePart, valueAnswer, Begun, begun, stepped}
 use Rattle.model.specs.Table.{same, failing}
@@ -34,7 +34,7 @@ unfolding numberOf bytesOf pick both either isNone orZero edition1 lookup lookBa
     holdsTable bit used slotAfter freeFrom nextFree between mapGood leftGood inRange lengthsOwn fitsLent
     itemFirst scanFrom itemsOf endOf isDamaged digestIn newer headOf placedIn logOf sameKeys sameKey laterOf latest objectOnly present hasKey keysOf hasVersion versionShared highest
     firstCause lists listsBelow headElse hasNumber sharing namesNoDigest logDamaged recoveryFor recovery
-    isVersion objectOutside keptOf allEncoded laid storesFrom planOf stored toldVersion countNew placedFrom finishedRecord cleared
+    isVersion objectOutside keptOf allEncoded replaced replacedBy slotOf laid storesFrom planOf stored toldVersion countNew placedFrom finishedRecord cleared
     versionIn expectsOther isPending startCauses presentAnswer readAnswer valuePart valueAnswer begun stepped same failing
 opened = tt
 

@@ -10,10 +10,9 @@ use Rattle.segment.specs.Choice.{both, either, isNone}
 use Rattle.segment.specs.Layout.{Layout, objectKind, entrySize, digestSize, versionLimit, numberLimit}
 use Rattle.segment.specs.declared.Key.{Key}
 use Rattle.slot_map.specs.Bit.{within}
-use Rattle.slot_map.specs.Count.{free}
 use Rattle.record.specs.Range.{fitsLent}
 use Rattle.record.specs.declared.Pending.{Pending}
-use Rattle.record.specs.declared.Pending.the-variants.{Idle, Append, NewHead, Clean}
+use Rattle.record.specs.declared.Pending.the-variants.{Idle, Append, NewHead, Clean, Forget}
 use Rattle.record.specs.declared.Refusal.the-variants.{WorkShort, BadRecord, Busy, NonePending, ValueLength, Absent, VersionsSpent, NumbersSpent, KeysFull, NoRoom, BadVictims, KeptTooLong, Geometry, OtherVersion, OutsideTables}
 use Rattle.record.specs.declared.Record.{Record}
 use Rattle.record.specs.Reach.{holdsTable, allTables}
@@ -24,6 +23,7 @@ use Rattle.model.specs.Log.{Placed, hasKey, present}
 use Rattle.model.specs.Causes.{Cause, when}
 use Rattle.model.specs.Recovery.{geometryBad}
 use Rattle.model.specs.Operations.{Operation, write, delete, clean, kept, allEncoded}
+pub use Rattle.model.specs.Operations.{noRoom}
 
 -- The lengths of what a call is lent.
 pub record Lengths : Type 0 where
@@ -58,6 +58,7 @@ isPending Idle = false
 isPending (Append n k) = true
 isPending (NewHead i n k) = true
 isPending (Clean i v n k) = true
+isPending (Forget i v n k) = true
 
 -- 7, for a value of n bytes
 abbrev pub valueBad : Layout → ℕ → Bool
@@ -106,10 +107,7 @@ numbersSpent r = eqb (r .digest .0) numberLimit
 abbrev pub keysFull : Record → KeyFacts → Bool
 keysFull r k = both (not (k .in-log)) (eqb (r .keys) (r .cells - 1))
 
--- 12, and 10 where a new head is needed, for an entry of n bytes, which may end exactly at S
-abbrev pub noRoom : Record → ℕ → Bool
-noRoom r n = both (not (leb (r .end + n) (r .size))) (ltb (free (r .slots) (r .map)) 2)
-
+-- 12 is `noRoom`; 10 where a new head is needed, for an entry of n bytes, which may end exactly at S
 abbrev pub noNumber : Record → ℕ → Bool
 noNumber r n = both (not (leb (r .end + n) (r .size))) (numbersSpent r)
 
@@ -149,7 +147,7 @@ writeCauses L r l t j k n =
     ∷ when (noNumber r (entrySize L n)) NumbersSpent
     ∷ []
 
--- Delete: 4, 22, 3, 5, 8, 9, 12, 10. Here 8 is the first to need what is known of key j.
+-- Delete: 4, 22, 3, 5, 8, 9, 10. Here 8 is the first to need what is known of key j.
 abbrev pub deleteCauses : Layout → Record → Lengths → Terms → Key → KeyFacts → List Cause
 deleteCauses L r l t j k =
     when (recordBad L r l) BadRecord
@@ -159,7 +157,6 @@ deleteCauses L r l t j k =
     ∷ when (k .forbidden) BadRecord
     ∷ when (k .absent) Absent
     ∷ when (versionsSpent L r) VersionsSpent
-    ∷ when (noRoom r (entrySize L 0)) NoRoom
     ∷ when (noNumber r (entrySize L 0)) NumbersSpent
     ∷ []
 

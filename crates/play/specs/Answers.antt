@@ -32,6 +32,7 @@ workBytes Pending.Idle = 0
 workBytes (Pending.Append n left) = n
 workBytes (Pending.NewHead slot n left) = n
 workBytes (Pending.Clean slot victims n left) = n
+workBytes (Pending.Forget slot victims n left) = n
 
 -- the first store that differs: the one noted before, 0 where none was, or this one
 abbrev pub firstBad : ℕ → ℕ → Bool → ℕ

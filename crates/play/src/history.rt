@@ -26,7 +26,7 @@ pub enum Event {
 }
 
 // How many events there are.
-pub const EVENTS: usize = 58;
+pub const EVENTS: usize = 96;
 
 // 01's cases, with the cuts of case 3, and a longer history.
 const HISTORY: [Event; EVENTS] = [
@@ -93,11 +93,51 @@ const HISTORY: [Event; EVENTS] = [
     Event::Clean(0b1),
     Event::Write(3, 56, 0xc0, 1),
     Event::Recover,
+    // A store filled until writes are refused for want of room. Each key is then deleted by a cleaning of the slot with its live
+    // object, the head here, and what that frees is filled again; key 3 has no object outside, and its tombstone is not needed.
+    Event::Format,
+    Event::Write(0, 56, 0x01, 1),
+    Event::Write(1, 56, 0x02, 1),
+    Event::Write(2, 56, 0x03, 1),
+    Event::Write(0, 56, 0x04, 1),
+    Event::Write(1, 56, 0x05, 1),
+    Event::Write(2, 56, 0x06, 1),
+    Event::Write(3, 56, 0x07, 1),
+    Event::Write(0, 56, 0x08, 1),
+    Event::Write(1, 56, 0x09, 1),
+    Event::Write(2, 8, 0x0a, 1),
+    Event::Write(3, 8, 0x0b, 1),
+    Event::Write(3, 8, 0x0c, 1),
+    Event::Delete(0),
+    Event::Write(1, 56, 0x0d, 1),
+    Event::Write(2, 8, 0x0e, 1),
+    Event::Write(3, 8, 0x0f, 1),
+    Event::Write(2, 8, 0x10, 1),
+    Event::Write(1, 8, 0x11, 1),
+    Event::Fails(60),
+    Event::Delete(1),
+    Event::Delete(1),
+    Event::Write(2, 24, 0x12, 1),
+    Event::Write(3, 24, 0x13, 1),
+    Event::Write(2, 24, 0x14, 1),
+    Event::Write(3, 24, 0x15, 1),
+    Event::Write(2, 24, 0x16, 1),
+    Event::Write(3, 8, 0x17, 1),
+    Event::Delete(2),
+    Event::Write(3, 56, 0x18, 1),
+    Event::Write(3, 56, 0x19, 1),
+    Event::Write(3, 8, 0x1a, 1),
+    Event::Write(3, 8, 0x1b, 1),
+    Event::Write(3, 8, 0x1c, 1),
+    Event::Delete(3),
+    Event::Recover,
+    Event::Write(0, 8, 0x1d, 1),
+    Event::Recover,
 ];
 
 // The event of a number, which is below that of all events.
 pub fn scheduled(i: usize) -> Event
-    requires { ⌜ i < 58 ⌝ }
+    requires { ⌜ i < 96 ⌝ }
 {
     HISTORY[i]
 }

@@ -137,6 +137,12 @@ fn work_bytes(rec: Record) -> u32
             length,
             left: _,
         } => length,
+        Pending::Forget {
+            slot: _,
+            victims: _,
+            length,
+            left: _,
+        } => length,
     }
 }
 

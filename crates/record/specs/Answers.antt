@@ -4,7 +4,7 @@ use mathlib.Core.Option.{Option, none, some}
 use Rattle.record.specs.Refusals.{numberOfRefusal}
 use Rattle.record.specs.declared.Refusal.{Refusal}
 use Rattle.record.specs.declared.Pending.{Pending}
-use Rattle.record.specs.declared.Pending.the-variants.{Idle, Append, NewHead, Clean}
+use Rattle.record.specs.declared.Pending.the-variants.{Idle, Append, NewHead, Clean, Forget}
 use Rattle.record.specs.declared.FormatAnswer.{FormatAnswer}
 use Rattle.record.specs.declared.RecoverAnswer.{RecoverAnswer}
 use Rattle.record.specs.declared.ReadAnswer.{ReadAnswer}
@@ -66,6 +66,7 @@ storesLeft Idle = 0
 storesLeft (Append n k) = k
 storesLeft (NewHead s n k) = k
 storesLeft (Clean s v n k) = k
+storesLeft (Forget s v n k) = k
 
 -- the record with another pending operation
 abbrev pub withPending : Record → Pending → Record

@@ -8,7 +8,7 @@ use Rattle.segment.specs.Layout.{Layout, digestSize}
 use Rattle.slot_map.specs.Bit.{bit, named}
 use Rattle.slot_map.specs.Count.{used}
 use Rattle.record.specs.declared.Pending.{Pending}
-use Rattle.record.specs.declared.Pending.the-variants.{Idle, Append, NewHead, Clean}
+use Rattle.record.specs.declared.Pending.the-variants.{Idle, Append, NewHead, Clean, Forget}
 use Rattle.record.specs.declared.Record.{Record}
 
 -- x from a to b
@@ -37,6 +37,7 @@ leftGood s Idle = true
 leftGood s (Append n k) = between 1 (s + 1) k
 leftGood s (NewHead i n k) = between 1 (s + 1) k
 leftGood s (Clean i v n k) = between 1 (s + 1) k
+leftGood s (Forget i v n k) = between 1 (s + 1) k
 
 -- a record whose numbers are all in range
 unfoldable pub inRange : Layout → Record → Bool

@@ -16,7 +16,7 @@ use Rattle.slot_map.specs.CountLaws.{not-all, all-named}
 use Rattle.record.specs.Answers.{storesLeft, withPending, blank}
 use Rattle.record.specs.Range.{between, slotsGood, sizeGood, cellsGood, mapGood, leftGood, inRange, lengthsOwn, fitsLent}
 use Rattle.record.specs.declared.Pending.{Pending}
-use Rattle.record.specs.declared.Pending.the-variants.{Idle, Append, NewHead, Clean}
+use Rattle.record.specs.declared.Pending.the-variants.{Idle, Append, NewHead, Clean, Forget}
 use Rattle.record.specs.declared.Record.{Record}
 
 -- A record in range whose lent area and index are as long as it says. Where it is idle, 0 stores are left.
@@ -73,6 +73,7 @@ left-pending s Idle busy = absurd (busy refl)
 left-pending s (Append n k) busy = refl
 left-pending s (NewHead i n k) busy = refl
 left-pending s (Clean i v n k) busy = refl
+left-pending s (Forget i v n k) busy = refl
 
 left-pos : (s : ℕ) (p : Pending) → leftGood s p ≡ true → (p ≡ Idle → ⊥) → 0 < storesLeft p
 left-pos s p e busy = between-low 1 (s + 1) (storesLeft p) (sym (left-pending s p busy) ∙ e)
@@ -83,6 +84,7 @@ left-most s Idle e = omega arith
 left-most s (Append n k) e = between-high 1 (s + 1) k e
 left-most s (NewHead i n k) e = between-high 1 (s + 1) k e
 left-most s (Clean i v n k) e = between-high 1 (s + 1) k e
+left-most s (Forget i v n k) e = between-high 1 (s + 1) k e
 
 left-true : (s : ℕ) (p : Pending) → ((p ≡ Idle → ⊥) → 0 < storesLeft p) → storesLeft p ≤ s + 1 → leftGood s p ≡ true
 unfolding leftGood
@@ -90,6 +92,7 @@ left-true s Idle some most = refl
 left-true s (Append n k) some most = between-true 1 (s + 1) k (some (λ e. let z : _≡_ {A = ℕ} 0 1 = cc in absurd (omega arith))) most
 left-true s (NewHead i n k) some most = between-true 1 (s + 1) k (some (λ e. let z : _≡_ {A = ℕ} 0 1 = cc in absurd (omega arith))) most
 left-true s (Clean i v n k) some most = between-true 1 (s + 1) k (some (λ e. let z : _≡_ {A = ℕ} 0 1 = cc in absurd (omega arith))) most
+left-true s (Forget i v n k) some most = between-true 1 (s + 1) k (some (λ e. let z : _≡_ {A = ℕ} 0 1 = cc in absurd (omega arith))) most
 
 -- ---- the map
 

@@ -31,6 +31,13 @@ pub enum Pending {
         length: u32,
         left: u32,
     },
+    // A delete that found no room: the new head in `slot` takes over what the one victim held, without the key's live object.
+    Forget {
+        slot: u32,
+        victims: u32,
+        length: u32,
+        left: u32,
+    },
 }
 
 // The store record of 01, "Memory the caller lends": geometry and index size, what the head's digest says with the end of its
@@ -189,6 +196,12 @@ pub fn stores_left(p: Pending) -> u32
             left,
         } => left,
         Pending::Clean {
+            slot: _,
+            victims: _,
+            length: _,
+            left,
+        } => left,
+        Pending::Forget {
             slot: _,
             victims: _,
             length: _,

@@ -9,7 +9,7 @@ use Rattle.segment.specs.Layout.{Layout}
 use Rattle.record.specs.Range.{fitsLent}
 use Rattle.record.specs.RangeLaws.{Lent, lent}
 use Rattle.record.specs.declared.Pending.{Pending}
-use Rattle.record.specs.declared.Pending.the-variants.{Idle, Append, NewHead, Clean}
+use Rattle.record.specs.declared.Pending.the-variants.{Idle, Append, NewHead, Clean, Forget}
 use Rattle.record.specs.declared.Refusal.{Refusal}
 use Rattle.record.specs.declared.Refusal.the-variants.{WorkShort, BadRecord, Busy}
 use Rattle.record.specs.declared.Record.{Record}
@@ -64,6 +64,7 @@ other-pending Idle n = absurd (n refl)
 other-pending (Append n k) m = refl
 other-pending (NewHead i n k) m = refl
 other-pending (Clean i v n k) m = refl
+other-pending (Forget i v n k) m = refl
 
 -- ---- 3 and 5: p is what the code finds for a pending operation
 

@@ -4,12 +4,13 @@ use mathlib.Core.Path.{_≡_, _∙_, ap}
 use mathlib.Core.Bool.{true}
 use native.Mathlib.Omega.{arith}
 use Rattle.segment.specs.Layout.{Layout, numberLimit}
+use Rattle.segment.specs.declared.Version.{Version}
 use Rattle.slot_map.specs.Bit.{bit, less, withBit, within}
 use Rattle.slot_map.specs.CountLaws.{with-less}
 use Rattle.slot_map.specs.NextLaws.{next-below, next-clear}
 use Rattle.record.specs.RangeLaws.{Lent}
 use Rattle.record.specs.declared.Record.{Record}
-use Rattle.model.specs.Operations.{newSlot, newDigest}
+use Rattle.model.specs.Operations.{newSlot, digestWith}
 
 -- The digest number can go up.
 abbrev pub NumberLeft : Record → Type 0
@@ -38,9 +39,10 @@ head-ready L r a i l victims in-log left slot e =
 
 -- its digest, by the maps that the code computes
 pub digest-laid :
-    (r : Record) (victims slot : ℕ) → HeadReady r victims slot → (kept map : ℕ) → kept ≡ less (r .map) victims → map ≡ withBit kept slot →
-    record { number = record { 0 = r .digest .0 + 1 }; map = map; next = r .next } ≡ newDigest r victims
-digest-laid r victims slot h kept map e f =
-    ap (λ (m : ℕ). record { number = record { 0 = r .digest .0 + 1 }; map = m; next = r .next })
+    (r : Record) (victims slot : ℕ) (next : Version) → HeadReady r victims slot → (kept map : ℕ) → kept ≡ less (r .map) victims →
+    map ≡ withBit kept slot →
+    record { number = record { 0 = r .digest .0 + 1 }; map = map; next = next } ≡ digestWith r victims next
+digest-laid r victims slot next h kept map e f =
+    ap (λ (m : ℕ). record { number = record { 0 = r .digest .0 + 1 }; map = m; next = next })
     (f ∙ ap (λ (m : ℕ). withBit m slot) e ∙ with-less (r .map) victims slot (h .inside) (h .clear) ∙
     ap (λ (i : ℕ). r .map - victims + 2 ^ i) (h .next))

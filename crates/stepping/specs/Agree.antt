@@ -13,7 +13,7 @@ use Rattle.segment.specs.Layout.{Layout, entrySize, digestSize, versionLimit, n
 use Rattle.slot_map.specs.Bit.{named, within}
 use Rattle.record.specs.Answers.{storesLeft}
 use Rattle.record.specs.declared.Pending.{Pending}
-use Rattle.record.specs.declared.Pending.the-variants.{Idle, Append, NewHead, Clean}
+use Rattle.record.specs.declared.Pending.the-variants.{Idle, Append, NewHead, Clean, Forget}
 use Rattle.record.specs.declared.Refusal.{Refusal}
 use Rattle.record.specs.declared.Refusal.the-variants.{BadRecord}
 use Rattle.record.specs.declared.StepAnswer.{StepAnswer}
@@ -38,12 +38,17 @@ slotAgrees r i = both (ltb i (r .slots)) (both (ltb (r .digest .0) numberLimit) 
 unfoldable pub victimsAgree : Layout → Record → ℕ → ℕ → Bool
 victimsAgree L r v n = both (leb (digestSize L) n) (both (ltb 0 v) (within v (r .map)))
 
+-- the same, and a version is left
+unfoldable pub forgetAgrees : Layout → Record → ℕ → ℕ → Bool
+forgetAgrees L r v n = both (ltb (r .next .0) (versionLimit L)) (victimsAgree L r v n)
+
 -- The pending operation agrees with the record, as far as these two tell.
 unfoldable pub agreesWith : Layout → Record → Pending → Bool
 agreesWith L r Idle = false
 agreesWith L r (Append n k) = entryAgrees L r 0 n
 agreesWith L r (NewHead i n k) = both (slotAgrees r i) (entryAgrees L r (digestSize L) n)
 agreesWith L r (Clean i v n k) = both (slotAgrees r i) (victimsAgree L r v n)
+agreesWith L r (Forget i v n k) = both (slotAgrees r i) (forgetAgrees L r v n)
 
 -- the next store, where all the tests are passed
 unfoldable pub testedStore : Layout → ℕ → List ℕ → Record → NextStore

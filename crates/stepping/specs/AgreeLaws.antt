@@ -11,25 +11,28 @@ use borrow.Author.Tests.{lt-ltb, le-ltb, le-leb, lt-leb, ltb-true, leb-true, eqb
 use Rattle.segment.specs.Choice.{pick, pick-true, pick-false, both, both-left, both-right, both-true, both-false-left, both-false-right, either-false-left, either-false-right}
 use Rattle.segment.specs.Layout.{Layout, entrySize, digestSize, goodVersion, versionLimit, numberLimit}
 use Rattle.segment.specs.Entry.{Entry, sizeOf}
+use Rattle.segment.specs.declared.Key.{Key}
+use Rattle.segment.specs.declared.Version.{Version}
 use Rattle.slot_map.specs.Bit.{named, within}
 use Rattle.slot_map.specs.BitLaws.{clear-named}
 use Rattle.slot_map.specs.NextLaws.{next-below, next-clear}
 use Rattle.record.specs.Answers.{withPending}
 use Rattle.record.specs.RangeLaws.{Lent}
 use Rattle.record.specs.declared.Pending.{Pending}
-use Rattle.record.specs.declared.Pending.the-variants.{Idle, Append, NewHead, Clean}
+use Rattle.record.specs.declared.Pending.the-variants.{Idle, Append, NewHead, Clean, Forget}
 use Rattle.record.specs.declared.Refusal.the-variants.{BadRecord}
 use Rattle.record.specs.declared.Stepped.{Stepped}
 use Rattle.record.specs.declared.Record.{Record}
-use Rattle.model.specs.Operations.{Operation, write, delete, clean, Laid, laid, laidAppend, laidHead, laidEntry, laidClean, logNow, newSlot, fitsHead, kept, allEncoded, writtenEntry, tombstoneEntry}
+use Rattle.model.specs.Log.{Placed}
+use Rattle.model.specs.Operations.{Operation, write, delete, clean, Laid, laid, laidAppend, laidHead, laidEntry, laidClean, laidForget, laidDelete, logNow, noRoom, newSlot, fitsHead, kept, allEncoded, writtenEntry, tombstoneEntry}
 use Rattle.model.specs.Causes.{firstCause}
-use Rattle.model.specs.Refused.{keptLength, startCauses, stepCauses}
+use Rattle.model.specs.Refused.{stepCauses}
 use Rattle.model.specs.Promises.{StepRefused, lentLengths}
 use Rattle.laws.specs.Operated.{Accepted}
-use Rattle.laws.specs.Entering.{Entering, idle-lent, idle-number, write-enters, delete-enters}
-use Rattle.laws.specs.Passed.{CleanPassed, clean-passed}
+use Rattle.laws.specs.Entering.{Entering, idle-lent, write-enters, delete-next, delete-enters}
+use Rattle.laws.specs.Cleanings.{Cleaning, clean-cleans, forget-cleans}
 use Rattle.stepping.specs.Next.{nextStore}
-use Rattle.stepping.specs.Agree.{entryAgrees, slotAgrees, victimsAgree, agreesWith, testedStore, StepTested}
+use Rattle.stepping.specs.Agree.{entryAgrees, slotAgrees, victimsAgree, forgetAgrees, agreesWith, testedStore, StepTested}
 use Rattle.stepping.specs.declared.NextStore.{NextStore}
 use Rattle.stepping.specs.declared.NextStore.the-variants.{At, Bad}
 
@@ -70,6 +73,15 @@ module _ (L : Layout) (r : Record) (v n : ℕ) where
   unfolding victimsAgree both
   victims-rest h l e = rw (le-leb (digestSize L) n h, lt-ltb 0 v (omega arith)) e
 
+module _ (L : Layout) (r : Record) (v n : ℕ) where
+  pub forget-spent : versionLimit L ≤ r .next .0 → false ≡ forgetAgrees L r v n
+  unfolding forgetAgrees
+  forget-spent h = sym (both-false-left _ _ (le-ltb (r .next .0) (versionLimit L) h))
+
+  pub forget-rest : r .next .0 < versionLimit L → {t : Bool} → t ≡ victimsAgree L r v n → t ≡ forgetAgrees L r v n
+  unfolding forgetAgrees both
+  forget-rest h e = rw (lt-ltb (r .next .0) (versionLimit L) h) e
+
 module _ (L : Layout) (r : Record) where
   pub agree-idle : r .pending ≡ Idle → false ≡ agreesWith L r (r .pending)
   unfolding agreesWith
@@ -90,6 +102,12 @@ module _ (L : Layout) (r : Record) where
       t ≡ agreesWith L r (r .pending)
   unfolding agreesWith
   agree-clean e h = h ∙ sym (ap (agreesWith L r) e)
+
+  pub agree-forget :
+      {i v n k : ℕ} → r .pending ≡ Forget i v n k → {t : Bool} → t ≡ both (slotAgrees r i) (forgetAgrees L r v n) →
+      t ≡ agreesWith L r (r .pending)
+  unfolding agreesWith
+  agree-forget e h = h ∙ sym (ap (agreesWith L r) e)
 
 -- ---- the next store behind these tests; t is what the code finds for them
 
@@ -143,6 +161,12 @@ module _ (L : Layout) (r : Record) (e : agreesWith L r (r .pending) ≡ true) wh
       let w : both (slotAgrees r i) (victimsAgree L r v n) ≡ true = sym (ap (agreesWith L r) q) ∙ e in
       slot-in r i (both-left _ _ w)
 
+  pub forget-agrees : {i v n k : ℕ} → r .pending ≡ Forget i v n k → SlotIn r i × (r .next .0 < versionLimit L)
+  unfolding agreesWith forgetAgrees
+  forget-agrees {i} {v} {n} q =
+      let w : both (slotAgrees r i) (forgetAgrees L r v n) ≡ true = sym (ap (agreesWith L r) q) ∙ e in
+      (slot-in r i (both-left _ _ w), ltb-true (r .next .0) (versionLimit L) (both-left _ _ (both-right _ _ w)))
+
 -- ---- so a spent counter is found out before the store
 
 -- a write or delete takes a version, a new head a digest number
@@ -151,12 +175,14 @@ takesVersion Idle = false
 takesVersion (Append n k) = true
 takesVersion (NewHead i n k) = true
 takesVersion (Clean i v n k) = false
+takesVersion (Forget i v n k) = true
 
 unfoldable pub takesNumber : Pending → Bool
 takesNumber Idle = false
 takesNumber (Append n k) = false
 takesNumber (NewHead i n k) = true
 takesNumber (Clean i v n k) = true
+takesNumber (Forget i v n k) = true
 
 module _ (L : Layout) (r : Record) where
   version-disagrees : (p : Pending) → takesVersion p ≡ true → versionLimit L ≤ r .next .0 → agreesWith L r p ≡ false
@@ -165,6 +191,7 @@ module _ (L : Layout) (r : Record) where
   version-disagrees (Append n k) t h = sym (entry-spent L r 0 n h)
   version-disagrees (NewHead i n k) t h = both-false-right _ _ (sym (entry-spent L r (digestSize L) n h))
   version-disagrees (Clean i v n k) t h = let z : _≡_ {A = ℕ} 0 1 = cc in absurd (omega arith)
+  version-disagrees (Forget i v n k) t h = both-false-right _ _ (sym (forget-spent L r v n h))
 
   number-disagrees : (p : Pending) → takesNumber p ≡ true → numberLimit ≤ r .digest .0 → agreesWith L r p ≡ false
   unfolding takesNumber agreesWith
@@ -172,6 +199,7 @@ module _ (L : Layout) (r : Record) where
   number-disagrees (Append n k) t h = let z : _≡_ {A = ℕ} 0 1 = cc in absurd (omega arith)
   number-disagrees (NewHead i n k) t h = both-false-left _ _ (sym (slot-spent r i h))
   number-disagrees (Clean i v n k) t h = both-false-left _ _ (sym (slot-spent r i h))
+  number-disagrees (Forget i v n k) t h = both-false-left _ _ (sym (slot-spent r i h))
 
 -- Whatever record a step gets: with no version or no digest number left for its operation it is refused, and nothing changes.
 module _ (L : Layout) (r : Record) (area area′ cells cells′ work : List ℕ) (a : Stepped) (tested : StepTested L r area area′ cells cells′ work a)
@@ -225,35 +253,47 @@ module _ (L : Layout) (before : List ℕ) (idle : Record) where
             both-true _ _ (new-slot-agrees (laidHead L idle e .pending k) facts (f .number-left p))
             (entry-laid (laidHead L idle e .pending k) (digestSize L) (digestSize L + sizeOf L e) (omega arith))
 
-  pub clean-tests :
-      (victims : ℕ) (a : Accepted L before idle (clean victims)) →
-      (within victims (idle .map) ≡ true) × (idle .digest .0 < numberLimit) × (0 < victims)
-  unfolding startCauses
-  clean-tests victims a =
-      let tests : CleanPassed L idle (a .lengths) (keptLength L (logNow L before idle) victims) victims =
-      clean-passed L idle (a .lengths) (keptLength L (logNow L before idle) victims) victims (a .no-cause) in
-      let some : victims ≡ 0 → ⊥ = eqb-false victims 0 (either-false-left _ _ (tests .victims-good)) in (
-        not-false (within victims (idle .map)) (either-false-right _ _ (tests .victims-good)),
-        omega (
-          arith,
-          idle-number L before idle (clean victims) a,
-          eqb-false (idle .digest .0) numberLimit (tests .number-left),
-        ),
-        omega arith,
-      )
+  -- a cleaning's victims, also of one that deletes
+  victims-laid :
+      (p : Pending) (victims : ℕ) (next : Version) (stand : List Placed) → Cleaning L before idle victims next stand →
+      victimsAgree L (withPending idle p) victims (digestSize L + length (allEncoded L (kept victims stand))) ≡ true
+  unfolding victimsAgree
+  victims-laid p victims next stand c =
+      both-true _ _ (le-leb (digestSize L) (digestSize L + length (allEncoded L (kept victims stand))) (omega arith))
+      (both-true _ _ (lt-ltb 0 victims (c .some-victim)) (c .sub))
 
   clean-laid : (victims : ℕ) → Accepted L before idle (clean victims) → Agrees (laidClean L idle (logNow L before idle) victims)
-  unfolding agreesWith victimsAgree
+  unfolding agreesWith
   clean-laid victims a k =
-      let t = clean-tests victims a in
-      both-true _ _ (new-slot-agrees (laidClean L idle (logNow L before idle) victims .pending k) (idle-lent L before idle (clean victims) a) (t .1))
-      (both-true _ _ (le-leb (digestSize L) (digestSize L + length (allEncoded L (kept victims (logNow L before idle)))) (omega arith))
-      (both-true _ _ (lt-ltb 0 victims (t .2)) (t .0)))
+      let c = clean-cleans L before idle victims a in
+      both-true _ _
+      (new-slot-agrees (laidClean L idle (logNow L before idle) victims .pending k) (idle-lent L before idle (clean victims) a)
+      (omega (arith, c .number-left)))
+      (victims-laid (laidClean L idle (logNow L before idle) victims .pending k) victims (idle .next) (logNow L before idle) c)
+
+  forget-laid : (key : Key) → Accepted L before idle (delete key) → noRoom idle (entrySize L 0) ≡ true → Agrees (laidForget L idle (logNow L before idle) key)
+  unfolding agreesWith forgetAgrees
+  forget-laid key a full k =
+      let c = forget-cleans L before idle key a full in
+      both-true _ _
+      (new-slot-agrees (laidForget L idle (logNow L before idle) key .pending k) (idle-lent L before idle (delete key) a)
+      (omega (arith, c .number-left)))
+      (both-true _ _ (lt-ltb (idle .next .0) (versionLimit L) (delete-next L before idle key a))
+      (victims-laid (laidForget L idle (logNow L before idle) key .pending k) _ _ _ c))
+
+  delete-laid : (key : Key) → Accepted L before idle (delete key) → Agrees (laidDelete L idle (logNow L before idle) key)
+  unfolding pick
+  delete-laid key a = go (noRoom idle (entrySize L 0)) refl
+    where
+      go : (t : Bool) → noRoom idle (entrySize L 0) ≡ t →
+          Agrees (pick t (laidForget L idle (logNow L before idle) key) (laidEntry L idle (tombstoneEntry idle key)))
+      go true full = forget-laid key a full
+      go false room =
+          entry-agrees (idle-lent L before idle (delete key) a) (tombstoneEntry idle key) (delete-enters L before idle key a room)
 
   pub laid-agrees : (o : Operation) → Accepted L before idle o → Agrees (laid L idle (logNow L before idle) o)
   unfolding laid
   laid-agrees (write key value) a =
       entry-agrees (idle-lent L before idle (write key value) a) (writtenEntry idle key value) (write-enters L before idle key value a)
-  laid-agrees (delete key) a =
-      entry-agrees (idle-lent L before idle (delete key) a) (tombstoneEntry idle key) (delete-enters L before idle key a)
+  laid-agrees (delete key) a = delete-laid key a
   laid-agrees (clean victims) a = clean-laid victims a

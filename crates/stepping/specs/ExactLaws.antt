@@ -11,9 +11,11 @@ use lib.ListN.{length}
 use borrow.Author.Tests.{leb-true}
 use Rattle.word.specs.Number.{Bytes}
 use Rattle.segment.specs.Choice.{pick}
-use Rattle.segment.specs.Layout.{Layout, digestSize}
+use Rattle.segment.specs.Layout.{Layout, entrySize, digestSize}
 use Rattle.segment.specs.Entry.{Entry, encoded, sizeOf}
 use Rattle.segment.specs.Digest.{encodedDigest}
+use Rattle.segment.specs.declared.Key.{Key}
+use Rattle.segment.specs.declared.Version.{Version}
 use Rattle.slot_map.specs.Bit.{withBit, less, within}
 use Rattle.slot_map.specs.BitLaws.{with-clear}
 use Rattle.slot_map.specs.CountLaws.{with-less}
@@ -22,23 +24,24 @@ use Rattle.record.specs.Answers.{withPending}
 use Rattle.record.specs.Committed.{committed}
 use Rattle.record.specs.declared.Commit.{Commit}
 use Rattle.record.specs.RangeLaws.{Lent, lent}
-use Rattle.record.specs.declared.Pending.the-variants.{Append, NewHead, Clean}
+use Rattle.record.specs.declared.Pending.{Pending}
+use Rattle.record.specs.declared.Pending.the-variants.{Append, NewHead}
 use Rattle.record.specs.declared.StepAnswer.{StepAnswer}
 use Rattle.record.specs.declared.Record.{Record}
 use Rattle.model.specs.Log.{Placed, keysOf}
 use Rattle.model.specs.Index.{IndexRule}
-use Rattle.model.specs.Operations.{Operation, write, delete, clean, Laid, laid, laidAppend, laidHead, laidEntry, laidClean, logNow, newSlot, newDigest, fitsHead, kept, allEncoded, writtenEntry, tombstoneEntry, planOf, commit, stored, appendCommit, headCommit, appendedRecord, headedRecord, entryRecord, cleanedRecord, finishedRecord, toldVersion}
+use Rattle.model.specs.Operations.{Operation, write, delete, clean, Laid, laid, laidAppend, laidHead, laidEntry, laidForget, laidDelete, logNow, noRoom, newSlot, newDigest, nextAfter, fitsHead, allEncoded, writtenEntry, tombstoneEntry, planOf, commit, stored, appendCommit, headCommit, appendedRecord, headedRecord, entryRecord, renewedRecord, forgottenRecord, deletedRecord, finishedRecord, toldVersion}
 use Rattle.model.specs.Recovery.{recovered}
 use Rattle.laws.specs.RecoverLaws.{recovered-apart, recovered-keys, recovered-fits}
 use Rattle.laws.specs.Operated.{Accepted, planAt}
 use Rattle.laws.specs.Entering.{Roomy, Entering, idle-lent, write-enters, delete-enters}
+use Rattle.laws.specs.Cleanings.{clean-cleans, forget-cleans}
 use Rattle.laws.specs.EntryDone.{appended-added, headed-added}
 use Rattle.laws.specs.OperationsKept.{finishes}
 use Rattle.index.specs.InsertLaws.{Indexed}
 use Rattle.index.specs.Build.{built}
 use Rattle.index.specs.BuildLaws.{Holds}
-use Rattle.stepping.specs.Finish.{After, answeredWith, finishAppend, finishHead, cleanMap, ascending, rebuilt, finishClean, finishWith}
-use Rattle.stepping.specs.AgreeLaws.{clean-tests}
+use Rattle.stepping.specs.Finish.{After, answeredWith, finishAppend, finishHead, cleanMap, ascending, rebuilt, finishRebuilt, finishClean, finishForget, finishWith}
 use Rattle.stepping.specs.EntryLaws.{entry-finished, recovered-found, told-known}
 use Rattle.stepping.specs.CleanLaws.{ascending-good, recovered-built}
 
@@ -140,90 +143,94 @@ module _ (L : Layout) (roomy : Roomy L) (before cells : List ℕ) (idle : Record
           go true p = append-ends p
           go false p = head-ends p
 
-    -- ---- a cleaning
+    -- ---- a cleaning, also one that deletes
 
-    module _ (victims : ℕ) (sub : within victims (idle .map) ≡ true) (k : ℕ) where
-      clean-map : (r : Record) → r .map ≡ idle .map → cleanMap r (newSlot idle) victims ≡ newDigest idle victims .map
-      clean-map r q =
-          ap (λ (m : ℕ). withBit (less m victims) (newSlot idle)) q
-          ∙ with-less (idle .map) victims (newSlot idle) sub
+    -- p is the pending operation, es is what is kept, and `version` what the last step tells
+    module _ (victims : ℕ) (sub : within victims (idle .map) ≡ true) (p : Pending) (next : Version) (version : ℕ) (es : List Entry) (after : List ℕ) where
+      abbrev r : Record
+      r = withPending idle p
+
+      abbrev fin : Record
+      fin = renewedRecord L before idle victims es next
+
+      abbrev done : ℕ → Commit
+      done m = headCommit r (newSlot idle) (digestSize L + length (allEncoded L es)) m next
+
+      clean-map : cleanMap r (newSlot idle) victims ≡ newDigest idle victims .map
+      clean-map =
+          with-less (idle .map) victims (newSlot idle) sub
           (next-clear (idle .slots) (idle .map) (idle .head) (facts .head-below) (facts .some-free))
 
-      abbrev count : ℕ
-      count = digestSize L + length (allEncoded L (kept victims (logNow L before idle)))
-
-      abbrev after-clean : List ℕ
-      after-clean =
-          stored before
-          (planOf idle (laidClean L idle (logNow L before idle) victims .pending 0) (laidClean L idle (logNow L before idle) victims .bytes))
-
-      pub clean-ends :
-          recovered L (idle .slots) (idle .size) (idle .cells) after-clean ≡ some (cleanedRecord L before idle victims) →
-          Ends L after-clean (cleanedRecord L before idle victims) 0
-          (finishWith L (withPending idle (laidClean L idle (logNow L before idle) victims .pending k)) after-clean cells
-          (laidClean L idle (logNow L before idle) victims .pending k))
-      unfolding finishWith finishClean
-      clean-ends q =
-          subst (λ (m : ℕ). Ends L after-clean fin 0 (by-map m)) (sym (clean-map r refl)) ends
+      pub rebuilt-ends :
+          recovered L (idle .slots) (idle .size) (idle .cells) after ≡ some fin →
+          Ends L after fin version (finishRebuilt L r after cells (done (cleanMap r (newSlot idle) victims)) version)
+      rebuilt-ends q =
+          subst (λ (m : ℕ). Ends L after fin version (finishRebuilt L r after cells (done m) version)) (sym clean-map)
+          (record {
+            answers =
+                ap (answeredWith r (done (newDigest idle victims .map)) version) (holds .answers)
+                ∙ told-known r (done (newDigest idle victims .map)) version (length (keysOf (logNow L after fin))) (omega (arith, few, keys))
+                ∙ ap (λ (s : Record). record { answer = StepAnswer.Done (record { 0 = version }); rec = s })
+                (keys-own r (done (newDigest idle victims .map)) fin (length (keysOf (logNow L after fin))) keys refl);
+            rule = holds .rule;
+          })
         where
-          r : Record
-          r = withPending idle (Clean (newSlot idle) victims count k)
-
-          fin : Record
-          fin = cleanedRecord L before idle victims
-
-          by-map : ℕ → After
-          by-map m =
-              record {
-                stepped = answeredWith r (headCommit r (newSlot idle) count m (idle .next)) 0 (rebuilt L r after-clean cells m .answer);
-                cells = rebuilt L r after-clean cells m .cells;
-              }
-
-          keys : fin .keys ≡ length (keysOf (logNow L after-clean fin))
-          keys = recovered-keys L (idle .slots) (idle .size) (idle .cells) after-clean fin q
+          keys : fin .keys ≡ length (keysOf (logNow L after fin))
+          keys = recovered-keys L (idle .slots) (idle .size) (idle .cells) after fin q
 
           few : fin .keys < idle .cells
-          few = omega (arith, lent L fin (length after-clean) (idle .cells) (recovered-fits L (idle .slots) (idle .size) (idle .cells) after-clean fin q))
+          few = omega (arith, lent L fin (length after) (idle .cells) (recovered-fits L (idle .slots) (idle .size) (idle .cells) after fin q))
 
-          holds : Holds (idle .size) (length cells) (logNow L after-clean fin) (rebuilt L r after-clean cells (newDigest idle victims .map))
+          holds : Holds (idle .size) (length cells) (logNow L after fin) (rebuilt L r after cells (newDigest idle victims .map))
           holds =
               subst
               (λ (m : ℕ).
-              Holds (idle .size) m (logNow L after-clean fin)
-              (built L after-clean (idle .size) (newDigest idle victims .map) (ascending (idle .slots)) m))
+              Holds (idle .size) m (logNow L after fin) (built L after (idle .size) (newDigest idle victims .map) (ascending (idle .slots)) m))
               (sym long)
-              (recovered-built L (idle .slots) (idle .size) (idle .cells) after-clean (ascending (idle .slots)) fin q
+              (recovered-built L (idle .slots) (idle .size) (idle .cells) after (ascending (idle .slots)) fin q
               (ascending-good (idle .slots) (facts .slots-high)) (omega (arith, facts .cells-low)))
-
-          ends : Ends L after-clean fin 0 (by-map (newDigest idle victims .map))
-          ends =
-              record {
-                answers =
-                    ap (answeredWith r (headCommit r (newSlot idle) count (newDigest idle victims .map) (idle .next)) 0) (holds .answers)
-                    ∙ told-known r (headCommit r (newSlot idle) count (newDigest idle victims .map) (idle .next)) 0
-                    (length (keysOf (logNow L after-clean fin))) (omega (arith, few, keys))
-                    ∙ ap (λ (s : Record). record { answer = StepAnswer.Done (record { 0 = 0 }); rec = s })
-                    (keys-own r (headCommit r (newSlot idle) count (newDigest idle victims .map) (idle .next)) fin
-                    (length (keysOf (logNow L after-clean fin))) keys refl);
-                rule = holds .rule;
-              }
 
 -- ---- whichever operation it is
 
 module _ (L : Layout) (roomy : Roomy L) (before cells : List ℕ) (idle : Record) where
+  -- what the last step gives where this is laid down, and the record in the end
+  abbrev LaidEnds : Laid → Record → ℕ → ℕ → Type 0
+  LaidEnds l fin version k =
+      Ends L (stored before (planOf idle (l .pending 0) (l .bytes))) fin version
+      (finishWith L (withPending idle (l .pending k)) (stored before (planOf idle (l .pending 0) (l .bytes))) cells (l .pending k))
+
+  delete-ends :
+      (key : Key) (a : Accepted L before idle (delete key)) → length cells ≡ idle .cells → IndexRule (idle .size) (logNow L before idle) cells → (k : ℕ) →
+      LaidEnds (laidDelete L idle (logNow L before idle) key) (deletedRecord L before idle key) (idle .next .0) k
+  unfolding pick laid finishedRecord finishWith finishForget
+  delete-ends key a long rule k = go (noRoom idle (entrySize L 0)) refl (finishes L roomy before idle (delete key) a .0)
+    where
+      way : Bool → Laid
+      way t = pick t (laidForget L idle (logNow L before idle) key) (laidEntry L idle (tombstoneEntry idle key))
+
+      end : Bool → Record
+      end t = pick t (forgottenRecord L before idle key) (entryRecord L idle (logNow L before idle) (tombstoneEntry idle key))
+
+      go : (t : Bool) → noRoom idle (entrySize L 0) ≡ t →
+          recovered L (idle .slots) (idle .size) (idle .cells) (stored before (planOf idle (way t .pending 0) (way t .bytes))) ≡ some (end t) →
+          LaidEnds (way t) (end t) (idle .next .0) k
+      go true full q =
+          rebuilt-ends L roomy before cells idle (a .recovers) (a .area-bytes) (idle-lent L before idle (delete key) a) long rule _
+          (forget-cleans L before idle key a full .sub) _ (nextAfter idle) (idle .next .0) _ _ q
+      go false room q =
+          entry-ends L roomy before cells idle (a .recovers) (a .area-bytes) (idle-lent L before idle (delete key) a) long rule
+          (tombstoneEntry idle key) (delete-enters L before idle key a room) k q
+
   pub operation-ends :
       (o : Operation) (a : Accepted L before idle o) → length cells ≡ idle .cells → IndexRule (idle .size) (logNow L before idle) cells → (k : ℕ) →
       Ends L (stored before (planAt L before idle o)) (finishedRecord L before idle o) (toldVersion idle o)
       (finishWith L (withPending idle (laid L idle (logNow L before idle) o .pending k)) (stored before (planAt L before idle o)) cells
       (laid L idle (logNow L before idle) o .pending k))
-  unfolding laid finishedRecord toldVersion
+  unfolding laid finishedRecord toldVersion finishWith finishClean
   operation-ends (write key value) a long rule k =
       entry-ends L roomy before cells idle (a .recovers) (a .area-bytes) (idle-lent L before idle (write key value) a) long rule
       (writtenEntry idle key value) (write-enters L before idle key value a) k (finishes L roomy before idle (write key value) a .0)
-  operation-ends (delete key) a long rule k =
-      entry-ends L roomy before cells idle (a .recovers) (a .area-bytes) (idle-lent L before idle (delete key) a) long rule
-      (tombstoneEntry idle key) (delete-enters L before idle key a) k (finishes L roomy before idle (delete key) a .0)
+  operation-ends (delete key) a long rule k = delete-ends key a long rule k
   operation-ends (clean victims) a long rule k =
-      clean-ends L roomy before cells idle (a .recovers) (a .area-bytes) (idle-lent L before idle (clean victims) a) long rule victims
-      (clean-tests L before idle victims a .0) k
-      (finishes L roomy before idle (clean victims) a .0)
+      rebuilt-ends L roomy before cells idle (a .recovers) (a .area-bytes) (idle-lent L before idle (clean victims) a) long rule victims
+      (clean-cleans L before idle victims a .sub) _ (idle .next) 0 _ _ (finishes L roomy before idle (clean victims) a .0)

@@ -12,13 +12,13 @@ use Rattle.record.specs.Answers.{withPending, storesLeft}
 use Rattle.record.specs.Committed.{committed}
 use Rattle.record.specs.declared.Commit.{Commit}
 use Rattle.record.specs.declared.Pending.{Pending}
-use Rattle.record.specs.declared.Pending.the-variants.{Idle, Append, NewHead, Clean}
+use Rattle.record.specs.declared.Pending.the-variants.{Idle, Append, NewHead, Clean, Forget}
 use Rattle.record.specs.declared.Refusal.{Refusal}
 use Rattle.record.specs.declared.Stepped.{Stepped}
 use Rattle.record.specs.declared.StepAnswer.{StepAnswer}
 use Rattle.record.specs.declared.Record.{Record}
 use Rattle.model.specs.Log.{segmentOf}
-use Rattle.model.specs.Operations.{appendCommit, headCommit}
+use Rattle.model.specs.Operations.{nextAfter, appendCommit, headCommit}
 use Rattle.index.specs.Insert.{inserted}
 use Rattle.index.specs.Build.{Rebuilt, built}
 use Rattle.index.specs.declared.Built.{Built}
@@ -74,9 +74,9 @@ finishAppend L r area cells n = finishEntry L r (appendCommit r n) area cells (r
 
 unfoldable pub finishHead : Layout → Record → List ℕ → List ℕ → ℕ → ℕ → After
 finishHead L r area cells slot n =
-    finishEntry L r (headCommit r slot n (withBit (r .map) slot) (record { 0 = r .next .0 + 1 })) area cells slot (digestSize L)
+    finishEntry L r (headCommit r slot n (withBit (r .map) slot) (nextAfter r)) area cells slot (digestSize L)
 
--- ---- the last step of a cleaning
+-- ---- the last step of a cleaning, and of a delete that cleans
 
 -- the slots below f more than a, from a on
 unfoldable pub upFrom : ℕ → ℕ → List ℕ
@@ -94,13 +94,21 @@ rebuilt L r area cells map = built L area (r .size) map (ascending (r .slots)) (
 abbrev pub cleanMap : Record → ℕ → ℕ → ℕ
 cleanMap r slot victims = withBit (less (r .map) victims) slot
 
+abbrev pub finishRebuilt : Layout → Record → List ℕ → List ℕ → Commit → ℕ → After
+finishRebuilt L r area cells done version =
+    record {
+      stepped = answeredWith r done version (rebuilt L r area cells (done .map) .answer);
+      cells = rebuilt L r area cells (done .map) .cells;
+    }
+
+-- A cleaning has no version of its own; a delete tells its own, and the next version goes up.
 unfoldable pub finishClean : Layout → Record → List ℕ → List ℕ → ℕ → ℕ → ℕ → After
 finishClean L r area cells slot victims n =
-    record {
-      stepped =
-          answeredWith r (headCommit r slot n (cleanMap r slot victims) (r .next)) 0 (rebuilt L r area cells (cleanMap r slot victims) .answer);
-      cells = rebuilt L r area cells (cleanMap r slot victims) .cells;
-    }
+    finishRebuilt L r area cells (headCommit r slot n (cleanMap r slot victims) (r .next)) 0
+
+unfoldable pub finishForget : Layout → Record → List ℕ → List ℕ → ℕ → ℕ → ℕ → After
+finishForget L r area cells slot victims n =
+    finishRebuilt L r area cells (headCommit r slot n (cleanMap r slot victims) (nextAfter r)) (r .next .0)
 
 -- ---- what comes after the store of a step
 
@@ -110,12 +118,14 @@ oneLess Idle = Idle
 oneLess (Append n k) = Append n (k - 1)
 oneLess (NewHead i n k) = NewHead i n (k - 1)
 oneLess (Clean i v n k) = Clean i v n (k - 1)
+oneLess (Forget i v n k) = Forget i v n (k - 1)
 
 unfoldable pub finishWith : Layout → Record → List ℕ → List ℕ → Pending → After
 finishWith L r area cells Idle = unfit r cells
 finishWith L r area cells (Append n k) = finishAppend L r area cells n
 finishWith L r area cells (NewHead i n k) = finishHead L r area cells i n
 finishWith L r area cells (Clean i v n k) = finishClean L r area cells i v n
+finishWith L r area cells (Forget i v n k) = finishForget L r area cells i v n
 
 -- With stores left, they are one less and the index stays; else the operation is finished.
 unfoldable pub advanced : Layout → Record → List ℕ → List ℕ → After

@@ -19,19 +19,19 @@ use Rattle.record.specs.Answers.{withPending, storesLeft}
 use Rattle.record.specs.Committed.{committed}
 use Rattle.record.specs.declared.Commit.{Commit}
 use Rattle.record.specs.declared.Pending.{Pending}
-use Rattle.record.specs.declared.Pending.the-variants.{Idle, Append, NewHead, Clean}
+use Rattle.record.specs.declared.Pending.the-variants.{Idle, Append, NewHead, Clean, Forget}
 use Rattle.record.specs.declared.Refusal.{Refusal}
 use Rattle.record.specs.declared.Stepped.{Stepped}
 use Rattle.record.specs.declared.StepAnswer.{StepAnswer}
 use Rattle.record.specs.declared.Record.{Record}
 use Rattle.model.specs.Log.{segmentOf}
-use Rattle.model.specs.Operations.{appendCommit, headCommit}
+use Rattle.model.specs.Operations.{nextAfter, appendCommit, headCommit}
 use Rattle.index.specs.Insert.{Insertion, inserted}
 use Rattle.index.specs.Build.{Rebuilt}
 use Rattle.index.specs.declared.Built.{Built}
 use Rattle.index.specs.declared.Inserted.{Inserted}
 use Rattle.stepping.specs.Next.{PendingIn}
-use Rattle.stepping.specs.Finish.{After, refusedStep, unfit, keysAfter, answeredWith, entryIn, foundIn, finishEntry, finishAppend, finishHead, rebuilt, finishClean, oneLess, finishWith, advanced}
+use Rattle.stepping.specs.Finish.{After, refusedStep, unfit, keysAfter, answeredWith, entryIn, foundIn, finishEntry, finishAppend, finishHead, rebuilt, finishRebuilt, finishClean, finishForget, oneLess, finishWith, advanced}
 
 -- ---- the keys after an insertion
 
@@ -144,32 +144,41 @@ module _ (L : Layout) (r : Record) (area cells : List ℕ) (n : ℕ) where
   append-goes ed e = e ∙ ap (λ (c : Commit). finishEntry L r c area cells (r .head) (r .end)) ed
 
   pub head-goes :
-      (slot : ℕ) {m : ℕ} → m ≡ withBit (r .map) slot → {d : Commit} → d ≡ headCommit r slot n m (record { 0 = r .next .0 + 1 }) → {a : After} →
+      (slot : ℕ) {m : ℕ} → m ≡ withBit (r .map) slot → {d : Commit} → d ≡ headCommit r slot n m (nextAfter r) → {a : After} →
       a ≡ finishEntry L r d area cells slot (digestSize L) → a ≡ finishHead L r area cells slot n
   unfolding finishHead
   head-goes slot em ed e =
       e
       ∙ ap (λ (c : Commit). finishEntry L r c area cells slot (digestSize L))
-      (ed ∙ ap (λ (j : ℕ). headCommit r slot n j (record { 0 = r .next .0 + 1 })) em)
+      (ed ∙ ap (λ (j : ℕ). headCommit r slot n j (nextAfter r)) em)
 
--- ---- a cleaning
+-- ---- a cleaning, and a delete that cleans
 
-module _ (L : Layout) (r : Record) (area cells : List ℕ) (slot victims n : ℕ) where
-  pub clean-goes :
-      {w m : ℕ} → w ≡ less (r .map) victims → m ≡ withBit w slot → {d : Commit} → d ≡ headCommit r slot n m (r .next) → {b : Built} {cells′ : List ℕ} →
-      _≡_ {A = Rebuilt} (record { answer = b; cells = cells′ }) (rebuilt L r area cells m) → {x : Stepped} → x ≡ answeredWith r d 0 b →
-      record { stepped = x; cells = cells′ } ≡ finishClean L r area cells slot victims n
-  unfolding finishClean
-  clean-goes {w} {m} ew em {d} ed {b} {cells′} eb ex =
-      ap (λ (s : Stepped). record { stepped = s; cells = cells′ }) (ex ∙ ap (λ (c : Commit). answeredWith r c 0 b) ed)
-      ∙ ap (λ (a : Rebuilt). record { stepped = answeredWith r (headCommit r slot n m (r .next)) 0 (a .answer); cells = a .cells }) eb
-      ∙ ap
-      (λ (j : ℕ).
-      record {
-        stepped = answeredWith r (headCommit r slot n j (r .next)) 0 (rebuilt L r area cells j .answer);
-        cells = rebuilt L r area cells j .cells;
-      })
-      (em ∙ ap (λ (j : ℕ). withBit j slot) ew)
+module _ (L : Layout) (r : Record) (area cells : List ℕ) where
+  pub rebuilt-goes :
+      (d : Commit) (version : ℕ) {b : Built} {cells′ : List ℕ} →
+      _≡_ {A = Rebuilt} (record { answer = b; cells = cells′ }) (rebuilt L r area cells (d .map)) → {x : Stepped} → x ≡ answeredWith r d version b →
+      record { stepped = x; cells = cells′ } ≡ finishRebuilt L r area cells d version
+  rebuilt-goes d version {b} {cells′} eb ex =
+      ap (λ (s : Stepped). record { stepped = s; cells = cells′ }) ex
+      ∙ ap (λ (a : Rebuilt). record { stepped = answeredWith r d version (a .answer); cells = a .cells }) eb
+
+  module _ (slot victims n : ℕ) {w m : ℕ} (ew : w ≡ less (r .map) victims) (em : m ≡ withBit w slot) where
+    -- d is what the code makes of the record's head and counters
+    new-commit : (next : Version) {d : Commit} → d ≡ headCommit r slot n m next → d ≡ headCommit r slot n (withBit (less (r .map) victims) slot) next
+    new-commit next ed = ed ∙ ap (λ (j : ℕ). headCommit r slot n j next) (em ∙ ap (λ (j : ℕ). withBit j slot) ew)
+
+    pub clean-goes :
+        {d : Commit} → d ≡ headCommit r slot n m (r .next) → {a : After} → a ≡ finishRebuilt L r area cells d 0 →
+        a ≡ finishClean L r area cells slot victims n
+    unfolding finishClean
+    clean-goes ed e = e ∙ ap (λ (c : Commit). finishRebuilt L r area cells c 0) (new-commit (r .next) ed)
+
+    pub forget-goes :
+        {d : Commit} → d ≡ headCommit r slot n m (nextAfter r) → {a : After} → a ≡ finishRebuilt L r area cells d (r .next .0) →
+        a ≡ finishForget L r area cells slot victims n
+    unfolding finishForget
+    forget-goes ed e = e ∙ ap (λ (c : Commit). finishRebuilt L r area cells c (r .next .0)) (new-commit (nextAfter r) ed)
 
 -- ---- after the store
 
@@ -194,6 +203,10 @@ module _ {p : Pending} where
   unfolding oneLess
   less-clean e = rw e
 
+  pub less-forget : {i v n k : ℕ} → p ≡ Forget i v n k → Forget i v n (k - 1) ≡ oneLess p
+  unfolding oneLess
+  less-forget e = rw e
+
 module _ (r : Record) where
   pub in-append : {n k : ℕ} → r .pending ≡ Append n k → PendingIn r (r .pending) → (r .head < r .slots) × (r .end + n ≤ r .size)
   unfolding PendingIn
@@ -206,6 +219,10 @@ module _ (r : Record) where
   pub in-clean : {i v n k : ℕ} → r .pending ≡ Clean i v n k → PendingIn r (r .pending) → (i < r .slots) × (n ≤ r .size)
   unfolding PendingIn
   in-clean e h = subst (PendingIn r) e h
+
+  pub in-forget : {i v n k : ℕ} → r .pending ≡ Forget i v n k → PendingIn r (r .pending) → (i < r .slots) × (n ≤ r .size)
+  unfolding PendingIn
+  in-forget e h = subst (PendingIn r) e h
 
 module _ (L : Layout) (r : Record) (area cells : List ℕ) where
   pub with-idle :
@@ -225,6 +242,10 @@ module _ (L : Layout) (r : Record) (area cells : List ℕ) where
   pub with-clean : {i v n k : ℕ} → r .pending ≡ Clean i v n k → {a : After} → a ≡ finishClean L r area cells i v n → a ≡ finishWith L r area cells (r .pending)
   unfolding finishWith
   with-clean e h = h ∙ sym (ap (finishWith L r area cells) e)
+
+  pub with-forget : {i v n k : ℕ} → r .pending ≡ Forget i v n k → {a : After} → a ≡ finishForget L r area cells i v n → a ≡ finishWith L r area cells (r .pending)
+  unfolding finishWith
+  with-forget e h = h ∙ sym (ap (finishWith L r area cells) e)
 
 module _ (L : Layout) (r : Record) (area cells : List ℕ) where
   pub advance-left :

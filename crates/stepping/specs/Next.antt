@@ -6,7 +6,7 @@ use lib.Dec.{eqb, ltb, leb}
 use lib.ListN.{length, getD}
 use Rattle.segment.specs.Choice.{pick, both}
 use Rattle.record.specs.declared.Pending.{Pending}
-use Rattle.record.specs.declared.Pending.the-variants.{Idle, Append, NewHead, Clean}
+use Rattle.record.specs.declared.Pending.the-variants.{Idle, Append, NewHead, Clean, Forget}
 use Rattle.record.specs.declared.Record.{Record}
 use Rattle.starting.specs.Stores.{commitStores}
 use Rattle.stepping.specs.declared.NextStore.{NextStore}
@@ -43,6 +43,7 @@ pendingNext areaLength work r Idle = Bad
 pendingNext areaLength work r (Append n k) = slotNext areaLength work (r .size) (r .head) (r .end) n 0 k
 pendingNext areaLength work r (NewHead i n k) = slotNext areaLength work (r .size) i 0 n 1 k
 pendingNext areaLength work r (Clean i v n k) = slotNext areaLength work (r .size) i 0 n 1 k
+pendingNext areaLength work r (Forget i v n k) = slotNext areaLength work (r .size) i 0 n 1 k
 
 abbrev pub nextStore : ℕ → List ℕ → Record → NextStore
 nextStore areaLength work r = pendingNext areaLength work r (r .pending)
@@ -53,3 +54,4 @@ PendingIn r Idle = 0 ≤ 0
 PendingIn r (Append n k) = (r .head < r .slots) × (r .end + n ≤ r .size)
 PendingIn r (NewHead i n k) = (i < r .slots) × (n ≤ r .size)
 PendingIn r (Clean i v n k) = (i < r .slots) × (n ≤ r .size)
+PendingIn r (Forget i v n k) = (i < r .slots) × (n ≤ r .size)

@@ -11,7 +11,7 @@ use lib.ListN.{length, getD}
 use borrow.Author.Tests.{lt-ltb, le-ltb, le-leb, lt-leb, not-true, not-false, eq-eqb, ne-eqb, ltb-true, leb-true}
 use Rattle.segment.specs.Choice.{pick, pick-true, pick-false, both, both-left, both-right, both-true, both-false-left, both-false-right}
 use Rattle.record.specs.declared.Pending.{Pending}
-use Rattle.record.specs.declared.Pending.the-variants.{Idle, Append, NewHead, Clean}
+use Rattle.record.specs.declared.Pending.the-variants.{Idle, Append, NewHead, Clean, Forget}
 use Rattle.record.specs.declared.Record.{Record}
 use Rattle.starting.specs.Stores.{commitStores, stores-full}
 use Rattle.stepping.specs.Next.{commitStore, fitsSlot, fitsLeft, slotStore, slotNext, pendingNext, nextStore, PendingIn}
@@ -160,6 +160,12 @@ module _ (areaLength : ℕ) (work : List ℕ) (r : Record) where
   unfolding pendingNext
   next-clean e h = rw e h
 
+  pub next-forget :
+      {i v n k : ℕ} → r .pending ≡ Forget i v n k → {x : NextStore} → x ≡ slotNext areaLength work (r .size) i 0 n 1 k →
+      x ≡ nextStore areaLength work r
+  unfolding pendingNext
+  next-forget e h = rw e h
+
 -- ---- what is known where there is a next store
 
 module _ (base S offset n : ℕ) (work : List ℕ) (j p b : ℕ) (some-byte : 0 < n) (room : offset + n ≤ S) (h : j < commitStores S offset n)
@@ -247,5 +253,8 @@ module _ (areaLength : ℕ) (work : List ℕ) (r : Record) (p b : ℕ) (head : r
       let f = slot-at areaLength work (r .size) i 0 n 1 k p b e in
       ((own-slot i 0 n (f .0), omega (arith, f .0 .room)), f .1)
   next-inside (Clean i v n k) e =
+      let f = slot-at areaLength work (r .size) i 0 n 1 k p b e in
+      ((own-slot i 0 n (f .0), omega (arith, f .0 .room)), f .1)
+  next-inside (Forget i v n k) e =
       let f = slot-at areaLength work (r .size) i 0 n 1 k p b e in
       ((own-slot i 0 n (f .0), omega (arith, f .0 .room)), f .1)

@@ -10,19 +10,21 @@ use lib.Dec.{ltb}
 use lib.ListN.{length, getD, take, length-append}
 use lib.Seq.{getD-take}
 use borrow.Author.Tests.{ltb-true, ltb-false, leb-true, lt-ltb, le-ltb}
-use Rattle.segment.specs.Choice.{pick-true, pick-false}
-use Rattle.segment.specs.Layout.{Layout, digestSize}
+use Rattle.segment.specs.Choice.{pick, pick-true, pick-false}
+use Rattle.segment.specs.Layout.{Layout, entrySize, digestSize}
 use Rattle.segment.specs.Entry.{Entry, encoded, sizeOf}
 use Rattle.segment.specs.EntryLaws.{length-encoded}
 use Rattle.segment.specs.Digest.{encodedDigest}
 use Rattle.segment.specs.DigestLaws.{length-encodedDigest}
+use Rattle.segment.specs.declared.Digest.{Digest}
+use Rattle.segment.specs.declared.Key.{Key}
 use Rattle.slot_map.specs.NextLaws.{next-below}
 use Rattle.record.specs.Answers.{withPending}
 use Rattle.record.specs.RangeLaws.{Lent, lent}
-use Rattle.record.specs.declared.Pending.the-variants.{Append, NewHead, Clean}
+use Rattle.record.specs.declared.Pending.the-variants.{Append, NewHead, Clean, Forget}
 use Rattle.record.specs.declared.Record.{Record}
 use Rattle.model.specs.Log.{Placed}
-use Rattle.model.specs.Operations.{Operation, write, delete, clean, Laid, laid, laidEntry, laidClean, logNow, newSlot, newDigest, fitsHead, kept, allEncoded, writtenEntry, tombstoneEntry, planOf, planFor, commit}
+use Rattle.model.specs.Operations.{Operation, write, delete, clean, Laid, laid, laidEntry, laidClean, laidForget, laidDelete, logNow, noRoom, newSlot, newDigest, fitsHead, kept, allEncoded, forgetVictim, forgetKept, forgetDigest, writtenEntry, tombstoneEntry, planOf, planFor, commit}
 use Rattle.model.specs.Promises.{Started}
 use Rattle.laws.specs.Stores.{slot-inside, length-stored, commit-byte, commit-end, commit-last}
 use Rattle.laws.specs.Operated.{Accepted, OperationLaws}
@@ -139,6 +141,12 @@ module _ (a : ℕ) (work : List ℕ) (r : Record) (n : ℕ) (bytes : List ℕ) (
   unfolding planOf pendingNext
   clean-next i v f h = head-turn (r .size) i f since refl h
 
+  pub forget-next :
+      (i v : ℕ) → Fit a (length work) (r .size) i 0 n → since < suc (length (commit (r .size) i 0 bytes)) →
+      NextOf a work r (record { pending = λ k. Forget i v n k; bytes = bytes }) since
+  unfolding planOf pendingNext
+  forget-next i v f h = head-turn (r .size) i f since refl h
+
 -- ---- a started operation
 
 module _ (L : Layout) (laws : OperationLaws L) (area : List ℕ) (r : Record) (work : List ℕ) (s : Started L area r work) where
@@ -213,25 +221,47 @@ module _ (L : Layout) (laws : OperationLaws L) (area : List ℕ) (r : Record) (w
         go true t = subst Told (sym (pick-true (fitsHead L (s .idle) e) _ _ t)) (appends t)
         go false t = subst Told (sym (pick-false (fitsHead L (s .idle) e) _ _ t)) heads
 
-    clean-told : (v : ℕ) → Told (laidClean L (s .idle) log v)
-    unfolding planOf
-    clean-told v f w h =
-        let bytes = encodedDigest L (newDigest (s .idle) v) ++ allEncoded L (kept v log) in
-        let total : digestSize L + length (allEncoded L (kept v log)) ≡ length bytes =
-        omega (arith, length-append (encodedDigest L (newDigest (s .idle) v)) (allEncoded L (kept v log)), length-encodedDigest L (newDigest (s .idle) v)) in
-        clean-next (length area) work (s .idle) (digestSize L + length (allEncoded L (kept v log))) bytes total w (s .since) (newSlot (s .idle)) v
-        (record {
+    -- a digest and entries behind it, for a new head
+    total-head : (d : Digest) (es : List Entry) → digestSize L + length (allEncoded L es) ≡ length (encodedDigest L d ++ allEncoded L es)
+    total-head d es = omega (arith, length-append (encodedDigest L d) (allEncoded L es), length-encodedDigest L d)
+
+    head-fit : (n : ℕ) → digestSize L ≤ n → n ≤ s .idle .size → Fit (length area) (length work) (s .idle .size) (newSlot (s .idle)) 0 n
+    head-fit n low f =
+        record {
           some = omega arith;
           read = omega arith;
           room = omega arith;
           inside = segment-inside (newSlot (s .idle)) new-slot-below;
-        })
-        h
+        }
+
+    clean-told : (v : ℕ) → Told (laidClean L (s .idle) log v)
+    unfolding planOf
+    clean-told v f w h =
+        let total = total-head (newDigest (s .idle) v) (kept v log) in
+        clean-next (length area) work (s .idle) (digestSize L + length (allEncoded L (kept v log)))
+        (encodedDigest L (newDigest (s .idle) v) ++ allEncoded L (kept v log)) total w (s .since) (newSlot (s .idle)) v
+        (head-fit (digestSize L + length (allEncoded L (kept v log))) (omega arith) (omega arith)) h
+
+    forget-told : (k : Key) → Told (laidForget L (s .idle) log k)
+    unfolding planOf
+    forget-told k f w h =
+        let total = total-head (forgetDigest (s .idle) log k) (forgetKept (s .idle) log k) in
+        forget-next (length area) work (s .idle) (digestSize L + length (allEncoded L (forgetKept (s .idle) log k)))
+        (encodedDigest L (forgetDigest (s .idle) log k) ++ allEncoded L (forgetKept (s .idle) log k)) total w (s .since) (newSlot (s .idle))
+        (forgetVictim log k) (head-fit (digestSize L + length (allEncoded L (forgetKept (s .idle) log k))) (omega arith) (omega arith)) h
+
+    delete-told : (k : Key) → Told (laidDelete L (s .idle) log k)
+    unfolding pick
+    delete-told k = go (noRoom (s .idle) (entrySize L 0))
+      where
+        go : (t : Bool) → Told (pick t (laidForget L (s .idle) log k) (laidEntry L (s .idle) (tombstoneEntry (s .idle) k)))
+        go true = forget-told k
+        go false = entry-told (tombstoneEntry (s .idle) k)
 
     told : (o : Operation) → Told (laid L (s .idle) log o)
     unfolding laid
     told (write k v) = entry-told (writtenEntry (s .idle) k v)
-    told (delete k) = entry-told (tombstoneEntry (s .idle) k)
+    told (delete k) = delete-told k
     told (clean v) = clean-told v
 
     -- the store of the plan whose turn it is

@@ -10,15 +10,16 @@ use lib.Dec.{ltb}
 use lib.ListN.{length, getD, take, set}
 use borrow.Author.Tests.{lt-ltb, le-ltb, ltb-false, not-false}
 use Rattle.segment.specs.Choice.{pick, pick-true, pick-false}
-use Rattle.segment.specs.Layout.{Layout}
+use Rattle.segment.specs.Layout.{Layout, entrySize}
 use Rattle.segment.specs.Entry.{Entry, Found, entry, end, damage}
+use Rattle.segment.specs.declared.Key.{Key}
 use Rattle.record.specs.Answers.{stepSaid, storesLeft, withPending}
 use Rattle.record.specs.Committed.{committed}
 use Rattle.record.specs.Range.{fitsLent}
 use Rattle.record.specs.RangeLaws.{Lent, lent}
 use Rattle.record.specs.declared.Commit.{Commit}
 use Rattle.record.specs.declared.Pending.{Pending}
-use Rattle.record.specs.declared.Pending.the-variants.{Idle, Append, NewHead, Clean}
+use Rattle.record.specs.declared.Pending.the-variants.{Idle, Append, NewHead, Clean, Forget}
 use Rattle.record.specs.declared.Refusal.{Refusal}
 use Rattle.record.specs.declared.Refusal.the-variants.{BadRecord, WorkShort, NonePending}
 use Rattle.record.specs.declared.StepAnswer.{StepAnswer}
@@ -26,7 +27,7 @@ use Rattle.record.specs.declared.Stepped.{Stepped}
 use Rattle.record.specs.declared.Record.{Record}
 use Rattle.model.specs.Log.{Placed}
 use Rattle.model.specs.Index.{IndexRule}
-use Rattle.model.specs.Operations.{Operation, write, delete, clean, Laid, laid, laidAppend, laidHead, fitsHead, writtenEntry, tombstoneEntry, logNow, planFor, stored, finishedRecord, toldVersion}
+use Rattle.model.specs.Operations.{Operation, write, delete, clean, Laid, laid, laidAppend, laidHead, laidEntry, laidForget, fitsHead, noRoom, writtenEntry, tombstoneEntry, logNow, planFor, stored, finishedRecord, toldVersion}
 use Rattle.model.specs.Causes.{firstCause}
 use Rattle.model.specs.Refused.{recordBad, isPending, stepCauses}
 use Rattle.model.specs.Promises.{Genuine, Started, OneByte, StepRefused, StepPromise, StepExact, stepped, IndexStepped, lentLengths}
@@ -41,7 +42,7 @@ use Rattle.index.specs.declared.Built.{Built}
 use Rattle.stepping.specs.Agree.{agreesWith, testedStore, StepTested}
 use Rattle.stepping.specs.AgreeLaws.{laid-agrees}
 use Rattle.stepping.specs.PlanLaws.{atOf, accepted, next-started}
-use Rattle.stepping.specs.Finish.{After, refusedStep, answeredWith, foundIn, finishEntry, finishAppend, finishHead, finishClean, oneLess, finishWith, advanced}
+use Rattle.stepping.specs.Finish.{After, refusedStep, answeredWith, foundIn, finishEntry, finishAppend, finishHead, finishClean, finishForget, oneLess, finishWith, advanced}
 use Rattle.stepping.specs.ExactLaws.{Ends, operation-ends}
 use Rattle.stepping.specs.declared.NextStore.{NextStore}
 use Rattle.stepping.specs.declared.NextStore.the-variants.{At, Bad}
@@ -54,6 +55,7 @@ pending-left Idle e h = refl
 pending-left (Append n k) e h = absurd (omega (arith, h (λ q. let z : _≡_ {A = ℕ} 0 1 = cc in absurd (omega arith))))
 pending-left (NewHead i n k) e h = absurd (omega (arith, h (λ q. let z : _≡_ {A = ℕ} 0 1 = cc in absurd (omega arith))))
 pending-left (Clean i v n k) e h = absurd (omega (arith, h (λ q. let z : _≡_ {A = ℕ} 0 1 = cc in absurd (omega arith))))
+pending-left (Forget i v n k) e h = absurd (omega (arith, h (λ q. let z : _≡_ {A = ℕ} 0 1 = cc in absurd (omega arith))))
 
 left-pending : (p : Pending) → (storesLeft p ≡ 0 → ⊥) → isPending p ≡ true
 unfolding isPending
@@ -61,6 +63,7 @@ left-pending Idle h = absurd (h refl)
 left-pending (Append n k) h = refl
 left-pending (NewHead i n k) h = refl
 left-pending (Clean i v n k) h = refl
+left-pending (Forget i v n k) h = refl
 
 no-causes : firstCause [] ≡ none
 unfolding firstCause
@@ -140,11 +143,16 @@ module _ (L : Layout) (idle : Record) (log : List Placed) where
   entry-counts true e k = (refl, refl)
   entry-counts false e k = (refl, refl)
 
+  delete-counts : (t : Bool) (key : Key) → CountsDown (pick t (laidForget L idle log key) (laidEntry L idle (tombstoneEntry idle key)))
+  unfolding oneLess pick
+  delete-counts true key k = (refl, refl)
+  delete-counts false key k = entry-counts (fitsHead L idle (tombstoneEntry idle key)) (tombstoneEntry idle key) k
+
   pub counts-down : (o : Operation) → CountsDown (laid L idle log o)
   unfolding laid oneLess
   counts-down (write key value) =
       entry-counts (fitsHead L idle (writtenEntry idle key value)) (writtenEntry idle key value)
-  counts-down (delete key) = entry-counts (fitsHead L idle (tombstoneEntry idle key)) (tombstoneEntry idle key)
+  counts-down (delete key) = delete-counts (noRoom idle (entrySize L 0)) key
   counts-down (clean victims) = λ k. (refl, refl)
 
 -- ---- behind the store a step is refused with 4 alone, and hands the record back
@@ -170,11 +178,12 @@ module _ (L : Layout) (r : Record) (area cells : List ℕ) where
   found-late done place damage = λ c f. refl
 
   finish-late : (p : Pending) → Late r (finishWith L r area cells p .stepped)
-  unfolding finishWith finishAppend finishHead finishClean finishEntry
+  unfolding finishWith finishAppend finishHead finishClean finishForget finishEntry
   finish-late Idle = λ c f. refl
   finish-late (Append n k) = found-late _ _ _
   finish-late (NewHead i n k) = found-late _ _ _
   finish-late (Clean i v n k) = answered-late r _ 0 _
+  finish-late (Forget i v n k) = answered-late r _ (r .next .0) _
 
   advanced-late : Late r (advanced L r area cells .stepped)
   unfolding advanced pick

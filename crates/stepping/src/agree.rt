@@ -10,16 +10,24 @@ use slot_map::has_slot;
 use slot_map::is_within;
 ghost use Prim.Native.Nat.{_≤_};
 ghost use mathlib.Core.Path.{_≡_};
-ghost use Rattle.segment.specs.Layout.{edition1};
-ghost use Rattle.stepping.specs.Agree.{entryAgrees, slotAgrees, victimsAgree, agreesWith};
+ghost use lib.Dec.{ltb};
+ghost use Rattle.segment.specs.Layout.{edition1, versionLimit};
+ghost use Rattle.stepping.specs.Agree.{entryAgrees, slotAgrees, victimsAgree, forgetAgrees, agreesWith};
+
+// Whether there is a version left.
+fn version_left(rec: Record) -> bool
+    ensures { λ r. ⌜ r ≡ ltb (rec .next .0) (versionLimit edition1) ⌝ }
+{
+    let next = rec.next;
+    next.0 < VERSION_LIMIT
+}
 
 // Whether there is a version left, and an entry in `count` bytes behind the first `before`.
 fn entry_agrees(rec: Record, before: usize, count: usize) -> bool
     requires { ⌜ before ≤ 2048 ⌝ }
     ensures { λ r. ⌜ r ≡ entryAgrees edition1 rec before count ⌝ }
 {
-    let next = rec.next;
-    if VERSION_LIMIT <= next.0 {
+    if !version_left(rec) {
         return false;
     }
     before + HEAD_SIZE <= count
@@ -53,6 +61,16 @@ fn victims_agree(rec: Record, victims: u32, count: usize) -> bool
     is_within(victims, rec.map)
 }
 
+// The same for a delete that cleans, for which there must be a version left too.
+fn forget_agrees(rec: Record, victims: u32, count: usize) -> bool
+    ensures { λ r. ⌜ r ≡ forgetAgrees edition1 rec victims count ⌝ }
+{
+    if !version_left(rec) {
+        return false;
+    }
+    victims_agree(rec, victims, count)
+}
+
 // Whether the pending operation agrees with the record, by its kind.
 pub fn agrees(rec: Record) -> bool
     requires { ⌜ rec .slots ≤ 32 ⌝ }
@@ -73,5 +91,11 @@ pub fn agrees(rec: Record) -> bool
             length,
             left: _,
         } => slot_agrees(rec, slot) && victims_agree(rec, victims, length as usize),
+        Pending::Forget {
+            slot,
+            victims,
+            length,
+            left: _,
+        } => slot_agrees(rec, slot) && forget_agrees(rec, victims, length as usize),
     }
 }

@@ -30,7 +30,7 @@ ghost use Rattle.segment.specs.Area.{segmentOf};
 ghost use Rattle.segment.specs.Entry.{entryAt, answer};
 ghost use Rattle.segment.specs.Layout.{edition1};
 ghost use Rattle.model.specs.Operations.{appendCommit, headCommit};
-ghost use Rattle.stepping.specs.Finish.{refusedStep, keysAfter, answeredWith, entryIn, finishEntry, finishAppend, finishHead, finishClean, oneLess, finishWith, advanced};
+ghost use Rattle.stepping.specs.Finish.{refusedStep, keysAfter, answeredWith, entryIn, finishEntry, finishAppend, finishHead, finishRebuilt, finishClean, finishForget, oneLess, finishWith, advanced};
 ghost use Rattle.record.specs.Answers.{storesLeft};
 ghost use Rattle.stepping.specs.Next.{PendingIn};
 ghost use Rattle.stepping.specs.Agree.{agreesWith};
@@ -247,7 +247,25 @@ fn rebuild(rec: Record, area: &[u8], index: &mut [u32], order: &[u8], map: u32) 
     build(area, index, &order[0..slots], rec.size as usize, map)
 }
 
-// The last step of a cleaning: the index is rebuilt under the new map, slot by slot.
+// The last step of an operation that takes slots out of the log: the index is rebuilt under the new map, slot by slot.
+fn finish_rebuilt(
+    rec: Record,
+    area: &[u8],
+    index: &mut [u32],
+    done: Commit,
+    version: Version,
+) -> Stepped
+    requires { ⌜ (rec .slots ≤ 32) × (rec .size ≤ 2048) ⌝ }
+    ensures { λ r.
+        ⌜
+        record { stepped = r; cells = now (index .exit) } ≡ finishRebuilt edition1 rec (now (area .entry)) (now (index .entry)) done (version .0)
+        ⌝ }
+{
+    let keys = rebuild(rec, area, index, &SLOTS, done.map);
+    answered(rec, done, version, keys)
+}
+
+// The last step of a cleaning, which has no version of its own.
 fn finish_clean(
     rec: Record,
     area: &[u8],
@@ -262,8 +280,31 @@ fn finish_clean(
     let next = rec.next;
     let map = with_slot(without_slots(rec.map, victims), slot);
     let done = head_commit(rec, slot, count, map, next);
-    let keys = rebuild(rec, area, index, &SLOTS, map);
-    answered(rec, done, Version(0), keys)
+    finish_rebuilt(rec, area, index, done, Version(0))
+}
+
+// The last step of a delete that cleans: it tells its version, and the next version goes up.
+fn finish_forget(
+    rec: Record,
+    area: &[u8],
+    index: &mut [u32],
+    slot: u32,
+    victims: u32,
+    count: u32,
+) -> Stepped
+    requires { ⌜
+        (rec .slots ≤ 32)
+        × (rec .size ≤ 2048)
+        × (slot < rec .slots)
+        × (rec .next .0 < 4294967295)
+        × (rec .digest .0 < 4294967295)
+        ⌝ }
+    ensures { λ r. ⌜ record { stepped = r; cells = now (index .exit) } ≡ finishForget edition1 rec (now (area .entry)) (now (index .entry)) slot victims count ⌝ }
+{
+    let next = rec.next;
+    let map = with_slot(without_slots(rec.map, victims), slot);
+    let done = head_commit(rec, slot, count, map, Version(next.0 + 1));
+    finish_rebuilt(rec, area, index, done, next)
 }
 
 // The pending operation with one store less.
@@ -288,6 +329,17 @@ fn one_less(pending: Pending) -> Pending
             length,
             left,
         } => Pending::Clean {
+            slot,
+            victims,
+            length,
+            left: left - 1,
+        },
+        Pending::Forget {
+            slot,
+            victims,
+            length,
+            left,
+        } => Pending::Forget {
             slot,
             victims,
             length,
@@ -322,6 +374,12 @@ fn finish(rec: Record, area: &[u8], index: &mut [u32]) -> Stepped
             length,
             left: _,
         } => finish_clean(rec, area, index, slot, victims, length),
+        Pending::Forget {
+            slot,
+            victims,
+            length,
+            left: _,
+        } => finish_forget(rec, area, index, slot, victims, length),
     }
 }
 

@@ -153,5 +153,20 @@ pub fn next_store(rec: Record, area: &[u8], work: &[u8]) -> NextStore
             1,
             left as usize,
         ),
+        Pending::Forget {
+            slot,
+            victims: _,
+            length,
+            left,
+        } => slot_next(
+            area,
+            work,
+            size,
+            slot as usize,
+            0,
+            length as usize,
+            1,
+            left as usize,
+        ),
     }
 }

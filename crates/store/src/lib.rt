@@ -23,8 +23,9 @@ pub use writing::start::write;
 // with 21, behind 7, where the key has another version.
 pub use writing::start::write_expecting;
 
-// Starts a delete, likewise. Refused with 4, 22, 3, 5, 8, 9, 12 or 10.
-pub use writing::start::delete;
+// Starts a delete, likewise. Where its tombstone finds no room, the slot with the live object is cleaned. Refused with 4, 22, 3,
+// 5, 8, 9 or 10.
+pub use forgetting::start::delete;
 
 // Starts a cleaning of a slot map of victims, likewise. Refused with 4, 3, 5, 13, 14 or 10.
 pub use cleaning::clean::clean;

@@ -12,7 +12,7 @@ use Rattle.segment.specs.Entry.{Found as Entered, entry, end, damage, entryAt, 
 use Rattle.record.specs.Answers.{storesLeft}
 use Rattle.record.specs.declared.Commit.{Commit}
 use Rattle.record.specs.declared.Pending.{Pending}
-use Rattle.record.specs.declared.Pending.the-variants.{Idle, Append, NewHead, Clean}
+use Rattle.record.specs.declared.Pending.the-variants.{Idle, Append, NewHead, Clean, Forget}
 use Rattle.record.specs.declared.Refusal.{Refusal}
 use Rattle.record.specs.declared.Record.{Record}
 use Rattle.model.specs.Log.{Placed, placeOf, segmentOf}
@@ -26,7 +26,7 @@ use Rattle.index.specs.Build.{finished, built}
 use Rattle.index.specs.declared.Found.{Found}
 use Rattle.index.specs.declared.Inserted.{Inserted}
 use Rattle.stepping.specs.Agree.{testedStore}
-use Rattle.stepping.specs.Finish.{After, refusedStep, unfit, foundIn, finishEntry, finishAppend, finishHead, cleanMap, finishClean, finishWith, advanced}
+use Rattle.stepping.specs.Finish.{After, refusedStep, unfit, foundIn, finishEntry, finishAppend, finishHead, cleanMap, finishClean, finishForget, finishWith, advanced}
 use Rattle.stepping.specs.StepLaws.{refused-promise, bad-promise, stored-promise}
 use Rattle.stepping.specs.declared.NextStore.{NextStore}
 use Rattle.stepping.specs.declared.NextStore.the-variants.{At, Bad}
@@ -123,11 +123,12 @@ module _ (L : Layout) (r : Record) (area cells : List ℕ) where
   entry-long done slot offset = found-long done (slot * r .size + offset) (entryAt L (segmentOf area (r .size) slot) offset)
 
   finish-long : (p : Pending) → Long (finishWith L r area cells p)
-  unfolding finishWith finishAppend finishHead finishClean
+  unfolding finishWith finishAppend finishHead finishClean finishForget
   finish-long Idle = refl
   finish-long (Append n k) = entry-long _ _ _
   finish-long (NewHead i n k) = entry-long _ _ _
   finish-long (Clean i v n k) = length-built L area (r .size) (cleanMap r i v) _ (length cells)
+  finish-long (Forget i v n k) = length-built L area (r .size) (cleanMap r i v) _ (length cells)
 
   advanced-long : Long (advanced L r area cells)
   unfolding advanced

@@ -9,10 +9,10 @@ use lib.Dec.{eqb, leb}
 use lib.ListN.{length, getD, set, take, drop, take-append-drop}
 use lib.Seq.{sets, sets-eq, drop-cons, length-take-le}
 use borrow.Author.Tests.{leb-true, le-leb, lt-leb, eqb-true, eqb-false, eq-eqb, ne-eqb}
-use Rattle.segment.specs.Choice.{pick, pick-true, pick-false, both, both-left, both-right, both-false-left}
+use Rattle.segment.specs.Choice.{pick, pick-true, pick-false, both, both-left, both-right, both-false-left, either}
 use Rattle.record.specs.Answers.{blank, withPending}
 use Rattle.record.specs.declared.Pending.{Pending}
-use Rattle.record.specs.declared.Pending.the-variants.{Idle, Append, NewHead, Clean}
+use Rattle.record.specs.declared.Pending.the-variants.{Idle, Append, NewHead, Clean, Forget}
 use Rattle.record.specs.declared.Record.{Record}
 use Rattle.words.specs.Words.{recordWords, numberWords, pendingWords, wordsOf, word, zeros, pendingFits, pendingOf, recordIn, isRecord, decoded}
 use Rattle.words.specs.declared.Decoded.{Decoded}
@@ -52,13 +52,23 @@ module _ (t s v n k : ℕ) where
   fits-head e = rw e
 
   pub fits-clean : t ≡ 3 → pendingFits t s v n k ≡ true
-  unfolding pendingFits pick
+  unfolding pendingFits pick either
   fits-clean e = rw e
 
-  pub fits-none : 3 < t → pendingFits t s v n k ≡ false
-  unfolding pendingFits pick
+  pub fits-forget : t ≡ 4 → pendingFits t s v n k ≡ true
+  unfolding pendingFits pick either
+  fits-forget e = rw e
+
+  pub fits-none : 4 < t → pendingFits t s v n k ≡ false
+  unfolding pendingFits pick either
   fits-none h =
-      rw (ne-eqb t 0 (λ e. omega arith), ne-eqb t 1 (λ e. omega arith), ne-eqb t 2 (λ e. omega arith), ne-eqb t 3 (λ e. omega arith))
+      rw (
+        ne-eqb t 0 (λ e. omega arith),
+        ne-eqb t 1 (λ e. omega arith),
+        ne-eqb t 2 (λ e. omega arith),
+        ne-eqb t 3 (λ e. omega arith),
+        ne-eqb t 4 (λ e. omega arith),
+      )
 
   pub of-append : t ≡ 1 → pendingOf t s v n k ≡ Append n k
   unfolding pendingOf pick
@@ -72,9 +82,13 @@ module _ (t s v n k : ℕ) where
   unfolding pendingOf pick
   of-clean e = rw e
 
-  pub of-rest : (t ≡ 1 → ⊥) → (t ≡ 2 → ⊥) → (t ≡ 3 → ⊥) → pendingOf t s v n k ≡ Idle
+  pub of-forget : t ≡ 4 → pendingOf t s v n k ≡ Forget s v n k
   unfolding pendingOf pick
-  of-rest a b c = rw (ne-eqb t 1 a, ne-eqb t 2 b, ne-eqb t 3 c)
+  of-forget e = rw e
+
+  pub of-rest : (t ≡ 1 → ⊥) → (t ≡ 2 → ⊥) → (t ≡ 3 → ⊥) → (t ≡ 4 → ⊥) → pendingOf t s v n k ≡ Idle
+  unfolding pendingOf pick
+  of-rest a b c d = rw (ne-eqb t 1 a, ne-eqb t 2 b, ne-eqb t 3 c, ne-eqb t 4 d)
 
 pub decoded-record : (w : List ℕ) → isRecord w ≡ true → decoded w ≡ record { ok = true; rec = recordIn w }
 unfolding decoded
@@ -106,13 +120,15 @@ filled w r Idle h = (_, sets-eq (numberWords r ++ pendingWords Idle) w 0 h)
 filled w r (Append n k) h = (_, sets-eq (numberWords r ++ pendingWords (Append n k)) w 0 h)
 filled w r (NewHead s n k) h = (_, sets-eq (numberWords r ++ pendingWords (NewHead s n k)) w 0 h)
 filled w r (Clean s v n k) h = (_, sets-eq (numberWords r ++ pendingWords (Clean s v n k)) w 0 h)
+filled w r (Forget s v n k) h = (_, sets-eq (numberWords r ++ pendingWords (Forget s v n k)) w 0 h)
 
 says : (r : Record) (p : Pending) (rest : List ℕ) → decoded (numberWords r ++ pendingWords p ++ rest) ≡ record { ok = true; rec = withPending r p }
-unfolding pendingFits pendingOf zeros pick both
+unfolding pendingFits pendingOf zeros pick both either
 says r Idle rest = let w = numberWords r ++ pendingWords Idle ++ rest in decoded-record w (long-enough w (omega arith))
 says r (Append n k) rest = let w = numberWords r ++ pendingWords (Append n k) ++ rest in decoded-record w (long-enough w (omega arith))
 says r (NewHead s n k) rest = let w = numberWords r ++ pendingWords (NewHead s n k) ++ rest in decoded-record w (long-enough w (omega arith))
 says r (Clean s v n k) rest = let w = numberWords r ++ pendingWords (Clean s v n k) ++ rest in decoded-record w (long-enough w (omega arith))
+says r (Forget s v n k) rest = let w = numberWords r ++ pendingWords (Forget s v n k) ++ rest in decoded-record w (long-enough w (omega arith))
 
 pub decode-encode : (r : Record) (w : List ℕ) → recordWords ≤ length w → decoded (sets w 0 (wordsOf r)) ≡ record { ok = true; rec = r }
 decode-encode r w h =
@@ -138,7 +154,7 @@ pending-back zero s v n k f =
     let ev : v ≡ 0 = zeros-right s v front in
     let en : n ≡ 0 = zeros-left n k back in
     let ek : k ≡ 0 = zeros-right n k back in
-    ap pendingWords (of-rest 0 s v n k (λ e. omega arith) (λ e. omega arith) (λ e. omega arith)) ∙ (cc)
+    ap pendingWords (of-rest 0 s v n k (λ e. omega arith) (λ e. omega arith) (λ e. omega arith) (λ e. omega arith)) ∙ (cc)
 pending-back (suc zero) s v n k f =
     let z = sym (fits-append 1 s v n k refl) ∙ f in
     let es : s ≡ 0 = zeros-left s v z in
@@ -148,8 +164,9 @@ pending-back (suc (suc zero)) s v n k f =
     let ev : v ≡ 0 = eqb-true v 0 (sym (fits-head 2 s v n k refl) ∙ f) in
     ap pendingWords (of-head 2 s v n k refl) ∙ (cc)
 pending-back (suc (suc (suc zero))) s v n k f = ap pendingWords (of-clean 3 s v n k refl)
-pending-back (suc (suc (suc (suc t)))) s v n k f =
-    let z : false ≡ true = sym (fits-none (suc (suc (suc (suc t)))) s v n k (omega arith)) ∙ f in
+pending-back (suc (suc (suc (suc zero)))) s v n k f = ap pendingWords (of-forget 4 s v n k refl)
+pending-back (suc (suc (suc (suc (suc t))))) s v n k f =
+    let z : false ≡ true = sym (fits-none (suc (suc (suc (suc (suc t))))) s v n k (omega arith)) ∙ f in
     let o : _≡_ {A = ℕ} 0 1 = cc in
     absurd (omega arith)
 

@@ -5,10 +5,10 @@ use mathlib.Core.Bool.{Bool, true, false}
 use mathlib.Core.List.{List, [], _∷_, _++_}
 use lib.Dec.{eqb, leb}
 use lib.ListN.{length, getD}
-use Rattle.segment.specs.Choice.{pick, both}
+use Rattle.segment.specs.Choice.{pick, both, either}
 use Rattle.record.specs.Answers.{blank}
 use Rattle.record.specs.declared.Pending.{Pending}
-use Rattle.record.specs.declared.Pending.the-variants.{Idle, Append, NewHead, Clean}
+use Rattle.record.specs.declared.Pending.the-variants.{Idle, Append, NewHead, Clean, Forget}
 use Rattle.record.specs.declared.Record.{Record}
 use Rattle.words.specs.declared.Decoded.{Decoded}
 
@@ -23,6 +23,7 @@ pendingWords Idle = 0 ∷ 0 ∷ 0 ∷ 0 ∷ 0 ∷ []
 pendingWords (Append n k) = 1 ∷ 0 ∷ 0 ∷ n ∷ k ∷ []
 pendingWords (NewHead s n k) = 2 ∷ s ∷ 0 ∷ n ∷ k ∷ []
 pendingWords (Clean s v n k) = 3 ∷ s ∷ v ∷ n ∷ k ∷ []
+pendingWords (Forget s v n k) = 4 ∷ s ∷ v ∷ n ∷ k ∷ []
 
 abbrev pub numberWords : Record → List ℕ
 numberWords r = r .slots ∷ r .size ∷ r .cells ∷ r .head ∷ r .end ∷ r .digest .0 ∷ r .map ∷ r .next .0 ∷ r .keys ∷ []
@@ -38,10 +39,11 @@ zeros a b = both (eqb a 0) (eqb b 0)
 -- whether five words are those of a pending operation
 unfoldable pub pendingFits : ℕ → ℕ → ℕ → ℕ → ℕ → Bool
 pendingFits t s v n k =
-    pick (eqb t 0) (both (zeros s v) (zeros n k)) (pick (eqb t 1) (zeros s v) (pick (eqb t 2) (eqb v 0) (eqb t 3)))
+    pick (eqb t 0) (both (zeros s v) (zeros n k)) (pick (eqb t 1) (zeros s v) (pick (eqb t 2) (eqb v 0) (either (eqb t 3) (eqb t 4))))
 
 unfoldable pub pendingOf : ℕ → ℕ → ℕ → ℕ → ℕ → Pending
-pendingOf t s v n k = pick (eqb t 1) (Append n k) (pick (eqb t 2) (NewHead s n k) (pick (eqb t 3) (Clean s v n k) Idle))
+pendingOf t s v n k =
+    pick (eqb t 1) (Append n k) (pick (eqb t 2) (NewHead s n k) (pick (eqb t 3) (Clean s v n k) (pick (eqb t 4) (Forget s v n k) Idle)))
 
 abbrev pub word : List ℕ → ℕ → ℕ
 word w i = getD w i 0

@@ -47,6 +47,12 @@ fn encode_pending(p: Pending, words: &mut [u32])
             length,
             left,
         } => put_pending(words, 3, slot, victims, length, left),
+        Pending::Forget {
+            slot,
+            victims,
+            length,
+            left,
+        } => put_pending(words, 4, slot, victims, length, left),
     }
 }
 
@@ -94,6 +100,7 @@ fn pending_fits(tag: u32, slot: u32, victims: u32, length: u32, left: u32) -> bo
         1 => zeros(slot, victims),
         2 => victims == 0,
         3 => true,
+        4 => true,
         _ => false,
     }
 }
@@ -105,6 +112,12 @@ fn pending_of(tag: u32, slot: u32, victims: u32, length: u32, left: u32) -> Pend
         1 => Pending::Append { length, left },
         2 => Pending::NewHead { slot, length, left },
         3 => Pending::Clean {
+            slot,
+            victims,
+            length,
+            left,
+        },
+        4 => Pending::Forget {
             slot,
             victims,
             length,

@@ -4,10 +4,12 @@ use mathlib.Core.Path.{_≡_, refl, sym, _∙_, ap}
 use mathlib.Core.Bool.{Bool, true, false}
 use mathlib.Core.List.{List, []}
 use mathlib.Core.Option.{Option, none, some}
+use native.Mathlib.Omega.{arith}
 use lib.Dec.{leb}
 use lib.ListN.{length}
+use lib.Seq.{length-sets}
 use borrow.Author.Tests.{eq-eqb, eqb-false, ltb-false, not-false}
-use Rattle.segment.specs.Choice.{both, orZero, not-none}
+use Rattle.segment.specs.Choice.{pick-false, both, orZero, not-none}
 use Rattle.segment.specs.Layout.{Layout, valueLength, objectKind, entrySize, digestSize, numberLimit}
 use Rattle.segment.specs.LayoutLaws.{object-kind, object-no-tombstone, tombstone-length}
 use Rattle.segment.specs.Entry.{Entry}
@@ -24,13 +26,13 @@ use Rattle.record.specs.declared.Tables.{Tables}
 use Rattle.model.specs.Log.{Placed}
 use Rattle.model.specs.Causes.{Cause, firstCause}
 use Rattle.model.specs.Operations.{Operation, write, delete, logNow, writtenEntry, tombstoneEntry, Laid, laid, laidEntry}
-use Rattle.model.specs.Refused.{Lengths, Terms, reaching, KeyFacts, recordBad, workShort, noNumber, reachCauses, writeCauses, deleteCauses, earlyCauses, startCauses}
+use Rattle.model.specs.Refused.{Lengths, Terms, reaching, KeyFacts, recordBad, workShort, noRoom, noNumber, reachCauses, writeCauses, deleteCauses, earlyCauses, startCauses}
 use Rattle.model.specs.Promises.{Genuine, Begun, begun, lentLengths, StartPromise}
 use Rattle.laws.specs.CauseLaws.{first-some}
 use Rattle.laws.specs.Passed.{WritePassed, write-passed, DeletePassed, delete-passed}
 use Rattle.laws.specs.Entering.{Roomy}
 use Rattle.laws.specs.SaidLaws.{start-settled}
-use Rattle.laws.specs.Starts.{begun-length, early-bad, start-early}
+use Rattle.laws.specs.Starts.{early-bad, start-early}
 use Rattle.starting.specs.declared.Check.{Check}
 use Rattle.starting.specs.Checks.{checked}
 use Rattle.starting.specs.CheckLaws.{checked-some, checked-none}
@@ -42,16 +44,6 @@ use Rattle.writing.specs.Known.{genuine-facts}
 
 -- ---- any start
 
--- What is laid down for the operation does not go by the log.
-abbrev LogFree : Layout → Record → Operation → Type 0
-LogFree L r o = (log : List Placed) → laid L r [] o ≡ laid L r log o
-
-begun-free : (L : Layout) (r : Record) (o : Operation) → LogFree L r o → (log : List Placed) (work : List ℕ) (c : Option Refusal) →
-    begun L r [] o work c ≡ begun L r log o work c
-unfolding begun laidBegun
-begun-free L r o free log work none = ap (λ x. laidBegun r x work) (free log)
-begun-free L r o free log work (some c) = refl
-
 -- A start with these causes, as the code goes by them.
 module _ (L : Layout) (q : Terms) (o : Operation) (r : Record) (area cells work : List ℕ) (tests : List Cause) where
   abbrev lengths : Lengths
@@ -59,7 +51,6 @@ module _ (L : Layout) (q : Terms) (o : Operation) (r : Record) (area cells work 
 
   -- the first of them is a bad record, and on a genuine store with a record in range they are 01's
   pub record Causes : Type 0 where
-    pub free : LogFree L r o
     pub early : (x : Refusal) → firstCause (earlyCauses L r lengths q o) ≡ some x → firstCause tests ≡ some x
     pub agrees :
         Genuine L area r cells → Lent L r (length area) (length cells) →
@@ -75,44 +66,55 @@ module _ (L : Layout) (q : Terms) (o : Operation) (r : Record) (area cells work 
             c .early BadRecord bad ∙ sym (start-early L r (logNow L area r) lengths q o BadRecord bad)
         go false e = c .agrees g (lent L r (length area) (length cells) (not-false (fitsLent L r (length area) (length cells)) e))
 
-    start-promise :
-        (work′ : List ℕ) (a : Start) → record { start = a; work = work′ } ≡ begun L r [] o work (firstCause tests) →
-        StartPromise L q o r area cells work work′ a
-    start-promise work′ a e =
-        record {
-          same-length = ap (λ (b : Begun). length (b .work)) e ∙ begun-length L r [] o work (firstCause tests);
-          early = early;
-          exact = exact;
-          says = start-settled L q o r area cells work work′ a early exact;
-        }
-      where
-        early :
-            (x : Refusal) → firstCause (earlyCauses L r lengths q o) ≡ some x → record { start = a; work = work′ } ≡ begun L r [] o work (some x)
-        early x h = e ∙ ap (begun L r [] o work) (c .early x h)
-
-        exact :
-            Genuine L area r cells → record { start = a; work = work′ } ≡
-            begun L r (logNow L area r) o work (firstCause (startCauses L r (logNow L area r) lengths q o))
-        exact g = e ∙ begun-free L r o (c .free) (logNow L area r) work (firstCause tests) ∙ ap (begun L r (logNow L area r) o work) (same g)
-
     -- refused: nothing changes
-    start-refused :
+    pub start-refused :
         (x : Refusal) → Check.Refused x ≡ checked (firstCause tests) → (a : Start) → a ≡ refusedStart r x →
         StartPromise L q o r area cells work work a
     unfolding begun
     start-refused x e a is =
-        start-promise work a
-        (ap (λ (s : Start). record { start = s; work = work }) is ∙ sym (ap (begun L r [] o work) (checked-some (firstCause tests) x e)))
+        record { same-length = refl; early = early; exact = exact; says = start-settled L q o r area cells work work a early exact }
+      where
+        told : (log : List Placed) → record { start = a; work = work } ≡ begun L r log o work (firstCause tests)
+        told log =
+            ap (λ (s : Start). record { start = s; work = work }) is ∙ sym (ap (begun L r log o work) (checked-some (firstCause tests) x e))
 
-    -- accepted: the entry is laid down
-    start-laid :
-        (e : Entry) → laid L r [] o ≡ laidEntry L r e → Check.Passed ≡ checked (firstCause tests) → (work′ : List ℕ) (a : Start) →
-        record { start = a; work = work′ } ≡ laidBegun r (laidEntry L r e) work → StartPromise L q o r area cells work work′ a
+        early :
+            (y : Refusal) → firstCause (earlyCauses L r lengths q o) ≡ some y → record { start = a; work = work } ≡ begun L r [] o work (some y)
+        early y h = told [] ∙ ap (begun L r [] o work) (c .early y h)
+
+        exact :
+            Genuine L area r cells → record { start = a; work = work } ≡
+            begun L r (logNow L area r) o work (firstCause (startCauses L r (logNow L area r) lengths q o))
+        exact g = told (logNow L area r) ∙ ap (begun L r (logNow L area r) o work) (same g)
+
+    -- accepted: the operation is laid down, by the log of a genuine store
+    pub start-laid :
+        Check.Passed ≡ checked (firstCause tests) → (work′ : List ℕ) (a : Start) → length work′ ≡ length work →
+        (Genuine L area r cells → record { start = a; work = work′ } ≡ laidBegun r (laid L r (logNow L area r) o) work) →
+        StartPromise L q o r area cells work work′ a
     unfolding begun laidBegun
-    start-laid e same-laid passed work′ a h =
-        start-promise work′ a
-        (h ∙ ap (λ (x : Laid). laidBegun r x work) (sym same-laid)
-        ∙ sym (ap (begun L r [] o work) (checked-none (firstCause tests) passed)))
+    start-laid passed work′ a long h =
+        record { same-length = long; early = early; exact = exact; says = start-settled L q o r area cells work work′ a early exact }
+      where
+        no-cause : firstCause tests ≡ none
+        no-cause = checked-none (firstCause tests) passed
+
+        early :
+            (y : Refusal) → firstCause (earlyCauses L r lengths q o) ≡ some y → record { start = a; work = work′ } ≡ begun L r [] o work (some y)
+        early y b =
+            let p : _≡_ {A = Option Refusal} (some y) none = sym (c .early y b) ∙ no-cause in
+            let z : _≡_ {A = ℕ} 0 1 = cc in
+            absurd (omega arith)
+
+        exact :
+            Genuine L area r cells → record { start = a; work = work′ } ≡
+            begun L r (logNow L area r) o work (firstCause (startCauses L r (logNow L area r) lengths q o))
+        exact g = h g ∙ ap (begun L r (logNow L area r) o work) (sym no-cause ∙ same g)
+
+-- the work buffer keeps its length
+laid-long : (r : Record) (l : Laid) (work work′ : List ℕ) (a : Start) → record { start = a; work = work′ } ≡ laidBegun r l work → length work′ ≡ length work
+unfolding laidBegun
+laid-long r l work work′ a h = ap (λ (b : Begun). length (b .work)) h ∙ length-sets work 0 (l .bytes)
 
 -- what the code may rely on once all tests are passed
 module _ (L : Layout) (r : Record) (area cells work : List ℕ) (n : ℕ) where
@@ -145,7 +147,6 @@ module _ (L : Layout) (q : Terms) (r : Record) (area cells work : List ℕ) (k :
   unfolding laid startCauses earlyCauses
   write-causes =
       record {
-        free = λ log. refl;
         early = λ x e. first-some (reachCauses L r (lentLengths area cells work) (q .tables) k) _ x e;
         agrees = λ g h. ap (λ (f : KeyFacts). firstCause (writeCauses L r (lentLengths area cells work) q k f (length value))) (genuine-facts L area r cells g h k);
       }
@@ -188,23 +189,22 @@ module _ (L : Layout) (q : Terms) (r : Record) (area cells work : List ℕ) (k :
         StartPromise L q (write k value) r area cells work work′ a
     unfolding laid
     write-laid work′ a kind is h =
-        start-laid L q (write k value) r area cells work writeTests write-causes (writtenEntry r k value) refl passed work′ a
-        (h ∙ ap (λ (e : Entry). laidBegun r (laidEntry L r e) work) (write-said kind is))
+        start-laid L q (write k value) r area cells work writeTests write-causes passed work′ a (laid-long r _ work work′ a h)
+        (λ g. h ∙ ap (λ (e : Entry). laidBegun r (laidEntry L r e) work) (write-said kind is))
 
 -- ---- a delete
 
 module _ (L : Layout) (t : Tables) (r : Record) (area cells work : List ℕ) (k : Key) where
-  abbrev deleteTests : List Cause
+  abbrev pub deleteTests : List Cause
   deleteTests = deleteCauses L r (lentLengths area cells work) (reaching t) k (factsFor L r area cells k)
 
-  abbrev deletes : Check
+  abbrev pub deletes : Check
   deletes = checked (firstCause deleteTests)
 
-  delete-causes : Causes L (reaching t) (delete k) r area cells work deleteTests
+  pub delete-causes : Causes L (reaching t) (delete k) r area cells work deleteTests
   unfolding laid startCauses earlyCauses
   delete-causes =
       record {
-        free = λ log. refl;
         early = λ x e. first-some (reachCauses L r (lentLengths area cells work) t k) _ x e;
         agrees = λ g h. ap (λ (f : KeyFacts). firstCause (deleteCauses L r (lentLengths area cells work) (reaching t) k f)) (genuine-facts L area r cells g h k);
       }
@@ -215,7 +215,7 @@ module _ (L : Layout) (t : Tables) (r : Record) (area cells work : List ℕ) (k 
   delete-refused c e a is = start-refused L (reaching t) (delete k) r area cells work deleteTests delete-causes c e a is
 
   module _ (passed : Check.Passed ≡ deletes) where
-    deleted : DeletePassed L r (lentLengths area cells work) (reaching t) k (factsFor L r area cells k)
+    pub deleted : DeletePassed L r (lentLengths area cells work) (reaching t) k (factsFor L r area cells k)
     deleted = delete-passed L r (lentLengths area cells work) (reaching t) k (factsFor L r area cells k) (checked-none _ passed)
 
     pub delete-ready : Roomy L → EntryReady L r 0 (length work)
@@ -225,16 +225,19 @@ module _ (L : Layout) (t : Tables) (r : Record) (area cells work : List ℕ) (k 
     pub delete-number : leb (r .end + entrySize L 0) (r .size) ≡ false → NumberLeft r
     delete-number f = some-number L r area cells work 0 (deleted .number-left) f
 
-    delete-said : entryOf L (L .tombstoneKind) k (r .next) [] ≡ tombstoneEntry r k
+    pub delete-said : entryOf L (L .tombstoneKind) k (r .next) [] ≡ tombstoneEntry r k
     delete-said =
         ap (λ (v : Option (List ℕ)). record { table = k .table; key = k .key; version = r .next .0; value = v })
         (value-tombstone L (L .tombstoneKind) [] (eq-eqb (L .tombstoneKind) (L .tombstoneKind) refl))
 
+    -- where the tombstone finds room
     pub delete-laid :
-        (work′ : List ℕ) (a : Start) →
+        noRoom r (entrySize L 0) ≡ false → (work′ : List ℕ) (a : Start) →
         record { start = a; work = work′ } ≡ laidBegun r (laidEntry L r (entryOf L (L .tombstoneKind) k (r .next) [])) work →
         StartPromise L (reaching t) (delete k) r area cells work work′ a
     unfolding laid
-    delete-laid work′ a h =
-        start-laid L (reaching t) (delete k) r area cells work deleteTests delete-causes (tombstoneEntry r k) refl passed work′ a
-        (h ∙ ap (λ (e : Entry). laidBegun r (laidEntry L r e) work) delete-said)
+    delete-laid room work′ a h =
+        start-laid L (reaching t) (delete k) r area cells work deleteTests delete-causes passed work′ a (laid-long r _ work work′ a h)
+        (λ g.
+        h ∙ ap (λ (e : Entry). laidBegun r (laidEntry L r e) work) delete-said
+        ∙ ap (λ (x : Laid). laidBegun r x work) (sym (pick-false (noRoom r (entrySize L 0)) _ _ room)))

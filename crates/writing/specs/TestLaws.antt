@@ -24,7 +24,7 @@ use Rattle.record.specs.declared.Tables.{Tables}
 use Rattle.record.specs.Reach.{holdsTable}
 use Rattle.record.specs.RangeLaws.{Lent, lent}
 use Rattle.model.specs.Causes.{Cause, when, firstCause}
-use Rattle.model.specs.Refused.{Lengths, Terms, reaching, KeyFacts, expectsOther, reachCauses, writeCauses, deleteCauses}
+use Rattle.model.specs.Refused.{Lengths, Terms, reaching, KeyFacts, expectsOther, reachCauses, writeCauses, deleteCauses, noRoom}
 use Rattle.laws.specs.Entering.{Roomy}
 use Rattle.laws.specs.CauseLaws.{no-cause}
 use Rattle.index.specs.Search.{searchFor}
@@ -35,7 +35,7 @@ use Rattle.starting.specs.Checks.{checked, idleCauses}
 use Rattle.starting.specs.CheckLaws.{refused, skipped, passed, checked-none, part-refused, part-passed, record-bad}
 use Rattle.writing.specs.declared.Presence.{Presence}
 use Rattle.writing.specs.declared.Presence.the-variants.{Object, Tombstone, Nothing, Forbidden}
-use Rattle.writing.specs.Tests.{factsOf, presenceOf, presenceAt, presenceFor, firstTests, versionTests, expectedTests, keyTests, roomTests, entryTests}
+use Rattle.writing.specs.Tests.{factsOf, presenceOf, presenceAt, presenceFor, firstTests, versionTests, expectedTests, keyTests, numberTests, roomTests, entryTests}
 
 -- ---- 21
 
@@ -97,31 +97,35 @@ module _ (r : Record) where
 -- ---- 12 and 10: t is what the code finds for the fit, and f for the free slots
 
 module _ (r : Record) (n : ℕ) (t : Bool) (e : t ≡ leb (r .end + n) (r .size)) where
-  pub room-fits : t ≡ true → Check.Passed ≡ checked (firstCause (roomTests r n))
+  pub room-fits : t ≡ true → false ≡ noRoom r n
+  room-fits h = sym (both-false-left _ _ (ap not (sym e ∙ h)))
+
+  pub room-free : t ≡ false → (f : ℕ) → f ≡ free (r .slots) (r .map) → ltb f 2 ≡ noRoom r n
+  unfolding both
+  room-free out f q = rw (sym e ∙ out, q)
+
+  pub number-fits : t ≡ true → Check.Passed ≡ checked (firstCause (numberTests r n))
+  unfolding numberTests
+  number-fits h = skipped _ _ (both-false-left _ _ (ap not (sym e ∙ h))) passed
+
+  module _ (out : t ≡ false) where
+    pub number-spent : r .digest .0 ≡ numberLimit → Check.Refused NumbersSpent ≡ checked (firstCause (numberTests r n))
+    unfolding numberTests
+    number-spent h = refused _ _ (both-true _ _ (ap not (sym e ∙ out)) (eq-eqb (r .digest .0) numberLimit h))
+
+    pub number-left : (r .digest .0 ≡ numberLimit → ⊥) → Check.Passed ≡ checked (firstCause (numberTests r n))
+    unfolding numberTests
+    number-left h = skipped _ _ (both-false-right _ _ (ne-eqb (r .digest .0) numberLimit h)) passed
+
+-- t is what the code finds for the room
+module _ (r : Record) (n : ℕ) {t : Bool} (e : t ≡ noRoom r n) where
+  pub room-none : t ≡ true → Check.Refused NoRoom ≡ checked (firstCause (roomTests r n))
   unfolding roomTests
-  room-fits h =
-      let no = ap not (sym e ∙ h) in
-      skipped _ _ (both-false-left _ _ no) (skipped _ _ (both-false-left _ _ no) passed)
+  room-none h = refused _ _ (sym e ∙ h)
 
-  module _ (out : t ≡ false) (f : ℕ) (q : f ≡ free (r .slots) (r .map)) where
-    new : not (leb (r .end + n) (r .size)) ≡ true
-    new = ap not (sym e ∙ out)
-
-    pub room-none : f < 2 → Check.Refused NoRoom ≡ checked (firstCause (roomTests r n))
-    unfolding roomTests
-    room-none h = refused _ _ (both-true _ _ new (ap (λ (x : ℕ). ltb x 2) (sym q) ∙ lt-ltb f 2 h))
-
-    module _ (two : 2 ≤ f) where
-      enough : both (not (leb (r .end + n) (r .size))) (ltb (free (r .slots) (r .map)) 2) ≡ false
-      enough = both-false-right _ _ (ap (λ (x : ℕ). ltb x 2) (sym q) ∙ le-ltb f 2 two)
-
-      pub room-spent : r .digest .0 ≡ numberLimit → Check.Refused NumbersSpent ≡ checked (firstCause (roomTests r n))
-      unfolding roomTests
-      room-spent h = skipped _ _ enough (refused _ _ (both-true _ _ new (eq-eqb (r .digest .0) numberLimit h)))
-
-      pub room-new : (r .digest .0 ≡ numberLimit → ⊥) → Check.Passed ≡ checked (firstCause (roomTests r n))
-      unfolding roomTests
-      room-new h = skipped _ _ enough (skipped _ _ (both-false-right _ _ (ne-eqb (r .digest .0) numberLimit h)) passed)
+  pub room-enough : {a : Check} → t ≡ false → a ≡ checked (firstCause (numberTests r n)) → a ≡ checked (firstCause (roomTests r n))
+  unfolding roomTests
+  room-enough h g = skipped _ _ (sym e ∙ h) g
 
 -- ---- a write: k is what the code finds for the kind of its value
 
@@ -199,7 +203,7 @@ module _ (L : Layout) (r : Record) (l : Lengths) (q : Terms) (j : Key) (p : Pres
     module _ (m : ℕ) (d : m ≡ orZero (objectKind L n)) (some-kind : m ≡ 0 → ⊥) where
       goes-on :
           {a : Check} → a ≡ checked (firstCause (expectedTests (q .expected) (factsOf p) ++ entryTests L r (factsOf p) (entrySize L n))) → WriteIs a
-      unfolding firstTests idleCauses expectedTests entryTests keyTests roomTests
+      unfolding firstTests idleCauses expectedTests entryTests keyTests roomTests numberTests
       goes-on h = part-passed (firstTests L r l (q .tables) j) _ first (skipped _ _ (kind-some L n m d some-kind) h)
 
       pub write-expected : (c : Refusal) → Check.Refused c ≡ checked (firstCause (expectedTests (q .expected) (factsOf p))) → WriteIs (Check.Refused c)
@@ -261,8 +265,8 @@ module _ (L : Layout) (r : Record) (l : Lengths) (t : Tables) (j : Key) (p : Pre
       unfolding firstTests idleCauses
       delete-spent h = part-passed (firstTests L r l t j) _ first (known-goes _ (refused _ _ (eq-eqb (r .next .0) (versionLimit L) h)))
 
-      pub delete-room :
-          {a : Check} → (r .next .0 ≡ versionLimit L → ⊥) → a ≡ checked (firstCause (roomTests r (entrySize L 0))) → DeleteIs a
-      unfolding firstTests idleCauses roomTests
-      delete-room left g =
+      pub delete-number :
+          {a : Check} → (r .next .0 ≡ versionLimit L → ⊥) → a ≡ checked (firstCause (numberTests r (entrySize L 0))) → DeleteIs a
+      unfolding firstTests idleCauses numberTests
+      delete-number left g =
           part-passed (firstTests L r l t j) _ first (known-goes _ (skipped _ _ (ne-eqb (r .next .0) (versionLimit L) left) g))

@@ -67,9 +67,13 @@ expectedTests e k = when (k .forbidden) BadRecord ∷ when (expectsOther e (k .v
 unfoldable pub keyTests : Record → KeyFacts → List Cause
 keyTests r k = when (keysFull r k) KeysFull ∷ []
 
--- 12 and 10, for an entry of n bytes
+-- 10, for an entry of n bytes
+unfoldable pub numberTests : Record → ℕ → List Cause
+numberTests r n = when (noNumber r n) NumbersSpent ∷ []
+
+-- 12 and 10
 unfoldable pub roomTests : Record → ℕ → List Cause
-roomTests r n = when (noRoom r n) NoRoom ∷ when (noNumber r n) NumbersSpent ∷ []
+roomTests r n = when (noRoom r n) NoRoom ∷ numberTests r n
 
 -- 9, 11, 12 and 10, for an entry of n bytes
 unfoldable pub entryTests : Layout → Record → KeyFacts → ℕ → List Cause

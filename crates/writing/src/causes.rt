@@ -21,10 +21,10 @@ ghost use lib.Dec.{leb};
 ghost use lib.ListN.{length};
 ghost use Rattle.segment.specs.Layout.{edition1};
 ghost use Rattle.model.specs.Causes.{firstCause};
-ghost use Rattle.model.specs.Refused.{reaching, writeCauses, deleteCauses};
+ghost use Rattle.model.specs.Refused.{noRoom, reaching, writeCauses, deleteCauses};
 ghost use Rattle.starting.specs.Checks.{checked};
 ghost use Rattle.writing.specs.declared.Presence.{Presence};
-ghost use Rattle.writing.specs.Tests.{firstTests, versionTests, expectedTests, keyTests, roomTests, entryTests, factsOf, factsFor};
+ghost use Rattle.writing.specs.Tests.{firstTests, versionTests, expectedTests, keyTests, numberTests, roomTests, entryTests, factsOf, factsFor};
 
 // 4, 22, 3 and 5: what the record, the lengths and the caller's reach tell.
 fn check_first(
@@ -57,22 +57,41 @@ pub fn fits_head(rec: Record, length: usize) -> bool
     rec.end as usize + length <= rec.size as usize
 }
 
-// 12 and 10, which only a new head brings.
-fn check_room(rec: Record, length: usize) -> Check
+// Whether an entry of that length finds no room: it does not fit the head, and fewer than two slots are free.
+pub fn no_room(rec: Record, length: usize) -> bool
     requires { ⌜ (length ≤ 256) × (rec .map < 2 ^ rec .slots) ⌝ }
-    ensures { λ r. ⌜ r ≡ checked (firstCause (roomTests rec length)) ⌝ }
+    ensures { λ r. ⌜ r ≡ noRoom rec length ⌝ }
+{
+    if fits_head(rec, length) {
+        return false;
+    }
+    slot_map::free_slots(rec.slots, rec.map) < 2
+}
+
+// 10, which only a new head brings.
+fn check_number(rec: Record, length: usize) -> Check
+    requires { ⌜ length ≤ 256 ⌝ }
+    ensures { λ r. ⌜ r ≡ checked (firstCause (numberTests rec length)) ⌝ }
 {
     if fits_head(rec, length) {
         return Check::Passed;
-    }
-    if slot_map::free_slots(rec.slots, rec.map) < 2 {
-        return Check::Refused(Refusal::NoRoom);
     }
     let number = rec.digest;
     if number.0 == NUMBER_LIMIT {
         return Check::Refused(Refusal::NumbersSpent);
     }
     Check::Passed
+}
+
+// 12 and 10.
+fn check_room(rec: Record, length: usize) -> Check
+    requires { ⌜ (length ≤ 256) × (rec .map < 2 ^ rec .slots) ⌝ }
+    ensures { λ r. ⌜ r ≡ checked (firstCause (roomTests rec length)) ⌝ }
+{
+    if no_room(rec, length) {
+        return Check::Refused(Refusal::NoRoom);
+    }
+    check_number(rec, length)
 }
 
 // 21: the key has another version than the one that is expected.
@@ -177,7 +196,7 @@ pub fn check_write(
     }
 }
 
-// Delete: 4, 22, 3, 5, 8, 9, 12, 10.
+// Delete: 4, 22, 3, 5, 8, 9, 10.
 pub fn check_delete(
     rec: Record,
     area: &[u8],
@@ -206,7 +225,7 @@ pub fn check_delete(
                 if next.0 == VERSION_LIMIT {
                     return Check::Refused(Refusal::VersionsSpent);
                 }
-                check_room(rec, HEAD_SIZE)
+                check_number(rec, HEAD_SIZE)
             }
         },
     }

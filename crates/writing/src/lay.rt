@@ -58,7 +58,7 @@ fn lay_head(rec: Record, work: &mut [u8], kind: u8, key: Key, value: &[u8]) -> S
     let count = DIGEST_SIZE + (HEAD_SIZE + value.len());
     let next = rec.next;
     let slot = next_free(rec.slots, rec.map, rec.head);
-    write_digest(work, 0, new_digest(rec, 0, slot));
+    write_digest(work, 0, new_digest(rec, 0, slot, next));
     write_entry(work, DIGEST_SIZE, kind, key, next, value);
     let left = head_stores(rec.size as usize, count) as u32;
     let length = count as u32;

@@ -1,4 +1,4 @@
-// The starts of a write and of a delete: what they check, and what they lay out in the work buffer.
+// The start of a write, and what that of a delete shares with it: what they check, and how an entry is laid out in the work buffer.
 use segment::Version;
 
 pub mod causes;

@@ -1,5 +1,4 @@
-// The starts of a write and of a delete (01, "Operations, store by store"). The area and the index are only read.
-use crate::causes::check_delete;
+// The start of a write (01, "Operations, store by store"). The area and the index are only read.
 use crate::causes::check_write;
 use crate::lay::lay_entry;
 use record::Expected;
@@ -7,12 +6,11 @@ use record::Record;
 use record::Start;
 use record::Tables;
 use segment::Key;
-use segment::layout::TOMBSTONE;
 use segment::layout::object_kind;
 use starting::Check;
 use starting::answer::refused;
 ghost use Rattle.segment.specs.Layout.{edition1};
-ghost use Rattle.model.specs.Operations.{write, delete};
+ghost use Rattle.model.specs.Operations.{write};
 ghost use Rattle.model.specs.Refused.{reaching};
 ghost use Rattle.model.specs.Promises.{StartPromise};
 
@@ -65,25 +63,4 @@ pub fn write(
         ⌝ }
 {
     write_expecting(rec, area, index, work, tables, Expected::Any, key, value)
-}
-
-// A key is to go: a tombstone, which has no value, takes the next version.
-pub fn delete(
-    rec: Record,
-    area: &[u8],
-    index: &[u32],
-    work: &mut [u8],
-    tables: Tables,
-    key: Key,
-) -> Start
-    ensures { λ r.
-        ⌜
-        StartPromise edition1 (reaching tables) (delete key) rec (now (area .entry)) (now (index .entry)) (now (work .entry))
-        (now (work .exit)) r
-        ⌝ }
-{
-    match check_delete(rec, area, index, work.len(), tables, key) {
-        Check::Refused(c) => refused(rec, c),
-        Check::Passed => lay_entry(rec, work, TOMBSTONE, key, &area[0..0]),
-    }
 }

@@ -2,7 +2,7 @@
 
 use std::hint::black_box;
 
-use crate::image::{full, lay_out, At, Entry};
+use crate::image::{full, lay_out, At, Entry, DIGEST_BYTES, OBJECTS};
 use crate::recoveries::recovery;
 use crate::report::{Call, Keys, Report};
 use crate::store::{
@@ -160,14 +160,27 @@ impl Chosen {
             "a middle step of a cleaning",
             timing,
         );
-        let timing = Store::new(area, CELLS).time_step(operation, 1);
+        let timing = Store::new(area.clone(), CELLS).time_step(operation, 1);
         self.call(
             report,
             Call::LastStepOfCleaning,
             "last step of cleaning one slot",
             timing,
         );
+        self.full_delete(report, area);
         self.outside(report);
+    }
+
+    /// Start and last step of a delete without room, of an object in the last slot; all others there are kept.
+    fn full_delete(&self, report: &mut Report, area: Vec<u8>) {
+        let delete = Operation::Delete(self.keys[KEYS - 1]);
+        let stores = (DIGEST_BYTES + (OBJECTS - 1) * 19) as u32 + 2;
+        let timing = Store::new(area.clone(), CELLS).time_start(delete, Ok(stores));
+        let case = "start of a delete in a full store";
+        self.call(report, Call::FullDeleteStart, case, timing);
+        let timing = Store::new(area, CELLS).time_step(delete, 1);
+        let case = "last step of a delete in a full store";
+        self.call(report, Call::LastStepOfCleaning, case, timing);
     }
 
     /// The start of a cleaning of tombstones that go, where objects stand outside, many of them the last key's. More slots of

@@ -9,7 +9,8 @@ pub const OBJECTS: usize = 107;
 /// Tombstones that fill a slot.
 pub const TOMBSTONES: usize = 185;
 
-const DIGEST_BYTES: usize = 13;
+/// Bytes of a digest.
+pub const DIGEST_BYTES: usize = 13;
 
 /// An entry to lay out.
 #[derive(Clone, Copy)]

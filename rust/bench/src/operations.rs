@@ -1,10 +1,10 @@
-//! Reads, writes and cleanings in a store of objects.
+//! Reads, writes, cleanings and deletes without room in a store of objects.
 
 use std::hint::black_box;
 
-use crate::image::{full, At, Entry, SLOT_BYTES};
+use crate::image::{full, At, Entry, DIGEST_BYTES, OBJECTS, SLOT_BYTES};
 use crate::report::{Call, Keys, Report};
-use crate::store::{Operation, Store, ALL, CELLS, PROVED_ALL, SLOTS};
+use crate::store::{Operation, Store, ALL, CELLS, LOG, PROVED_ALL, SLOTS};
 use crate::timing::compare;
 
 /// The cases.
@@ -12,6 +12,7 @@ pub fn cases(report: &mut Report) {
     reads(report);
     writes(report);
     cleanings(report);
+    full_deletes(report);
 }
 
 /// Reads of keys all over a full store.
@@ -87,5 +88,29 @@ fn cleanings(report: &mut Report) {
         area.resize(SLOTS * SLOT_BYTES, 0);
         let timing = Store::new(area, CELLS).time_whole(Operation::Clean(victims));
         report.line(case, timing);
+    }
+}
+
+/// Deletes in a store full of live objects, which clean the first slot, that of the object. Either the last entry of the
+/// log is an older object of the key, and a tombstone stands in the place of the live one; or no other slot has one.
+fn full_deletes(report: &mut Report) {
+    let key = 50;
+    let kept = (DIGEST_BYTES + (OBJECTS - 1) * 19) as u32;
+    for (case, older, bytes) in [
+        ("a tombstone stands", true, kept + 11),
+        ("nothing stands", false, kept),
+    ] {
+        let last = (LOG * OBJECTS) as u32 - 1;
+        let area = full(SLOTS, |at| match older && at.count == last {
+            true => at.object(key).versioned(1),
+            false => at.object(at.count).versioned(at.count + 2),
+        });
+        let mut store = Store::new(area, CELLS);
+        let delete = Operation::Delete(key);
+        let timing = store.time_start(delete, Ok(bytes + 2));
+        let start = format!("start of a delete in a full store, {case}");
+        report.call(Call::FullDeleteStart, Keys::Plain, &start, timing);
+        let whole = format!("delete with its steps in a full store, {case}");
+        report.line(&whole, store.time_whole(delete));
     }
 }

@@ -13,24 +13,27 @@ pub enum Call {
     ConditionalWriteStart,
     /// The start of a delete.
     DeleteStart,
+    /// The start of a delete in a full store, which is done as a cleaning.
+    FullDeleteStart,
     /// The start of a cleaning.
     CleanStart,
     /// A step that is not the last.
     MiddleStep,
     /// The last step of a write, which leads the index to the entry.
     LastStepOfWrite,
-    /// The last step of a cleaning, which rebuilds the index.
+    /// The last step of a cleaning or of a delete in a full store, which rebuilds the index.
     LastStepOfCleaning,
     /// A recovery.
     Recovery,
 }
 
 impl Call {
-    const ALL: [(Call, &'static str); 9] = [
+    const ALL: [(Call, &'static str); 10] = [
         (Call::Read, "read"),
         (Call::WriteStart, "start of a write"),
         (Call::ConditionalWriteStart, "start of a conditional write"),
         (Call::DeleteStart, "start of a delete"),
+        (Call::FullDeleteStart, "start of a delete in a full store"),
         (Call::CleanStart, "start of a cleaning"),
         (Call::MiddleStep, "a step before the last"),
         (Call::LastStepOfWrite, "last step of a write"),

@@ -182,9 +182,9 @@ impl Store {
             reference::Pending::Append { .. } => {
                 record.head as usize * SLOT_BYTES + record.end as usize
             }
-            reference::Pending::NewHead { slot, .. } | reference::Pending::Clean { slot, .. } => {
-                slot as usize * SLOT_BYTES
-            }
+            reference::Pending::NewHead { slot, .. }
+            | reference::Pending::Clean { slot, .. }
+            | reference::Pending::Forget { slot, .. } => slot as usize * SLOT_BYTES,
         }
     }
 

@@ -6,6 +6,7 @@ use reference::book::Operation;
 use reference::index::rule_holds;
 use reference::rng::Rng;
 use reference::testing::calls::Given;
+use reference::testing::full;
 use reference::{Key, SlotMap, Started, Tables, Version};
 
 use crate::guarded::Guarded;
@@ -366,6 +367,15 @@ impl Pair {
             }
         }
         Ok(())
+    }
+
+    /// Writes values of these lengths under the keys in turn on both, until even the shortest is refused; tells how many.
+    pub fn fill(&mut self, keys: &[Key], lengths: &[usize]) -> Result<u32, Fault> {
+        full::fill(keys, lengths, |operation| {
+            let answer = self.begin(operation)?;
+            self.finish()?;
+            Ok(answer)
+        })
     }
 
     /// Reads a key from both, for a caller of all tables.

@@ -52,6 +52,17 @@ fn pending(pending: reference::Pending) -> Pending {
             length,
             left,
         },
+        reference::Pending::Forget {
+            left,
+            length,
+            slot,
+            victims,
+        } => Pending::Forget {
+            slot,
+            victims: kurdavel::SlotMap(victims.0),
+            length,
+            left,
+        },
     }
 }
 

@@ -37,6 +37,17 @@ pub enum Pending {
         /// Stores left.
         left: u32,
     },
+    /// A delete that found no room: the slot of its object is cleaned.
+    Forget {
+        /// Slot of the new head.
+        slot: u32,
+        /// The slot that leaves the log, as a map.
+        victims: SlotMap,
+        /// Bytes of the work buffer that are the operation's.
+        length: u32,
+        /// Stores left.
+        left: u32,
+    },
 }
 
 impl Pending {
@@ -46,7 +57,8 @@ impl Pending {
             Pending::Idle => 0,
             Pending::Append { left, .. }
             | Pending::NewHead { left, .. }
-            | Pending::Clean { left, .. } => left,
+            | Pending::Clean { left, .. }
+            | Pending::Forget { left, .. } => left,
         }
     }
 
@@ -61,6 +73,12 @@ impl Pending {
                 length,
                 left,
             } => [3, slot, victims.0, length, left],
+            Pending::Forget {
+                slot,
+                victims,
+                length,
+                left,
+            } => [4, slot, victims.0, length, left],
         }
     }
 
@@ -70,6 +88,12 @@ impl Pending {
             [1, 0, 0, length, left] => Pending::Append { length, left },
             [2, slot, 0, length, left] => Pending::NewHead { slot, length, left },
             [3, slot, victims, length, left] => Pending::Clean {
+                slot,
+                victims: SlotMap(victims),
+                length,
+                left,
+            },
+            [4, slot, victims, length, left] => Pending::Forget {
                 slot,
                 victims: SlotMap(victims),
                 length,

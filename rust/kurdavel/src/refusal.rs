@@ -30,8 +30,8 @@ pub enum Refusal {
     /// A new key, and as many others have entries in the log as the index takes, deleted keys among them. Clean their
     /// slots, or recover with a larger index.
     KeysFull = 11,
-    /// There is no room in the head, and a new head would take the last free slot. Cleaning gives back what no longer
-    /// counts; it does not help a store full of live objects.
+    /// There is no room in the head for what is to be written, and a new head would take the last free slot. Cleaning
+    /// gives back what no longer counts; in a store full of live objects a delete helps, which is never refused so.
     NoRoom = 12,
     /// The victims are none, or not all in the log.
     BadVictims = 13,

@@ -116,7 +116,7 @@ impl Record {
     ///
     /// The part is borrowed from the area, so that no step is made while it is in use. A caller who keeps its place may
     /// use it until the last step of the next operation. Its bytes change only after a cleaning of its slot is finished,
-    /// when a new head may be stored there.
+    /// or a delete that is done as one, when a new head may be stored there.
     ///
     /// The library stays within the area for genuine stores and others alike; a place outside it, which it never
     /// tells, would give the empty part too.
@@ -231,6 +231,41 @@ impl Record {
     }
 
     /// Starts to delete a key. Answers how many stores are to come.
+    ///
+    /// A delete is never refused for want of room. Where a write would be refused with [`NoRoom`](Refusal::NoRoom), the slot
+    /// that holds the key's value is cleaned without it, in as many stores as a cleaning takes; the last step tells the
+    /// delete's version.
+    ///
+    /// ```
+    /// # let mut area = [0; 1024];
+    /// # kurdavel::format(4, 256, &mut area)?;
+    /// # let (mut index, mut work) = ([0; 16], [0; 256]);
+    /// # let mut record = kurdavel::recover(4, 256, &[0, 1, 2, 3], &area, &mut index)?;
+    /// use kurdavel::{Key, Progress, Refusal, Tables, Version};
+    /// // Three values fill a slot, and three slots are the most: the fourth is kept for cleaning.
+    /// let keys: Vec<Key> = (0..9).map(|key| Key { table: 1, key }).collect();
+    /// for (key, bytes) in keys.iter().zip([120, 56, 24].into_iter().cycle()) {
+    ///     record.write(&area, &index, &mut work, Tables::ALL, *key, &[7; 120][..bytes])?;
+    ///     while record.left() > 0 {
+    ///         record.step(&mut area, &mut index, &work)?;
+    ///     }
+    /// }
+    /// let full = record.write(&area, &index, &mut work, Tables::ALL, keys[0], &[8; 8]);
+    /// assert_eq!(full, Err(Refusal::NoRoom));
+    ///
+    /// // The second slot is cleaned without its value of 56 bytes.
+    /// let stores = record.delete(&area, &index, &mut work, Tables::ALL, keys[4])?;
+    /// assert_eq!(stores, 13 + 131 + 35 + 2);
+    /// let mut progress = record.step(&mut area, &mut index, &work)?;
+    /// while record.left() > 0 {
+    ///     progress = record.step(&mut area, &mut index, &work)?;
+    /// }
+    /// assert_eq!(progress, Progress::Done { version: Version(10) });
+    /// let gone = record.read(&area, &index, Tables::ALL, keys[4]);
+    /// assert_eq!(gone, Err(Refusal::Absent));
+    /// record.write(&area, &index, &mut work, Tables::ALL, keys[0], &[8; 8])?;
+    /// # Ok::<(), Refusal>(())
+    /// ```
     #[inline]
     pub fn delete(
         &mut self,

@@ -2,7 +2,7 @@
 
 use std::collections::BTreeMap;
 
-use kurdavel::{Refusal, WORDS};
+use kurdavel::{Record, Refusal, WORDS};
 
 const HEADER: &str = include_str!("../../../include/kurdavel.h");
 
@@ -50,6 +50,22 @@ fn words_of_a_record() {
     let mut words: Vec<u32> = numbers("KURDAVEL_WORD_").into_values().collect();
     words.sort_unstable();
     assert!(words.into_iter().eq(0..WORDS as u32));
+}
+
+/// The operations under way are those that the wrapper knows, and no more.
+#[test]
+fn pending() {
+    let mut stated: Vec<u32> = numbers("KURDAVEL_PENDING_").into_values().collect();
+    stated.sort_unstable();
+    assert!(stated.iter().copied().eq(0..stated.len() as u32));
+    let known = |tag: &u32| {
+        let mut words = [0; WORDS];
+        words[9] = *tag;
+        let said = Record::from_words(words).fields();
+        said.is_some_and(|fields| *Record::of(fields).words() == words)
+    };
+    assert!(stated.iter().all(known));
+    assert!(!known(&(stated.len() as u32)));
 }
 
 #[test]

@@ -1,4 +1,5 @@
-//! The start of a cleaning (01, "Operations, store by store").
+//! The start of a cleaning (01, "Operations, store by store"), and of a delete that is done as
+//! one (02, R-4).
 
 use crate::counters::Version;
 use crate::index::{search, Search};
@@ -8,7 +9,7 @@ use crate::operations::{hand_back, lay_digest, Started};
 use crate::record::{Pending, Record};
 use crate::refusal::Refusal;
 use crate::rules::{AsWritten, Rules};
-use crate::segment::{Fields, Key, DIGEST_BYTES, TOMBSTONE, TOMBSTONE_BYTES};
+use crate::segment::{lay_entry, Fields, Key, DIGEST_BYTES, TOMBSTONE, TOMBSTONE_BYTES};
 use crate::slot_map::SlotMap;
 use crate::step::new_head_stores;
 
@@ -48,7 +49,7 @@ fn start<R: Rules>(
     if victims == SlotMap::EMPTY || !victims.is_within(record.map) {
         return Err(Refusal::Victims);
     }
-    let mut choice = Choice::of_victims(record, area, index, victims)?;
+    let mut choice = Choice::of_victims(record, area, index, victims, None)?;
     choice.keep_needed_tombstones(record, area, index, victims)?;
     if R::TOMBSTONE_GOES_WITH_NEWEST_OBJECT {
         choice.drop_by_newest_object(record, area, victims)?;
@@ -57,8 +58,8 @@ fn start<R: Rules>(
         return Err(Refusal::KeptLength);
     }
     let slot = record.new_head_slot()?;
-    lay_digest(record, work, slot, victims);
-    let length = copy_kept(record, area, work, victims, &choice.kept)?;
+    lay_digest(record, work, slot, victims, record.next);
+    let length = copy_kept(record, area, work, victims, &choice)?;
     Ok(Pending::Clean {
         slot,
         length,
@@ -67,18 +68,57 @@ fn start<R: Rules>(
     })
 }
 
-/// Copies the kept entries by ascending slot and offset behind the digest; gives the
-/// length of all.
+/// Starts a delete of the key whose live object stands at a place, as a cleaning of the slot
+/// that holds it. Nothing is longer in the new head than it was in the victim, so it fits. A
+/// place outside the log is one that no index leads to.
+pub(crate) fn forget<R: Rules>(
+    record: &Record,
+    area: &[u8],
+    index: &[u32],
+    work: &mut [u8],
+    live: usize,
+) -> Result<Pending, Refusal> {
+    let slot = record.new_head_slot()?;
+    let victim = live as u32 / record.slot_bytes;
+    if !record.map.has(victim) {
+        return Err(Refusal::Record);
+    }
+    let victims = SlotMap::EMPTY.with(victim);
+    let mut choice = Choice::of_victims(record, area, index, victims, Some(live))?;
+    if !R::NO_TOMBSTONE_OF_FORGOTTEN {
+        choice.keep_needed_tombstones(record, area, index, victims)?;
+    }
+    let taken = u32::from(!R::FORGOTTEN_VERSION_NOT_IN_DIGEST);
+    let next = Version(record.next.0 + taken);
+    lay_digest(record, work, slot, victims, next);
+    let length = copy_kept(record, area, work, victims, &choice)?;
+    Ok(Pending::Forget {
+        slot,
+        length,
+        victims,
+        left: new_head_stores::<R>(record, length),
+    })
+}
+
+/// Copies the kept entries by ascending slot and offset behind the digest, a new tombstone in
+/// the place of the object to be forgotten; gives the length of all.
 fn copy_kept(
     record: &Record,
     area: &[u8],
     work: &mut [u8],
     victims: SlotMap,
-    kept: &EntrySet,
+    choice: &Choice,
 ) -> Result<u32, Refusal> {
     let mut at = DIGEST_BYTES;
     walk_slots(record, area, victims, |place, fields| {
-        if kept.has(place) {
+        if !choice.kept.has(place) {
+            return Ok(());
+        }
+        if choice.forgotten == Some(place) {
+            let end = at + TOMBSTONE_BYTES;
+            lay_entry(&mut work[at..end], TOMBSTONE, fields.key, record.next, &[]);
+            at = end;
+        } else {
             let end = at + fields.length;
             work[at..end].copy_from_slice(&area[place..place + fields.length]);
             at = end;
@@ -115,22 +155,28 @@ struct Choice {
     kept: EntrySet,
     /// Their length together.
     bytes: usize,
-    /// Tombstones that are the newest entry of their key, and their keys.
+    /// The object in whose place a tombstone stands, if it is needed.
+    forgotten: Option<usize>,
+    /// Tombstones that are the newest entry of their key, the one to come among them, and their
+    /// keys.
     tombstones: EntrySet,
     tombstone_keys: KeyFilter,
 }
 
 impl Choice {
-    /// Keeps the objects that are their key's newest entry and notes such tombstones.
+    /// Keeps the objects that are their key's newest entry and notes such tombstones. The object
+    /// to be forgotten counts as one.
     fn of_victims(
         record: &Record,
         area: &[u8],
         index: &[u32],
         victims: SlotMap,
+        forgotten: Option<usize>,
     ) -> Result<Choice, Refusal> {
         let mut choice = Choice {
             kept: EntrySet::new(),
             bytes: 0,
+            forgotten,
             tombstones: EntrySet::new(),
             tombstone_keys: KeyFilter::new(),
         };
@@ -138,7 +184,7 @@ impl Choice {
             if newest(area, index, fields.key)? != place {
                 return Ok(());
             }
-            if fields.kind == TOMBSTONE {
+            if fields.kind == TOMBSTONE || forgotten == Some(place) {
                 choice.tombstones.add(place);
                 choice.tombstone_keys.add(fields.key);
             } else {

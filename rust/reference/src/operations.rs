@@ -1,5 +1,7 @@
-//! Format, and the starts of write and delete (01, "Operations, store by store"; 02, R-1 and R-2).
+//! Format, and the starts of write and delete (01, "Operations, store by store"; 02, R-1, R-2
+//! and R-4).
 
+use crate::cleaning::forget;
 use crate::counters::{DigestNumber, Version};
 use crate::index::{object_at, search, Search};
 use crate::layout::geometry_holds;
@@ -111,9 +113,25 @@ pub fn delete_by<R: Rules>(
     tables: Tables,
     key: Key,
 ) -> Started {
-    let pending = check_delete(&record, area, index, work, tables, key)
-        .map(|room| lay::<R>(&record, work, room, TOMBSTONE, key, &[]));
+    let pending = start_delete::<R>(&record, area, index, work, tables, key);
     hand_back(record, pending)
+}
+
+/// A delete with its checks. Where a write would meet 12, the slot with the live object is cleaned.
+fn start_delete<R: Rules>(
+    record: &Record,
+    area: &[u8],
+    index: &[u32],
+    work: &mut [u8],
+    tables: Tables,
+    key: Key,
+) -> Result<Pending, Refusal> {
+    let live = check_delete(record, area, index, work, tables, key)?;
+    match find_room(record, TOMBSTONE_BYTES) {
+        Ok(room) => Ok(lay::<R>(record, work, room, TOMBSTONE, key, &[])),
+        Err(Refusal::SlotsFull) => forget::<R>(record, area, index, work, live),
+        Err(refusal) => Err(refusal),
+    }
 }
 
 /// Puts the pending operation into the record, or hands back the refusal.
@@ -175,7 +193,7 @@ fn check_expected(area: &[u8], found: Search, expected: Version) -> Result<(), R
     }
 }
 
-/// The checks of a delete in 02's order; gives the room of the tombstone.
+/// The checks of a delete in 02's order, but for 10; gives the place of the live object.
 fn check_delete(
     record: &Record,
     area: &[u8],
@@ -183,17 +201,17 @@ fn check_delete(
     work: &[u8],
     tables: Tables,
     key: Key,
-) -> Result<Room, Refusal> {
+) -> Result<usize, Refusal> {
     record.check_start_on(area, index, work, tables, key)?;
-    object_at(area, search(area, index, key))?.ok_or(Refusal::Absent)?;
+    let (live, _) = object_at(area, search(area, index, key))?.ok_or(Refusal::Absent)?;
     if record.next == Version::SPENT {
         return Err(Refusal::VersionsSpent);
     }
-    find_room(record, TOMBSTONE_BYTES)
+    Ok(live)
 }
 
 /// Room for an entry: the head if it fits there, else a new head, which 12 and 10 may
-/// refuse. A write's new head leaves a slot free for cleaning.
+/// refuse. A new head for an entry leaves a slot free for cleaning.
 fn find_room(record: &Record, length: usize) -> Result<Room, Refusal> {
     if record.end as usize + length <= record.slot_bytes as usize {
         return Ok(Room::Head);
@@ -215,7 +233,7 @@ fn lay<R: Rules>(
 ) -> Pending {
     let start = match room {
         Room::Head => 0,
-        Room::NewHead(slot) => lay_digest(record, work, slot, SlotMap::EMPTY),
+        Room::NewHead(slot) => lay_digest(record, work, slot, SlotMap::EMPTY, record.next),
     };
     let end = start + TOMBSTONE_BYTES + value.len();
     lay_entry(&mut work[start..end], kind, key, record.next, value);
@@ -233,13 +251,19 @@ fn lay<R: Rules>(
     }
 }
 
-/// Lays the digest of a new head into the work buffer and gives its length. The record
-/// has a digest number to spare.
-pub(crate) fn lay_digest(record: &Record, work: &mut [u8], slot: u32, victims: SlotMap) -> usize {
+/// Lays the digest of a new head with this next version into the work buffer and gives its
+/// length. The record has a digest number to spare.
+pub(crate) fn lay_digest(
+    record: &Record,
+    work: &mut [u8],
+    slot: u32,
+    victims: SlotMap,
+    next: Version,
+) -> usize {
     let digest = Digest {
         number: DigestNumber(record.digest.0 + 1),
         map: record.map.without(victims).with(slot),
-        next: record.next,
+        next,
     };
     work[..DIGEST_BYTES].copy_from_slice(&digest.stored());
     DIGEST_BYTES

@@ -41,6 +41,17 @@ pub enum Pending {
         /// The slots to leave the log.
         victims: SlotMap,
     },
+    /// A delete that found no room for its tombstone: the slot with the live object is cleaned.
+    Forget {
+        /// Stores left.
+        left: u32,
+        /// Length of digest and kept entries, which the work buffer holds.
+        length: u32,
+        /// Slot of the new head.
+        slot: u32,
+        /// The slot to leave the log, as a map.
+        victims: SlotMap,
+    },
 }
 
 impl Pending {
@@ -51,7 +62,8 @@ impl Pending {
             Pending::None => 0,
             Pending::Append { left, .. }
             | Pending::NewHead { left, .. }
-            | Pending::Clean { left, .. } => left,
+            | Pending::Clean { left, .. }
+            | Pending::Forget { left, .. } => left,
         }
     }
 
@@ -62,7 +74,8 @@ impl Pending {
             Pending::None => {}
             Pending::Append { left, .. }
             | Pending::NewHead { left, .. }
-            | Pending::Clean { left, .. } => *left = stores,
+            | Pending::Clean { left, .. }
+            | Pending::Forget { left, .. } => *left = stores,
         }
     }
 }

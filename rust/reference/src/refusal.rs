@@ -27,7 +27,7 @@ pub enum Refusal {
     DigestsSpent = 10,
     /// The key is new, and the index has no cell left for it.
     KeysFull = 11,
-    /// There is no room in the head, and a new head would take the last free slot.
+    /// There is no room in the head for a write, and a new head would take the last free slot.
     SlotsFull = 12,
     /// The victims are none, or not all in the log.
     Victims = 13,

@@ -1,10 +1,10 @@
-//! The rules that 01 lists under "Plausible and wrong", as switches.
+//! The rules that 01 lists under "Plausible and wrong", and such of 02's requests, as switches.
 //!
 //! The public calls are compiled for [`AsWritten`]. Tests compile the same calls for
 //! rules with one switch on and show that a history exposes it. The switches are
 //! constants, so the right rules pay nothing for them.
 
-/// One choice for each reading that 01 calls wrong; all are off unless overridden.
+/// One choice for each wrong reading; all are off unless overridden.
 pub trait Rules {
     /// The head is the highest slot with a digest, whatever its number.
     const HEAD_IS_HIGHEST_SLOT: bool = false;
@@ -16,9 +16,13 @@ pub trait Rules {
     const OLD_BYTE_AFTER_ENTRY: bool = false;
     /// A tombstone is dropped once the newest object of its key is among the victims.
     const TOMBSTONE_GOES_WITH_NEWEST_OBJECT: bool = false;
+    /// The digest of a delete that is done as a cleaning has the next version before it.
+    const FORGOTTEN_VERSION_NOT_IN_DIGEST: bool = false;
+    /// Such a delete leaves nothing of its key, whatever other slots hold.
+    const NO_TOMBSTONE_OF_FORGOTTEN: bool = false;
 }
 
-/// The rules of 01.
+/// The rules of 01 and 02.
 #[derive(Clone, Copy, PartialEq, Eq, Debug)]
 pub struct AsWritten;
 

@@ -91,6 +91,9 @@ pub fn next_store_by<R: Rules>(
         Pending::NewHead { slot, length, left }
         | Pending::Clean {
             slot, length, left, ..
+        }
+        | Pending::Forget {
+            slot, length, left, ..
         } => new_head_store::<R>(record, work, slot, length, left),
     };
     store
@@ -228,13 +231,37 @@ fn finish(
             victims,
             ..
         } => {
-            let mut after = new_head(record, slot, length, victims)?;
-            let log = after.map.slots();
-            after.keys = rebuild(area, after.slot_bytes, log, index, Refusal::Record)
-                .map_err(|_| Refusal::Record)?;
+            let after = finish_cleaning(record, area, index, slot, length, victims)?;
             Ok((after, Version::NONE))
         }
+        Pending::Forget {
+            slot,
+            length,
+            victims,
+            ..
+        } => {
+            let next = record.next.0.checked_add(1).ok_or(Refusal::Record)?;
+            let mut after = finish_cleaning(record, area, index, slot, length, victims)?;
+            after.next = Version(next);
+            Ok((after, record.next))
+        }
     }
+}
+
+/// The record after a cleaning; the index is built anew.
+fn finish_cleaning(
+    record: &Record,
+    area: &[u8],
+    index: &mut [u32],
+    slot: u32,
+    length: u32,
+    victims: SlotMap,
+) -> Result<Record, Refusal> {
+    let mut after = new_head(record, slot, length, victims)?;
+    let log = after.map.slots();
+    after.keys = rebuild(area, after.slot_bytes, log, index, Refusal::Record)
+        .map_err(|_| Refusal::Record)?;
+    Ok(after)
 }
 
 /// Leads the index to the entry just stored and counts its key and version.

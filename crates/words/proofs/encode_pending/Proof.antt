@@ -28,6 +28,12 @@ enum-known-p-3 c = search needs
 put-pending-requires-4 : tie.Need-put-pending-requires-4
 put-pending-requires-4 c κs = search needs
 
+enum-known-p-4 : tie.Need-enum-known-p-4
+enum-known-p-4 c = search needs
+
+put-pending-requires-5 : tie.Need-put-pending-requires-5
+put-pending-requires-5 c κs = search needs
+
 same-length : tie.Need-same-length
 same-length c = search needs
 
@@ -52,6 +58,12 @@ same-length-4 c = search needs
 returns-4 : tie.Need-returns-4
 returns-4 c = known-pending _ _ (c .before .before .before .before .before .p3 .given .1) (c .before .before .put-pending4 .ensures)
 
+same-length-5 : tie.Need-same-length-5
+same-length-5 c = search needs
+
+returns-5 : tie.Need-returns-5
+returns-5 c = known-pending _ _ (c .before .before .before .before .before .p4 .given .1) (c .before .before .put-pending5 .ensures)
+
 pub encode-pending-spec : {M : Type 1} → statement M
 encode-pending-spec =
     tie.close
@@ -64,6 +76,8 @@ encode-pending-spec =
     put-pending-requires-3
     enum-known-p-3
     put-pending-requires-4
+    enum-known-p-4
+    put-pending-requires-5
     same-length
     returns
     same-length-2
@@ -71,4 +85,6 @@ encode-pending-spec =
     same-length-3
     returns-3
     same-length-4
-    returns-4)
+    returns-4
+    same-length-5
+    returns-5)

@@ -2,7 +2,7 @@
 use mathlib.Core.Path.{sym, _∙_}
 use native.Mathlib.Omega.{arith}
 use Rattle.record.specs.RangeLaws.{ends, goes}
-use Rattle.words.specs.WordLaws.{fits-idle, fits-append, fits-head, fits-clean, fits-none}
+use Rattle.words.specs.WordLaws.{fits-idle, fits-append, fits-head, fits-clean, fits-forget, fits-none}
 use borrow.Author.Needs.{needs}
 use Rattle.words.proofs.pending_fits.Statement.{statement}
 use Rattle.words.proofs.pending_fits.Tie as tie
@@ -33,7 +33,10 @@ returns-5 : tie.Need-returns-5
 returns-5 c = sym (fits-clean _ _ _ _ _ (omega arith))
 
 returns-6 : tie.Need-returns-6
-returns-6 c = sym (fits-none _ _ _ _ _ (omega arith))
+returns-6 c = sym (fits-forget _ _ _ _ _ (omega arith))
+
+returns-7 : tie.Need-returns-7
+returns-7 c = sym (fits-none _ _ _ _ _ (omega arith))
 
 pub pending-fits-spec : {M : Type 1} → statement M
 pending-fits-spec =
@@ -47,4 +50,5 @@ pending-fits-spec =
     returns-3
     returns-4
     returns-5
-    returns-6)
+    returns-6
+    returns-7)

@@ -149,7 +149,8 @@ fn with_left(pending: Pending, stores: u32) -> Pending {
         }
         Pending::Append { left, .. }
         | Pending::NewHead { left, .. }
-        | Pending::Clean { left, .. } => *left = stores,
+        | Pending::Clean { left, .. }
+        | Pending::Forget { left, .. } => *left = stores,
     }
     pending
 }

@@ -2,6 +2,7 @@
 
 mod damaged_images;
 mod expected_versions;
+mod full_stores;
 mod images_in_use;
 mod not_genuine;
 mod random_histories;

@@ -4,13 +4,15 @@ use compare::pair::Pair;
 use compare::Fault;
 use reference::book::Operation;
 use reference::rng::Rng;
-use reference::testing::calls;
-use reference::Key;
+use reference::testing::{calls, full};
+use reference::{Key, Pending};
 
 /// How many operations, cuts and refusals of each cause a run met.
 #[derive(Default)]
 struct Tally {
     operations: u32,
+    /// Deletes done as a cleaning.
+    forgotten: u32,
     cuts: u32,
     refused: [u32; 23],
 }
@@ -72,8 +74,16 @@ impl Player {
     }
 
     fn play(&mut self, actions: u32) -> Result<(), Fault> {
-        if self.rng.one_in(6) {
-            self.fill()?;
+        match self.rng.below(12) {
+            0 | 1 => self.give_entries()?,
+            2..=4 => {
+                let lengths = [
+                    *self.rng.pick(&full::LENGTHS),
+                    *self.rng.pick(&full::LENGTHS),
+                ];
+                self.tally.operations += self.pair.fill(&self.keys, &lengths)?;
+            }
+            _ => {}
         }
         for _ in 0..actions {
             if self.pair.is_recovered() {
@@ -92,7 +102,7 @@ impl Player {
     }
 
     /// Gives every key an entry, as far as there is room.
-    fn fill(&mut self) -> Result<(), Fault> {
+    fn give_entries(&mut self) -> Result<(), Fault> {
         for key in self.keys.clone() {
             let answer = self.pair.begin(&Operation::Write(key, vec![7; 8]))?;
             self.tally.count(answer);
@@ -132,6 +142,8 @@ impl Player {
         let operation = calls::operation(rng, &self.keys, record, self.clean_rarity);
         let answer = self.pair.start_somehow(rng, &operation)?;
         self.tally.count(answer);
+        let forget = matches!(self.pair.record().pending, Pending::Forget { .. });
+        self.tally.forgotten += u32::from(answer.is_ok() && forget);
         Ok(())
     }
 
@@ -193,15 +205,17 @@ fn play_all(seeds: std::ops::Range<u64>, actions: u32) -> Tally {
             panic!("seed {seed}: {fault} after\n{}", player.pair.history());
         }
         total.operations += player.tally.operations;
+        total.forgotten += player.tally.forgotten;
         total.cuts += player.tally.cuts;
         for (sum, count) in total.refused.iter_mut().zip(player.tally.refused) {
             *sum += count;
         }
     }
     println!(
-        "{} accepted calls, {} cuts, refused {:?}",
-        total.operations, total.cuts, total.refused
+        "{} accepted calls, {} of them deletes on a full store, {} cuts, refused {:?}",
+        total.operations, total.forgotten, total.cuts, total.refused
     );
+    assert!(total.forgotten > 500, "{}", total.forgotten);
     total
 }
 

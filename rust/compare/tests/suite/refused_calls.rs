@@ -147,7 +147,7 @@ fn records_that_are_none() {
 fn spoil(rng: &mut Rng, words: &mut [u32]) {
     let other = rng.bits() as u32 | 1;
     match rng.below(4) {
-        0 => words[9] = 4 + rng.below(u32::MAX - 4),
+        0 => words[9] = 5 + rng.below(u32::MAX - 5),
         1 => words[9..].copy_from_slice(&[0, 0, 0, 0, other]),
         2 => words[9..].copy_from_slice(&[1, other, 0, 19, 20]),
         _ => words[9..].copy_from_slice(&[2, 1, other, 32, 33]),

@@ -4,15 +4,15 @@ use compare::pair::Pair;
 use compare::Fault;
 use reference::testing::choices::{two_keys, Choice, A, B, ORDERS};
 
-struct Explorer {
-    choices: Vec<Choice>,
-    histories: u64,
-    cuts: u64,
+pub struct Explorer {
+    pub choices: Vec<Choice>,
+    pub histories: u64,
+    pub cuts: u64,
 }
 
 impl Explorer {
     /// All histories of up to `depth` further operations, with at most one cut.
-    fn explore(&mut self, pair: &Pair, depth: u32, was_cut: bool) -> Result<(), Fault> {
+    pub fn explore(&mut self, pair: &Pair, depth: u32, was_cut: bool) -> Result<(), Fault> {
         if depth == 0 {
             return Ok(());
         }

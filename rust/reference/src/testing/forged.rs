@@ -26,14 +26,24 @@ fn pending(rng: &mut Rng, slots: u32) -> Pending {
         2 => length.saturating_add(rng.below(3)),
         _ => 1 + rng.below(length.clamp(1, 2048)),
     };
-    match rng.below(4) {
+    let victims = match rng.below(2) {
+        0 => SlotMap(rng.bits() as u32),
+        _ => SlotMap(1 << rng.below(slots)),
+    };
+    match rng.below(5) {
         0 => Pending::None,
         1 => Pending::Append { length, left },
         2 => Pending::NewHead { slot, length, left },
-        _ => Pending::Clean {
+        3 => Pending::Clean {
             slot,
             length,
-            victims: SlotMap(rng.bits() as u32),
+            victims,
+            left,
+        },
+        _ => Pending::Forget {
+            slot,
+            length,
+            victims,
             left,
         },
     }
@@ -63,7 +73,7 @@ pub fn record(rng: &mut Rng, genuine: Record) -> Record {
 pub fn out_of_range(rng: &mut Rng, genuine: Record) -> Record {
     let mut record = genuine;
     let over = genuine.slot_bytes + 2;
-    match rng.below(13) {
+    match rng.below(14) {
         0 => record.slots = *rng.pick(&[0, 3, 33, u32::MAX]),
         1 => record.slot_bytes = *rng.pick(&[0, 255, 2049, u32::MAX]),
         2 => record.cells = *rng.pick(&[0, 15, 4097, u32::MAX]),
@@ -91,7 +101,13 @@ fn spent_or_over(rng: &mut Rng, kind: u32, over: u32) -> Pending {
             length: 32,
             left: over,
         },
-        _ => Pending::Clean {
+        12 => Pending::Clean {
+            slot: 1,
+            length: 13,
+            victims: SlotMap(1),
+            left: *rng.pick(&[0, over, u32::MAX]),
+        },
+        _ => Pending::Forget {
             slot: 1,
             length: 13,
             victims: SlotMap(1),

@@ -4,4 +4,5 @@
 pub mod calls;
 pub mod choices;
 pub mod forged;
+pub mod full;
 pub mod images;

@@ -4,6 +4,7 @@ mod cases;
 mod damaged_images;
 mod dump;
 mod fnv;
+mod full_stores;
 mod index_rule;
 mod naive;
 mod not_genuine;

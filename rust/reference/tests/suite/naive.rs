@@ -242,7 +242,24 @@ impl View {
         if self.record.next.0 == u32::MAX {
             return Err(9);
         }
-        self.plan_entry(self.entry(4, key, &[]))
+        match self.plan_entry(self.entry(4, key, &[])) {
+            Err(12) => self.plan_forget(key),
+            plan => plan,
+        }
+    }
+
+    /// A delete without room: the slot of the live object is cleaned as if the key's tombstone of
+    /// the next version stood where that object stands.
+    fn plan_forget(&self, key: Key) -> Result<Plan, u32> {
+        let live = self.newest()[&key].place;
+        let mut after = self.clone();
+        let line = after.lines.iter_mut().find(|line| line.place == live);
+        let line = line.expect("the live object is in the log");
+        line.version = self.record.next.0;
+        line.bytes = self.entry(4, key, &[]);
+        let victim = line.slot;
+        after.record.next.0 += 1;
+        after.plan_clean(1 << victim)
     }
 
     fn plan_entry(&self, entry: Vec<u8>) -> Result<Plan, u32> {

@@ -1,8 +1,9 @@
-//! Each reading that 01 lists under "Plausible and wrong" is caught by a history, and
-//! the right rules pass the same search.
+//! Each reading that 01 lists under "Plausible and wrong", and such of a delete on a full store (02, R-4), is caught
+//! by a history, and the right rules pass the same search.
 
 use reference::rules::{AsWritten, Rules};
 use reference::testing::choices::{Choice, A, B, ORDERS};
+use reference::testing::full::{SPREADS, TIGHT};
 
 use crate::rig::{Fault, Rig};
 use crate::short_histories::cut_everywhere;
@@ -42,8 +43,22 @@ fn first_failure<R: Rules>(depth: u32) -> Option<(String, Fault)> {
     (1..=depth).find_map(|depth| search(&rig, depth).err())
 }
 
+/// The first failing history from a store without room for a tombstone.
+fn first_failure_when_full<R: Rules>(depth: u32) -> Option<(String, Fault)> {
+    SPREADS.into_iter().find_map(|spread| {
+        let mut rig = Rig::<R>::new(4, 256, 16, vec![1; 1024]);
+        rig.keys = spread.to_vec();
+        rig.fill(&TIGHT).expect("the writes are right");
+        (1..=depth).find_map(|depth| search(&rig, depth).err())
+    })
+}
+
 fn is_caught<R: Rules>(what: &str, operations: u32) {
-    let (history, fault) = first_failure::<R>(operations).expect(what);
+    told(what, first_failure::<R>(operations));
+}
+
+fn told(what: &str, failure: Option<(String, Fault)>) {
+    let (history, fault) = failure.expect(what);
     println!("{what}: caught by\n{history}  {fault}");
 }
 
@@ -93,8 +108,29 @@ fn highest_slot_taken_for_the_head() {
 }
 
 #[test]
+fn digest_of_a_full_delete_with_the_next_version_before_it() {
+    struct Wrong;
+    impl Rules for Wrong {
+        const FORGOTTEN_VERSION_NOT_IN_DIGEST: bool = true;
+    }
+    let what = "next version before a full delete";
+    told(what, first_failure_when_full::<Wrong>(1));
+}
+
+#[test]
+fn full_delete_without_the_tombstone() {
+    struct Wrong;
+    impl Rules for Wrong {
+        const NO_TOMBSTONE_OF_FORGOTTEN: bool = true;
+    }
+    let what = "full delete without the tombstone";
+    told(what, first_failure_when_full::<Wrong>(1));
+}
+
+#[test]
 fn the_right_rules_pass_the_same_search() {
-    if let Some((history, fault)) = first_failure::<AsWritten>(5) {
+    let failure = first_failure::<AsWritten>(5).or_else(|| first_failure_when_full::<AsWritten>(2));
+    if let Some((history, fault)) = failure {
         panic!("{fault} after\n{history}");
     }
 }

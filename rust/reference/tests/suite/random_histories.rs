@@ -4,7 +4,7 @@
 use reference::rng::Rng;
 use reference::rules::AsWritten;
 use reference::testing::calls::Given;
-use reference::testing::{calls, forged};
+use reference::testing::{calls, forged, full};
 use reference::{
     clean, delete, format, read, step, write, write_expecting, Pending, Refusal, Version,
 };
@@ -16,6 +16,8 @@ use crate::rig::{same, Fault, Rig};
 struct Tally {
     refused: [u32; 23],
     operations: u32,
+    /// Deletes done as a cleaning.
+    forgotten: u32,
     cuts: u32,
 }
 
@@ -74,6 +76,9 @@ impl Player {
     }
 
     fn play(&mut self, actions: u32) -> Result<(), Fault> {
+        if self.rng.one_in(4) {
+            self.fill()?;
+        }
         for _ in 0..actions {
             match self.rig.record {
                 None => self.recover()?,
@@ -83,6 +88,16 @@ impl Player {
         self.cut();
         let order = self.rng.order(self.rig.slots);
         self.rig.must_recover(&order)
+    }
+
+    /// Fills the store, as far as versions, keys and room allow.
+    fn fill(&mut self) -> Result<(), Fault> {
+        let lengths = [
+            *self.rng.pick(&full::LENGTHS),
+            *self.rng.pick(&full::LENGTHS),
+        ];
+        self.tally.operations += self.rig.fill(&lengths)?;
+        Ok(())
     }
 
     fn act(&mut self) -> Result<(), Fault> {
@@ -118,6 +133,8 @@ impl Player {
         let given = Given::random(rng, &operation, record, |key| book.version(key), whole);
         let answer = self.rig.start_with(&operation, given)?;
         self.tally.count(answer);
+        let forget = matches!(self.rig.record().pending, Pending::Forget { .. });
+        self.tally.forgotten += u32::from(answer.is_ok() && forget);
         Ok(())
     }
 
@@ -227,15 +244,17 @@ fn play_all(seeds: std::ops::Range<u64>, actions: u32) {
             panic!("seed {seed}: {fault} after\n{}", player.rig.history());
         }
         total.operations += player.tally.operations;
+        total.forgotten += player.tally.forgotten;
         total.cuts += player.tally.cuts;
         for (sum, count) in total.refused.iter_mut().zip(player.tally.refused) {
             *sum += count;
         }
     }
     println!(
-        "{} operations, {} cuts, refused {:?}",
-        total.operations, total.cuts, total.refused
+        "{} operations, {} of them deletes on a full store, {} cuts, refused {:?}",
+        total.operations, total.forgotten, total.cuts, total.refused
     );
+    assert!(total.forgotten > 1000, "{}", total.forgotten);
     for cause in (2..=15).chain(20..=22) {
         assert!(total.refused[cause] > 0, "{:?}", total.refused);
     }

@@ -357,11 +357,43 @@ fn cause_12_slots_full() {
     assert_eq!(refused(&rig, &write_of(1, 56)), 12);
     assert_eq!(refused(&rig, &write_of(1, 24)), 0);
     run(&mut rig, &[write_of(1, 24)]);
-    // 7 bytes are left, and the digest number is spent as well: 12 comes before 10.
+    // 7 bytes are left, and the digest number is spent as well: 12 comes before 10. A delete is never refused with 12.
     assert_eq!(rig.record().digest.0, u32::MAX);
-    assert_eq!(refused(&rig, &Operation::Delete(key(1))), 12);
+    assert_eq!(refused(&rig, &write_of(1, 8)), 12);
+    assert_eq!(refused(&rig, &Operation::Delete(key(1))), 10);
     assert_eq!(refused(&rig, &Operation::Delete(key(2))), 8);
     assert_eq!(refused(&rig, &Operation::Clean(SlotMap(1))), 10);
+}
+
+/// A delete on a full store has the other causes of a delete, in their order.
+#[test]
+fn full_store_refuses_a_delete_with_the_other_causes() {
+    let mut rig = store(16, u32::MAX - 3, u32::MAX - 11);
+    for _ in 0..9 {
+        run(&mut rig, &[write_of(1, 56)]);
+    }
+    run(&mut rig, &[write_of(1, 24)]);
+    let delete = Operation::Delete(key(1));
+    assert_eq!(rig.record().next.0, u32::MAX - 1);
+    assert_eq!(refused_with(&rig, &delete, 255), 3);
+    assert_eq!(refused_in(&rig, tables(8, 9), &delete, 256), 22);
+    assert_eq!(refused(&rig, &Operation::Delete(key(2))), 8);
+    assert_eq!(refused(&rig, &delete), 0);
+    let mut last = rig.clone();
+    run(&mut last, std::slice::from_ref(&delete));
+    assert_eq!(last.record().next.0, u32::MAX);
+    assert_eq!(last.record().digest.0, u32::MAX);
+    last.cut();
+    last.must_recover(&ORDER).unwrap();
+    assert_eq!(refused(&last, &write_of(2, 8)), 9);
+
+    // The head's next version at its limit.
+    let mut record = rig.record();
+    record.next = Version::SPENT;
+    rig.record = Some(record);
+    assert_eq!(refused(&rig, &delete), 9);
+    rig.start(&Operation::Clean(SlotMap(1))).unwrap().unwrap();
+    assert_eq!(refused(&rig, &delete), 5);
 }
 
 #[test]

@@ -12,6 +12,7 @@ use reference::recovery::recover_by;
 use reference::rules::Rules;
 use reference::step::step_by;
 use reference::testing::calls::Given;
+use reference::testing::full;
 use reference::{
     format, read, read_value, Key, Pending, Progress, Record, Refusal, Started, Tables,
 };
@@ -308,6 +309,14 @@ impl<R: Rules> Rig<R> {
         let answer = self.start(operation)?;
         self.finish()?;
         Ok(answer)
+    }
+
+    /// Writes values of these lengths under the keys in turn until even the shortest is refused; tells how many.
+    pub fn fill(&mut self, lengths: &[usize]) -> Result<u32, Fault> {
+        full::fill(&self.keys.clone(), lengths, |operation| {
+            let answer = self.run(operation)?;
+            Ok::<_, Fault>(answer.map_err(Refusal::number))
+        })
     }
 
     /// Loses all that a cut loses.

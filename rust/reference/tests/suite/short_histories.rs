@@ -42,14 +42,14 @@ pub fn cut_everywhere<R: Rules>(
     }
 }
 
-struct Explorer {
-    choices: Vec<Choice>,
-    histories: u64,
+pub struct Explorer {
+    pub choices: Vec<Choice>,
+    pub histories: u64,
 }
 
 impl Explorer {
     /// All histories of up to `depth` further operations, with at most one cut.
-    fn explore(
+    pub fn explore(
         &mut self,
         rig: &Rig<AsWritten>,
         depth: u32,

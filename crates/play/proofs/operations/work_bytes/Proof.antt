@@ -16,4 +16,6 @@ work-bytes-spec =
     (λ c. search needs)
     (λ c. search needs)
     (λ c. search needs)
-    (λ c. sym (ap workBytes (c .before .pending3 .given .1))))
+    (λ c. search needs)
+    (λ c. sym (ap workBytes (c .before .pending3 .given .1)))
+    (λ c. sym (ap workBytes (c .before .pending4 .given .1))))

@@ -13,8 +13,8 @@ use Rattle.record.proofs.range.left_good.Statement.{statement}
 use Rattle.record.proofs.range.left_good.Tie as tie
 
 -- 0 is the place of `Idle` among the variants
-not-idle : {x : ℕ} → x ≡ 0 → (x ≡ 1) ⊎ ((x ≡ 2) ⊎ (x ≡ 3)) → ⊥
-not-idle z w = ⊎-elim (λ e. omega arith) (⊎-elim (λ e. omega arith) (λ e. omega arith)) w
+not-idle : {x : ℕ} → x ≡ 0 → (x ≡ 1) ⊎ ((x ≡ 2) ⊎ ((x ≡ 3) ⊎ (x ≡ 4))) → ⊥
+not-idle z w = ⊎-elim (λ e. omega arith) (⊎-elim (λ e. omega arith) (⊎-elim (λ e. omega arith) (λ e. omega arith))) w
 
 returns : tie.Need-returns
 unfolding leftGood

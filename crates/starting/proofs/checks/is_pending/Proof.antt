@@ -14,8 +14,8 @@ enum-told : tie.Need-enum-told
 enum-told c = search needs
 
 -- 0 is the place of `Idle` among the variants
-not-idle : {x : ℕ} → x ≡ 0 → (x ≡ 1) ⊎ ((x ≡ 2) ⊎ (x ≡ 3)) → ⊥
-not-idle z w = ⊎-elim (λ e. omega arith) (⊎-elim (λ e. omega arith) (λ e. omega arith)) w
+not-idle : {x : ℕ} → x ≡ 0 → (x ≡ 1) ⊎ ((x ≡ 2) ⊎ ((x ≡ 3) ⊎ (x ≡ 4))) → ⊥
+not-idle z w = ⊎-elim (λ e. omega arith) (⊎-elim (λ e. omega arith) (⊎-elim (λ e. omega arith) (λ e. omega arith))) w
 
 returns : tie.Need-returns
 returns c = idle-not _ (c .enum-told .given .1)

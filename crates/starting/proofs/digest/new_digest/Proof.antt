@@ -15,7 +15,7 @@ with-slot-requires c κs = search needs
 
 returns : tie.Need-returns
 returns c =
-    digest-laid _ _ _ (c .before .before .before .before .before .pre) _ _ (c .before .without-slots .ensures) (c .with-slot .ensures)
+    digest-laid _ _ _ _ (c .before .before .before .before .pre) _ _ (c .before .without-slots .ensures) (c .with-slot .ensures)
 
 pub new-digest-spec : {M : Type 1} → statement M
 new-digest-spec = tie.close (tie.spec add-raised without-slots-requires with-slot-requires returns)

@@ -2,7 +2,7 @@
 use borrow.Author.Needs.{needs}
 use Rattle.segment.specs.Layout.{edition1}
 use Rattle.record.specs.RangeLaws.{ends, goes}
-use Rattle.stepping.specs.AgreeLaws.{agree-idle, agree-append, agree-head, agree-clean}
+use Rattle.stepping.specs.AgreeLaws.{agree-idle, agree-append, agree-head, agree-clean, agree-forget}
 use Rattle.stepping.proofs.agree.agrees.Statement.{statement}
 use Rattle.stepping.proofs.agree.agrees.Tie as tie
 
@@ -32,6 +32,16 @@ unfolding edition1
 returns-6 c =
     agree-clean edition1 _ (c .before .before .before .pending3 .given .1) (ends _ (c .before .slot-agrees2 .ensures) (c .if2 .left))
 
+returns-7 : tie.Need-returns-7
+unfolding edition1
+returns-7 c =
+    agree-forget edition1 _ (c .before .before .before .before .pending4 .given .1) (goes _ (c .before .before .slot-agrees3 .ensures) (c .before .if3 .taken) (c .forget-agrees .ensures))
+
+returns-8 : tie.Need-returns-8
+unfolding edition1
+returns-8 c =
+    agree-forget edition1 _ (c .before .before .before .pending4 .given .1) (ends _ (c .before .slot-agrees3 .ensures) (c .if3 .left))
+
 pub agrees-spec : {M : Type 1} → statement M
 agrees-spec =
     tie.close
@@ -48,9 +58,15 @@ agrees-spec =
     (λ c κs. search needs)
     (λ c. search needs)
     (λ c κs. search needs)
+    (λ c. search needs)
+    (λ c κs. search needs)
+    (λ c. search needs)
+    (λ c κs. search needs)
     returns
     returns-2
     returns-3
     returns-4
     returns-5
-    returns-6)
+    returns-6
+    returns-7
+    returns-8)

@@ -2,8 +2,8 @@
 use borrow.Author.Needs.{needs}
 use native.Mathlib.Omega.{arith}
 use Rattle.segment.specs.Layout.{edition1}
-use Rattle.stepping.specs.FinishLaws.{in-append, in-head, in-clean, with-idle, with-append, with-head, with-clean}
-use Rattle.stepping.specs.AgreeLaws.{append-agrees, head-agrees, clean-agrees}
+use Rattle.stepping.specs.FinishLaws.{in-append, in-head, in-clean, in-forget, with-idle, with-append, with-head, with-clean, with-forget}
+use Rattle.stepping.specs.AgreeLaws.{append-agrees, head-agrees, clean-agrees, forget-agrees}
 use Rattle.stepping.proofs.finish.finish.Statement.{statement}
 use Rattle.stepping.proofs.finish.finish.Tie as tie
 
@@ -29,6 +29,14 @@ finish-clean-requires c κs =
     let e = c .before .before .pending3 .given .1 in
     (d .pre .0, d .pre .1, in-clean (d .args .rec) e (d .pre .3) .0, clean-agrees edition1 (d .args .rec) (d .pre .4) e .number)
 
+finish-forget-requires : tie.Need-finish-forget-requires
+unfolding edition1
+finish-forget-requires c κs =
+    let d = c .before .before .before .before .before .before in
+    let e = c .before .before .pending4 .given .1 in
+    let g = forget-agrees edition1 (d .args .rec) (d .pre .4) e in
+    (d .pre .0, d .pre .1, in-forget (d .args .rec) e (d .pre .3) .0, g .1, g .0 .number)
+
 returns : tie.Need-returns
 returns c = with-idle edition1 _ _ _ (c .before .enum-told .given .1) (c .refused .ensures)
 
@@ -40,6 +48,9 @@ returns-3 c = with-head edition1 _ _ _ (c .before .before .before .before .befor
 
 returns-4 : tie.Need-returns-4
 returns-4 c = with-clean edition1 _ _ _ (c .before .before .before .before .before .pending3 .given .1) (c .before .before .finish-clean .ensures)
+
+returns-5 : tie.Need-returns-5
+returns-5 c = with-forget edition1 _ _ _ (c .before .before .before .before .before .pending4 .given .1) (c .before .before .finish-forget .ensures)
 
 pub finish-spec : {M : Type 1} → statement M
 finish-spec =
@@ -53,10 +64,14 @@ finish-spec =
     finish-head-requires
     (λ c. search needs)
     finish-clean-requires
+    (λ c. search needs)
+    finish-forget-requires
     returns
     (λ c. search needs)
     returns-2
     (λ c. search needs)
     returns-3
     (λ c. search needs)
-    returns-4)
+    returns-4
+    (λ c. search needs)
+    returns-5)

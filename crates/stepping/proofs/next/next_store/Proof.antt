@@ -1,6 +1,6 @@
 -- `stepping::next::next_store` meets its contract.
 use borrow.Author.Needs.{needs}
-use Rattle.stepping.specs.NextLaws.{next-idle, next-append, next-new-head, next-clean}
+use Rattle.stepping.specs.NextLaws.{next-idle, next-append, next-new-head, next-clean, next-forget}
 use Rattle.stepping.proofs.next.next_store.Statement.{statement}
 use Rattle.stepping.proofs.next.next_store.Tie as tie
 
@@ -15,6 +15,9 @@ returns-3 c = next-new-head _ _ _ (c .before .before .pending2 .given .1) (c .sl
 
 returns-4 : tie.Need-returns-4
 returns-4 c = next-clean _ _ _ (c .before .before .pending3 .given .1) (c .slot-next3 .ensures)
+
+returns-5 : tie.Need-returns-5
+returns-5 c = next-forget _ _ _ (c .before .before .pending4 .given .1) (c .slot-next4 .ensures)
 
 pub next-store-spec : {M : Type 1} → statement M
 next-store-spec =
@@ -38,7 +41,13 @@ next-store-spec =
     (λ c. search needs)
     (λ c. search needs)
     (λ c κs. search needs)
+    (λ c. search needs)
+    (λ c. search needs)
+    (λ c. search needs)
+    (λ c. search needs)
+    (λ c κs. search needs)
     returns
     returns-2
     returns-3
-    returns-4)
+    returns-4
+    returns-5)

@@ -10,7 +10,7 @@ use Rattle.starting.specs.declared.Check.{Check}
 use Rattle.starting.specs.Checks.{checked}
 use Rattle.writing.specs.declared.Presence.the-variants.{Tombstone, Nothing}
 use Rattle.writing.specs.Tests.{factsOf, firstTests}
-use Rattle.writing.specs.TestLaws.{first-lent, delete-first, delete-forbidden, delete-absent, delete-spent, delete-room}
+use Rattle.writing.specs.TestLaws.{first-lent, delete-first, delete-forbidden, delete-absent, delete-spent, delete-number}
 use borrow.Author.Needs.{needs}
 use Rattle.writing.proofs.causes.check_delete.Statement.{statement}
 use Rattle.writing.proofs.causes.check_delete.Tie as tie
@@ -58,8 +58,8 @@ returns c =
     let f = c .before .before .before .before .before in
     delete-spent edition1 _ _ _ _ _ (first (f .before .before)) _ (sym (c .before .before .before .enum-told5 .given .1) ∙ f .find .ensures) (c .if1 .taken)
 
-check-room-requires : tie.Need-check-room-requires
-check-room-requires c κs = (omega arith, lent (c .before .before .before .before .before .before .before) .map-below)
+check-number-requires : tie.Need-check-number-requires
+check-number-requires c κs = omega arith
 
 returns-2 : tie.Need-returns-2
 returns-2 c = delete-first edition1 _ _ _ _ _ _ (sym (c .before .c .given .1) ∙ c .before .before .before .check-first .ensures)
@@ -82,8 +82,8 @@ returns-6 : tie.Need-returns-6
 unfolding edition1
 returns-6 c =
     let f = c .before .before .before .before .before .before in
-    delete-room edition1 _ _ _ _ _ (first (f .before .before)) _ (sym (c .before .before .before .before .enum-told5 .given .1) ∙ f .find .ensures)
-    (c .before .if1 .left) (c .check-room .ensures)
+    delete-number edition1 _ _ _ _ _ (first (f .before .before)) _ (sym (c .before .before .before .before .enum-told5 .given .1) ∙ f .find .ensures)
+    (c .before .if1 .left) (c .check-number .ensures)
 
 pub check-delete-spec : {M : Type 1} → statement M
 check-delete-spec =
@@ -99,7 +99,7 @@ check-delete-spec =
     enum-told-4
     enum-told-5
     returns
-    check-room-requires
+    check-number-requires
     returns-2
     returns-3
     returns-4

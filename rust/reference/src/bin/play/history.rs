@@ -1,4 +1,4 @@
-//! The history that `play` plays: the cases of 01, and then a longer list with cuts.
+//! The history that `play` plays: the cases of 01, then a longer list with cuts, and a full store that is emptied.
 
 use reference::{Key, SlotMap};
 
@@ -123,5 +123,46 @@ pub const HISTORY: &[Event] = &[
     clean(0b100),
     clean(0b1),
     write(3, 56, 0xc0, 1),
+    Recover,
+    // A store filled until writes are refused for want of room. Each key is deleted by a cleaning of the slot with its live
+    // object, the head each time, and the head filled again in between. A tombstone stands for each key but the last, which
+    // has no object elsewhere. Then nothing is left, and a write is accepted again.
+    Format,
+    write(0, 56, 0x01, 1),
+    write(1, 56, 0x02, 1),
+    write(2, 56, 0x03, 1),
+    write(0, 56, 0x04, 1),
+    write(1, 56, 0x05, 1),
+    write(2, 56, 0x06, 1),
+    write(3, 56, 0x07, 1),
+    write(0, 56, 0x08, 1),
+    write(1, 56, 0x09, 1),
+    write(2, 8, 0x0a, 1),
+    write(3, 8, 0x0b, 1),
+    write(3, 8, 0x0c, 1),
+    Delete(0),
+    write(1, 56, 0x0d, 1),
+    write(2, 8, 0x0e, 1),
+    write(3, 8, 0x0f, 1),
+    write(2, 8, 0x10, 1),
+    write(1, 8, 0x11, 1),
+    Fails(60),
+    Delete(1),
+    Delete(1),
+    write(2, 24, 0x12, 1),
+    write(3, 24, 0x13, 1),
+    write(2, 24, 0x14, 1),
+    write(3, 24, 0x15, 1),
+    write(2, 24, 0x16, 1),
+    write(3, 8, 0x17, 1),
+    Delete(2),
+    write(3, 56, 0x18, 1),
+    write(3, 56, 0x19, 1),
+    write(3, 8, 0x1a, 1),
+    write(3, 8, 0x1b, 1),
+    write(3, 8, 0x1c, 1),
+    Delete(3),
+    Recover,
+    write(0, 8, 0x1d, 1),
     Recover,
 ];

@@ -73,7 +73,8 @@ fn length(pending: Pending) -> usize {
         Pending::None => 0,
         Pending::Append { length, .. }
         | Pending::NewHead { length, .. }
-        | Pending::Clean { length, .. } => length as usize,
+        | Pending::Clean { length, .. }
+        | Pending::Forget { length, .. } => length as usize,
     }
 }
 

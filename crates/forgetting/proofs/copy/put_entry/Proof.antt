@@ -1,0 +1,59 @@
+-- `forgetting::copy::put_entry` meets its contract.
+use mathlib.Core.Path.{sym}
+use native.Mathlib.Omega.{arith}
+use denote.Ref.{now}
+use borrow.Author.Needs.{needs}
+use Rattle.segment.specs.Layout.{edition1}
+use Rattle.cleaning.specs.KeptLaws.{entry-short}
+use Rattle.cleaning.specs.Copied.{copied-as}
+use Rattle.forgetting.specs.ForgotLaws.{entry-dead, entry-other}
+use Rattle.forgetting.proofs.copy.put_entry.Statement.{statement}
+use Rattle.forgetting.proofs.copy.put_entry.Tie as tie
+
+put-tombstone-requires : tie.Need-put-tombstone-requires
+put-tombstone-requires c κs = search needs
+
+same-length : tie.Need-same-length
+same-length c = search needs
+
+returns : tie.Need-returns
+returns c =
+    let t = c .before .before .before .before in
+    let a = c .before .before .before .before .before .before .before .before .before .before .args in
+    copied-as (sym (entry-dead edition1 (now (a .area)) (now (a .cells)) (now (a .marks)) (a .live) (a .header) (a .place) (t .if1 .taken)))
+    (c .before .before .put-tombstone .ensures)
+
+copy-entry-requires : tie.Need-copy-entry-requires
+copy-entry-requires c κs =
+    let s = c .before .before .before .before .before .before .before in
+    let a = s .args in (
+      s .pre .0,
+      (
+        s .pre .1 .0,
+        (
+          s .pre .1 .1 .0,
+          omega (arith, entry-short edition1 (now (a .area)) (now (a .cells)) (now (a .marks)) (a .header) (a .place), s .pre .1 .1 .1 .1),
+        ),
+      ),
+    )
+
+same-length-2 : tie.Need-same-length-2
+same-length-2 c = search needs
+
+returns-2 : tie.Need-returns-2
+returns-2 c =
+    let t = c .before .before .before .before in
+    let a = c .before .before .before .before .before .before .before .before .before .before .args in
+    copied-as (sym (entry-other edition1 (now (a .area)) (now (a .cells)) (now (a .marks)) (a .live) (a .header) (a .place) (t .if1 .left)))
+    (c .before .before .copy-entry .ensures)
+
+pub put-entry-spec : {M : Type 1} → statement M
+put-entry-spec =
+    tie.close
+    (tie.spec
+    put-tombstone-requires
+    same-length
+    returns
+    copy-entry-requires
+    same-length-2
+    returns-2)

@@ -1,0 +1,77 @@
+-- `forgetting::forget::begin` meets its contract.
+use native.Mathlib.Omega.{arith}
+use borrow.Author.Needs.{needs}
+use Rattle.segment.specs.Layout.{edition1}
+use Rattle.starting.specs.Stores.{head-most}
+use Rattle.starting.specs.NewHead.{head-ready}
+use Rattle.forgetting.specs.DeleteLaws.{victim-fits, victim-below, victim-size, victim-within, forgot-filled}
+use Rattle.forgetting.proofs.forget.begin.Statement.{statement}
+use Rattle.forgetting.proofs.forget.begin.Tie as tie
+
+next-free-requires : tie.Need-next-free-requires
+next-free-requires c κs = search needs
+
+add-t20 : tie.Need-add-t20
+unfolding edition1
+add-t20 c = omega (arith, c .before .before .before .before .before .before .before .before .pre .version-left)
+
+new-digest-requires : tie.Need-new-digest-requires
+new-digest-requires c κs =
+    let v = c .before .before .before .before .before .before .before .before .pre in
+    head-ready edition1 _ _ _ (v .lent) _ (victim-within v) (v .number-left) _ (c .before .before .next-free .ensures)
+
+write-digest-requires : tie.Need-write-digest-requires
+write-digest-requires c κs = search needs
+
+put-slot-requires : tie.Need-put-slot-requires
+put-slot-requires c κs = let v = c .before .before .before .before .before .before .before .before .before .before .before .before .before .pre in (victim-fits v, (victim-below v, omega (arith, victim-size v, v .long)))
+
+cast-head-stores : tie.Need-cast-head-stores
+cast-head-stores c = search needs
+
+head-stores-requires : tie.Need-head-stores-requires
+head-stores-requires c κs =
+    let v = c .before .before .before .before .before .before .before .before .before .before .before .before .before .before .before .before .before .pre in
+    (omega (arith, c .before .before .before .put-slot .ensures .1, victim-size v), v .lent .size-high)
+
+cast-left : tie.Need-cast-left
+cast-left c =
+    let v = c .before .before .before .before .before .before .before .before .before .before .before .before .before .before .before .before .before .before .pre in
+    let most = head-most _ _ (c .head-stores .ensures) in
+    omega (arith, c .before .before .before .before .put-slot .ensures .1, victim-size v, v .lent .size-high)
+
+cast-length : tie.Need-cast-length
+cast-length c =
+    let v = c .before .before .before .before .before .before .before .before .before .before .before .before .before .before .before .before .before .before .pre in
+    omega (arith, c .before .before .before .before .put-slot .ensures .1, victim-size v, v .lent .size-high)
+
+started-requires : tie.Need-started-requires
+started-requires c κs = search needs
+
+same-length : tie.Need-same-length
+same-length c = search needs
+
+returns : tie.Need-returns
+unfolding edition1
+returns c =
+    let k = c .before .before .before .before .before in
+    let d = k .before .before .before .before in
+    forgot-filled edition1 _ _ _ _ _ _ _ _ _ _ _ (d .before .new-digest .ensures) (d .write-digest .ensures) (k .put-slot .ensures .0)
+    (d .before .before .before .before .next-free .ensures) (c .before .head-stores .ensures) (c .started .ensures)
+
+pub begin-spec : {M : Type 1} → statement M
+begin-spec =
+    tie.close
+    (tie.spec
+    next-free-requires
+    add-t20
+    new-digest-requires
+    write-digest-requires
+    put-slot-requires
+    cast-head-stores
+    head-stores-requires
+    cast-left
+    cast-length
+    started-requires
+    same-length
+    returns)

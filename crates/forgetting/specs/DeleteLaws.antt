@@ -1,0 +1,287 @@
+-- From what the code decides and lays down to the promise of a delete.
+use Prim.Native.Nat.{ℕ, _+_, _*_, _-_, _/_, _^_, _≤_, _<_}
+use mathlib.Core.Path.{_≡_, refl, sym, _∙_, ap, subst}
+use mathlib.Core.Bool.{Bool, true, false, not}
+use mathlib.Core.Option.{Option, none, some}
+use mathlib.Core.List.{List, [], _∷_, _++_}
+use native.Mathlib.Nat.{zero-add}
+use native.Mathlib.Omega.{arith}
+use lib.Dec.{eqb, ltb, leb}
+use lib.ListN.{length, getD, replicate, length-append}
+use lib.Seq.{sets, length-sets}
+use borrow.Author.Tests.{lt-ltb, le-ltb, not-true, not-false, eqb-false, ltb-false, ltb-true}
+use Rattle.word.specs.Number.{Bytes}
+use Rattle.word.specs.Laws.{sets-append}
+use Rattle.segment.specs.Choice.{pick, pick-true, pick-false, both, both-left, both-right, both-false-left, isNone}
+use Rattle.segment.specs.Layout.{Layout, entrySize, digestSize, versionLimit, numberLimit}
+use Rattle.segment.specs.Digest.{encodedDigest}
+use Rattle.segment.specs.DigestLaws.{length-encodedDigest}
+use Rattle.segment.specs.declared.Digest.{Digest}
+use Rattle.segment.specs.declared.Key.{Key}
+use Rattle.slot_map.specs.Bit.{named, withBit, within}
+use Rattle.slot_map.specs.Count.{free}
+use Rattle.slot_map.specs.BitLaws.{named-true, bit-of-zero, with-clear, within-pow}
+use Rattle.record.specs.Range.{fitsLent}
+use Rattle.record.specs.RangeLaws.{Lent, lent}
+use Rattle.record.specs.declared.Pending.the-variants.{Forget}
+use Rattle.record.specs.declared.Refusal.the-variants.{BadRecord}
+use Rattle.record.specs.declared.Start.{Start}
+use Rattle.record.specs.declared.Record.{Record}
+use Rattle.record.specs.declared.Tables.{Tables}
+use Rattle.model.specs.Log.{Placed, placeOf, present}
+use Rattle.model.specs.Causes.{firstCause}
+use Rattle.model.specs.Operations.{delete, logNow, noRoom, newSlot, digestWith, nextAfter, slotOf, allEncoded, forgetVictim, forgetKept, forgetDigest, Laid, laid, laidEntry, laidForget, laidDelete, tombstoneEntry, planOf}
+use Rattle.model.specs.Refused.{Lengths, reaching, KeyFacts, keyFacts, deleteCauses}
+use Rattle.model.specs.Promises.{Genuine, Begun, lentLengths, StartPromise}
+use Rattle.laws.specs.Passed.{DeletePassed}
+use Rattle.index.specs.Search.{searchFor}
+use Rattle.index.specs.declared.Found.{Found}
+use Rattle.starting.specs.declared.Check.{Check}
+use Rattle.starting.specs.Checks.{checked}
+use Rattle.starting.specs.Stores.{headStores, head-stores}
+use Rattle.starting.specs.NewHead.{NumberLeft}
+use Rattle.starting.specs.Answer.{startedWith, refusedStart}
+use Rattle.cleaning.specs.Entries.{SplitFits}
+use Rattle.cleaning.specs.Marks.{isMarked, markOutside}
+use Rattle.cleaning.specs.KeptModel.{splitOf}
+use Rattle.cleaning.specs.Copied.{Copied}
+use Rattle.cleaning.specs.declared.Split.{Split}
+use Rattle.writing.specs.Tests.{factsFor}
+use Rattle.writing.specs.Known.{genuine-facts}
+use Rattle.writing.specs.Laying.{laidBegun}
+use Rattle.writing.specs.StartLaws.{deletes, deleteTests, delete-causes, deleted, start-laid}
+use Rattle.forgetting.specs.Forgot.{forgotSlot}
+use Rattle.forgetting.specs.Forgetting.{ForgetReady, VictimReady, inLog, forgettingWith, forgotBegun, unfit, outsideMarks, liveAt, forgotIn, forgotAt, forgotFound, forgotFor}
+use Rattle.forgetting.specs.ForgotModel.{live-found, live-place, live-slot, live-in, bytes-forgot}
+
+-- ---- the tests of the code
+
+module _ (r : Record) (slot : ℕ) where
+  pub in-log-above : r .slots ≤ slot → false ≡ inLog r slot
+  unfolding inLog
+  in-log-above h = sym (both-false-left _ _ (le-ltb slot (r .slots) h))
+
+  pub in-log-named : slot < r .slots → {t : Bool} → t ≡ named (r .map) slot → t ≡ inLog r slot
+  unfolding inLog both
+  in-log-named h e = rw (lt-ltb slot (r .slots) h) e
+
+  pub in-log-below : inLog r slot ≡ true → slot < r .slots
+  unfolding inLog
+  in-log-below e = ltb-true slot (r .slots) (both-left _ _ e)
+
+  pub in-log-within : inLog r slot ≡ true → within (2 ^ slot) (r .map) ≡ true
+  unfolding inLog
+  in-log-within e = within-pow (r .map) slot (named-true (r .map) slot (both-right _ _ e))
+
+-- a map of one slot
+pub one-slot-map : (m slot : ℕ) → m ≡ withBit 0 slot → m ≡ 2 ^ slot
+one-slot-map m slot e = e ∙ with-clear 0 slot (bit-of-zero slot) ∙ zero-add (2 ^ slot)
+
+-- what the code may rely on once the victim is known
+module _ {L : Layout} {r : Record} {area marks work : List ℕ} {split : Split} {slot : ℕ} (v : VictimReady L r area marks work split slot) where
+  pub victim-fits : SplitFits split area marks
+  victim-fits =
+      subst (λ (s : Split). SplitFits s area marks) (sym (v .parted))
+      (record {
+        slots =
+            record {
+              slots-high = v .lent .slots-high;
+              size-low = v .lent .size-low;
+              size-high = v .lent .size-high;
+              whole = v .lent .area-own;
+            };
+        marks-long = v .marks-long;
+      })
+
+  pub victim-below : slot < split .slots
+  victim-below = omega (arith, in-log-below r slot (v .in-log), ap (λ (s : Split). s .slots) (v .parted))
+
+  pub victim-size : split .size ≡ r .size
+  victim-size = ap (λ (s : Split). s .size) (v .parted)
+
+  pub victim-within : within (split .victims) (r .map) ≡ true
+  victim-within = ap (λ (s : Split). within (s .victims) (r .map)) (v .parted) ∙ in-log-within r slot (v .in-log)
+
+-- ---- the work buffer filled, and the answer
+
+pub forgot-filled :
+    (L : Layout) (r : Record) (victims : ℕ) (work bytes : List ℕ) (d : Digest) (work₁ work₂ : List ℕ) (n slot left : ℕ) (a : Start) →
+    d ≡ digestWith r victims (nextAfter r) → work₁ ≡ sets work 0 (encodedDigest L d) → Copied bytes work₁ (digestSize L) work₂ n →
+    slot ≡ newSlot r → left ≡ headStores (r .size) n → a ≡ startedWith r (Forget slot victims n left) left →
+    record { start = a; work = work₂ } ≡ forgotBegun L r victims work bytes
+unfolding forgotBegun
+forgot-filled L r victims work bytes d work₁ work₂ n slot left a de e₁ p s t is = λ i. record { start = start i; work = filled i }
+  where
+    start : a ≡ forgettingWith r victims (newSlot r) (digestSize L + length bytes)
+    start = is ∙ (λ i. startedWith r (Forget slot victims n (t i)) (t i)) ∙ λ i. forgettingWith r victims (s i) (p .behind i)
+
+    front : work₁ ≡ sets work 0 (encodedDigest L (digestWith r victims (nextAfter r)))
+    front = e₁ ∙ ap (λ (x : Digest). sets work 0 (encodedDigest L x)) de
+
+    filled : work₂ ≡ sets work 0 (encodedDigest L (digestWith r victims (nextAfter r)) ++ bytes)
+    filled =
+        p .stored
+        ∙ ap (λ (w : List ℕ). sets w (digestSize L) bytes) front
+        ∙ ap (λ (k : ℕ). sets (sets work 0 (encodedDigest L (digestWith r victims (nextAfter r)))) k bytes)
+        (sym (zero-add _ ∙ length-encodedDigest L (digestWith r victims (nextAfter r))))
+        ∙ sym (sets-append work 0 (encodedDigest L (digestWith r victims (nextAfter r))) bytes)
+
+-- the victim is known: w is its map, as the code makes it
+module _ (L : Layout) (r : Record) (slot w : ℕ) (ew : w ≡ withBit 0 slot) (split : Split) (es : split ≡ splitOf r w) (in-log : inLog r slot ≡ true) where
+  victim-parted : split ≡ splitOf r (2 ^ slot)
+  victim-parted = es ∙ ap (splitOf r) (one-slot-map w slot ew)
+
+  pub victim-ready : (area cells work : List ℕ) → ForgetReady L r area cells work → (marks : List ℕ) → length marks ≡ 128 →
+      VictimReady L r area marks work split slot
+  victim-ready area cells work f marks long =
+      record {
+        indexLength = length cells;
+        lent = f .lent;
+        version-left = f .version-left;
+        number-left = f .number-left;
+        long = f .long;
+        marks-long = long;
+        parted = victim-parted;
+        in-log = in-log;
+      }
+
+  -- what the code makes of it
+  pub victim-begun :
+      (area cells : List ℕ) (k : Key) (work : List ℕ) (cell place : ℕ) (marks : List ℕ) (needed : Bool) {b : Begun} →
+      marks ≡ markOutside L area cells split (replicate 128 0) → needed ≡ isMarked marks cell →
+      b ≡ forgotBegun L r (split .victims) work
+      (forgotSlot L area cells marks (record { place = place; needed = needed; key = k; version = r .next }) (split .size) slot) →
+      b ≡ forgotIn L r area cells k work cell place slot
+  unfolding forgotIn
+  victim-begun area cells k work cell place marks needed em en h =
+      h ∙ (λ i.
+      forgotBegun L r (victim-parted i .victims) work
+      (forgotSlot L area cells (all-marks i) (record { place = place; needed = told i; key = k; version = r .next }) (victim-parted i .size) slot))
+      ∙ sym (pick-true (inLog r slot) _ _ in-log)
+    where
+      all-marks : marks ≡ outsideMarks L r area cells slot
+      all-marks = em ∙ ap (λ (s : Split). markOutside L area cells s (replicate 128 0)) victim-parted
+
+      told : needed ≡ isMarked (outsideMarks L r area cells slot) cell
+      told = en ∙ ap (λ (l : List ℕ). isMarked l cell) all-marks
+
+module _ (L : Layout) (r : Record) (area cells : List ℕ) (k : Key) (work : List ℕ) where
+  module _ (cell place slot : ℕ) where
+    pub forgot-outside : inLog r slot ≡ false → (a : Start) → a ≡ refusedStart r BadRecord →
+        record { start = a; work = work } ≡ forgotIn L r area cells k work cell place slot
+    unfolding forgotIn
+    forgot-outside e a is = ap (λ (s : Start). record { start = s; work = work }) is ∙ sym (pick-false (inLog r slot) _ _ e)
+
+    in-long : length (forgotIn L r area cells k work cell place slot .work) ≡ length work
+    unfolding forgotIn pick forgotBegun
+    in-long = go (inLog r slot)
+      where
+        go : (t : Bool) →
+            length
+            (pick t
+            (forgotBegun L r (2 ^ slot) work
+            (forgotSlot L area cells (outsideMarks L r area cells slot) (liveAt L r area cells k cell place slot) (r .size) slot))
+            (unfit r work) .work) ≡ length work
+        go true =
+            length-sets work 0
+            (encodedDigest L (digestWith r (2 ^ slot) (nextAfter r)) ++
+            forgotSlot L area cells (outsideMarks L r area cells slot) (liveAt L r area cells k cell place slot) (r .size) slot)
+        go false = refl
+
+  pub forgot-at : (cell : ℕ) → searchFor L area cells k ≡ Found.At cell → {b : Begun} → b ≡ forgotAt L r area cells k work cell → b ≡ forgotFor L r area cells k work
+  unfolding forgotFound
+  forgot-at cell e h = h ∙ sym (ap (forgotFound L r area cells k work) e)
+
+  pub forgot-free : (cell : ℕ) → searchFor L area cells k ≡ Found.Free cell → (a : Start) → a ≡ refusedStart r BadRecord →
+      record { start = a; work = work } ≡ forgotFor L r area cells k work
+  unfolding forgotFound
+  forgot-free cell e a is = ap (λ (s : Start). record { start = s; work = work }) is ∙ sym (ap (forgotFound L r area cells k work) e)
+
+  pub forgot-full : searchFor L area cells k ≡ Found.Full → (a : Start) → a ≡ refusedStart r BadRecord →
+      record { start = a; work = work } ≡ forgotFor L r area cells k work
+  unfolding forgotFound
+  forgot-full e a is = ap (λ (s : Start). record { start = s; work = work }) is ∙ sym (ap (forgotFound L r area cells k work) e)
+
+  found-long : (f : Found) → length (forgotFound L r area cells k work f .work) ≡ length work
+  unfolding forgotFound
+  found-long (Found.At cell) = in-long cell _ _
+  found-long (Found.Free cell) = refl
+  found-long Found.Full = refl
+
+-- ---- with the bytes that the model keeps it is the model's start
+
+module _ (L : Layout) (r : Record) (log : List Placed) (k : Key) (work : List ℕ) where
+  abbrev model-bytes : List ℕ
+  model-bytes = allEncoded L (forgetKept r log k)
+
+  model-length : length (encodedDigest L (forgetDigest r log k) ++ model-bytes) ≡ digestSize L + length model-bytes
+  model-length =
+      length-append (encodedDigest L (forgetDigest r log k)) model-bytes
+      ∙ ap (λ (n : ℕ). n + length model-bytes) (length-encodedDigest L (forgetDigest r log k))
+
+  begun-same : forgotBegun L r (forgetVictim log k) work model-bytes ≡ laidBegun r (laidForget L r log k) work
+  unfolding forgotBegun laidBegun planOf
+  begun-same =
+      let n = digestSize L + length model-bytes in
+      let bytes = encodedDigest L (forgetDigest r log k) ++ model-bytes in
+      let e = sym (head-stores (r .size) (newSlot r) n (newSlot r * r .size, 0) bytes model-length (omega arith)) in
+      λ i. record { start = startedWith r (Forget (newSlot r) (forgetVictim log k) n (e i)) (e i); work = sets work 0 bytes }
+
+module _ (L : Layout) (r : Record) (area cells : List ℕ) (k : Key) (work : List ℕ) (bytes : Bytes area) (g : Genuine L area r cells)
+    (h : Lent L r (length area) (length cells)) (x : Placed) (is : present (logNow L area r) k ≡ some x) where
+  -- what the code answers and leaves, step by step
+  in-place : (place slot : ℕ) → place ≡ placeOf (r .size) x → slot ≡ x .slot → (cell : ℕ) →
+      forgotIn L r area cells k work cell place slot ≡ forgotIn L r area cells k work cell (placeOf (r .size) x) (x .slot)
+  in-place place slot p s cell = λ i. forgotIn L r area cells k work cell (p i) (s i)
+
+  forget-exact : forgotFor L r area cells k work ≡ laidBegun r (laidForget L r (logNow L area r) k) work
+  unfolding forgotFound forgotIn slotOf
+  forget-exact =
+      ap (forgotFound L r area cells k work) (live-found L area cells r g h k x is)
+      ∙ in-place _ _ (live-place L area cells r g h k x is)
+      (ap (λ (p : ℕ). p / r .size) (live-place L area cells r g h k x is) ∙ live-slot L area cells r g h k x is) _
+      ∙ pick-true (inLog r (x .slot)) _ _ (live-in L area cells r g h k x is)
+      ∙ ap (forgotBegun L r (2 ^ x .slot) work) (bytes-forgot L area cells r g h k x is bytes)
+      ∙ ap (λ (o : Option Placed). forgotBegun L r (2 ^ slotOf o) work (allEncoded L (forgetKept r (logNow L area r) k))) (sym is)
+      ∙ begun-same L r (logNow L area r) k work
+
+-- ---- the promise
+
+some-of : (o : Option Placed) → isNone o ≡ false → (x : Placed) × o ≡ some x
+unfolding isNone
+some-of none e = let z : _≡_ {A = ℕ} 0 1 = cc in absurd (omega arith)
+some-of (some x) e = (x, refl)
+
+module _ (L : Layout) (t : Tables) (r : Record) (area cells work : List ℕ) (k : Key) (passed : Check.Passed ≡ deletes L t r area cells work k) where
+  tests : DeletePassed L r (lentLengths area cells work) (reaching t) k (factsFor L r area cells k)
+  tests = deleted L t r area cells work k passed
+
+  pub delete-lent : Lent L r (length area) (length cells)
+  delete-lent = lent L r (length area) (length cells) (not-false (fitsLent L r (length area) (length cells)) (tests .record-good))
+
+  module _ (full : noRoom r (entrySize L 0) ≡ true) where
+    pub forget-ready : ForgetReady L r area cells work
+    unfolding both
+    forget-ready =
+        record {
+          lent = delete-lent;
+          version-left = eqb-false (r .next .0) (versionLimit L) (tests .versions-left);
+          number-left = eqb-false (r .digest .0) numberLimit (rw (both-left (not (leb (r .end + entrySize L 0) (r .size))) (ltb (free (r .slots) (r .map)) 2) full) at (tests .number-left));
+          long = ltb-false (length work) (r .size) (tests .work-long);
+        }
+
+    live-key : Genuine L area r cells → (x : Placed) × present (logNow L area r) k ≡ some x
+    live-key g =
+        some-of (present (logNow L area r) k)
+        (sym (ap (λ (f : KeyFacts). f .absent) (genuine-facts L area r cells g delete-lent k)) ∙ tests .present)
+
+    pub forget-promise : Bytes area → (work′ : List ℕ) (a : Start) → record { start = a; work = work′ } ≡ forgotFor L r area cells k work →
+        StartPromise L (reaching t) (delete k) r area cells work work′ a
+    unfolding laid
+    forget-promise bytes work′ a e =
+        start-laid L (reaching t) (delete k) r area cells work (deleteTests L t r area cells work k) (delete-causes L t r area cells work k) passed work′ a
+        (ap (λ (b : Begun). length (b .work)) e ∙ found-long L r area cells k work (searchFor L area cells k))
+        (λ g.
+        let x = live-key g in
+        e ∙ forget-exact L r area cells k work bytes g delete-lent (x .0) (x .1)
+        ∙ ap (λ (l : Laid). laidBegun r l work) (sym (pick-true (noRoom r (entrySize L 0)) _ _ full)))

@@ -1,0 +1,102 @@
+-- What a delete that finds no room answers and leaves, as the code computes it: total functions of any area, cells and record.
+use Prim.Native.Nat.{ℕ, _+_, _-_, _/_, _^_, _≤_, _<_}
+use mathlib.Core.Path.{_≡_}
+use mathlib.Core.Bool.{Bool, true}
+use mathlib.Core.List.{List, _++_}
+use lib.Dec.{ltb}
+use lib.ListN.{length, getD, replicate}
+use lib.Seq.{sets}
+use Rattle.segment.specs.Choice.{pick, both}
+use Rattle.segment.specs.Layout.{Layout, digestSize, versionLimit}
+use Rattle.segment.specs.Digest.{encodedDigest}
+use Rattle.segment.specs.declared.Key.{Key}
+use Rattle.slot_map.specs.Bit.{named}
+use Rattle.record.specs.RangeLaws.{Lent}
+use Rattle.record.specs.declared.Pending.the-variants.{Forget}
+use Rattle.record.specs.declared.Refusal.the-variants.{BadRecord}
+use Rattle.record.specs.declared.Start.{Start}
+use Rattle.record.specs.declared.Record.{Record}
+use Rattle.model.specs.Operations.{newSlot, digestWith, nextAfter}
+use Rattle.model.specs.Promises.{Begun}
+use Rattle.index.specs.Search.{searchFor}
+use Rattle.index.specs.declared.Found.{Found}
+use Rattle.starting.specs.Stores.{headStores}
+use Rattle.starting.specs.NewHead.{NumberLeft}
+use Rattle.starting.specs.Answer.{startedWith, refusedStart}
+use Rattle.cleaning.specs.Entries.{SplitFits}
+use Rattle.cleaning.specs.Marks.{isMarked, markOutside}
+use Rattle.cleaning.specs.KeptModel.{splitOf}
+use Rattle.cleaning.specs.declared.Split.{Split}
+use Rattle.forgetting.specs.Forgot.{forgotSlot}
+use Rattle.forgetting.specs.declared.Live.{Live}
+
+-- ---- what the code may rely on
+
+-- A record in range with a version and a digest number left, and a work buffer of S bytes at least.
+pub record ForgetReady (L : Layout) (r : Record) (area cells work : List ℕ) : Type 0 where
+  pub lent : Lent L r (length area) (length cells)
+  pub version-left : r .next .0 ≡ versionLimit L → ⊥
+  pub number-left : NumberLeft r
+  pub long : r .size ≤ length work
+
+-- a slot of the log is one of the map's
+unfoldable pub inLog : Record → ℕ → Bool
+inLog r i = both (ltb i (r .slots)) (named (r .map) i)
+
+-- The same with the log's slots parted by the victim.
+pub record VictimReady (L : Layout) (r : Record) (area marks work : List ℕ) (split : Split) (slot : ℕ) : Type 0 where
+  pub indexLength : ℕ
+  pub lent : Lent L r (length area) indexLength
+  pub version-left : r .next .0 ≡ versionLimit L → ⊥
+  pub number-left : NumberLeft r
+  pub long : r .size ≤ length work
+  pub marks-long : length marks ≡ 128
+  pub parted : split ≡ splitOf r (2 ^ slot)
+  pub in-log : inLog r slot ≡ true
+
+-- ---- the answer
+
+-- the delete pending, with a new head of n bytes
+abbrev pub forgettingWith : Record → ℕ → ℕ → ℕ → Start
+forgettingWith r victims slot n = startedWith r (Forget slot victims n (headStores (r .size) n)) (headStores (r .size) n)
+
+-- with these bytes behind its digest
+unfoldable pub forgotBegun : Layout → Record → ℕ → List ℕ → List ℕ → Begun
+forgotBegun L r victims work bytes =
+    record {
+      start = forgettingWith r victims (newSlot r) (digestSize L + length bytes);
+      work = sets work 0 (encodedDigest L (digestWith r victims (nextAfter r)) ++ bytes);
+    }
+
+-- a store that is none of ours
+abbrev pub unfit : Record → List ℕ → Begun
+unfit r work = record { start = refusedStart r BadRecord; work = work }
+
+-- the marks of the cells of keys with an object outside the victim
+abbrev pub outsideMarks : Layout → Record → List ℕ → List ℕ → ℕ → List ℕ
+outsideMarks L r area cells slot = markOutside L area cells (splitOf r (2 ^ slot)) (replicate 128 0)
+
+-- the live object that a cell tells of
+abbrev pub liveAt : Layout → Record → List ℕ → List ℕ → Key → ℕ → ℕ → ℕ → Live
+liveAt L r area cells k cell place slot =
+    record { place = place; needed = isMarked (outsideMarks L r area cells slot) cell; key = k; version = r .next }
+
+-- the object stands at a place, in this slot
+unfoldable pub forgotIn : Layout → Record → List ℕ → List ℕ → Key → List ℕ → ℕ → ℕ → ℕ → Begun
+forgotIn L r area cells k work cell place slot =
+    pick (inLog r slot)
+    (forgotBegun L r (2 ^ slot) work
+    (forgotSlot L area cells (outsideMarks L r area cells slot) (liveAt L r area cells k cell place slot) (r .size) slot))
+    (unfit r work)
+
+abbrev pub forgotAt : Layout → Record → List ℕ → List ℕ → Key → List ℕ → ℕ → Begun
+forgotAt L r area cells k work cell =
+    forgotIn L r area cells k work cell (getD cells cell 0 - 1) ((getD cells cell 0 - 1) / r .size)
+
+unfoldable pub forgotFound : Layout → Record → List ℕ → List ℕ → Key → List ℕ → Found → Begun
+forgotFound L r area cells k work (Found.At i) = forgotAt L r area cells k work i
+forgotFound L r area cells k work (Found.Free i) = unfit r work
+forgotFound L r area cells k work Found.Full = unfit r work
+
+abbrev pub forgotFor : Layout → Record → List ℕ → List ℕ → Key → List ℕ → Begun
+forgotFor L r area cells k work = forgotFound L r area cells k work (searchFor L area cells k)

@@ -1,0 +1,129 @@
+// A delete that finds no room: a cleaning of the slot with the live object, in whose place stands the tombstone if an object of
+// the key is left outside, and else nothing.
+use crate::Live;
+use crate::copy::put_slot;
+use cleaning::Split;
+use cleaning::clean::split_of;
+use cleaning::marks::is_marked;
+use cleaning::outside::mark_outside;
+use index::Found;
+use index::search::search;
+use log::slots::is_named;
+use record::Pending;
+use record::Record;
+use record::Refusal;
+use record::Start;
+use segment::Key;
+use segment::Version;
+use segment::writer::write_digest;
+use slot_map::next_free;
+use slot_map::with_slot;
+use starting::answer::refused;
+use starting::answer::started;
+use starting::digest::new_digest;
+use starting::stores::head_stores;
+ghost use Prim.Native.Nat.{_≤_, _<_};
+ghost use mathlib.Core.Path.{_≡_};
+ghost use Rattle.segment.specs.Layout.{edition1};
+ghost use Rattle.index.specs.SearchLaws.{Inside};
+ghost use Rattle.forgetting.specs.Forgot.{forgotSlot};
+ghost use Rattle.forgetting.specs.Forgetting.{ForgetReady, VictimReady, inLog, forgotBegun, forgotAt, forgotFor};
+
+// Whether a slot is one of the log's.
+fn in_log(rec: Record, slot: usize) -> bool
+    requires { ⌜ rec .slots ≤ 32 ⌝ }
+    ensures { λ r. ⌜ r ≡ inLog rec slot ⌝ }
+{
+    if rec.slots as usize <= slot {
+        return false;
+    }
+    is_named(rec.map, slot)
+}
+
+// The new head's bytes go to the work buffer, and the delete is pending. Its digest has the next version after the delete.
+fn begin(
+    rec: Record,
+    area: &[u8],
+    index: &[u32],
+    marks: &[u32],
+    work: &mut [u8],
+    live: Live,
+    split: Split,
+    slot: usize,
+) -> Start
+    requires { ⌜ VictimReady edition1 rec (now area) (now marks) (now work) split slot ⌝ }
+    ensures { λ r.
+        ⌜
+        record { start = r; work = now (work .exit) }
+        ≡ forgotBegun edition1 rec (split .victims) (now (work .entry))
+        (forgotSlot edition1 (now (area .entry)) (now (index .entry)) (now (marks .entry)) live (split .size) slot)
+        ⌝ }
+{
+    let next = rec.next;
+    let victims = split.victims;
+    let head = next_free(rec.slots, rec.map, rec.head);
+    write_digest(work, 0, new_digest(rec, victims, head, Version(next.0 + 1)));
+    let count = put_slot(area, index, marks, live, split, slot, work);
+    let left = head_stores(rec.size as usize, count) as u32;
+    let length = count as u32;
+    let pending = Pending::Forget {
+        slot: head,
+        victims,
+        length,
+        left,
+    };
+    started(rec, pending, left)
+}
+
+// The key's cell in the index tells the place of the live object, and so the victim. On a store that is none of ours the place
+// may lie outside the log.
+fn forget_at(
+    rec: Record,
+    area: &[u8],
+    index: &[u32],
+    work: &mut [u8],
+    key: Key,
+    cell: usize,
+) -> Start
+    requires { ⌜ ForgetReady edition1 rec (now area) (now index) (now work) ⌝ }
+    requires { ⌜ Inside edition1 (now area) (now index) cell ⌝ }
+    ensures { λ r.
+        ⌜
+        record { start = r; work = now (work .exit) }
+        ≡ forgotAt edition1 rec (now (area .entry)) (now (index .entry)) key (now (work .entry)) cell
+        ⌝ }
+{
+    let place = (index[cell] - 1) as usize;
+    let slot = place / rec.size as usize;
+    if !in_log(rec, slot) {
+        return refused(rec, Refusal::BadRecord);
+    }
+    let split = split_of(rec, with_slot(0, slot as u32));
+    let mut marks = [0u32; 128];
+    mark_outside(area, index, &mut marks, split);
+    let needed = is_marked(&marks, cell);
+    let version = rec.next;
+    let live = Live {
+        place,
+        needed,
+        key,
+        version,
+    };
+    begin(rec, area, index, &marks, work, live, split, slot)
+}
+
+// A delete of a present key that finds no room.
+pub fn forget(rec: Record, area: &[u8], index: &[u32], work: &mut [u8], key: Key) -> Start
+    requires { ⌜ ForgetReady edition1 rec (now area) (now index) (now work) ⌝ }
+    ensures { λ r.
+        ⌜
+        record { start = r; work = now (work .exit) }
+        ≡ forgotFor edition1 rec (now (area .entry)) (now (index .entry)) key (now (work .entry))
+        ⌝ }
+{
+    match search(area, index, key) {
+        Found::At(cell) => forget_at(rec, area, index, work, key, cell),
+        Found::Free(_) => refused(rec, Refusal::BadRecord),
+        Found::Full => refused(rec, Refusal::BadRecord),
+    }
+}

@@ -1,0 +1,44 @@
+// The start of a delete (01, "Operations, store by store"; 02, R-4). The area and the index are only read.
+use crate::forget::forget;
+use record::Record;
+use record::Start;
+use record::Tables;
+use segment::Key;
+use segment::layout::HEAD_SIZE;
+use segment::layout::TOMBSTONE;
+use starting::Check;
+use starting::answer::refused;
+use writing::causes::check_delete;
+use writing::causes::no_room;
+use writing::lay::lay_entry;
+ghost use Rattle.segment.specs.Layout.{edition1};
+ghost use Rattle.model.specs.Operations.{delete};
+ghost use Rattle.model.specs.Refused.{reaching};
+ghost use Rattle.model.specs.Promises.{StartPromise};
+
+// A key is to go: a tombstone, which has no value, takes the next version. Where it finds no room, the slot with the live object
+// is cleaned instead.
+pub fn delete(
+    rec: Record,
+    area: &[u8],
+    index: &[u32],
+    work: &mut [u8],
+    tables: Tables,
+    key: Key,
+) -> Start
+    ensures { λ r.
+        ⌜
+        StartPromise edition1 (reaching tables) (delete key) rec (now (area .entry)) (now (index .entry)) (now (work .entry))
+        (now (work .exit)) r
+        ⌝ }
+{
+    match check_delete(rec, area, index, work.len(), tables, key) {
+        Check::Refused(c) => refused(rec, c),
+        Check::Passed => {
+            if no_room(rec, HEAD_SIZE) {
+                return forget(rec, area, index, work, key);
+            }
+            lay_entry(rec, work, TOMBSTONE, key, &area[0..0])
+        }
+    }
+}
