@@ -56,7 +56,8 @@ fn two_slots(room: bool) -> Store {
     Store::new(area, 256)
 }
 
-/// A write of 8 bytes with all its steps: into a head with room, into a new head, and over the version that the key has.
+/// A write of 8 bytes with all its steps: into a head with room, into a new head, and over the version that the key has; and the
+/// start of the last alone.
 fn writes(report: &mut Report) {
     for (case, room) in [
         ("write with its steps, appended", true),
@@ -69,6 +70,10 @@ fn writes(report: &mut Report) {
     let write = Operation::WriteExpecting(5, store.version(5), &[9; 8]);
     let case = "conditional write with its steps, appended";
     report.line(case, store.time_whole(write));
+    let mut store = two_slots(true);
+    let write = Operation::WriteExpecting(5, store.version(5), &[9; 8]);
+    let timing = store.time_start(write, Ok(20));
+    report.line("start of a conditional write", timing);
 }
 
 /// Objects of which, in the first two slots, every second one is overwritten later.
