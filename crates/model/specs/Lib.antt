@@ -2,6 +2,7 @@
 -- each call promises. Recovery and the index come before the operations, which speak of them. Then tables of worked cases, 02's last, and what the
 -- promises leave no freedom in.
 pub mod Log
+pub mod Counts
 pub mod Causes
 pub mod Recovery
 pub mod Index

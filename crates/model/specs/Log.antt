@@ -140,6 +140,11 @@ objectOnly (some x) = pick (isTombstone (x .entry)) none (some x)
 unfoldable pub present : List Placed → Key → Option Placed
 present log k = objectOnly (latest log k)
 
+-- the entry of a key, if there is one, has that version
+unfoldable pub isVersion : Option Placed → ℕ → Bool
+isVersion none v = false
+isVersion (some x) v = eqb (x .entry .version) v
+
 -- whether the log has any entry of a key
 unfoldable pub hasKey : List Placed → Key → Bool
 hasKey [] k = false

@@ -131,6 +131,7 @@ recordOf n s m end number map next keys p =
       map = map;
       next = record { 0 = next };
       keys = keys;
+      counts = replicate 32 0;
       pending = p;
     }
 

@@ -23,6 +23,8 @@ use Rattle.record.specs.declared.Pending.{Pending}
 use Rattle.record.specs.declared.Pending.the-variants.{Idle, Append, NewHead, Clean, Forget}
 use Rattle.record.specs.declared.Record.{Record}
 use Rattle.model.specs.Log.{View, Placed, viewsOf, logOf, latest, present, hasKey, keysOf, sameKey}
+pub use Rattle.model.specs.Log.{isVersion}
+use Rattle.model.specs.Counts.{entryCounts, renewedCounts}
 
 -- The three operations: write a value under a key, delete a key, clean a slot map of victims.
 pub data Operation : Type 0 where
@@ -78,10 +80,6 @@ abbrev pub nextAfter : Record → Version
 nextAfter r = record { 0 = r .next .0 + 1 }
 
 -- An entry of the log is its key's highest version there.
-unfoldable pub isVersion : Option Placed → ℕ → Bool
-isVersion none v = false
-isVersion (some x) v = eqb (x .entry .version) v
-
 abbrev pub isHighest : List Placed → Entry → Bool
 isHighest log e = isVersion (latest log (keyOf e)) (e .version)
 
@@ -259,12 +257,13 @@ headCommit r slot n map next = record { head = slot; end = n; digest = record { 
 
 -- the record once an entry is at the head's end, or in a new head
 abbrev pub appendedRecord : Layout → Record → List Placed → Entry → Record
-appendedRecord L r log e = committed r (appendCommit r (sizeOf L e)) (r .keys + countNew log (keyOf e))
+appendedRecord L r log e =
+    committed r (appendCommit r (sizeOf L e)) (r .keys + countNew log (keyOf e)) (entryCounts L log (r .head) e (r .counts))
 
 abbrev pub headedRecord : Layout → Record → List Placed → Entry → Record
 headedRecord L r log e =
     committed r (headCommit r (newSlot r) (digestSize L + sizeOf L e) (newDigest r 0 .map) (nextAfter r))
-    (r .keys + countNew log (keyOf e))
+    (r .keys + countNew log (keyOf e)) (entryCounts L log (newSlot r) e (r .counts))
 
 abbrev pub entryRecord : Layout → Record → List Placed → Entry → Record
 entryRecord L r log e = pick (fitsHead L r e) (appendedRecord L r log e) (headedRecord L r log e)
@@ -277,7 +276,7 @@ renewedLog L area r victims es =
 abbrev pub renewedRecord : Layout → List ℕ → Record → ℕ → List Entry → Version → Record
 renewedRecord L area r victims es next =
     committed r (headCommit r (newSlot r) (digestSize L + length (allEncoded L es)) (newDigest r victims .map) next)
-    (length (keysOf (renewedLog L area r victims es)))
+    (length (keysOf (renewedLog L area r victims es))) (renewedCounts L victims (newSlot r) es (r .counts))
 
 -- A cleaning keeps the next version; a delete that cleans has taken it.
 abbrev pub cleanedRecord : Layout → List ℕ → Record → ℕ → Record

@@ -13,17 +13,18 @@ use Rattle.slot_map.specs.Bit.{bit}
 use Rattle.slot_map.specs.Count.{used}
 use Rattle.slot_map.specs.Next.{slotAfter, freeFrom, nextFree}
 use Rattle.record.specs.Answers.{Said, recoverSaid, readSaid, startSaid, stepSaid, storesLeft}
-use Rattle.record.specs.Range.{between, mapGood, leftGood, inRange, lengthsOwn, fitsLent}
+use Rattle.record.specs.Range.{between, mapGood, leftGood, countsGood, inRange, lengthsOwn, fitsLent}
 use Rattle.record.specs.Refusals.{numberOfRefusal}
 use Rattle.record.specs.declared.Recovery.{Recovery}
 use Rattle.record.specs.declared.Refusal.{Refusal}
 use Rattle.record.specs.declared.Record.{Record}
 use Rattle.record.specs.declared.Tables.{Tables}
 use Rattle.record.specs.Reach.{holdsTable, allTables}
-use Rattle.model.specs.Log.{Placed, itemFirst, scanFrom, itemsOf, endOf, isDamaged, digestIn, newer, headOf, placedIn, logOf, sameKeys, sameKey, laterOf, latest, objectOnly, present, hasKey, keysOf, hasVersion, versionShared, highest}
+use Rattle.model.specs.Log.{Placed, itemFirst, scanFrom, itemsOf, endOf, isDamaged, digestIn, newer, headOf, placedIn, logOf, sameKeys, sameKey, laterOf, latest, objectOnly, present, isVersion, hasKey, keysOf, hasVersion, versionShared, highest}
+use Rattle.model.specs.Counts.{tally, objectBytes, withoutLive, withoutVictims}
 use Rattle.model.specs.Causes.{Cause, firstCause}
 use Rattle.model.specs.Recovery.{lists, listsBelow, headElse, hasNumber, sharing, namesNoDigest, logDamaged, recoveryFor, recovery, recordFrom}
-use Rattle.model.specs.Operations.{Operation, logNow, isVersion, objectOutside, keptOf, kept, allEncoded, replaced, replacedBy, slotOf, laid, storesFrom, planOf, planFor, storesFor, stored, toldVersion, countNew, placedFrom, finishedRecord, cleared, formatted}
+use Rattle.model.specs.Operations.{Operation, logNow, objectOutside, keptOf, kept, allEncoded, replaced, replacedBy, slotOf, laid, storesFrom, planOf, planFor, storesFor, stored, toldVersion, countNew, placedFrom, finishedRecord, cleared, formatted}
 use Rattle.model.specs.Refused.{Lengths, Terms, freely, versionIn, expectsOther, isPending, readCauses, startCauses}
 use Rattle.model.specs.Promises.{presentAnswer, readAnswer, partOf, valuePart, valueAnswer, Begun, begun, stepped}
 use Rattle.model.specs.Table.{same, failing}
@@ -31,10 +32,11 @@ use Rattle.model.specs.Table.{same, failing}
 -- What a computed row looks through: a proof that opens this opens them all.
 unfoldable pub opened : Unit {0}
 unfolding numberOf bytesOf pick both either isNone orZero edition1 lookup lookBack isSome valueLength goodVersion bytesIn kindFor valueFor ofVersion ofLength entryAt
-    holdsTable bit used slotAfter freeFrom nextFree between mapGood leftGood inRange lengthsOwn fitsLent
-    itemFirst scanFrom itemsOf endOf isDamaged digestIn newer headOf placedIn logOf sameKeys sameKey laterOf latest objectOnly present hasKey keysOf hasVersion versionShared highest
+    holdsTable bit used slotAfter freeFrom nextFree between mapGood leftGood countsGood inRange lengthsOwn fitsLent
+    itemFirst scanFrom itemsOf endOf isDamaged digestIn newer headOf placedIn logOf sameKeys sameKey laterOf latest objectOnly present isVersion hasKey keysOf hasVersion versionShared highest
+    tally objectBytes withoutLive withoutVictims
     firstCause lists listsBelow headElse hasNumber sharing namesNoDigest logDamaged recoveryFor recovery
-    isVersion objectOutside keptOf allEncoded replaced replacedBy slotOf laid storesFrom planOf stored toldVersion countNew placedFrom finishedRecord cleared
+    objectOutside keptOf allEncoded replaced replacedBy slotOf laid storesFrom planOf stored toldVersion countNew placedFrom finishedRecord cleared
     versionIn expectsOther isPending startCauses presentAnswer readAnswer valuePart valueAnswer begun stepped same failing
 opened = tt
 

@@ -18,6 +18,7 @@ use Rattle.record.specs.declared.Record.{Record}
 use Rattle.record.specs.declared.Recovery.{Recovery}
 use Rattle.record.specs.declared.RecoverAnswer.{RecoverAnswer}
 use Rattle.model.specs.Log.{View, Head, Placed, viewsOf, headOf, logOf, endOf, isDamaged, keysOf, versionShared, nextVersion}
+use Rattle.model.specs.Counts.{countsOf}
 use Rattle.model.specs.Causes.{Cause, when, firstCause}
 
 -- 1: N, S or the area's length wrong
@@ -87,8 +88,8 @@ abbrev pub keysBad : ℕ → List Placed → Bool
 keysBad m log = ltb (m - 1) (length (keysOf log))
 
 -- The record that recovery gives for slots with these views under this head.
-abbrev pub recordUnder : (ℕ → View) → ℕ → ℕ → ℕ → Head → Record
-recordUnder v n s m h =
+abbrev pub recordUnder : Layout → (ℕ → View) → ℕ → ℕ → ℕ → Head → Record
+recordUnder L v n s m h =
     record {
       slots = n;
       size = s;
@@ -99,6 +100,7 @@ recordUnder v n s m h =
       map = h .digest .map;
       next = record { 0 = nextVersion (h .digest) (logUnder v n h) };
       keys = length (keysOf (logUnder v n h));
+      counts = countsOf L (logUnder v n h);
       pending = Idle;
     }
 
@@ -136,7 +138,7 @@ ifNone none r = some r
 ifNone (some c) r = none
 
 abbrev pub recordFrom : Layout → ℕ → ℕ → ℕ → List ℕ → Record
-recordFrom L n s m area = recordUnder (viewsOf L area s) n s m (headElse (headOf (viewsOf L area s) n))
+recordFrom L n s m area = recordUnder L (viewsOf L area s) n s m (headElse (headOf (viewsOf L area s) n))
 
 unfoldable pub recovered : Layout → ℕ → ℕ → ℕ → List ℕ → Option Record
 recovered L n s m area = ifNone (firstCause (areaCauses L n s m area)) (recordFrom L n s m area)

@@ -1,6 +1,7 @@
 -- What each answer says in 01's terms: the refusal's number, or the values that the call gives. 0 is no refusal's number.
 use Prim.Native.Nat.{ℕ}
 use mathlib.Core.Option.{Option, none, some}
+use lib.ListN.{replicate}
 use Rattle.record.specs.Refusals.{numberOfRefusal}
 use Rattle.record.specs.declared.Refusal.{Refusal}
 use Rattle.record.specs.declared.Pending.{Pending}
@@ -81,6 +82,7 @@ withPending r p =
       map = r .map;
       next = r .next;
       keys = r .keys;
+      counts = r .counts;
       pending = p;
     }
 
@@ -97,5 +99,6 @@ blank =
       map = 0;
       next = record { 0 = 0 };
       keys = 0;
+      counts = replicate 32 0;
       pending = Idle;
     }

@@ -2,6 +2,7 @@
 -- limits of N, S and M are those of "Memory the caller lends".
 use Prim.Native.Nat.{ℕ, _+_, _*_, _-_, _^_}
 use mathlib.Core.Bool.{Bool, true, false, not}
+use mathlib.Core.List.{List, [], _∷_}
 use lib.Dec.{eqb, ltb, leb}
 use Rattle.segment.specs.Choice.{both}
 use Rattle.segment.specs.Layout.{Layout, digestSize}
@@ -39,12 +40,17 @@ leftGood s (NewHead i n k) = between 1 (s + 1) k
 leftGood s (Clean i v n k) = between 1 (s + 1) k
 leftGood s (Forget i v n k) = between 1 (s + 1) k
 
+-- 02, R-5: no number of present bytes is above a limit, which is what a segment has behind its digest
+unfoldable pub countsGood : ℕ → List ℕ → Bool
+countsGood m [] = true
+countsGood m (c ∷ cs) = both (leb c m) (countsGood m cs)
+
 -- a record whose numbers are all in range
 unfoldable pub inRange : Layout → Record → Bool
 inRange L r =
     both (both (both (slotsGood (r .slots)) (sizeGood (r .size))) (both (cellsGood (r .cells)) (mapGood (r .slots) (r .head) (r .map))))
     (both (both (between (digestSize L) (r .size) (r .end)) (both (not (eqb (r .digest .0) 0)) (not (eqb (r .next .0) 0))))
-    (both (leb (r .keys) (r .cells - 1)) (leftGood (r .size) (r .pending))))
+    (both (leb (r .keys) (r .cells - 1)) (both (countsGood (r .size - digestSize L) (r .counts)) (leftGood (r .size) (r .pending)))))
 
 -- the lent area and index are as long as the record says
 unfoldable pub lengthsOwn : Record → ℕ → ℕ → Bool

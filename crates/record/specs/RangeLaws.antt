@@ -5,8 +5,12 @@ use mathlib.Core.Bool.{Bool, true, false, not}
 use native.Mathlib.Omega.{arith}
 use native.Mathlib.Decide.{decLt}
 use native.Mathlib.Nat.{lt-of-not-le}
+use mathlib.Core.List.{List, []}
+use native.Mathlib.Numerals.{add-one}
 use lib.Dec.{eqb, ltb, leb}
-use borrow.Author.Tests.{ltb-true, leb-true, eqb-true, eqb-false, not-true, not-false, lt-ltb, le-ltb, le-leb, eq-eqb, ne-eqb}
+use lib.ListN.{length, getD, drop, drop-of-length-le}
+use lib.Seq.{drop-cons}
+use borrow.Author.Tests.{ltb-true, leb-true, eqb-true, eqb-false, not-true, not-false, lt-ltb, le-ltb, le-leb, lt-leb, eq-eqb, ne-eqb}
 use Rattle.segment.specs.Choice.{both, both-left, both-right, both-true, both-false-right}
 use Rattle.segment.specs.Layout.{Layout, digestSize}
 use Rattle.slot_map.specs.Bit.{named}
@@ -14,7 +18,7 @@ use Rattle.slot_map.specs.BitLaws.{bit-above, named-true, clear-named}
 use Rattle.slot_map.specs.Count.{used, allSlots}
 use Rattle.slot_map.specs.CountLaws.{not-all, all-named}
 use Rattle.record.specs.Answers.{storesLeft, withPending, blank}
-use Rattle.record.specs.Range.{between, slotsGood, sizeGood, cellsGood, mapGood, leftGood, inRange, lengthsOwn, fitsLent}
+use Rattle.record.specs.Range.{between, slotsGood, sizeGood, cellsGood, mapGood, leftGood, countsGood, inRange, lengthsOwn, fitsLent}
 use Rattle.record.specs.declared.Pending.{Pending}
 use Rattle.record.specs.declared.Pending.the-variants.{Idle, Append, NewHead, Clean, Forget}
 use Rattle.record.specs.declared.Record.{Record}
@@ -36,6 +40,7 @@ pub record Lent (L : Layout) (r : Record) (areaLength indexLength : ℕ) : Type 
   pub number-some : 0 < r .digest .0
   pub next-some : 0 < r .next .0
   pub keys-high : r .keys ≤ r .cells - 1
+  pub counts-high : countsGood (r .size - digestSize L) (r .counts) ≡ true
   pub left-some : (r .pending ≡ Idle → ⊥) → 0 < storesLeft (r .pending)
   pub left-high : storesLeft (r .pending) ≤ r .size + 1
   pub area-own : areaLength ≡ r .slots * r .size
@@ -94,6 +99,27 @@ left-true s (NewHead i n k) some most = between-true 1 (s + 1) k (some (λ e. le
 left-true s (Clean i v n k) some most = between-true 1 (s + 1) k (some (λ e. let z : _≡_ {A = ℕ} 0 1 = cc in absurd (omega arith))) most
 left-true s (Forget i v n k) some most = between-true 1 (s + 1) k (some (λ e. let z : _≡_ {A = ℕ} 0 1 = cc in absurd (omega arith))) most
 
+-- ---- the present bytes
+
+both-assoc : (a b c : Bool) → both (both a b) c ≡ both a (both b c)
+unfolding both
+both-assoc true b c = refl
+both-assoc false b c = refl
+
+-- one number more, and what the test says of each
+pub counts-cons : (m i : ℕ) (cs : List ℕ) → i < length cs → countsGood m (drop i cs) ≡ both (leb (getD cs i 0) m) (countsGood m (drop (i + 1) cs))
+unfolding countsGood
+counts-cons m i cs h = rw (add-one i, drop-cons cs i 0 h)
+
+pub counts-turn : (t : Bool) (m i : ℕ) (cs : List ℕ) → i < length cs
+    → both (both t (leb (getD cs i 0) m)) (countsGood m (drop (i + 1) cs)) ≡ both t (countsGood m (drop i cs))
+counts-turn t m i cs h = both-assoc t (leb (getD cs i 0) m) (countsGood m (drop (i + 1) cs)) ∙ ap (both t) (sym (counts-cons m i cs h))
+
+pub counts-end : (t : Bool) (m i : ℕ) (cs : List ℕ) → length cs ≤ i → t ≡ both t (countsGood m (drop i cs))
+unfolding countsGood both
+counts-end true m i cs h = rw (drop-of-length-le cs h)
+counts-end false m i cs h = refl
+
 -- ---- the map
 
 -- What the test of a map of n slots says. That the head is one of them follows: such a map names no other.
@@ -143,7 +169,7 @@ map-test n head map = go (decLt map (allSlots n)) (decLt map (2 ^ n))
 pub past-slots : (n head map : ℕ) → ltb map (allSlots n) ≡ true → n ≤ head → named map head ≡ false
 past-slots n head map e past = clear-named map head (bit-above map n head (omega (arith, ltb-true map (allSlots n) e)) past)
 
--- ---- the test of a record in the code's parts: limits, map, counters, stores left
+-- ---- the test of a record in the code's parts: limits, map, counters, present bytes, stores left
 
 -- N, S and M within their limits
 unfoldable pub limitsGood : Record → Bool
@@ -174,13 +200,8 @@ module _ {t x : Bool} (b : Bool) (e : t ≡ x) where
   unfolding both
   goes f g = rw (← e, f) g
 
-both-assoc : (a b c : Bool) → both (both a b) c ≡ both a (both b c)
-unfolding both
-both-assoc true b c = refl
-both-assoc false b c = refl
-
 pub in-parts : (L : Layout) (r : Record) → inRange L r
-    ≡ both (limitsGood r) (both (mapGood (r .slots) (r .head) (r .map)) (both (countersGood L r) (leftGood (r .size) (r .pending))))
+    ≡ both (limitsGood r) (both (mapGood (r .slots) (r .head) (r .map)) (both (countersGood L r) (both (countsGood (r .size - digestSize L) (r .counts)) (leftGood (r .size) (r .pending)))))
 unfolding inRange limitsGood countersGood
 in-parts L r = simp both-assoc
 
@@ -219,7 +240,7 @@ module _ (L : Layout) (r : Record) (a i : ℕ) (e : fitsLent L r a i ≡ true) w
   unfolding fitsLent
   own = both-right _ _ e
 
-  after-limits : both (mapGood (r .slots) (r .head) (r .map)) (both (countersGood L r) (leftGood (r .size) (r .pending))) ≡ true
+  after-limits : both (mapGood (r .slots) (r .head) (r .map)) (both (countersGood L r) (both (countsGood (r .size - digestSize L) (r .counts)) (leftGood (r .size) (r .pending)))) ≡ true
   after-limits = both-right _ _ (sym (in-parts L r) ∙ range)
 
   map-facts : MapIn (r .slots) (r .head) (r .map)
@@ -228,8 +249,11 @@ module _ (L : Layout) (r : Record) (a i : ℕ) (e : fitsLent L r a i ≡ true) w
   counters : countersGood L r ≡ true
   counters = both-left _ _ (both-right _ _ after-limits)
 
+  counts : countsGood (r .size - digestSize L) (r .counts) ≡ true
+  counts = both-left _ _ (both-right _ _ (both-right _ _ after-limits))
+
   left : leftGood (r .size) (r .pending) ≡ true
-  left = both-right _ _ (both-right _ _ after-limits)
+  left = both-right _ _ (both-right _ _ (both-right _ _ after-limits))
 
   pub lent : Lent L r a i
   unfolding lengthsOwn countersGood
@@ -252,6 +276,7 @@ module _ (L : Layout) (r : Record) (a i : ℕ) (e : fitsLent L r a i ≡ true) w
         number-some = not-zero (r .digest .0) (both-left _ _ (both-right _ _ counters));
         next-some = not-zero (r .next .0) (both-left _ _ (both-right _ _ (both-right _ _ counters)));
         keys-high = leb-true (r .keys) (r .cells - 1) (both-right _ _ (both-right _ _ (both-right _ _ counters)));
+        counts-high = counts;
         left-some = left-pos (r .size) (r .pending) left;
         left-high = left-most (r .size) (r .pending) left;
         area-own = eqb-true a (r .slots * r .size) (both-left _ _ own);
@@ -272,6 +297,7 @@ fits-lent L r a i h =
       some-not (r .digest .0) (λ e. omega arith),
       some-not (r .next .0) (λ e. omega arith),
       le-leb (r .keys) (r .cells - 1) (h .keys-high),
+      h .counts-high,
       left-true (r .size) (r .pending) (h .left-some) (h .left-high),
       eq-eqb a (r .slots * r .size) (h .area-own),
       eq-eqb i (r .cells) (h .index-own),
@@ -297,6 +323,7 @@ lent-pending p h some most =
       number-some = h .number-some;
       next-some = h .next-some;
       keys-high = h .keys-high;
+      counts-high = h .counts-high;
       left-some = some;
       left-high = most;
       area-own = h .area-own;

@@ -41,8 +41,8 @@ pub enum Pending {
 }
 
 // The store record of 01, "Memory the caller lends": geometry and index size, what the head's digest says with the end of its
-// entries, the next version, how many keys the log has entries of, and the pending operation. A value of it is named `rec`,
-// since `record` is a word of the proofs' language.
+// entries, the next version, how many keys the log has entries of, and the pending operation; and for each slot the bytes of its
+// present objects (02, R-5). A value of it is named `rec`, since `record` is a word of the proofs' language.
 pub struct Record {
     pub slots: u32,
     pub size: u32,
@@ -53,6 +53,7 @@ pub struct Record {
     pub map: u32,
     pub next: Version,
     pub keys: u32,
+    pub counts: [u32; 32],
     pub pending: Pending,
 }
 
@@ -216,6 +217,7 @@ pub fn with_pending(rec: Record, p: Pending) -> Record
 {
     let number = rec.digest;
     let next = rec.next;
+    let counts = rec.counts;
     Record {
         slots: rec.slots,
         size: rec.size,
@@ -226,13 +228,14 @@ pub fn with_pending(rec: Record, p: Pending) -> Record
         map: rec.map,
         next: next,
         keys: rec.keys,
+        counts,
         pending: p,
     }
 }
 
 // The record once the pending operation counts: nothing is pending, and what no operation changes stays.
-pub fn committed(rec: Record, done: Commit, keys: u32) -> Record
-    ensures { λ r. ⌜ r ≡ committed rec done keys ⌝ }
+pub fn committed(rec: Record, done: Commit, keys: u32, counts: [u32; 32]) -> Record
+    ensures { λ r. ⌜ r ≡ committed rec done keys counts ⌝ }
 {
     let number = done.digest;
     let next = done.next;
@@ -246,6 +249,7 @@ pub fn committed(rec: Record, done: Commit, keys: u32) -> Record
         map: done.map,
         next: next,
         keys: keys,
+        counts,
         pending: Pending::Idle,
     }
 }
@@ -264,6 +268,7 @@ pub fn blank() -> Record
         map: 0,
         next: Version(0),
         keys: 0,
+        counts: [0; 32],
         pending: Pending::Idle,
     }
 }

@@ -3,11 +3,13 @@
 use crate::Pending;
 use crate::Record;
 use segment::layout::DIGEST_SIZE;
-ghost use Prim.Native.Nat.{_≤_};
+ghost use Prim.Native.Nat.{_-_, _≤_};
 ghost use mathlib.Core.Path.{_≡_};
-ghost use Rattle.record.specs.Range.{between, slotsGood, sizeGood, cellsGood, mapGood, leftGood, inRange, fitsLent, lengthsOwn};
+ghost use Rattle.record.specs.Range.{between, slotsGood, sizeGood, cellsGood, mapGood, leftGood, countsGood, inRange, fitsLent, lengthsOwn};
 ghost use Rattle.record.specs.RangeLaws.{limitsGood, countersGood};
-ghost use Rattle.segment.specs.Layout.{edition1};
+ghost use lib.Dec.{leb};
+ghost use Rattle.segment.specs.Choice.{both};
+ghost use Rattle.segment.specs.Layout.{edition1, digestSize};
 
 // Whether x is from low to high.
 fn between(low: usize, high: usize, x: usize) -> bool
@@ -88,6 +90,36 @@ fn counters_good(rec: Record) -> bool
     next.0 != 0 && rec.keys <= rec.cells - 1
 }
 
+// Whether a number is not above the limit, where those before it were not.
+fn still_good(good: bool, count: u32, limit: u32) -> bool
+    ensures { λ r. ⌜ r ≡ both good (leb count limit) ⌝ }
+{
+    good && count <= limit
+}
+
+// Whether none of the numbers of present bytes is above the limit. Every one is looked at, so that the compiler may take several at
+// once.
+fn counts_good(counts: &[u32], limit: u32) -> bool
+    ensures { λ r. ⌜ r ≡ countsGood limit (now (counts .entry)) ⌝ }
+{
+    let mut good = true;
+    let mut i = 0;
+    while i < counts.len() {
+        good = still_good(good, counts[i], limit);
+        i += 1;
+    }
+    good
+}
+
+// Whether no slot has more present bytes than a segment has behind its digest.
+fn bytes_good(rec: Record) -> bool
+    requires { ⌜ 256 ≤ rec .size ⌝ }
+    ensures { λ r. ⌜ r ≡ countsGood (rec .size - digestSize edition1) (rec .counts) ⌝ }
+{
+    let counts = rec.counts;
+    counts_good(&counts, rec.size - DIGEST_SIZE as u32)
+}
+
 // Whether every number of the record is in range.
 pub fn in_range(rec: Record) -> bool
     ensures { λ r. ⌜ r ≡ inRange edition1 rec ⌝ }
@@ -98,8 +130,11 @@ pub fn in_range(rec: Record) -> bool
     if !map_good(rec.slots, rec.head, rec.map) {
         return false;
     }
+    if !counters_good(rec) {
+        return false;
+    }
     let pending = rec.pending;
-    counters_good(rec) && left_good(rec.size, pending)
+    bytes_good(rec) && left_good(rec.size, pending)
 }
 
 // Whether the area is N × S bytes long and the index M cells.

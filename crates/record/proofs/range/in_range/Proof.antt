@@ -27,20 +27,32 @@ returns-2 c =
 counters-good-requires : tie.Need-counters-good-requires
 counters-good-requires c κs = omega (arith, within (c .before .before))
 
-left-good-requires : tie.Need-left-good-requires
-left-good-requires c κs = omega (arith, within (c .before .before .before .before))
-
 returns-3 : tie.Need-returns-3
 returns-3 c =
-    go _ (c .before .before .before .before .before .before .limits-good .ensures) (c .before .before .before .before .before .if1 .left)
-    (go _ (c .before .before .before .before .map-good .ensures) (c .before .before .before .if2 .left)
-    (goes _ (c .before .before .counters-good .ensures) (c .before .if3 .taken) (c .left-good .ensures)))
+    go _ (c .before .before .before .before .before .limits-good .ensures) (c .before .before .before .before .if1 .left)
+    (go _ (c .before .before .before .map-good .ensures) (c .before .before .if2 .left) (stop _ (c .before .counters-good .ensures) (c .if3 .taken)))
     ∙ sym (in-parts edition1 _)
+
+bytes-good-requires : tie.Need-bytes-good-requires
+bytes-good-requires c κs = omega (arith, within (c .before .before .before .before))
+
+left-good-requires : tie.Need-left-good-requires
+left-good-requires c κs = omega (arith, within (c .before .before .before .before .before .before))
 
 returns-4 : tie.Need-returns-4
 returns-4 c =
-    go _ (c .before .before .before .before .before .limits-good .ensures) (c .before .before .before .before .if1 .left)
-    (go _ (c .before .before .before .map-good .ensures) (c .before .before .if2 .left) (ends _ (c .before .counters-good .ensures) (c .if3 .left)))
+    go _ (c .before .before .before .before .before .before .before .before .limits-good .ensures) (c .before .before .before .before .before .before .before .if1 .left)
+    (go _ (c .before .before .before .before .before .before .map-good .ensures) (c .before .before .before .before .before .if2 .left)
+    (go _ (c .before .before .before .before .counters-good .ensures) (c .before .before .before .if3 .left)
+    (goes _ (c .before .before .bytes-good .ensures) (c .before .if4 .taken) (c .left-good .ensures))))
+    ∙ sym (in-parts edition1 _)
+
+returns-5 : tie.Need-returns-5
+returns-5 c =
+    go _ (c .before .before .before .before .before .before .before .limits-good .ensures) (c .before .before .before .before .before .before .if1 .left)
+    (go _ (c .before .before .before .before .before .map-good .ensures) (c .before .before .before .before .if2 .left)
+    (go _ (c .before .before .before .counters-good .ensures) (c .before .before .if3 .left)
+    (ends _ (c .before .bytes-good .ensures) (c .if4 .left))))
     ∙ sym (in-parts edition1 _)
 
 pub in-range-spec : {M : Type 1} → statement M
@@ -52,6 +64,8 @@ in-range-spec =
     map-good-requires
     returns-2
     counters-good-requires
-    left-good-requires
     returns-3
-    returns-4)
+    bytes-good-requires
+    left-good-requires
+    returns-4
+    returns-5)
