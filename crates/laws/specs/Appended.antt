@@ -18,6 +18,7 @@ use Rattle.model.specs.Recovery.{logSlots, logUnder, recordUnder, recovered}
 use Rattle.model.specs.Operations.{logNow, countNew, appendedRecord}
 use Rattle.laws.specs.HeadLaws.{top-stays}
 use Rattle.laws.specs.LogLaws.{partOf, part-picked, part-same, one-slot, OnePart, part-entered, Entered, placedAt, placed-append, entered-versions, entered-highest, entered-keys, scanned-undamaged, items-scanned, end-scanned}
+use Rattle.laws.specs.Counted.{entered-counts}
 use Rattle.laws.specs.RecoverLaws.{Sound, Allowed, sound-recovered, recovered-case}
 
 -- Slot j has the item x more, and its entries now end at e; nothing else has changed.
@@ -90,9 +91,9 @@ module _ (v v′ : ℕ → View) (n m : ℕ) (h : Head) (x : Item) (e : ℕ) (f 
     appended-next = omega (arith, entered-highest log placed after appended-log above, t .version)
 
     pub appended-record : (L : Layout) (s : ℕ) → e ≡ endOf (v (h .slot) .scan) + sizeOf L (x .entry)
-        → recordUnder v′ n s m h ≡ appendedRecord L (recordUnder v n s m h) log (x .entry)
+        → recordUnder L v′ n s m h ≡ appendedRecord L (recordUnder L v n s m h) log (x .entry)
     appended-record L s q =
-        rw (end-scanned (v′ (h .slot) .scan) (a .scan), q, appended-next, entered-keys log placed after appended-log)
+        rw (end-scanned (v′ (h .slot) .scan) (a .scan), q, appended-next, entered-keys log placed after appended-log, entered-counts L log placed after appended-log above (f .versions))
 
 -- ---- on areas
 

@@ -10,16 +10,20 @@ use lib.ListN.{length}
 use Rattle.segment.specs.Layout.{Layout, digestSize}
 use Rattle.segment.specs.declared.Version.{Version}
 use Rattle.slot_map.specs.Bit.{named, within}
+use Rattle.slot_map.specs.BitLaws.{clear-named}
 use Rattle.slot_map.specs.Count.{used}
 use Rattle.slot_map.specs.CountLaws.{renewed-le}
 use Rattle.record.specs.RangeLaws.{map-in}
 use Rattle.record.specs.declared.Record.{Record}
 use Rattle.model.specs.Log.{View, Head, Placed, viewsOf, logOf, keysOf, versionShared, highest, nextVersion}
+use Rattle.model.specs.Counts.{isPresent, countsOf, renewedCounts}
 use Rattle.model.specs.Recovery.{logUnder, recordUnder, recovered}
 use Rattle.model.specs.Operations.{logNow, newSlot, digestWith, outsideSlots, kept, placedFrom, renewedRecord}
+use Rattle.laws.specs.Members.{clash, In}
 use Rattle.laws.specs.Keys.{keys-same}
 use Rattle.laws.specs.MapLaws.{outside, entries-placed, Cleaned, clean-highest, clean-shared-any, clean-keys-count}
-use Rattle.laws.specs.LogLaws.{OnePart, part-members, part-count, log-those}
+use Rattle.laws.specs.LogLaws.{OnePart, part-members, part-count, log-those, log-in}
+use Rattle.laws.specs.Recounted.{renewed-counts}
 use Rattle.laws.specs.RecoverLaws.{Sound, Allowed, sound-recovered, recovered-case}
 use Rattle.laws.specs.Headed.{Heads, slot-below, slot-clear, new-log, new-sound, new-end}
 
@@ -33,6 +37,7 @@ outside-log v map victims n = log-those v (named map) (λ i. not (named victims 
 -- two are one. The next version is above all of its versions.
 pub record StandsFor (m victims : ℕ) (log stand : List Placed) (next : ℕ) : Type 0 where
   pub outside-same : outside victims stand ≡ outside victims log
+  pub outside-present : (y : Placed) → In y (outside victims log) → isPresent stand (y .entry) ≡ isPresent log (y .entry)
   pub versions : versionShared stand ≡ false
   pub keys : length (keysOf stand) ≤ m - 1
   pub below : highest stand < next
@@ -41,16 +46,16 @@ pub record StandsFor (m victims : ℕ) (log stand : List Placed) (next : ℕ) : 
 
 module _ (L : Layout) (v v′ : ℕ → View) (n s m : ℕ) (h : Head) (victims : ℕ) (next : Version) (stand : List Placed) (f : Sound v n m h)
     (sub : within victims (h .digest .map) ≡ true) (w : StandsFor m victims (logUnder v n h) stand (next .0))
-    (c : Heads L v v′ n (newSlot (recordUnder v n s m h)) (digestWith (recordUnder v n s m h) victims next) (kept victims stand)) where
+    (c : Heads L v v′ n (newSlot (recordUnder L v n s m h)) (digestWith (recordUnder L v n s m h) victims next) (kept victims stand)) where
   -- the new head, its log, the entries kept in their places, and what is left of the old log
   abbrev cleaned : Head
-  cleaned = record { slot = newSlot (recordUnder v n s m h); digest = digestWith (recordUnder v n s m h) victims next }
+  cleaned = record { slot = newSlot (recordUnder L v n s m h); digest = digestWith (recordUnder L v n s m h) victims next }
 
   abbrev after : List Placed
   after = logUnder v′ n cleaned
 
   abbrev moved : List Placed
-  moved = placedFrom L (newSlot (recordUnder v n s m h)) (digestSize L) (kept victims stand)
+  moved = placedFrom L (newSlot (recordUnder L v n s m h)) (digestSize L) (kept victims stand)
 
   abbrev rest : List Placed
   rest = logOf v (outsideSlots (h .digest .map) victims) n
@@ -65,17 +70,29 @@ module _ (L : Layout) (v v′ : ℕ → View) (n s m : ℕ) (h : Head) (victims 
   pub cleaned-log : Cleaned victims stand moved after
   cleaned-log =
       record {
-        entries = entries-placed L (newSlot (recordUnder v n s m h)) (digestSize L) (kept victims stand);
+        entries = entries-placed L (newSlot (recordUnder L v n s m h)) (digestSize L) (kept victims stand);
         members = rw same-rest (part-members moved rest after parts);
       }
 
   pub cleaned-keys : length (keysOf after) ≡ length (keysOf (rest ++ moved))
   cleaned-keys = sym (keys-same (rest ++ moved) after (part-members moved rest after parts))
 
+  -- the victims have no present bytes, and the new head those of the objects kept
+  pub cleaned-counts : countsOf L after ≡ renewedCounts L victims (newSlot (recordUnder L v n s m h)) (kept victims stand) (countsOf L (logUnder v n h))
+  cleaned-counts =
+      renewed-counts L victims (newSlot (recordUnder L v n s m h)) (digestSize L) (logUnder v n h) stand after cleaned-log
+      (subst (λ (l : List Placed). OnePart [] moved l after) (sym (outside-log v (h .digest .map) victims n)) parts) (w .versions)
+      (λ y i d.
+      clash (named (h .digest .map) (newSlot (recordUnder L v n s m h)))
+      (ap (named (h .digest .map)) (sym d) ∙ log-in v (named (h .digest .map)) n y i .picked)
+      (clear-named (h .digest .map) (newSlot (recordUnder L v n s m h))
+      (slot-clear L v v′ n s m h victims next (kept victims stand) f sub c)))
+      (w .outside-present)
+
   -- no fewer slots are free: a victim goes for the one that comes
-  pub cleaned-used : 0 < victims → used n (digestWith (recordUnder v n s m h) victims next .map) ≤ used n (h .digest .map)
+  pub cleaned-used : 0 < victims → used n (digestWith (recordUnder L v n s m h) victims next .map) ≤ used n (h .digest .map)
   cleaned-used some-victim =
-      renewed-le n (h .digest .map) victims (newSlot (recordUnder v n s m h)) sub
+      renewed-le n (h .digest .map) victims (newSlot (recordUnder L v n s m h)) sub
       (map-in n (h .slot) (h .digest .map) (f .map-good) .below) some-victim
       (slot-below L v v′ n s m h victims next (kept victims stand) f sub c)
       (slot-clear L v v′ n s m h victims next (kept victims stand) f sub c)
@@ -88,7 +105,7 @@ module _ (L : Layout) (v v′ : ℕ → View) (n s m : ℕ) (h : Head) (victims 
       (omega (arith, clean-keys-count victims stand moved after cleaned-log, w .keys))
 
   -- the next version is the digest's own, for what is left has no higher version than the log had that the cleaning went by
-  pub cleaned-next : nextVersion (digestWith (recordUnder v n s m h) victims next) after ≡ next .0
+  pub cleaned-next : nextVersion (digestWith (recordUnder L v n s m h) victims next) after ≡ next .0
   cleaned-next = omega (arith, clean-highest victims stand moved after cleaned-log, w .below)
 
 -- ---- on areas
@@ -127,4 +144,5 @@ module _ (L : Layout) (n s m : ℕ) (area area′ : List ℕ) (r : Record) (vict
         new-end L (viewsOf L area s) (viewsOf L area′ s) n s m h victims next (kept victims stand) f b d,
         cleaned-next L (viewsOf L area s) (viewsOf L area′ s) n s m h victims next stand f b q d,
         cleaned-keys L (viewsOf L area s) (viewsOf L area′ s) n s m h victims next stand f b q d,
+        cleaned-counts L (viewsOf L area s) (viewsOf L area′ s) n s m h victims next stand f b q d,
       ))) r e sub w c

@@ -27,6 +27,7 @@ use Rattle.laws.specs.Members.{In, those, those-in, entry-of}
 use Rattle.laws.specs.Latest.{latest-some}
 use Rattle.laws.specs.MapLaws.{valueAt, kept-those}
 use Rattle.laws.specs.Forgotten.{IsLive, present-live, Was, kept-as, put-for, was, forgotten-outside, forgotten-versions, forgotten-highest, forgotten-keys, forgotten-value}
+use Rattle.laws.specs.Counted.{forgotten-present}
 use Rattle.laws.specs.Scans.{scan-scans, scans-stands}
 use Rattle.laws.specs.LogLaws.{log-in, scan-whole}
 use Rattle.laws.specs.RecoverLaws.{recovered-case, recovered-highest}
@@ -74,7 +75,7 @@ module _ (L : Layout) (area : List ℕ) (r : Record) (e : recovered L (r .slots)
       recovered-case L (r .slots) (r .size) (r .cells) area
       (λ (k : Record).
       highest (logNow L area k) < k .next .0 → StandsFor (r .cells) victims (logNow L area k) (logNow L area k) (k .next .0))
-      (λ h l f b. record { outside-same = refl; versions = f .versions; keys = f .keys; below = b }) r e
+      (λ h l f b. record { outside-same = refl; outside-present = λ y m. refl; versions = f .versions; keys = f .keys; below = b }) r e
       (recovered-highest L (r .slots) (r .size) (r .cells) area r e)
 
 -- ---- a cleaning
@@ -131,6 +132,7 @@ module _ (L : Layout) (before : List ℕ) (idle : Record) (k : Key) (a : Accepte
       rw is
       (record {
         outside-same = forgotten-outside log k x live (tombstoneEntry idle k) refl refl (itself .below) (itself .versions);
+        outside-present = forgotten-present log k x live (tombstoneEntry idle k) refl refl (itself .below) (itself .versions);
         versions = forgotten-versions log k x live (tombstoneEntry idle k) refl refl (itself .below) (itself .versions);
         keys = omega (arith, forgotten-keys log k x live (tombstoneEntry idle k) refl refl (itself .below) (itself .versions), itself .keys);
         below = omega (arith, forgotten-highest log k x live (tombstoneEntry idle k) refl refl (itself .below) (itself .versions));

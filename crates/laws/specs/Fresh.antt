@@ -132,7 +132,7 @@ module _ (L : Layout) (roomy : Roomy L) (n s : ℕ) (area : List ℕ) (geometry 
         long = length-formatted L n s area ∙ whole;
         cells-good = c;
       }) (sound m) ∙
-      ap (λ (o : Option Head). some (recordUnder views n s m (headElse o))) (sym head-is)
+      ap (λ (o : Option Head). some (recordUnder L views n s m (headElse o))) (sym head-is)
 
   pub format-log :
       (m : ℕ) →

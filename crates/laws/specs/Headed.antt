@@ -29,6 +29,7 @@ use Rattle.model.specs.Operations.{logNow, newSlot, digestWith, newDigest, outs
 use Rattle.laws.specs.Scans.{itemsFrom, placed-items, encoded-one}
 use Rattle.laws.specs.HeadLaws.{top-new-head}
 use Rattle.laws.specs.LogLaws.{partOf, part-picked, part-passed, part-same, log-same, one-slot, OnePart, part-entered, Entered, entered-versions, entered-highest, entered-keys, scanned-undamaged, items-scanned, end-scanned}
+use Rattle.laws.specs.Counted.{entered-counts}
 use Rattle.laws.specs.RecoverLaws.{Sound, Allowed, in-map, sound-recovered, recovered-case}
 use Rattle.laws.specs.Appended.{Takes}
 
@@ -77,16 +78,16 @@ pub record Heads (L : Layout) (v v′ : ℕ → View) (n j : ℕ) (d : Digest) (
 
 module _ (L : Layout) (v v′ : ℕ → View) (n s m : ℕ) (h : Head) (victims : ℕ) (next : Version) (es : List Entry) (f : Sound v n m h)
     (sub : within victims (h .digest .map) ≡ true)
-    (c : Heads L v v′ n (newSlot (recordUnder v n s m h)) (digestWith (recordUnder v n s m h) victims next) es) where
+    (c : Heads L v v′ n (newSlot (recordUnder L v n s m h)) (digestWith (recordUnder L v n s m h) victims next) es) where
   -- the old record, the new slot and the new head
   abbrev r : Record
-  r = recordUnder v n s m h
+  r = recordUnder L v n s m h
 
   abbrev j : ℕ
-  j = newSlot (recordUnder v n s m h)
+  j = newSlot (recordUnder L v n s m h)
 
   abbrev g : Head
-  g = record { slot = newSlot (recordUnder v n s m h); digest = digestWith (recordUnder v n s m h) victims next }
+  g = record { slot = newSlot (recordUnder L v n s m h); digest = digestWith (recordUnder L v n s m h) victims next }
 
   pub slot-below : j < n
   slot-below = next-below n (h .digest .map) (h .slot) (f .top .below) (map-in n (h .slot) (h .digest .map) (f .map-good) .some-free)
@@ -164,19 +165,19 @@ module _ (L : Layout) (v v′ : ℕ → View) (n s m : ℕ) (h : Head) (victims 
 -- ---- one entry in a new head, on views
 
 module _ (L : Layout) (v v′ : ℕ → View) (n s m : ℕ) (h : Head) (x : Entry) (f : Sound v n m h)
-    (c : Heads L v v′ n (newSlot (recordUnder v n s m h)) (newDigest (recordUnder v n s m h) 0) (x ∷ [])) where
+    (c : Heads L v v′ n (newSlot (recordUnder L v n s m h)) (newDigest (recordUnder L v n s m h) 0) (x ∷ [])) where
   -- the old log, the new head, its log, and the entry in its place
   abbrev old : List Placed
   old = logUnder v n h
 
   abbrev headed : Head
-  headed = record { slot = newSlot (recordUnder v n s m h); digest = newDigest (recordUnder v n s m h) 0 }
+  headed = record { slot = newSlot (recordUnder L v n s m h); digest = newDigest (recordUnder L v n s m h) 0 }
 
   abbrev after : List Placed
   after = logUnder v′ n headed
 
   abbrev placed : Placed
-  placed = record { slot = newSlot (recordUnder v n s m h); offset = digestSize L; entry = x }
+  placed = record { slot = newSlot (recordUnder L v n s m h); offset = digestSize L; entry = x }
 
   pub headed-log : Entered old placed after
   unfolding placedFrom
@@ -184,7 +185,7 @@ module _ (L : Layout) (v v′ : ℕ → View) (n s m : ℕ) (h : Head) (x : Entr
       part-entered [] placed old after
       (subst (λ (l : List Placed). OnePart [] (placed ∷ []) l after)
       (log-same v v (logSlots h) (outsideSlots (h .digest .map) 0) n (λ i l. none-outside (h .digest .map) i) (λ i l q. refl))
-      (new-log L v v′ n s m h 0 (recordUnder v n s m h .next) (x ∷ []) f (none-within (h .digest .map)) c))
+      (new-log L v v′ n s m h 0 (recordUnder L v n s m h .next) (x ∷ []) f (none-within (h .digest .map)) c))
 
   module _ (t : Takes (nextVersion (h .digest) old) (length (keysOf old)) m old x) where
     above : highest old < x .version
@@ -192,27 +193,28 @@ module _ (L : Layout) (v v′ : ℕ → View) (n s m : ℕ) (h : Head) (x : Entr
 
     pub headed-sound : used n (h .digest .map) + 2 ≤ n → Sound v′ n m headed
     headed-sound room =
-        new-sound L v v′ n s m h 0 (recordUnder v n s m h .next) (x ∷ []) f (none-within (h .digest .map)) c (omega arith)
+        new-sound L v v′ n s m h 0 (recordUnder L v n s m h .next) (x ∷ []) f (none-within (h .digest .map)) c (omega arith)
         (omega (
           arith,
-          used-renewed n (h .digest .map) 0 (newSlot (recordUnder v n s m h)) (none-within (h .digest .map))
-              (slot-below L v v′ n s m h 0 (recordUnder v n s m h .next) (x ∷ []) f (none-within (h .digest .map)) c)
-              (slot-clear L v v′ n s m h 0 (recordUnder v n s m h .next) (x ∷ []) f (none-within (h .digest .map)) c),
+          used-renewed n (h .digest .map) 0 (newSlot (recordUnder L v n s m h)) (none-within (h .digest .map))
+              (slot-below L v v′ n s m h 0 (recordUnder L v n s m h .next) (x ∷ []) f (none-within (h .digest .map)) c)
+              (slot-clear L v v′ n s m h 0 (recordUnder L v n s m h .next) (x ∷ []) f (none-within (h .digest .map)) c),
         ))
         (entered-versions old placed after headed-log above (f .versions))
         (omega (arith, entered-keys old placed after headed-log, t .room))
 
-    pub headed-next : nextVersion (newDigest (recordUnder v n s m h) 0) after ≡ nextVersion (h .digest) old + 1
+    pub headed-next : nextVersion (newDigest (recordUnder L v n s m h) 0) after ≡ nextVersion (h .digest) old + 1
     headed-next = omega (arith, entered-highest old placed after headed-log above, t .version)
 
-    pub headed-record : recordUnder v′ n s m headed ≡ headedRecord L (recordUnder v n s m h) old x
+    pub headed-record : recordUnder L v′ n s m headed ≡ headedRecord L (recordUnder L v n s m h) old x
     headed-record =
         rw (
-          new-end L v v′ n s m h 0 (recordUnder v n s m h .next) (x ∷ []) f (none-within (h .digest .map)) c,
+          new-end L v v′ n s m h 0 (recordUnder L v n s m h .next) (x ∷ []) f (none-within (h .digest .map)) c,
           encoded-one L x,
           length-encoded L x,
           headed-next,
           entered-keys old placed after headed-log,
+          entered-counts L old placed after headed-log above (f .versions),
         )
 
 -- ---- one entry in a new head, on areas

@@ -16,6 +16,8 @@ pub mod NewHeadBytes
 pub mod FormatBytes
 pub mod HeadLaws
 pub mod LogLaws
+pub mod Counted
+pub mod Recounted
 pub mod RecoverLaws
 pub mod Appended
 pub mod Headed

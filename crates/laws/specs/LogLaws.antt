@@ -359,7 +359,7 @@ module _ (part log after : List Placed) (c : OnePart [] part log after) where
 
 -- ---- members picked by their slot
 
-those-append : (q : Placed → Bool) (a b : List Placed) → those q (a ++ b) ≡ those q a ++ those q b
+pub those-append : (q : Placed → Bool) (a b : List Placed) → those q (a ++ b) ≡ those q a ++ those q b
 unfolding those
 those-append q [] b = refl
 those-append q (x ∷ a) b = go (q x) (those-append q a b)

@@ -183,7 +183,7 @@ module _ (victims : ℕ) (log : List Placed) (x : Placed) where
   kept-victim : isKept victims log x ≡ true → named victims (x .slot) ≡ true
   kept-victim e = both-left (named victims (x .slot)) (both (isHighest log (x .entry)) (worth victims log x)) e
 
-  kept-highest : isKept victims log x ≡ true → isHighest log (x .entry) ≡ true
+  pub kept-highest : isKept victims log x ≡ true → isHighest log (x .entry) ≡ true
   kept-highest e =
       both-left (isHighest log (x .entry)) (worth victims log x)
       (both-right (named victims (x .slot)) (both (isHighest log (x .entry)) (worth victims log x)) e)

@@ -21,7 +21,7 @@ use Rattle.segment.specs.Digest.{digestOf}
 use Rattle.segment.specs.declared.Digest.{Digest}
 use Rattle.slot_map.specs.Bit.{named}
 use Rattle.slot_map.specs.Count.{used}
-use Rattle.record.specs.Range.{between, slotsGood, sizeGood, cellsGood, mapGood, leftGood, inRange, lengthsOwn, fitsLent}
+use Rattle.record.specs.Range.{between, slotsGood, sizeGood, cellsGood, mapGood, leftGood, countsGood, inRange, lengthsOwn, fitsLent}
 use Rattle.record.specs.RangeLaws.{map-in}
 use Rattle.record.specs.declared.Refusal.{Refusal}
 use Rattle.record.specs.declared.Refusal.the-variants.{BadOrder}
@@ -30,16 +30,18 @@ use Rattle.record.specs.declared.Recovery.{Recovery}
 use Rattle.record.specs.declared.RecoverAnswer.{RecoverAnswer}
 use Rattle.model.specs.Log.{View, Head, Placed, scanned, itemsOf, scan, digestIn, segmentOf, viewsOf, headOf, logOf, endOf, isDamaged, keysOf, versionShared, highest, nextVersion}
 use Rattle.model.specs.Causes.{Cause, when, firstCause}
+use Rattle.model.specs.Counts.{countsOf}
 use Rattle.model.specs.Recovery.{headElse, sharing, mapBad, logSlots, logUnder, recordUnder, imageCauses, keyCauses, lentCauses, areaCauses, ifNone, recordFrom, recovered, orderBad, recoveryFor, recovery, recoverCauses}
-use Rattle.model.specs.Operations.{logNow}
+use Rattle.model.specs.Operations.{logNow, allEncoded}
 use Rattle.laws.specs.CauseLaws.{NoCause, no-cause, none-left, causes-none, cause-passed}
 use Rattle.laws.specs.Passed.{lent-passed}
 use Rattle.laws.specs.Members.{clash, In}
 use Rattle.laws.specs.Latest.{Apart}
 use Rattle.laws.specs.Versions.{shared-apart, highest-below, below-highest}
 use Rattle.laws.specs.Stores.{slot-inside, length-segment}
-use Rattle.laws.specs.Scans.{scan-scans, scans-low, scans-high, scans-found}
+use Rattle.laws.specs.Scans.{itemEntries, scan-scans, scans-low, scans-high, scans-total, scans-found}
 use Rattle.laws.specs.HeadLaws.{SameViews, digests-same, TopHead, head-is, is-top, top-head, top-alone, top-stays}
+use Rattle.laws.specs.Counted.{counts-fit}
 use Rattle.laws.specs.LogLaws.{AllDigests, AllScanned, names-digests, digests-named, undamaged-scans, scans-undamaged, log-same, log-in, scan-whole}
 
 -- ---- an image that recovery accepts
@@ -122,7 +124,7 @@ pub record Recovers (L : Layout) (n s m : ℕ) (area : List ℕ) (r : Record) : 
   pub head : Head
   pub head-is : headOf (viewsOf L area s) n ≡ some head
   pub sound : Sound (viewsOf L area s) n m head
-  pub same : r ≡ recordUnder (viewsOf L area s) n s m head
+  pub same : r ≡ recordUnder L (viewsOf L area s) n s m head
 
 clear-lent : (n s m areaLength : ℕ) → NoCause (lentCauses n s m areaLength) → Allowed n s m areaLength
 clear-lent n s m areaLength f =
@@ -162,7 +164,7 @@ module _ (L : Layout) (n s m : ℕ) (area : List ℕ) where
         head = found .0;
         head-is = found .1;
         sound = found .2;
-        same = sym (accepted .1) ∙ ap (λ (o : Option Head). recordUnder v n s m (headElse o)) (found .1);
+        same = sym (accepted .1) ∙ ap (λ (o : Option Head). recordUnder L v n s m (headElse o)) (found .1);
       }
 
   pub facts-recovered : (r : Record) → Recovers L n s m area r → recovered L n s m area ≡ some r
@@ -174,16 +176,16 @@ module _ (L : Layout) (n s m : ℕ) (area : List ℕ) where
       (sound-clear v n m (f .head) (f .sound)) in
       let accepted = causes-none (areaCauses L n s m area) (lent .0, (lent .1 .0, image)) in
       ap (λ (o : Option Refusal). ifNone o (recordFrom L n s m area)) accepted ∙
-      ap some (ap (λ (o : Option Head). recordUnder v n s m (headElse o)) (f .head-is) ∙ sym (f .same))
+      ap some (ap (λ (o : Option Head). recordUnder L v n s m (headElse o)) (f .head-is) ∙ sym (f .same))
 
   -- the record by the facts alone: the head's slot and its equation follow from the rest
-  pub sound-recovered : (h : Head) → Allowed n s m (length area) → Sound v n m h → recovered L n s m area ≡ some (recordUnder v n s m h)
+  pub sound-recovered : (h : Head) → Allowed n s m (length area) → Sound v n m h → recovered L n s m area ≡ some (recordUnder L v n s m h)
   sound-recovered h l f =
-      facts-recovered (recordUnder v n s m h)
+      facts-recovered (recordUnder L v n s m h)
       (record { lent = l; head = h; head-is = sound-head v n m h f; sound = f; same = refl })
 
   -- What is shown of every record under a sound head holds of a recovered one.
-  pub recovered-case : (P : Record → Type 0) → ((h : Head) → Allowed n s m (length area) → Sound v n m h → P (recordUnder v n s m h))
+  pub recovered-case : (P : Record → Type 0) → ((h : Head) → Allowed n s m (length area) → Sound v n m h → P (recordUnder L v n s m h))
       → (r : Record) → recovered L n s m area ≡ some r → P r
   recovered-case P t r e =
       let f = recovered-facts r e in
@@ -244,9 +246,13 @@ module _ (L : Layout) (v : ℕ → View) (n s m : ℕ) (h : Head) where
   abbrev pub EndsInside : Type 0
   EndsInside = (digestSize L ≤ endOf (v (h .slot) .scan)) × (endOf (v (h .slot) .scan) ≤ s)
 
-  pub under-in-range : (areaLength : ℕ) → Allowed n s m areaLength → Sound v n m h → EndsInside → inRange L (recordUnder v n s m h) ≡ true
+  -- and no slot has more present bytes than come behind a digest
+  abbrev pub CountsInside : Type 0
+  CountsInside = countsGood (s - digestSize L) (countsOf L (logUnder v n h)) ≡ true
+
+  pub under-in-range : (areaLength : ℕ) → Allowed n s m areaLength → Sound v n m h → EndsInside → CountsInside → inRange L (recordUnder L v n s m h) ≡ true
   unfolding inRange between leftGood
-  under-in-range areaLength l f e =
+  under-in-range areaLength l f e c =
       both-true _ _
       (both-true _ _ (both-true _ _ (l .slots-good) (l .size-good)) (both-true _ _ (l .cells-good) (f .map-good)))
       (both-true _ _
@@ -254,13 +260,13 @@ module _ (L : Layout) (v : ℕ → View) (n s m : ℕ) (h : Head) where
       (both-true _ _ (le-leb (digestSize L) (endOf (v (h .slot) .scan)) (e .0)) (le-leb (endOf (v (h .slot) .scan)) s (e .1)))
       (both-true _ _ (ap not (ne-eqb (h .digest .number .0) 0 (f .numbered)))
       (ap not (ne-eqb (nextVersion (h .digest) (logUnder v n h)) 0 (λ z. omega arith)))))
-      (both-true _ _ (le-leb (length (keysOf (logUnder v n h))) (m - 1) (f .keys)) refl))
+      (both-true _ _ (le-leb (length (keysOf (logUnder v n h))) (m - 1) (f .keys)) (both-true _ _ c refl)))
 
-  pub under-fits : (areaLength : ℕ) → Allowed n s m areaLength → Sound v n m h → EndsInside
-      → fitsLent L (recordUnder v n s m h) areaLength m ≡ true
+  pub under-fits : (areaLength : ℕ) → Allowed n s m areaLength → Sound v n m h → EndsInside → CountsInside
+      → fitsLent L (recordUnder L v n s m h) areaLength m ≡ true
   unfolding fitsLent lengthsOwn
-  under-fits areaLength l f e =
-      both-true _ _ (under-in-range areaLength l f e) (both-true _ _ (eq-eqb areaLength (n * s) (l .long)) (eq-eqb m m refl))
+  under-fits areaLength l f e c =
+      both-true _ _ (under-in-range areaLength l f e c) (both-true _ _ (eq-eqb areaLength (n * s) (l .long)) (eq-eqb m m refl))
 
 -- ---- the log of a recovered record
 
@@ -303,7 +309,7 @@ recovered-more L n s m k area r e good l =
     sound-recovered L n s k area (f .head)
     (record { slots-good = f .lent .slots-good; size-good = f .lent .size-good; long = f .lent .long; cells-good = good })
     (more-sound (viewsOf L area s) n m k (f .head) l (f .sound)) ∙
-    ap (λ (o : Option Head). some (recordUnder (viewsOf L area s) n s k (headElse o))) (sym (f .head-is))
+    ap (λ (o : Option Head). some (recordUnder L (viewsOf L area s) n s k (headElse o))) (sym (f .head-is))
 
 -- ---- what leaves the store as it was
 
@@ -351,8 +357,8 @@ module _ (v v′ : ℕ → View) (n m : ℕ) (h : Head) (f : Sound v n m h) (u :
         keys = rw untouched-log (f .keys);
       }
 
-  pub untouched-record : (s : ℕ) → recordUnder v′ n s m h ≡ recordUnder v n s m h
-  untouched-record s = rw (untouched-log, head-kept)
+  pub untouched-record : (L : Layout) (s : ℕ) → recordUnder L v′ n s m h ≡ recordUnder L v n s m h
+  untouched-record L s = rw (untouched-log, head-kept)
 
 both-ways : (a b : Option Record) → ((r : Record) → a ≡ some r → b ≡ some r) → ((r : Record) → b ≡ some r → a ≡ some r) → b ≡ a
 both-ways none none to from = refl
@@ -365,7 +371,7 @@ module _ (L : Layout) (n s m : ℕ) (area area′ : List ℕ) (same-length : len
   untouched-recovered r f u =
       sound-recovered L n s m area′ (f .head) (subst (Allowed n s m) (sym same-length) (f .lent))
       (untouched-sound (viewsOf L area s) (viewsOf L area′ s) n m (f .head) (f .sound) u) ∙
-      ap some (untouched-record (viewsOf L area s) (viewsOf L area′ s) n m (f .head) (f .sound) u s ∙ sym (f .same))
+      ap some (untouched-record (viewsOf L area s) (viewsOf L area′ s) n m (f .head) (f .sound) u L s ∙ sym (f .same))
 
   views-kept : SameViews n (viewsOf L area s) (viewsOf L area′ s) → (r : Record) → recovered L n s m area ≡ some r
       → recovered L n s m area′ ≡ some r
@@ -435,10 +441,19 @@ module _ (L : Layout) (n s m : ℕ) (area : List ℕ) (r : Record) (e : recovere
       let long = length-segment area s (r .head) (slot-inside area n s (r .head) (recovered-lent .long) recovered-below) in
       (scans-low scans, omega (arith, scans-high scans))
 
+  -- what a log slot holds fits behind a digest
+  slot-holds : (h : Head) → Allowed n s m (length area) → Sound (viewsOf L area s) n m h → (i : ℕ) → i < n → logSlots h i ≡ true
+      → length (allEncoded L (itemEntries (itemsOf (viewsOf L area s i .scan)))) ≤ s - digestSize L
+  slot-holds h l f i b q =
+      let scans = scan-scans L (segmentOf area s i) (scan-whole (scan L (segmentOf area s i)) (f .scans i b q)) in
+      omega (arith, scans-total scans, scans-high scans, length-segment area s i (slot-inside area n s i (l .long) b))
+
   pub recovered-fits : fitsLent L r (length area) m ≡ true
   recovered-fits =
       recovered-case L n s m area (λ (k : Record). (digestSize L ≤ k .end) × (k .end ≤ s) → fitsLent L k (length area) m ≡ true)
-      (λ h l f. under-fits L (viewsOf L area s) n s m h (length area) l f) r e recovered-ends
+      (λ h l f ends.
+      under-fits L (viewsOf L area s) n s m h (length area) l f ends
+      (counts-fit L (viewsOf L area s) (h .digest .map) n (s - digestSize L) (slot-holds h l f))) r e recovered-ends
 
   -- in an area of bytes the record's numbers fit theirs
   module _ (bytes : Bytes area) where

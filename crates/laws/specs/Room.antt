@@ -33,34 +33,8 @@ use Rattle.laws.specs.Forgotten.{replaced-those, replaced-total, present
 use Rattle.laws.specs.Stores.{slot-inside, length-segment}
 use Rattle.laws.specs.Scans.{itemEntries, Scans, scan-scans, scans-total, scans-high}
 use Rattle.laws.specs.LogLaws.{partOf, part-picked, part-passed, no-parts, log-those, log-in, scan-whole}
+use Rattle.laws.specs.Counted.{entries-in, slot-log}
 use Rattle.laws.specs.RecoverLaws.{recovered-case, recovered-fits}
-
--- ---- the part of a log that one slot holds
-
-entries-in : (i : ℕ) (is : List Item) → entriesOf (placedIn i is) ≡ itemEntries is
-unfolding placedIn
-entries-in i [] = refl
-entries-in i (x ∷ xs) = ap (λ l. x .entry ∷ l) (entries-in i xs)
-
-one-picked :
-    (v : ℕ → View) (p : ℕ → Bool) (i n : ℕ) → i < n → p i ≡ true → ((j : ℕ) → (j ≡ i → ⊥) → p j ≡ false) →
-    logOf v p n ≡ placedIn i (itemsOf (v i .scan))
-unfolding logOf
-one-picked v p i zero l q o = absurd (omega arith)
-one-picked v p i (suc n) l q o = go (ℕ-discrete i n) (λ h. one-picked v p i n h q o)
-  where
-    go : Dec (i ≡ n) → (i < n → logOf v p n ≡ placedIn i (itemsOf (v i .scan))) → logOf v p n ++ partOf v p n ≡ placedIn i (itemsOf (v i .scan))
-    go (yes e) ih =
-        ap (λ (l : List Placed). l ++ partOf v p n) (no-parts v p n (λ j h. part-passed v p j (o j (λ z. omega arith)))) ∙
-        ap (partOf v p) (sym e) ∙ part-picked v p i q
-    go (no e) ih =
-        ap (λ (l : List Placed). logOf v p n ++ l) (part-passed v p n (o n (λ z. e (sym z)))) ∙ append-nil (logOf v p n) ∙ ih (omega arith)
-
--- the part of a log in one of its slots is what the slot holds
-pub slot-log : (v : ℕ → View) (map n i : ℕ) → i < n → named map i ≡ true → inSlot i (logOf v (named map) n) ≡ placedIn i (itemsOf (v i .scan))
-slot-log v map n i l q =
-    log-those v (named map) (λ j. eqb j i) n
-    ∙ one-picked v (λ j. both (named map j) (eqb j i)) i n l (both-true _ _ q (eq-eqb i i refl)) (λ j o. both-false-right _ _ (ne-eqb j i o))
 
 module _ (L : Layout) (area : List ℕ) (r : Record) (e : recovered L (r .slots) (r .size) (r .cells) area ≡ some r) where
   facts : Lent L r (length area) (r .cells)

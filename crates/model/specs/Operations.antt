@@ -23,7 +23,7 @@ use Rattle.record.specs.declared.Pending.{Pending}
 use Rattle.record.specs.declared.Pending.the-variants.{Idle, Append, NewHead, Clean, Forget}
 use Rattle.record.specs.declared.Record.{Record}
 use Rattle.model.specs.Log.{View, Placed, viewsOf, logOf, latest, present, hasKey, keysOf, sameKey}
-pub use Rattle.model.specs.Log.{isVersion}
+unfoldable pub use Rattle.model.specs.Log.{isVersion}
 use Rattle.model.specs.Counts.{entryCounts, renewedCounts}
 
 -- The three operations: write a value under a key, delete a key, clean a slot map of victims.

@@ -1,11 +1,11 @@
 -- What the range-and-length test says, as plain facts, and the test in the parts in which the code makes it.
-use Prim.Native.Nat.{ℕ, _+_, _*_, _-_, _^_, _≤_, _<_}
+use Prim.Native.Nat.{ℕ, zero, suc, _+_, _*_, _-_, _^_, _≤_, _<_}
 use mathlib.Core.Path.{_≡_, refl, sym, _∙_, ap, ap₂}
 use mathlib.Core.Bool.{Bool, true, false, not}
 use native.Mathlib.Omega.{arith}
 use native.Mathlib.Decide.{decLt}
 use native.Mathlib.Nat.{lt-of-not-le}
-use mathlib.Core.List.{List, []}
+use mathlib.Core.List.{List, [], _∷_}
 use native.Mathlib.Numerals.{add-one}
 use lib.Dec.{eqb, ltb, leb}
 use lib.ListN.{length, getD, drop, drop-of-length-le}
@@ -119,6 +119,19 @@ pub counts-end : (t : Bool) (m i : ℕ) (cs : List ℕ) → length cs ≤ i → 
 unfolding countsGood both
 counts-end true m i cs h = rw (drop-of-length-le cs h)
 counts-end false m i cs h = refl
+
+-- the test by each of the numbers
+pub counts-true : (m : ℕ) (cs : List ℕ) → ((i : ℕ) → i < length cs → getD cs i 0 ≤ m) → countsGood m cs ≡ true
+unfolding countsGood
+counts-true m [] h = refl
+counts-true m (c ∷ cs) h =
+    both-true (leb c m) (countsGood m cs) (le-leb c m (h 0 (omega arith))) (counts-true m cs (λ i l. h (suc i) (omega arith)))
+
+pub counts-below : (m i : ℕ) (cs : List ℕ) → countsGood m cs ≡ true → getD cs i 0 ≤ m
+unfolding countsGood
+counts-below m i [] e = omega arith
+counts-below m zero (c ∷ cs) e = leb-true c m (both-left (leb c m) (countsGood m cs) e)
+counts-below m (suc i) (c ∷ cs) e = counts-below m i cs (both-right (leb c m) (countsGood m cs) e)
 
 -- ---- the map
 
