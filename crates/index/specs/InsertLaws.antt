@@ -32,7 +32,7 @@ use Rattle.index.specs.declared.Inserted.{Inserted}
 module _ (L : Layout) (area cells : List ℕ) (place : ℕ) (k : Key) (version : ℕ) where
   pub insert-newer :
       (i : ℕ) → searchFor L area cells k ≡ Found.At i → versionAt L area (getD cells i 0 - 1) < version →
-      inserted L area cells place k version ≡ record { answer = Inserted.Newer; cells = set cells i (place + 1) }
+      inserted L area cells place k version ≡ record { answer = Inserted.Newer (getD cells i 0 - 1); cells = set cells i (place + 1) }
   unfolding insertedAt
   insert-newer i e h =
       ap (insertedAt L area cells place version) e
@@ -67,9 +67,9 @@ module _ (cells : List ℕ) (n : ℕ) where
   unfolding tallied
   tally-over h = pick-false (ltb (n + 1) (length cells)) (counted cells (n + 1)) over (le-ltb (n + 1) (length cells) h)
 
-  pub tally-newer : tallied Inserted.Newer cells n ≡ counted cells n
+  pub tally-newer : (old : ℕ) → tallied (Inserted.Newer old) cells n ≡ counted cells n
   unfolding tallied
-  tally-newer = refl
+  tally-newer old = refl
 
   pub tally-older : tallied Inserted.Older cells n ≡ counted cells n
   unfolding tallied
@@ -144,9 +144,9 @@ module _ (L : Layout) (area : List ℕ) (S m : ℕ) (log : List Placed) (x : Pla
             subst (Tells S m (x ∷ log))
             (sym
             (insert-next L area S x cells n
-            (record { answer = Inserted.Newer; cells = set cells (c .cell) (placeOf S x + 1) })
+            (record { answer = Inserted.Newer (getD cells (c .cell) 0 - 1); cells = set cells (c .cell) (placeOf S x + 1) })
             (insert-newer L area cells (placeOf S x) (keyOf (x .entry)) (x .entry .version) (c .cell) found (omega (arith, its-version)))
-            ∙ tally-newer (set cells (c .cell) (placeOf S x + 1)) n))
+            ∙ tally-newer (set cells (c .cell) (placeOf S x + 1)) n (getD cells (c .cell) 0 - 1)))
             (record {
               rule =
                   put-newest S log cells (ix .rule) x (cellHas L area (keyOf (x .entry))) picks-all (c .cell)

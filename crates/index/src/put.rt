@@ -40,7 +40,7 @@ pub fn insert(area: &[u8], cells: &mut [u32], place: usize, key: Key, version: V
             let old = (cells[i] - 1) as usize;
             if read32(area, old + 7) < version.0 {
                 put(cells, i, place);
-                return Inserted::Newer;
+                return Inserted::Newer(old);
             }
             Inserted::Older
         }
