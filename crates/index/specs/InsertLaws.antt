@@ -232,6 +232,25 @@ module _ (L : Layout) (area : List ℕ) (S m : ℕ) (log : List Placed) (x : Pla
             (λ z i. picks-all z (List·Memᴰ·tail i)) y l in
             some-key y l (f .0) (f .1) (ltb (y .entry .version) (x .entry .version)) refl
 
+    -- what an insertion of a newer entry answers: the place of the key's latest entry, which it replaces, or that the key is new
+    pub replaces : (y : Placed) → latest log (keyOf (x .entry)) ≡ some y → y .entry .version < x .entry .version
+        → inserted L area cells (placeOf S x) (keyOf (x .entry)) (x .entry .version) .answer ≡ Inserted.Newer (placeOf S y)
+    replaces y l h =
+        let f = search-known S log cells (ix .rule) (cellHas L area (keyOf (x .entry))) (keyOf (x .entry))
+        (λ z i. picks-all z (List·Memᴰ·tail i)) y l in
+        ap (λ (i : Insertion). i .answer)
+        (insert-newer L area cells (placeOf S x) (keyOf (x .entry)) (x .entry .version) (f .0 .cell) (f .1)
+        (omega (arith, its-version y l (f .0) (f .1))))
+        ∙ ap Inserted.Newer (omega (arith, f .0 .holds))
+
+    pub comes-new : latest log (keyOf (x .entry)) ≡ none
+        → inserted L area cells (placeOf S x) (keyOf (x .entry)) (x .entry .version) .answer ≡ Inserted.New
+    comes-new l =
+        let f = search-new S log cells (ix .rule) (cellHas L area (keyOf (x .entry))) (keyOf (x .entry))
+        (λ y i. picks-all y (List·Memᴰ·tail i)) l (omega (arith, ix .keys, ix .few, ix .long)) in
+        ap (λ (i : Insertion). i .answer)
+        (insert-new L area cells (placeOf S x) (keyOf (x .entry)) (x .entry .version) (f .0 .cell) (f .1))
+
   -- one entry more
   pub tells-next : (s : Tally) → Tells S m log s → Tells S m (x ∷ log) (insertNext L area S x s)
   unfolding Tells insertNext

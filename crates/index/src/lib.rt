@@ -15,7 +15,7 @@ pub enum Found {
 // or every cell is taken by other keys.
 pub enum Inserted {
     New,
-    Newer(usize),
+    Newer(u32),
     Older,
     Full,
 }

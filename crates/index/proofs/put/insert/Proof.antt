@@ -54,8 +54,8 @@ slice-read-old c = inside (c .before .before) .below
 sub-old : tie.Need-sub-old
 sub-old c = inside (c .before .before) .taken
 
-cast-old : tie.Need-cast-old
-cast-old c = omega (arith, c .slice-known3 .given (c .before .before .i2 .given .0 .0))
+cast-read32 : tie.Need-cast-read32
+cast-read32 c = omega (arith, c .slice-known3 .given (c .before .before .i2 .given .0 .0))
 
 add-read32 : tie.Need-add-read32
 add-read32 c = omega (arith, c .slice-known3 .given (c .before .before .i2 .given .0 .0))
@@ -117,7 +117,7 @@ insert-spec =
     mul-old
     slice-read-old
     sub-old
-    cast-old
+    cast-read32
     add-read32
     read32-requires
     put-requires-2
