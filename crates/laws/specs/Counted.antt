@@ -7,7 +7,7 @@ use mathlib.Core.Option.{Option, none, some}
 use native.Mathlib.Decide.{ℕ-discrete, decLt}
 use native.Mathlib.Omega.{arith}
 use lib.Dec.{eqb}
-use lib.ListN.{length, getD, set, replicate, length-set, length-replicate, getD-replicate}
+use lib.ListN.{length, getD, set, replicate, length-set, length-replicate, getD-replicate, List·getD-eq-default}
 use lib.Seq.{set-out, getD-set-same, getD-set-other, ext-getD}
 use borrow.Author.Tests.{eq-eqb, ne-eqb, eqb-true, eqb-false}
 use Rattle.segment.specs.Choice.{both, both-true, both-false-right, pick, pick-true, pick-false, either-false-left, either-false-right}
@@ -56,6 +56,18 @@ fewer-at i j n c l = go (ℕ-discrete j i)
     go (no d) =
         getD-set-other c i j (getD c i 0 - n) 0 d
         ∙ omega (arith, pick-false (eqb i j) n 0 (ne-eqb i j (λ e. d (sym e))))
+
+-- fewer bytes are not more, in any slot
+pub fewer-most : (i j n : ℕ) (c : List ℕ) → getD (fewerBytes i n c) j 0 ≤ getD c j 0
+fewer-most i j n c = go (decLt j (length c))
+  where
+    go : Dec (j < length c) → getD (fewerBytes i n c) j 0 ≤ getD c j 0
+    go (yes l) = omega (arith, fewer-at i j n c l)
+    go (no l) =
+        omega (
+          arith,
+          List·getD-eq-default (fewerBytes i n c) 0 {n = j} (omega (arith, length-set c i (getD c i 0 - n))),
+        )
 
 -- ---- sums over the entries of one slot
 

@@ -212,7 +212,7 @@ module _ (L : Layout) (roomy : Roomy L) (before cells : List ℕ) (idle : Record
   delete-ends :
       (key : Key) (a : Accepted L before idle (delete key)) → length cells ≡ idle .cells → IndexRule (idle .size) (logNow L before idle) cells → (k : ℕ) →
       LaidEnds (laidDelete L idle (logNow L before idle) key) (deletedRecord L before idle key) (idle .next .0) k
-  unfolding pick laid finishedRecord finishWith finishForget
+  unfolding pick laid finishedRecord finishWith finishForget planOf
   delete-ends key a long rule k = go (noRoom idle (entrySize L 0)) refl (finishes L roomy before idle (delete key) a .0)
     where
       way : Bool → Laid
@@ -237,7 +237,7 @@ module _ (L : Layout) (roomy : Roomy L) (before cells : List ℕ) (idle : Record
       Ends L (stored before (planAt L before idle o)) (finishedRecord L before idle o) (toldVersion idle o)
       (finishWith L (withPending idle (laid L idle (logNow L before idle) o .pending k)) (stored before (planAt L before idle o)) cells
       (laid L idle (logNow L before idle) o .pending k))
-  unfolding laid finishedRecord toldVersion finishWith finishClean
+  unfolding laid finishedRecord toldVersion finishWith finishClean planOf
   operation-ends (write key value) a long rule k =
       entry-ends L roomy before cells idle (a .recovers) (a .area-bytes) (idle-lent L before idle (write key value) a) long rule
       (writtenEntry idle key value) (write-enters L before idle key value a) k (finishes L roomy before idle (write key value) a .0)

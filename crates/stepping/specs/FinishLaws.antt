@@ -1,15 +1,16 @@
 -- The last step at each test of the code.
-use Prim.Native.Nat.{ℕ, _+_, _*_, _-_, _≤_, _<_}
+use Prim.Native.Nat.{ℕ, _+_, _*_, _-_, _/_, _≤_, _<_}
 use mathlib.Core.Path.{_≡_, refl, sym, _∙_, ap, ap₂, subst}
 use mathlib.Core.List.{List}
 use native.Mathlib.Nat.{mul-le-mul, mul-le-mul-right, suc-mul}
 use native.Mathlib.Omega.{arith}
 use lib.Dec.{ltb}
-use lib.ListN.{length, take, drop}
+use lib.ListN.{length, getD, take, drop, length-take}
 use borrow.Author.Tests.{lt-ltb, le-ltb}
 use Rattle.segment.specs.Choice.{pick-true, pick-false}
 use Rattle.segment.specs.Layout.{Layout, digestSize}
 use Rattle.segment.specs.Entry.{Entry, Found, entry, end, damage, entryAt, answer, keyOf, isTombstone, sizeOf}
+use Rattle.segment.specs.EntryLaws.{found-fits}
 use Rattle.segment.specs.AnswerLaws.{tells-object, tells-tombstone, tells-end, tells-damage}
 use Rattle.segment.specs.declared.Key.{Key}
 use Rattle.segment.specs.declared.Read.{Read}
@@ -27,7 +28,9 @@ use Rattle.record.specs.declared.Record.{Record}
 use Rattle.model.specs.Log.{segmentOf}
 use Rattle.model.specs.Operations.{nextAfter, appendCommit, headCommit}
 use Rattle.model.specs.Counts.{moreBytes, objectSize}
-use Rattle.counting.specs.Counting.{lostAt, renewedAt}
+use Rattle.segment.specs.Area.{foundAt}
+use Rattle.counting.specs.Counting.{foundBytes, lostAt, renewedAt}
+use Rattle.laws.specs.Counted.{fewer-most}
 use Rattle.index.specs.Insert.{Insertion, inserted}
 use Rattle.index.specs.Build.{Rebuilt}
 use Rattle.index.specs.declared.Built.{Built}
@@ -94,6 +97,14 @@ module _ (L : Layout) (S : ℕ) (area c : List ℕ) {a : Inserted} where
   unfolding lostBy
   lost-full e = rw e
 
+-- no number rises
+pub lost-few : (L : Layout) (S : ℕ) (area c : List ℕ) (a : Inserted) (j : ℕ) → getD (lostBy L S area a c) j 0 ≤ getD c j 0
+unfolding lostBy lostAt
+lost-few L S area c Inserted.New j = omega arith
+lost-few L S area c (Inserted.Newer old) j = fewer-most (old / S) j (foundBytes L (foundAt L S area old)) c
+lost-few L S area c Inserted.Older j = omega arith
+lost-few L S area c Inserted.Full j = omega arith
+
 -- ---- an entry put into the index
 
 module _ (L : Layout) (r : Record) (done : Commit) (area cells : List ℕ) (slot place : ℕ) where
@@ -127,6 +138,17 @@ module _ (L : Layout) (r : Record) (done : Commit) (area cells : List ℕ) (slot
       let w = tells-object L (entryAt L (segmentOf area (r .size) slot) offset) k v kind n (sym given ∙ e) in
       found-entry L r done area cells slot (slot * r .size + offset) (entryAt L (segmentOf area (r .size) slot) offset) (w .told) (w .is) (w .its-key)
       (pick-false (isTombstone (w .told)) 0 (sizeOf L (w .told)) (w .tombstone) ∙ w .its-size) h
+
+  -- an entry is no longer than its segment
+  pub object-short : {k : Key} {v : Version} {kind n : ℕ} → t ≡ Read.Object k v kind n → r .size ≤ 2048 → n ≤ 2048
+  object-short {k} {v} {kind} {n} e h =
+      let w = tells-object L (entryAt L (segmentOf area (r .size) slot) offset) k v kind n (sym given ∙ e) in
+      omega (
+        arith,
+        w .its-size,
+        found-fits L (segmentOf area (r .size) slot) offset (w .told) (w .is),
+        length-take (r .size) (drop (slot * r .size) area),
+      )
 
   pub entry-tombstone :
       {k : Key} {v : Version} {n : ℕ} → t ≡ Read.Tombstone k v n → {a : After} →

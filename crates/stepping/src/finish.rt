@@ -1,4 +1,7 @@
 // The last step: the record and the index brought up to date. The area is only read.
+use counting::lost_at;
+use counting::more;
+use counting::renew;
 use index::Built;
 use index::Inserted;
 use index::build::build;
@@ -21,17 +24,19 @@ use segment::layout::DIGEST_SIZE;
 use segment::reader::read;
 use slot_map::with_slot;
 use slot_map::without_slots;
-ghost use Prim.Native.Nat.{_+_, _*_, _≤_, _<_};
+ghost use Prim.Native.Nat.{_+_, _*_, _-_, _≤_, _<_};
 ghost use mathlib.Core.Bool.{true};
 ghost use mathlib.Core.Path.{_≡_};
 ghost use lib.ListN.{length, take};
 ghost use Rattle.index.specs.Build.{Rebuilt, built};
 ghost use Rattle.segment.specs.Area.{segmentOf};
 ghost use Rattle.segment.specs.Entry.{entryAt, answer};
-ghost use Rattle.segment.specs.Layout.{edition1};
+ghost use Rattle.segment.specs.Layout.{edition1, digestSize};
+ghost use Rattle.counting.specs.Counting.{renewedAt};
 ghost use Rattle.model.specs.Operations.{appendCommit, headCommit};
-ghost use Rattle.stepping.specs.Finish.{refusedStep, keysAfter, answeredWith, entryIn, finishEntry, finishAppend, finishHead, finishRebuilt, finishClean, finishForget, oneLess, finishWith, advanced};
+ghost use Rattle.stepping.specs.Finish.{refusedStep, keysAfter, lostBy, countsAfter, answeredWith, entryIn, finishEntry, finishAppend, finishHead, finishRebuilt, finishClean, finishForget, oneLess, finishWith, advanced};
 ghost use Rattle.record.specs.Answers.{storesLeft};
+ghost use Rattle.record.specs.Range.{countsGood};
 ghost use Rattle.stepping.specs.Next.{PendingIn};
 ghost use Rattle.stepping.specs.Agree.{agreesWith};
 
@@ -82,22 +87,51 @@ fn keys_after(answer: Inserted, keys: u32) -> Built
 {
     match answer {
         Inserted::New => Built::Keys(keys as usize + 1),
-        Inserted::Newer => Built::Keys(keys as usize),
+        Inserted::Newer(_) => Built::Keys(keys as usize),
         Inserted::Older => Built::Keys(keys as usize),
         Inserted::Full => Built::TooMany,
     }
 }
 
-// The version is told, and the new record gets its number of keys.
-fn answered(rec: Record, done: Commit, version: Version, keys: Built) -> Stepped
-    ensures { λ r. ⌜ r ≡ answeredWith rec done (version .0) keys ⌝ }
+// Where an older entry of the key was indexed, the object there counts no longer.
+fn lost_by(counts: &mut [u32], size: usize, area: &[u8], answer: Inserted)
+    requires { ⌜ (0 < size) × (size ≤ 2048) ⌝ }
+    ensures { λ _. ⌜ now (counts .exit) ≡ lostBy edition1 size (now (area .entry)) answer (now (counts .entry)) ⌝ }
+{
+    match answer {
+        Inserted::New => {}
+        Inserted::Newer(old) => lost_at(counts, size, area, old as usize),
+        Inserted::Older => {}
+        Inserted::Full => {}
+    }
+}
+
+// The present bytes once an entry, of which so many bytes count, has come to a slot.
+fn entry_counts(rec: Record, area: &[u8], answer: Inserted, slot: u32, bytes: usize) -> [u32; 32]
+    requires { ⌜
+        (0 < rec .size)
+        × (rec .size ≤ 2048)
+        × (bytes ≤ 2048)
+        × (countsGood (rec .size - digestSize edition1) (rec .counts) ≡ true)
+        ⌝ }
+    ensures { λ r. ⌜ r ≡ countsAfter edition1 rec (now (area .entry)) answer slot bytes ⌝ }
+{
+    let mut counts = rec.counts;
+    lost_by(&mut counts, rec.size as usize, area, answer);
+    more(&mut counts, slot as usize, bytes);
+    counts
+}
+
+// The version is told, and the new record gets its number of keys and its present bytes.
+fn answered(rec: Record, done: Commit, version: Version, counts: [u32; 32], keys: Built) -> Stepped
+    ensures { λ r. ⌜ r ≡ answeredWith rec done (version .0) counts keys ⌝ }
 {
     match keys {
         Built::Keys(n) => {
             if n < rec.cells as usize {
                 return Stepped {
                     answer: StepAnswer::Done(version),
-                    rec: committed(rec, done, n as u32),
+                    rec: committed(rec, done, n as u32, counts),
                 };
             }
             refused(rec, Refusal::BadRecord)
@@ -106,22 +140,35 @@ fn answered(rec: Record, done: Commit, version: Version, keys: Built) -> Stepped
     }
 }
 
-// The entry of a key at a place of the area goes into the index.
+// The entry of a key at a place of the area goes into the index; so many of its bytes count in its slot.
 fn put_entry(
     rec: Record,
     done: Commit,
     area: &[u8],
     index: &mut [u32],
+    slot: u32,
+    bytes: usize,
     place: usize,
     key: Key,
 ) -> Stepped
-    requires { ⌜ place < 4294967295 ⌝ }
-    ensures { λ r. ⌜ record { stepped = r; cells = now (index .exit) } ≡ entryIn edition1 rec done (now (area .entry)) (now (index .entry)) place key ⌝ }
+    requires { ⌜
+        (0 < rec .size)
+        × (rec .size ≤ 2048)
+        × (bytes ≤ 2048)
+        × (countsGood (rec .size - digestSize edition1) (rec .counts) ≡ true)
+        × (place < 4294967295)
+        ⌝ }
+    ensures { λ r.
+        ⌜
+        record { stepped = r; cells = now (index .exit) }
+        ≡ entryIn edition1 rec done (now (area .entry)) (now (index .entry)) slot bytes place key
+        ⌝ }
 {
     let version = rec.next;
     let answer = insert(area, index, place, key, version);
     let keys = keys_after(answer, rec.keys);
-    answered(rec, done, version, keys)
+    let counts = entry_counts(rec, area, answer, slot, bytes);
+    answered(rec, done, version, counts, keys)
 }
 
 // What stands at an offset of a slot's segment.
@@ -142,7 +189,14 @@ fn finish_entry(
     slot: u32,
     offset: usize,
 ) -> Stepped
-    requires { ⌜ (slot < 32) × (rec .size ≤ 2048) × (offset ≤ 2048) × (slot * rec .size + rec .size ≤ length (now area)) ⌝ }
+    requires { ⌜
+        (slot < 32)
+        × (0 < rec .size)
+        × (rec .size ≤ 2048)
+        × (offset ≤ 2048)
+        × (slot * rec .size + rec .size ≤ length (now area))
+        × (countsGood (rec .size - digestSize edition1) (rec .counts) ≡ true)
+        ⌝ }
     ensures { λ r. ⌜ record { stepped = r; cells = now (index .exit) } ≡ finishEntry edition1 rec done (now (area .entry)) (now (index .entry)) slot offset ⌝ }
 {
     let size = rec.size as usize;
@@ -152,13 +206,13 @@ fn finish_entry(
             key,
             version: _,
             kind: _,
-            length: _,
-        } => put_entry(rec, done, area, index, place, key),
+            length,
+        } => put_entry(rec, done, area, index, slot, length, place, key),
         Read::Tombstone {
             key,
             version: _,
             length: _,
-        } => put_entry(rec, done, area, index, place, key),
+        } => put_entry(rec, done, area, index, slot, 0, place, key),
         Read::End => refused(rec, Refusal::BadRecord),
         Read::Damage => refused(rec, Refusal::BadRecord),
     }
@@ -173,6 +227,8 @@ fn finish_append(rec: Record, area: &[u8], index: &mut [u32], count: u32) -> Ste
         × (rec .head < rec .slots)
         × (rec .end + count ≤ rec .size)
         × (rec .next .0 < 4294967295)
+        × (0 < rec .size)
+        × (countsGood (rec .size - digestSize edition1) (rec .counts) ≡ true)
         ⌝ }
     ensures { λ r. ⌜ record { stepped = r; cells = now (index .exit) } ≡ finishAppend edition1 rec (now (area .entry)) (now (index .entry)) count ⌝ }
 {
@@ -189,6 +245,8 @@ fn finish_head(rec: Record, area: &[u8], index: &mut [u32], slot: u32, count: u3
         × (slot < rec .slots)
         × (rec .next .0 < 4294967295)
         × (rec .digest .0 < 4294967295)
+        × (0 < rec .size)
+        × (countsGood (rec .size - digestSize edition1) (rec .counts) ≡ true)
         ⌝ }
     ensures { λ r. ⌜ record { stepped = r; cells = now (index .exit) } ≡ finishHead edition1 rec (now (area .entry)) (now (index .entry)) slot count ⌝ }
 {
@@ -247,22 +305,41 @@ fn rebuild(rec: Record, area: &[u8], index: &mut [u32], order: &[u8], map: u32) 
     build(area, index, &order[0..slots], rec.size as usize, map)
 }
 
+// The present bytes once a new head in a slot has taken over what the victims held.
+fn renewed_counts(rec: Record, area: &[u8], slot: u32, victims: u32) -> [u32; 32]
+    requires { ⌜ (slot < 32) × (rec .size ≤ 2048) × (slot * rec .size + rec .size ≤ length (now area)) ⌝ }
+    ensures { λ r. ⌜ r ≡ renewedAt edition1 (rec .size) (now (area .entry)) slot victims (rec .counts) ⌝ }
+{
+    let mut counts = rec.counts;
+    renew(&mut counts, rec.size as usize, area, slot as usize, victims);
+    counts
+}
+
 // The last step of an operation that takes slots out of the log: the index is rebuilt under the new map, slot by slot.
 fn finish_rebuilt(
     rec: Record,
     area: &[u8],
     index: &mut [u32],
+    slot: u32,
+    victims: u32,
     done: Commit,
     version: Version,
 ) -> Stepped
-    requires { ⌜ (rec .slots ≤ 32) × (rec .size ≤ 2048) ⌝ }
+    requires { ⌜
+        (rec .slots ≤ 32)
+        × (rec .size ≤ 2048)
+        × (slot < 32)
+        × (slot * rec .size + rec .size ≤ length (now area))
+        ⌝ }
     ensures { λ r.
         ⌜
-        record { stepped = r; cells = now (index .exit) } ≡ finishRebuilt edition1 rec (now (area .entry)) (now (index .entry)) done (version .0)
+        record { stepped = r; cells = now (index .exit) }
+        ≡ finishRebuilt edition1 rec (now (area .entry)) (now (index .entry)) slot victims done (version .0)
         ⌝ }
 {
     let keys = rebuild(rec, area, index, &SLOTS, done.map);
-    answered(rec, done, version, keys)
+    let counts = renewed_counts(rec, area, slot, victims);
+    answered(rec, done, version, counts, keys)
 }
 
 // The last step of a cleaning, which has no version of its own.
@@ -274,13 +351,19 @@ fn finish_clean(
     victims: u32,
     count: u32,
 ) -> Stepped
-    requires { ⌜ (rec .slots ≤ 32) × (rec .size ≤ 2048) × (slot < rec .slots) × (rec .digest .0 < 4294967295) ⌝ }
+    requires { ⌜
+        (rec .slots ≤ 32)
+        × (rec .size ≤ 2048)
+        × (length (now area) ≡ rec .slots * rec .size)
+        × (slot < rec .slots)
+        × (rec .digest .0 < 4294967295)
+        ⌝ }
     ensures { λ r. ⌜ record { stepped = r; cells = now (index .exit) } ≡ finishClean edition1 rec (now (area .entry)) (now (index .entry)) slot victims count ⌝ }
 {
     let next = rec.next;
     let map = with_slot(without_slots(rec.map, victims), slot);
     let done = head_commit(rec, slot, count, map, next);
-    finish_rebuilt(rec, area, index, done, Version(0))
+    finish_rebuilt(rec, area, index, slot, victims, done, Version(0))
 }
 
 // The last step of a delete that cleans: it tells its version, and the next version goes up.
@@ -295,6 +378,7 @@ fn finish_forget(
     requires { ⌜
         (rec .slots ≤ 32)
         × (rec .size ≤ 2048)
+        × (length (now area) ≡ rec .slots * rec .size)
         × (slot < rec .slots)
         × (rec .next .0 < 4294967295)
         × (rec .digest .0 < 4294967295)
@@ -304,7 +388,7 @@ fn finish_forget(
     let next = rec.next;
     let map = with_slot(without_slots(rec.map, victims), slot);
     let done = head_commit(rec, slot, count, map, Version(next.0 + 1));
-    finish_rebuilt(rec, area, index, done, next)
+    finish_rebuilt(rec, area, index, slot, victims, done, next)
 }
 
 // The pending operation with one store less.
@@ -356,6 +440,8 @@ fn finish(rec: Record, area: &[u8], index: &mut [u32]) -> Stepped
         × (length (now area) ≡ rec .slots * rec .size)
         × PendingIn rec (rec .pending)
         × (agreesWith edition1 rec (rec .pending) ≡ true)
+        × (0 < rec .size)
+        × (countsGood (rec .size - digestSize edition1) (rec .counts) ≡ true)
         ⌝ }
     ensures { λ r. ⌜ record { stepped = r; cells = now (index .exit) } ≡ finishWith edition1 rec (now (area .entry)) (now (index .entry)) (rec .pending) ⌝ }
 {
@@ -392,6 +478,8 @@ pub fn advance(rec: Record, area: &[u8], index: &mut [u32]) -> Stepped
         × (length (now area) ≡ rec .slots * rec .size)
         × PendingIn rec (rec .pending)
         × (agreesWith edition1 rec (rec .pending) ≡ true)
+        × (0 < rec .size)
+        × (countsGood (rec .size - digestSize edition1) (rec .counts) ≡ true)
         ⌝ }
     ensures { λ r. ⌜ record { stepped = r; cells = now (index .exit) } ≡ advanced edition1 rec (now (area .entry)) (now (index .entry)) ⌝ }
 {

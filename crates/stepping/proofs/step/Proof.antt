@@ -105,7 +105,7 @@ advance-requires : tie.Need-advance-requires
 advance-requires c κs =
     let d = c .before .before .before .before .before .before .before .before .before in
     let l = in-range d in
-    (omega (arith, d .before .stores-left .ensures, d .if3 .left), l .slots-high, l .size-high, simp length-set (l .area-own), inside (c .before .before .before) .0, agreed (c .before .before .before .before .before .before .before))
+    (omega (arith, d .before .stores-left .ensures, d .if3 .left), l .slots-high, l .size-high, simp length-set (l .area-own), inside (c .before .before .before) .0, agreed (c .before .before .before .before .before .before .before), omega (arith, l .size-low), l .counts-high)
 
 returns-6 : tie.Need-returns-6
 returns-6 c =

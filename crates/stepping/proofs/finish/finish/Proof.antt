@@ -13,7 +13,7 @@ finish-append-requires c κs =
     let d = c .before .before .before .before .before .before in
     let e = c .before .before .pending .given .1 in
     let i = in-append (d .args .rec) e (d .pre .3) in
-    (d .pre .0, d .pre .1, d .pre .2, i .0, i .1, append-agrees edition1 (d .args .rec) (d .pre .4) e .version)
+    (d .pre .0, d .pre .1, d .pre .2, i .0, i .1, append-agrees edition1 (d .args .rec) (d .pre .4) e .version, d .pre .5, d .pre .6)
 
 finish-head-requires : tie.Need-finish-head-requires
 unfolding edition1
@@ -21,13 +21,13 @@ finish-head-requires c κs =
     let d = c .before .before .before .before .before .before in
     let e = c .before .before .pending2 .given .1 in
     let g = head-agrees edition1 (d .args .rec) (d .pre .4) e in
-    (d .pre .0, d .pre .1, d .pre .2, in-head (d .args .rec) e (d .pre .3) .0, g .1 .version, g .0 .number)
+    (d .pre .0, d .pre .1, d .pre .2, in-head (d .args .rec) e (d .pre .3) .0, g .1 .version, g .0 .number, d .pre .5, d .pre .6)
 
 finish-clean-requires : tie.Need-finish-clean-requires
 finish-clean-requires c κs =
     let d = c .before .before .before .before .before .before in
     let e = c .before .before .pending3 .given .1 in
-    (d .pre .0, d .pre .1, in-clean (d .args .rec) e (d .pre .3) .0, clean-agrees edition1 (d .args .rec) (d .pre .4) e .number)
+    (d .pre .0, d .pre .1, d .pre .2, in-clean (d .args .rec) e (d .pre .3) .0, clean-agrees edition1 (d .args .rec) (d .pre .4) e .number)
 
 finish-forget-requires : tie.Need-finish-forget-requires
 unfolding edition1
@@ -35,7 +35,7 @@ finish-forget-requires c κs =
     let d = c .before .before .before .before .before .before in
     let e = c .before .before .pending4 .given .1 in
     let g = forget-agrees edition1 (d .args .rec) (d .pre .4) e in
-    (d .pre .0, d .pre .1, in-forget (d .args .rec) e (d .pre .3) .0, g .1, g .0 .number)
+    (d .pre .0, d .pre .1, d .pre .2, in-forget (d .args .rec) e (d .pre .3) .0, g .1, g .0 .number)
 
 returns : tie.Need-returns
 returns c = with-idle edition1 _ _ _ (c .before .enum-told .given .1) (c .refused .ensures)

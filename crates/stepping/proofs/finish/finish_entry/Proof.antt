@@ -1,16 +1,23 @@
 -- `stepping::finish::finish_entry` meets its contract.
+use denote.Ref.{now}
 use borrow.Author.Needs.{needs}
 use native.Mathlib.Omega.{arith}
 use Rattle.segment.specs.Layout.{edition1}
-use Rattle.stepping.specs.FinishLaws.{place-fits, entry-object, entry-tombstone, entry-end, entry-damage}
+use Rattle.stepping.specs.FinishLaws.{place-fits, object-short, entry-object, entry-tombstone, entry-end, entry-damage}
 use Rattle.stepping.proofs.finish.finish_entry.Statement.{statement}
 use Rattle.stepping.proofs.finish.finish_entry.Tie as tie
 
 put-entry-requires : tie.Need-put-entry-requires
-put-entry-requires c κs = let a = c .before .before .before .before .before .before .before .before .args in place-fits (a .slot) (a .rec .size) (a .offset) (omega arith) (omega arith) (omega arith)
+put-entry-requires c κs =
+    let d = c .before .before .before .before .before .before .before .before in
+    let a = d .args in
+    (omega arith, omega arith, object-short edition1 (a .rec) (a .done) (now (a .area)) (now (a .index)) (a .slot) (a .offset) (c .before .before .before .before .stands-in .ensures) (c .before .before .key .given .1) (d .pre .2), d .pre .5, place-fits (a .slot) (a .rec .size) (a .offset) (omega arith) (omega arith) (omega arith))
 
 put-entry-requires-2 : tie.Need-put-entry-requires-2
-put-entry-requires-2 c κs = let a = c .before .before .before .before .before .before .before .before .args in place-fits (a .slot) (a .rec .size) (a .offset) (omega arith) (omega arith) (omega arith)
+put-entry-requires-2 c κs =
+    let d = c .before .before .before .before .before .before .before .before in
+    let a = d .args in
+    (omega arith, omega arith, omega arith, d .pre .5, place-fits (a .slot) (a .rec .size) (a .offset) (omega arith) (omega arith) (omega arith))
 
 returns : tie.Need-returns
 returns c = entry-object edition1 _ _ _ _ _ _ (c .before .before .before .before .before .before .before .stands-in .ensures) (c .before .before .before .before .before .key .given .1) (c .before .before .put-entry .ensures)

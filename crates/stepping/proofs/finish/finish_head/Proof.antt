@@ -9,7 +9,7 @@ use Rattle.stepping.proofs.finish.finish_head.Tie as tie
 finish-entry-requires : tie.Need-finish-entry-requires
 finish-entry-requires c κs =
     let d = c .before .before .before .before .before .before .before in
-    (omega arith, omega arith, omega arith, segment-in (d .args .rec .slots) (d .args .rec .size) (d .args .slot) _ (d .pre .2) (d .pre .3))
+    (omega arith, omega arith, omega arith, omega arith, segment-in (d .args .rec .slots) (d .args .rec .size) (d .args .slot) _ (d .pre .2) (d .pre .3), d .pre .7)
 
 returns : tie.Need-returns
 unfolding edition1

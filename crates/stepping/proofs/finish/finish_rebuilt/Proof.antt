@@ -10,10 +10,11 @@ use Rattle.stepping.proofs.finish.finish_rebuilt.Tie as tie
 returns : tie.Need-returns
 unfolding upFrom
 returns c =
-    let a = c .before .before .before .before .before .before .before .before .args in
-    rebuilt-goes edition1 (a .rec) (now (a .area)) (now (a .index)) (a .done) (a .version .0) (c .before .before .before .rebuild .ensures) (c .answered .ensures)
+    let a = c .before .before .before .before .before .before .before .before .before .args in
+    rebuilt-goes edition1 (a .rec) (now (a .area)) (now (a .index)) (a .slot) (a .victims) (a .done) (a .version .0)
+    (c .before .before .before .before .rebuild .ensures) (c .before .renewed-counts .ensures) (c .answered .ensures)
 
 pub finish-rebuilt-spec : {M : Type 1} → statement M
 finish-rebuilt-spec =
     tie.close
-    (tie.spec (λ c. search needs) (λ c κs. search needs) (λ c κs. search needs) (λ c. search needs) returns)
+    (tie.spec (λ c. search needs) (λ c κs. search needs) (λ c κs. search needs) (λ c κs. search needs) (λ c. search needs) returns)
