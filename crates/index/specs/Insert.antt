@@ -17,10 +17,10 @@ pub record Insertion : Type 0 where
   pub answer : Inserted
   pub cells : List ℕ
 
--- By what the search for the key met: an entry that is indexed already gives way to a higher version only.
+-- By what the search for the key met: an entry that is indexed already gives way to a higher version only, and its place is told.
 unfoldable pub insertedAt : Layout → List ℕ → List ℕ → ℕ → ℕ → Found → Insertion
 insertedAt L area cells place version (Found.At i) =
-    pick (ltb (versionAt L area (getD cells i 0 - 1)) version) (record { answer = Inserted.Newer; cells = set cells i (place + 1) })
+    pick (ltb (versionAt L area (getD cells i 0 - 1)) version) (record { answer = Inserted.Newer (getD cells i 0 - 1); cells = set cells i (place + 1) })
     (record { answer = Inserted.Older; cells = cells })
 insertedAt L area cells place version (Found.Free i) = record { answer = Inserted.New; cells = set cells i (place + 1) }
 insertedAt L area cells place version Found.Full = record { answer = Inserted.Full; cells = cells }
@@ -37,7 +37,7 @@ pub data Tally : Type 0 where
 
 unfoldable pub tallied : Inserted → List ℕ → ℕ → Tally
 tallied Inserted.New cells n = pick (ltb (n + 1) (length cells)) (counted cells (n + 1)) over
-tallied Inserted.Newer cells n = counted cells n
+tallied (Inserted.Newer old) cells n = counted cells n
 tallied Inserted.Older cells n = counted cells n
 tallied Inserted.Full cells n = over
 

@@ -32,7 +32,7 @@ use Rattle.index.specs.declared.Inserted.{Inserted}
 module _ (L : Layout) (area cells : List ℕ) (place : ℕ) (k : Key) (version : ℕ) where
   pub insert-newer :
       (i : ℕ) → searchFor L area cells k ≡ Found.At i → versionAt L area (getD cells i 0 - 1) < version →
-      inserted L area cells place k version ≡ record { answer = Inserted.Newer; cells = set cells i (place + 1) }
+      inserted L area cells place k version ≡ record { answer = Inserted.Newer (getD cells i 0 - 1); cells = set cells i (place + 1) }
   unfolding insertedAt
   insert-newer i e h =
       ap (insertedAt L area cells place version) e
@@ -67,9 +67,9 @@ module _ (cells : List ℕ) (n : ℕ) where
   unfolding tallied
   tally-over h = pick-false (ltb (n + 1) (length cells)) (counted cells (n + 1)) over (le-ltb (n + 1) (length cells) h)
 
-  pub tally-newer : tallied Inserted.Newer cells n ≡ counted cells n
+  pub tally-newer : (old : ℕ) → tallied (Inserted.Newer old) cells n ≡ counted cells n
   unfolding tallied
-  tally-newer = refl
+  tally-newer old = refl
 
   pub tally-older : tallied Inserted.Older cells n ≡ counted cells n
   unfolding tallied
@@ -144,9 +144,9 @@ module _ (L : Layout) (area : List ℕ) (S m : ℕ) (log : List Placed) (x : Pla
             subst (Tells S m (x ∷ log))
             (sym
             (insert-next L area S x cells n
-            (record { answer = Inserted.Newer; cells = set cells (c .cell) (placeOf S x + 1) })
+            (record { answer = Inserted.Newer (getD cells (c .cell) 0 - 1); cells = set cells (c .cell) (placeOf S x + 1) })
             (insert-newer L area cells (placeOf S x) (keyOf (x .entry)) (x .entry .version) (c .cell) found (omega (arith, its-version)))
-            ∙ tally-newer (set cells (c .cell) (placeOf S x + 1)) n))
+            ∙ tally-newer (set cells (c .cell) (placeOf S x + 1)) n (getD cells (c .cell) 0 - 1)))
             (record {
               rule =
                   put-newest S log cells (ix .rule) x (cellHas L area (keyOf (x .entry))) picks-all (c .cell)
@@ -231,6 +231,25 @@ module _ (L : Layout) (area : List ℕ) (S m : ℕ) (log : List Placed) (x : Pla
             let f = search-known S log cells (ix .rule) (cellHas L area (keyOf (x .entry))) (keyOf (x .entry))
             (λ z i. picks-all z (List·Memᴰ·tail i)) y l in
             some-key y l (f .0) (f .1) (ltb (y .entry .version) (x .entry .version)) refl
+
+    -- what an insertion of a newer entry answers: the place of the key's latest entry, which it replaces, or that the key is new
+    pub replaces : (y : Placed) → latest log (keyOf (x .entry)) ≡ some y → y .entry .version < x .entry .version
+        → inserted L area cells (placeOf S x) (keyOf (x .entry)) (x .entry .version) .answer ≡ Inserted.Newer (placeOf S y)
+    replaces y l h =
+        let f = search-known S log cells (ix .rule) (cellHas L area (keyOf (x .entry))) (keyOf (x .entry))
+        (λ z i. picks-all z (List·Memᴰ·tail i)) y l in
+        ap (λ (i : Insertion). i .answer)
+        (insert-newer L area cells (placeOf S x) (keyOf (x .entry)) (x .entry .version) (f .0 .cell) (f .1)
+        (omega (arith, its-version y l (f .0) (f .1))))
+        ∙ ap Inserted.Newer (omega (arith, f .0 .holds))
+
+    pub comes-new : latest log (keyOf (x .entry)) ≡ none
+        → inserted L area cells (placeOf S x) (keyOf (x .entry)) (x .entry .version) .answer ≡ Inserted.New
+    comes-new l =
+        let f = search-new S log cells (ix .rule) (cellHas L area (keyOf (x .entry))) (keyOf (x .entry))
+        (λ y i. picks-all y (List·Memᴰ·tail i)) l (omega (arith, ix .keys, ix .few, ix .long)) in
+        ap (λ (i : Insertion). i .answer)
+        (insert-new L area cells (placeOf S x) (keyOf (x .entry)) (x .entry .version) (f .0 .cell) (f .1))
 
   -- one entry more
   pub tells-next : (s : Tally) → Tells S m log s → Tells S m (x ∷ log) (insertNext L area S x s)

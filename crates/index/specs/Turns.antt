@@ -60,9 +60,9 @@ module _ (L : Layout) (area : List ℕ) (place : ℕ) (k : Key) (version : ℕ) 
   unfolding tallyOf
   one-over p h = sym (tally-over after n h) ∙ ap (λ (i : Inserted). tallied i after n) (sym p) ∙ one
 
-  pub one-newer : r ≡ Inserted.Newer → tallyOf (Built.Keys n) after ≡ insertOne L area place k version cells n
+  pub one-newer : {old : ℕ} → r ≡ Inserted.Newer old → tallyOf (Built.Keys n) after ≡ insertOne L area place k version cells n
   unfolding tallyOf
-  one-newer p = sym (tally-newer after n) ∙ ap (λ (i : Inserted). tallied i after n) (sym p) ∙ one
+  one-newer {old} p = sym (tally-newer after n old) ∙ ap (λ (i : Inserted). tallied i after n) (sym p) ∙ one
 
   pub one-older : r ≡ Inserted.Older → tallyOf (Built.Keys n) after ≡ insertOne L area place k version cells n
   unfolding tallyOf
@@ -87,7 +87,7 @@ few-tallied Inserted.New cells n h = go (ltb (n + 1) (length cells)) refl
         let below = ltb-true (n + 1) (length cells) e in
         rw (tally-new cells n below) (omega arith)
     go false e = rw (tally-over cells n (ltb-false (n + 1) (length cells) e)) tt
-few-tallied Inserted.Newer cells n h = h
+few-tallied (Inserted.Newer old) cells n h = h
 few-tallied Inserted.Older cells n h = h
 few-tallied Inserted.Full cells n h = tt
 

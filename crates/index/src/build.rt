@@ -50,7 +50,7 @@ fn index_entry(
             }
             Built::TooMany
         }
-        Inserted::Newer => Built::Keys(keys),
+        Inserted::Newer(_) => Built::Keys(keys),
         Inserted::Older => Built::Keys(keys),
         Inserted::Full => Built::TooMany,
     }

@@ -10,11 +10,12 @@ pub enum Found {
     Full,
 }
 
-// What became of an entry: a new key's cell is filled, a newer entry replaces an older one, an older one changes nothing,
+// What became of an entry: a new key's cell is filled, a newer entry replaces an older one, whose place is told, an older one changes
+// nothing,
 // or every cell is taken by other keys.
 pub enum Inserted {
     New,
-    Newer,
+    Newer(u32),
     Older,
     Full,
 }

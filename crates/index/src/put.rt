@@ -37,10 +37,10 @@ pub fn insert(area: &[u8], cells: &mut [u32], place: usize, key: Key, version: V
             Inserted::New
         }
         Found::At(i) => {
-            let old = (cells[i] - 1) as usize;
-            if read32(area, old + 7) < version.0 {
+            let old = cells[i] - 1;
+            if read32(area, old as usize + 7) < version.0 {
                 put(cells, i, place);
-                return Inserted::Newer;
+                return Inserted::Newer(old);
             }
             Inserted::Older
         }

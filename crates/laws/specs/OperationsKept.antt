@@ -19,16 +19,16 @@ use Rattle.segment.specs.declared.Version.{Version}
 use Rattle.slot_map.specs.Bit.{named, within}
 use Rattle.record.specs.RangeLaws.{Lent, lent}
 use Rattle.record.specs.declared.Record.{Record}
-use Rattle.model.specs.Log.{Placed, placeOf, scan, segmentOf, viewsOf, present, latest, objectOnly, sameKey}
+use Rattle.model.specs.Log.{View, Placed, placeOf, scan, scanned, segmentOf, viewsOf, present, latest, objectOnly, sameKey}
 use Rattle.model.specs.Recovery.{recovered, recordFrom}
-use Rattle.model.specs.Operations.{Operation, write, delete, clean, logNow, writtenEntry, tombstoneEntry, fitsHead, noRoom, newSlot, digestWith, kept, placedFrom, Laid, laidEntry, laidForget, laid, planOf, stored, appendedRecord, headedRecord, entryRecord, renewedRecord, forgottenRecord, finishedRecord}
+use Rattle.model.specs.Operations.{Operation, write, delete, clean, logNow, writtenEntry, tombstoneEntry, fitsHead, noRoom, newSlot, digestWith, kept, allEncoded, placedFrom, Laid, laidEntry, laidForget, laid, planOf, stored, appendedRecord, headedRecord, entryRecord, renewedRecord, forgottenRecord, finishedRecord}
 use Rattle.model.specs.Promises.{partOf, valuePart}
 use Rattle.laws.specs.Members.{In}
 use Rattle.laws.specs.Latest.{latest-some}
 use Rattle.laws.specs.Versions.{shared-apart}
 use Rattle.laws.specs.MapLaws.{valueAt, gives, log-clean}
 use Rattle.laws.specs.Stores.{length-stored, slot-inside, length-segment}
-use Rattle.laws.specs.Scans.{scan-scans, scans-found}
+use Rattle.laws.specs.Scans.{itemsFrom, scan-scans, scans-found}
 use Rattle.laws.specs.NewHeadBytes.{headPlan, new-head-other, new-head-view}
 use Rattle.laws.specs.FormatBytes.{bytes-formatted}
 use Rattle.laws.specs.Fresh.{format-recovers, format-log}
@@ -65,6 +65,12 @@ module _ (L : Layout) (before : List ℕ) (idle : Record) (victims : ℕ) (next 
             (new-map-fits L before idle (c .recovers) victims (c .sub)) (c .next-fits) (c .formed)
             (idle .slots) (idle .size) (newSlot idle) before (facts .area-own) (new-below L before idle (c .recovers)) (c .room);
       }
+
+  -- the new head holds what is kept
+  pub clean-scan :
+      scan L (segmentOf (stored before clean-plan) (idle .size) (newSlot idle)) ≡
+      scanned (itemsFrom L (digestSize L) (kept victims stand)) (digestSize L + length (allEncoded L (kept victims stand)))
+  clean-scan = ap (λ (w : View). w .scan) (views .own)
 
   -- Recovery gives the record of 01's formulas, and the map is that of the log by which the cleaning went.
   pub clean-done :

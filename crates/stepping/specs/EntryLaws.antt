@@ -1,36 +1,39 @@
 -- An entry that has come to stand goes into the index: the rule holds for the new log, and the number of keys is the new record's.
-use Prim.Native.Nat.{ℕ, _+_, _-_, _<_}
+use Prim.Native.Nat.{ℕ, _+_, _*_, _-_, _<_}
 use mathlib.Core.Path.{_≡_, refl, sym, _∙_, ap, subst}
 use mathlib.Core.Bool.{Bool, true, false}
 use mathlib.Core.List.{List, _∷_, List·Memᴰ·head}
-use mathlib.Core.Option.{some}
+use mathlib.Core.Option.{Option, none, some}
 use native.Mathlib.Omega.{arith}
 use lib.Dec.{ltb}
-use lib.ListN.{length}
+use lib.ListN.{length, drop, length-take}
 use borrow.Author.Tests.{lt-ltb, ltb-true, ltb-false}
 use Rattle.segment.specs.Choice.{pick-true}
 use Rattle.segment.specs.Layout.{Layout}
 use Rattle.segment.specs.Entry.{entry, entryAt, keyOf}
+use Rattle.segment.specs.EntryLaws.{found-fits}
 use Rattle.slot_map.specs.Bit.{named}
 use Rattle.record.specs.Committed.{committed}
 use Rattle.record.specs.declared.Commit.{Commit}
 use Rattle.record.specs.declared.StepAnswer.{StepAnswer}
 use Rattle.record.specs.declared.Record.{Record}
-use Rattle.model.specs.Log.{Placed, placeOf, segmentOf, scan, viewsOf, logOf, keysOf}
+use Rattle.model.specs.Log.{Placed, placeOf, segmentOf, scan, viewsOf, logOf, latest, objectOnly, present, keysOf}
+use Rattle.model.specs.Counts.{moreBytes, objectSize, withoutLive, entryCounts}
 use Rattle.model.specs.Index.{IndexRule}
 use Rattle.model.specs.Recovery.{recovered}
 use Rattle.laws.specs.Members.{In, same-sym, Added, added-same}
 use Rattle.laws.specs.LogLaws.{AllScanned, log-in, scan-whole}
 use Rattle.laws.specs.Scans.{scan-scans, scans-found}
-use Rattle.laws.specs.Latest.{Apart, apart-same}
+use Rattle.laws.specs.Latest.{Apart, apart-same, latest-some}
 use Rattle.laws.specs.RecoverLaws.{recovered-case}
 use Rattle.index.specs.Area.{AllIn}
 use Rattle.index.specs.Insert.{Insertion, inserted, counted, over, tallied}
-use Rattle.index.specs.InsertLaws.{Indexed, Tells, tells-next, tells-same, tally-new, tally-over, tally-newer, tally-older, tally-full, insert-next}
+use Rattle.index.specs.InsertLaws.{Indexed, Tells, replaces, comes-new, tells-next, tells-same, tally-new, tally-over, tally-newer, tally-older, tally-full, insert-next}
 use Rattle.index.specs.BuildLaws.{found-in-area}
+use Rattle.counting.specs.CountingLaws.{lost-latest}
 use Rattle.index.specs.declared.Built.{Built}
 use Rattle.index.specs.declared.Inserted.{Inserted}
-use Rattle.stepping.specs.Finish.{After, keysAfter, answeredWith, foundIn, finishEntry}
+use Rattle.stepping.specs.Finish.{After, keysAfter, answeredWith, lostBy, countsAfter, foundIn, finishEntry}
 
 -- ---- what a tally tells of one insertion
 
@@ -56,7 +59,7 @@ module _ (S m : ℕ) (log : List Placed) (few : length (keysOf log) < m) where
           counted-known Inserted.New cells n (n + 1) refl
           (subst (Tells S m log) (tally-new cells n (ltb-true (n + 1) (length cells) e)) w)
       go false e = absurd (not-over (subst (Tells S m log) (tally-over cells n (ltb-false (n + 1) (length cells) e)) w))
-  tally-counted Inserted.Newer cells n w = counted-known Inserted.Newer cells n n refl (subst (Tells S m log) (tally-newer cells n) w)
+  tally-counted (Inserted.Newer old) cells n w = counted-known (Inserted.Newer old) cells n n refl (subst (Tells S m log) (tally-newer cells n old) w)
   tally-counted Inserted.Older cells n w = counted-known Inserted.Older cells n n refl (subst (Tells S m log) (tally-older cells n) w)
   tally-counted Inserted.Full cells n w = absurd (not-over (subst (Tells S m log) (tally-full cells n) w))
 
@@ -79,19 +82,21 @@ recovered-found L n s m area r e =
         let seg : List ℕ = segmentOf area s (x .slot) in
         scans-found (scan-scans L seg (scan-whole (scan L seg) (scans (x .slot) (w .below) (w .picked)))) (w .item)
 
--- What the last step gives where the entry goes in: the version, the record with k keys, and cells that keep the rule.
-pub record Finished (S : ℕ) (log : List Placed) (r : Record) (done : Commit) (version k : ℕ) (a : After) : Type 0 where
-  pub answers : a .stepped ≡ record { answer = StepAnswer.Done (record { 0 = version }); rec = committed r done k }
+-- What the last step gives where the entry goes in: the version, the record with k keys and these present bytes, and cells that keep
+-- the rule.
+pub record Finished (S : ℕ) (log : List Placed) (r : Record) (done : Commit) (version k : ℕ) (counts : List ℕ) (a : After) : Type 0 where
+  pub answers : a .stepped ≡ record { answer = StepAnswer.Done (record { 0 = version }); rec = committed r done k counts }
   pub rule : IndexRule S log (a .cells)
 
-pub told-known : (r : Record) (done : Commit) (version k : ℕ) → k < r .cells
-    → answeredWith r done version (Built.Keys k) ≡ record { answer = StepAnswer.Done (record { 0 = version }); rec = committed r done k }
+pub told-known : (r : Record) (done : Commit) (version k : ℕ) (counts : List ℕ) → k < r .cells
+    → answeredWith r done version counts (Built.Keys k) ≡ record { answer = StepAnswer.Done (record { 0 = version }); rec = committed r done k counts }
 unfolding answeredWith
-told-known r done version k h = pick-true (ltb k (r .cells)) _ _ (lt-ltb k (r .cells) h)
+told-known r done version k counts h = pick-true (ltb k (r .cells)) _ _ (lt-ltb k (r .cells) h)
 
 module _ (L : Layout) (r : Record) (done : Commit) (log log′ : List Placed) (area′ cells : List ℕ) (x : Placed) (added : Added log x log′)
     (apart : Apart log′) (found : AllFound L area′ (r .size) log′) (version : x .entry .version ≡ r .next .0)
     (ix : Indexed (r .size) (r .cells) log cells (r .keys)) (few : length (keysOf log′) < r .cells)
+    (above : (y : Placed) → In y log → y .entry .version < x .entry .version)
   where
     all-there : AllIn L area′ (r .size) (x ∷ log)
     all-there y m =
@@ -114,16 +119,57 @@ module _ (L : Layout) (r : Record) (done : Commit) (log log′ : List Placed) (a
     same-put : inserted L area′ cells (placeOf (r .size) x) (keyOf (x .entry)) (r .next .0) ≡ put
     same-put = ap (inserted L area′ cells (placeOf (r .size) x) (keyOf (x .entry))) (sym version)
 
+    -- the object that the key had counts no longer
+    lost : lostBy L (r .size) area′ (put .answer) (r .counts) ≡ withoutLive L (present log (keyOf (x .entry))) (r .counts)
+    lost = go (latest log (keyOf (x .entry))) refl
+      where
+        kept-none : (o : Option Placed) → latest log (keyOf (x .entry)) ≡ o → o ≡ none → r .counts ≡ withoutLive L (present log (keyOf (x .entry))) (r .counts)
+        kept-none o p q = unfold present objectOnly withoutLive in rw (p ∙ q)
+
+        inside : (z : Placed) → In z log → z .offset < r .size
+        inside z i =
+            omega (
+              arith,
+              found-fits L (segmentOf area′ (r .size) (z .slot)) (z .offset) (z .entry) (found z (added .old z i)),
+              length-take (r .size) (drop (z .slot * r .size) area′),
+            )
+
+        go : (o : Option Placed) → latest log (keyOf (x .entry)) ≡ o → lostBy L (r .size) area′ (put .answer) (r .counts) ≡ withoutLive L (present log (keyOf (x .entry))) (r .counts)
+        go none p =
+            ap (λ (a : Inserted). lostBy L (r .size) area′ a (r .counts)) (comes-new L area′ (r .size) (r .cells) log x all-there all-apart cells (r .keys) ix p)
+            ∙ unfold lostBy in kept-none none p refl
+        go (some z) p =
+            let member = latest-some log (keyOf (x .entry)) z p .member in
+            ap (λ (a : Inserted). lostBy L (r .size) area′ a (r .counts))
+            (replaces L area′ (r .size) (r .cells) log x all-there all-apart cells (r .keys) ix z p (above z member))
+            ∙ unfold lostBy in
+            lost-latest L (r .size) area′ log (keyOf (x .entry)) z (r .counts) p (inside z member) (found z (added .old z member))
+
     pub entry-finished :
-        Finished (r .size) log′ r done (r .next .0) (length (keysOf log′)) (finishEntry L r done area′ cells (x .slot) (x .offset))
+        Finished (r .size) log′ r done (r .next .0) (length (keysOf log′)) (entryCounts L log (x .slot) (x .entry) (r .counts))
+        (finishEntry L r done area′ cells (x .slot) (x .offset))
     unfolding finishEntry foundIn
     entry-finished =
         let c = tally-counted (r .size) (r .cells) log′ few (put .answer) (put .cells) (r .keys) told in
-        subst (Finished (r .size) log′ r done (r .next .0) (length (keysOf log′)))
+        let counts : List ℕ = countsAfter L r area′ (put .answer) (x .slot) (objectSize L (x .entry)) in
+        subst (Finished (r .size) log′ r done (r .next .0) (length (keysOf log′)) (entryCounts L log (x .slot) (x .entry) (r .counts)))
         (sym
-        (ap (foundIn L r done area′ cells (placeOf (r .size) x)) (found x (added-same added .to x (List·Memᴰ·head refl)))
-        ∙ ap (λ (i : Insertion). record { stepped = answeredWith r done (r .next .0) (keysAfter (i .answer) (r .keys)); cells = i .cells }) same-put))
+        (ap (foundIn L r done area′ cells (x .slot) (placeOf (r .size) x)) (found x (added-same added .to x (List·Memᴰ·head refl)))
+        ∙ ap
+        (λ (i : Insertion).
+        record {
+          stepped =
+              answeredWith r done (r .next .0) (countsAfter L r area′ (i .answer) (x .slot) (objectSize L (x .entry))) (keysAfter (i .answer) (r .keys));
+          cells = i .cells;
+        }) same-put))
         (record {
-          answers = ap (answeredWith r done (r .next .0)) (c .0) ∙ told-known r done (r .next .0) (length (keysOf log′)) few;
+          answers =
+              ap (answeredWith r done (r .next .0) counts) (c .0) ∙ told-known r done (r .next .0) (length (keysOf log′)) counts few
+              ∙ ap
+              (λ (l : List ℕ).
+              record {
+                answer = StepAnswer.Done (record { 0 = r .next .0 });
+                rec = committed r done (length (keysOf log′)) (moreBytes (x .slot) (objectSize L (x .entry)) l);
+              }) lost;
           rule = c .1;
         })

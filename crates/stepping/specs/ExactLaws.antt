@@ -7,7 +7,7 @@ use mathlib.Core.List.{List, _∷_, _++_}
 use mathlib.Core.Option.{some}
 use native.Mathlib.Nat.{sub-zero}
 use native.Mathlib.Omega.{arith}
-use lib.ListN.{length}
+use lib.ListN.{length, set}
 use borrow.Author.Tests.{leb-true}
 use Rattle.word.specs.Number.{Bytes}
 use Rattle.segment.specs.Choice.{pick}
@@ -28,17 +28,21 @@ use Rattle.record.specs.declared.Pending.{Pending}
 use Rattle.record.specs.declared.Pending.the-variants.{Append, NewHead}
 use Rattle.record.specs.declared.StepAnswer.{StepAnswer}
 use Rattle.record.specs.declared.Record.{Record}
-use Rattle.model.specs.Log.{Placed, keysOf}
+use Rattle.model.specs.Log.{Placed, segmentOf, keysOf}
+use Rattle.model.specs.Counts.{objectBytes, withoutVictims}
 use Rattle.model.specs.Index.{IndexRule}
 use Rattle.model.specs.Operations.{Operation, write, delete, clean, Laid, laid, laidAppend, laidHead, laidEntry, laidForget, laidDelete, logNow, noRoom, newSlot, newDigest, nextAfter, fitsHead, allEncoded, writtenEntry, tombstoneEntry, planOf, commit, stored, appendCommit, headCommit, appendedRecord, headedRecord, entryRecord, renewedRecord, forgottenRecord, deletedRecord, finishedRecord, toldVersion}
 use Rattle.model.specs.Recovery.{recovered}
-use Rattle.laws.specs.RecoverLaws.{recovered-apart, recovered-keys, recovered-fits}
+use Rattle.laws.specs.RecoverLaws.{recovered-apart, recovered-keys, recovered-fits, recovered-above}
 use Rattle.laws.specs.Operated.{Accepted, planAt}
 use Rattle.laws.specs.Entering.{Roomy, Entering, idle-lent, write-enters, delete-enters}
 use Rattle.laws.specs.Cleanings.{clean-cleans, forget-cleans}
 use Rattle.laws.specs.EntryDone.{appended-added, headed-added}
-use Rattle.laws.specs.OperationsKept.{finishes}
+use Rattle.laws.specs.OperationsKept.{finishes, clean-scan}
 use Rattle.index.specs.InsertLaws.{Indexed}
+use Rattle.counting.specs.Counting.{segmentBytes, renewedAt}
+use Rattle.counting.specs.CountingLaws.{segment-new}
+use Rattle.index.specs.declared.Built.{Built}
 use Rattle.index.specs.Build.{built}
 use Rattle.index.specs.BuildLaws.{Holds}
 use Rattle.stepping.specs.Finish.{After, answeredWith, finishAppend, finishHead, cleanMap, ascending, rebuilt, finishRebuilt, finishClean, finishForget, finishWith}
@@ -46,8 +50,9 @@ use Rattle.stepping.specs.EntryLaws.{entry-finished, recovered-found, to
 use Rattle.stepping.specs.CleanLaws.{ascending-good, recovered-built}
 
 -- a record with the number of keys that it has
-pub keys-own : (r : Record) (done : Commit) (fin : Record) (k : ℕ) → fin .keys ≡ k → committed r done (fin .keys) ≡ fin → committed r done k ≡ fin
-keys-own r done fin k e f = ap (committed r done) (sym e) ∙ f
+pub keys-own : (r : Record) (done : Commit) (fin : Record) (k : ℕ) → fin .keys ≡ k → committed r done (fin .keys) (fin .counts) ≡ fin
+    → committed r done k (fin .counts) ≡ fin
+keys-own r done fin k e f = ap (λ (n : ℕ). committed r done n (fin .counts)) (sym e) ∙ f
 
 -- What the last step is to give: this version, this record, and cells that keep the rule.
 pub record Ends (L : Layout) (area : List ℕ) (fin : Record) (version : ℕ) (a : After) : Type 0 where
@@ -95,7 +100,8 @@ module _ (L : Layout) (roomy : Roomy L) (before cells : List ℕ) (idle : Record
           let w = entry-finished L r done (logNow L before idle) (logNow L after fin) after cells x
           (appended-added L roomy before idle e recovers bytes f (leb-true (idle .end + sizeOf L e) (idle .size) t))
           (recovered-apart L (idle .slots) (idle .size) (idle .cells) after fin q)
-          (recovered-found L (idle .slots) (idle .size) (idle .cells) after fin q) (f .takes .version) indexed (omega arith) in
+          (recovered-found L (idle .slots) (idle .size) (idle .cells) after fin q) (f .takes .version) indexed (omega arith)
+          (λ y i. omega (arith, recovered-above L (idle .slots) (idle .size) (idle .cells) before idle recovers y i, f .takes .version)) in
           record {
             answers =
                 w .answers ∙ ap (λ (s : Record). record { answer = StepAnswer.Done (record { 0 = idle .next .0 }); rec = s })
@@ -124,12 +130,13 @@ module _ (L : Layout) (roomy : Roomy L) (before cells : List ℕ) (idle : Record
           let w = entry-finished L r (done (withBit (idle .map) (newSlot idle))) (logNow L before idle) (logNow L after fin) after cells x
           (headed-added L roomy before idle e recovers bytes f t)
           (recovered-apart L (idle .slots) (idle .size) (idle .cells) after fin q)
-          (recovered-found L (idle .slots) (idle .size) (idle .cells) after fin q) (f .takes .version) indexed (omega arith) in
+          (recovered-found L (idle .slots) (idle .size) (idle .cells) after fin q) (f .takes .version) indexed (omega arith)
+          (λ y i. omega (arith, recovered-above L (idle .slots) (idle .size) (idle .cells) before idle recovers y i, f .takes .version)) in
           record {
             answers =
                 w .answers ∙ ap (λ (s : Record). record { answer = StepAnswer.Done (record { 0 = idle .next .0 }); rec = s })
                 (keys-own r (done (withBit (idle .map) (newSlot idle))) fin (length (keysOf (logNow L after fin))) keys
-                (ap (λ (m : ℕ). committed r (done m) (fin .keys)) (slot-clear (withBit (idle .map) (newSlot idle)) refl)));
+                (ap (λ (m : ℕ). committed r (done m) (fin .keys) (fin .counts)) (slot-clear (withBit (idle .map) (newSlot idle)) refl)));
             rule = w .rule;
           }
 
@@ -163,13 +170,16 @@ module _ (L : Layout) (roomy : Roomy L) (before cells : List ℕ) (idle : Record
 
       pub rebuilt-ends :
           recovered L (idle .slots) (idle .size) (idle .cells) after ≡ some fin →
-          Ends L after fin version (finishRebuilt L r after cells (done (cleanMap r (newSlot idle) victims)) version)
-      rebuilt-ends q =
-          subst (λ (m : ℕ). Ends L after fin version (finishRebuilt L r after cells (done m) version)) (sym clean-map)
+          segmentBytes L (segmentOf after (idle .size) (newSlot idle)) ≡ objectBytes L es →
+          Ends L after fin version (finishRebuilt L r after cells (newSlot idle) victims (done (cleanMap r (newSlot idle) victims)) version)
+      unfolding renewedAt
+      rebuilt-ends q held =
+          subst (λ (m : ℕ). Ends L after fin version (finishRebuilt L r after cells (newSlot idle) victims (done m) version)) (sym clean-map)
           (record {
             answers =
-                ap (answeredWith r (done (newDigest idle victims .map)) version) (holds .answers)
-                ∙ told-known r (done (newDigest idle victims .map)) version (length (keysOf (logNow L after fin))) (omega (arith, few, keys))
+                ap (answeredWith r (done (newDigest idle victims .map)) version (renewedAt L (idle .size) after (newSlot idle) victims (idle .counts))) (holds .answers)
+                ∙ ap (λ (n : ℕ). answeredWith r (done (newDigest idle victims .map)) version (set (withoutVictims victims 0 (idle .counts)) (newSlot idle) n) (Built.Keys (length (keysOf (logNow L after fin))))) held
+                ∙ told-known r (done (newDigest idle victims .map)) version (length (keysOf (logNow L after fin))) (fin .counts) (omega (arith, few, keys))
                 ∙ ap (λ (s : Record). record { answer = StepAnswer.Done (record { 0 = version }); rec = s })
                 (keys-own r (done (newDigest idle victims .map)) fin (length (keysOf (logNow L after fin))) keys refl);
             rule = holds .rule;
@@ -217,6 +227,7 @@ module _ (L : Layout) (roomy : Roomy L) (before cells : List ℕ) (idle : Record
       go true full q =
           rebuilt-ends L roomy before cells idle (a .recovers) (a .area-bytes) (idle-lent L before idle (delete key) a) long rule _
           (forget-cleans L before idle key a full .sub) _ (nextAfter idle) (idle .next .0) _ _ q
+          (segment-new L _ _ _ (clean-scan L before idle _ _ _ (forget-cleans L before idle key a full)))
       go false room q =
           entry-ends L roomy before cells idle (a .recovers) (a .area-bytes) (idle-lent L before idle (delete key) a) long rule
           (tombstoneEntry idle key) (delete-enters L before idle key a room) k q
@@ -234,3 +245,4 @@ module _ (L : Layout) (roomy : Roomy L) (before cells : List ℕ) (idle : Record
   operation-ends (clean victims) a long rule k =
       rebuilt-ends L roomy before cells idle (a .recovers) (a .area-bytes) (idle-lent L before idle (clean victims) a) long rule victims
       (clean-cleans L before idle victims a .sub) _ (idle .next) 0 _ _ (finishes L roomy before idle (clean victims) a .0)
+      (segment-new L _ _ _ (clean-scan L before idle _ _ _ (clean-cleans L before idle victims a)))

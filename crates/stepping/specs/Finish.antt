@@ -19,6 +19,8 @@ use Rattle.record.specs.declared.StepAnswer.{StepAnswer}
 use Rattle.record.specs.declared.Record.{Record}
 use Rattle.model.specs.Log.{segmentOf}
 use Rattle.model.specs.Operations.{nextAfter, appendCommit, headCommit}
+use Rattle.model.specs.Counts.{moreBytes, objectSize}
+use Rattle.counting.specs.Counting.{lostAt, renewedAt}
 use Rattle.index.specs.Insert.{inserted}
 use Rattle.index.specs.Build.{Rebuilt, built}
 use Rattle.index.specs.declared.Built.{Built}
@@ -41,33 +43,47 @@ unfit r cells = record { stepped = refusedStep r Refusal.BadRecord; cells = cell
 -- how many keys there are after an insertion
 unfoldable pub keysAfter : Inserted → ℕ → Built
 keysAfter Inserted.New n = Built.Keys (n + 1)
-keysAfter Inserted.Newer n = Built.Keys n
+keysAfter (Inserted.Newer old) n = Built.Keys n
 keysAfter Inserted.Older n = Built.Keys n
 keysAfter Inserted.Full n = Built.TooMany
 
--- The version is told, and the record gets its number of keys, which stays below the number of cells.
-unfoldable pub answeredWith : Record → Commit → ℕ → Built → Stepped
-answeredWith r done version (Built.Keys n) =
-    pick (ltb n (r .cells)) (record { answer = StepAnswer.Done (record { 0 = version }); rec = committed r done n })
+-- The version is told, and the record gets its number of keys, which stays below the number of cells, and its present bytes.
+unfoldable pub answeredWith : Record → Commit → ℕ → List ℕ → Built → Stepped
+answeredWith r done version counts (Built.Keys n) =
+    pick (ltb n (r .cells)) (record { answer = StepAnswer.Done (record { 0 = version }); rec = committed r done n counts })
     (refusedStep r Refusal.BadRecord)
-answeredWith r done version Built.TooMany = refusedStep r Refusal.BadRecord
+answeredWith r done version counts Built.TooMany = refusedStep r Refusal.BadRecord
 
--- The entry of a key at a place goes into the index.
-abbrev pub entryIn : Layout → Record → Commit → List ℕ → List ℕ → ℕ → Key → After
-entryIn L r done area cells place k =
+-- 02, R-5: where an insertion replaces an older entry of the key, the object that stands there counts no longer,
+unfoldable pub lostBy : Layout → ℕ → List ℕ → Inserted → List ℕ → List ℕ
+lostBy L S area Inserted.New c = c
+lostBy L S area (Inserted.Newer old) c = lostAt L S area old c
+lostBy L S area Inserted.Older c = c
+lostBy L S area Inserted.Full c = c
+
+-- and n bytes more count in a slot.
+abbrev pub countsAfter : Layout → Record → List ℕ → Inserted → ℕ → ℕ → List ℕ
+countsAfter L r area a slot n = moreBytes slot n (lostBy L (r .size) area a (r .counts))
+
+-- The entry of a key at a place of a slot goes into the index; n of its bytes count.
+abbrev pub entryIn : Layout → Record → Commit → List ℕ → List ℕ → ℕ → ℕ → ℕ → Key → After
+entryIn L r done area cells slot n place k =
     let i = inserted L area cells place k (r .next .0) in
-    record { stepped = answeredWith r done (r .next .0) (keysAfter (i .answer) (r .keys)); cells = i .cells }
+    record {
+      stepped = answeredWith r done (r .next .0) (countsAfter L r area (i .answer) slot n) (keysAfter (i .answer) (r .keys));
+      cells = i .cells;
+    }
 
 -- what the reader finds where the entry came to stand
-unfoldable pub foundIn : Layout → Record → Commit → List ℕ → List ℕ → ℕ → Found → After
-foundIn L r done area cells place (entry e) = entryIn L r done area cells place (keyOf e)
-foundIn L r done area cells place end = unfit r cells
-foundIn L r done area cells place damage = unfit r cells
+unfoldable pub foundIn : Layout → Record → Commit → List ℕ → List ℕ → ℕ → ℕ → Found → After
+foundIn L r done area cells slot place (entry e) = entryIn L r done area cells slot (objectSize L e) place (keyOf e)
+foundIn L r done area cells slot place end = unfit r cells
+foundIn L r done area cells slot place damage = unfit r cells
 
 -- The entry at an offset of a slot goes into the index; the slot's segment is read.
 unfoldable pub finishEntry : Layout → Record → Commit → List ℕ → List ℕ → ℕ → ℕ → After
 finishEntry L r done area cells slot offset =
-    foundIn L r done area cells (slot * r .size + offset) (entryAt L (segmentOf area (r .size) slot) offset)
+    foundIn L r done area cells slot (slot * r .size + offset) (entryAt L (segmentOf area (r .size) slot) offset)
 
 unfoldable pub finishAppend : Layout → Record → List ℕ → List ℕ → ℕ → After
 finishAppend L r area cells n = finishEntry L r (appendCommit r n) area cells (r .head) (r .end)
@@ -94,21 +110,23 @@ rebuilt L r area cells map = built L area (r .size) map (ascending (r .slots)) (
 abbrev pub cleanMap : Record → ℕ → ℕ → ℕ
 cleanMap r slot victims = withBit (less (r .map) victims) slot
 
-abbrev pub finishRebuilt : Layout → Record → List ℕ → List ℕ → Commit → ℕ → After
-finishRebuilt L r area cells done version =
+-- The victims have no present bytes, and the new head those of what it holds.
+abbrev pub finishRebuilt : Layout → Record → List ℕ → List ℕ → ℕ → ℕ → Commit → ℕ → After
+finishRebuilt L r area cells slot victims done version =
     record {
-      stepped = answeredWith r done version (rebuilt L r area cells (done .map) .answer);
+      stepped =
+          answeredWith r done version (renewedAt L (r .size) area slot victims (r .counts)) (rebuilt L r area cells (done .map) .answer);
       cells = rebuilt L r area cells (done .map) .cells;
     }
 
 -- A cleaning has no version of its own; a delete tells its own, and the next version goes up.
 unfoldable pub finishClean : Layout → Record → List ℕ → List ℕ → ℕ → ℕ → ℕ → After
 finishClean L r area cells slot victims n =
-    finishRebuilt L r area cells (headCommit r slot n (cleanMap r slot victims) (r .next)) 0
+    finishRebuilt L r area cells slot victims (headCommit r slot n (cleanMap r slot victims) (r .next)) 0
 
 unfoldable pub finishForget : Layout → Record → List ℕ → List ℕ → ℕ → ℕ → ℕ → After
 finishForget L r area cells slot victims n =
-    finishRebuilt L r area cells (headCommit r slot n (cleanMap r slot victims) (nextAfter r)) (r .next .0)
+    finishRebuilt L r area cells slot victims (headCommit r slot n (cleanMap r slot victims) (nextAfter r)) (r .next .0)
 
 -- ---- what comes after the store of a step
 

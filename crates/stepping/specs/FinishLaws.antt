@@ -1,6 +1,6 @@
 -- The last step at each test of the code.
 use Prim.Native.Nat.{ℕ, _+_, _*_, _-_, _≤_, _<_}
-use mathlib.Core.Path.{_≡_, refl, sym, _∙_, ap, subst}
+use mathlib.Core.Path.{_≡_, refl, sym, _∙_, ap, ap₂, subst}
 use mathlib.Core.List.{List}
 use native.Mathlib.Nat.{mul-le-mul, mul-le-mul-right, suc-mul}
 use native.Mathlib.Omega.{arith}
@@ -9,7 +9,7 @@ use lib.ListN.{length, take, drop}
 use borrow.Author.Tests.{lt-ltb, le-ltb}
 use Rattle.segment.specs.Choice.{pick-true, pick-false}
 use Rattle.segment.specs.Layout.{Layout, digestSize}
-use Rattle.segment.specs.Entry.{Entry, Found, entry, end, damage, entryAt, answer, keyOf}
+use Rattle.segment.specs.Entry.{Entry, Found, entry, end, damage, entryAt, answer, keyOf, isTombstone, sizeOf}
 use Rattle.segment.specs.AnswerLaws.{tells-object, tells-tombstone, tells-end, tells-damage}
 use Rattle.segment.specs.declared.Key.{Key}
 use Rattle.segment.specs.declared.Read.{Read}
@@ -26,12 +26,14 @@ use Rattle.record.specs.declared.StepAnswer.{StepAnswer}
 use Rattle.record.specs.declared.Record.{Record}
 use Rattle.model.specs.Log.{segmentOf}
 use Rattle.model.specs.Operations.{nextAfter, appendCommit, headCommit}
+use Rattle.model.specs.Counts.{moreBytes, objectSize}
+use Rattle.counting.specs.Counting.{lostAt, renewedAt}
 use Rattle.index.specs.Insert.{Insertion, inserted}
 use Rattle.index.specs.Build.{Rebuilt}
 use Rattle.index.specs.declared.Built.{Built}
 use Rattle.index.specs.declared.Inserted.{Inserted}
 use Rattle.stepping.specs.Next.{PendingIn}
-use Rattle.stepping.specs.Finish.{After, refusedStep, unfit, keysAfter, answeredWith, entryIn, foundIn, finishEntry, finishAppend, finishHead, rebuilt, finishRebuilt, finishClean, finishForget, oneLess, finishWith, advanced}
+use Rattle.stepping.specs.Finish.{After, refusedStep, unfit, keysAfter, answeredWith, lostBy, countsAfter, entryIn, foundIn, finishEntry, finishAppend, finishHead, rebuilt, finishRebuilt, finishClean, finishForget, oneLess, finishWith, advanced}
 
 -- ---- the keys after an insertion
 
@@ -40,7 +42,7 @@ module _ (n : ℕ) {a : Inserted} where
   unfolding keysAfter
   keys-new e = rw e
 
-  pub keys-newer : a ≡ Inserted.Newer → Built.Keys n ≡ keysAfter a n
+  pub keys-newer : {old : ℕ} → a ≡ Inserted.Newer old → Built.Keys n ≡ keysAfter a n
   unfolding keysAfter
   keys-newer e = rw e
 
@@ -54,68 +56,94 @@ module _ (n : ℕ) {a : Inserted} where
 
 -- ---- the answer
 
-module _ (r : Record) (done : Commit) (version : Version) {b : Built} where
+module _ (r : Record) (done : Commit) (version : Version) (counts : List ℕ) {b : Built} where
   pub told-keys :
-      {n : ℕ} → b ≡ Built.Keys n → n < r .cells → {s : Record} → s ≡ committed r done n →
-      record { answer = StepAnswer.Done version; rec = s } ≡ answeredWith r done (version .0) b
+      {n : ℕ} → b ≡ Built.Keys n → n < r .cells → {s : Record} → s ≡ committed r done n counts →
+      record { answer = StepAnswer.Done version; rec = s } ≡ answeredWith r done (version .0) counts b
   unfolding answeredWith
   told-keys {n} e h f =
       ap (λ (s : Record). record { answer = StepAnswer.Done version; rec = s }) f
       ∙ sym (pick-true (ltb n (r .cells)) _ _ (lt-ltb n (r .cells) h))
-      ∙ ap (answeredWith r done (version .0)) (sym e)
+      ∙ ap (answeredWith r done (version .0) counts) (sym e)
 
-  pub told-over : {n : ℕ} → b ≡ Built.Keys n → r .cells ≤ n → {x : Stepped} → x ≡ refusedStep r Refusal.BadRecord → x ≡ answeredWith r done (version .0) b
+  pub told-over : {n : ℕ} → b ≡ Built.Keys n → r .cells ≤ n → {x : Stepped} → x ≡ refusedStep r Refusal.BadRecord → x ≡ answeredWith r done (version .0) counts b
   unfolding answeredWith
   told-over {n} e h f =
-      f ∙ sym (pick-false (ltb n (r .cells)) _ _ (le-ltb n (r .cells) h)) ∙ ap (answeredWith r done (version .0)) (sym e)
+      f ∙ sym (pick-false (ltb n (r .cells)) _ _ (le-ltb n (r .cells) h)) ∙ ap (answeredWith r done (version .0) counts) (sym e)
 
-  pub told-many : b ≡ Built.TooMany → {x : Stepped} → x ≡ refusedStep r Refusal.BadRecord → x ≡ answeredWith r done (version .0) b
+  pub told-many : b ≡ Built.TooMany → {x : Stepped} → x ≡ refusedStep r Refusal.BadRecord → x ≡ answeredWith r done (version .0) counts b
   unfolding answeredWith
-  told-many e f = f ∙ ap (answeredWith r done (version .0)) (sym e)
+  told-many e f = f ∙ ap (answeredWith r done (version .0) counts) (sym e)
+
+-- ---- the present bytes after an insertion
+
+module _ (L : Layout) (S : ℕ) (area c : List ℕ) {a : Inserted} where
+  pub lost-new : a ≡ Inserted.New → c ≡ lostBy L S area a c
+  unfolding lostBy
+  lost-new e = rw e
+
+  pub lost-newer : {old : ℕ} → a ≡ Inserted.Newer old → {c′ : List ℕ} → c′ ≡ lostAt L S area old c → c′ ≡ lostBy L S area a c
+  unfolding lostBy
+  lost-newer e h = rw e h
+
+  pub lost-older : a ≡ Inserted.Older → c ≡ lostBy L S area a c
+  unfolding lostBy
+  lost-older e = rw e
+
+  pub lost-full : a ≡ Inserted.Full → c ≡ lostBy L S area a c
+  unfolding lostBy
+  lost-full e = rw e
 
 -- ---- an entry put into the index
 
-module _ (L : Layout) (r : Record) (done : Commit) (area cells : List ℕ) (place : ℕ) where
+module _ (L : Layout) (r : Record) (done : Commit) (area cells : List ℕ) (slot place : ℕ) where
   pub entry-put :
-      (k : Key) {a : Inserted} {cells′ : List ℕ} → record { answer = a; cells = cells′ } ≡ inserted L area cells place k (r .next .0) → {b : Built} →
-      b ≡ keysAfter a (r .keys) → {x : Stepped} → x ≡ answeredWith r done (r .next .0) b →
-      record { stepped = x; cells = cells′ } ≡ entryIn L r done area cells place k
-  entry-put k {a} {cells′} e eb ex =
-      ap (λ (s : Stepped). record { stepped = s; cells = cells′ }) (ex ∙ ap (answeredWith r done (r .next .0)) eb)
-      ∙ ap (λ (i : Insertion). record { stepped = answeredWith r done (r .next .0) (keysAfter (i .answer) (r .keys)); cells = i .cells }) e
+      (k : Key) (n : ℕ) {a : Inserted} {cells′ : List ℕ} → record { answer = a; cells = cells′ } ≡ inserted L area cells place k (r .next .0) → {b : Built} →
+      b ≡ keysAfter a (r .keys) → {counts : List ℕ} → counts ≡ countsAfter L r area a slot n → {x : Stepped} →
+      x ≡ answeredWith r done (r .next .0) counts b → record { stepped = x; cells = cells′ } ≡ entryIn L r done area cells slot n place k
+  entry-put k n {a} {cells′} e eb ec ex =
+      ap (λ (s : Stepped). record { stepped = s; cells = cells′ }) (ex ∙ ap₂ (answeredWith r done (r .next .0)) ec eb)
+      ∙ ap
+      (λ (i : Insertion).
+      record {
+        stepped = answeredWith r done (r .next .0) (countsAfter L r area (i .answer) slot n) (keysAfter (i .answer) (r .keys));
+        cells = i .cells;
+      }) e
 
-  found-entry : (f : Found) (e : Entry) → f ≡ entry e → {k : Key} → keyOf e ≡ k → {a : After} → a ≡ entryIn L r done area cells place k
-      → a ≡ foundIn L r done area cells place f
+  found-entry : (f : Found) (e : Entry) → f ≡ entry e → {k : Key} → keyOf e ≡ k → {n : ℕ} → objectSize L e ≡ n → {a : After} →
+      a ≡ entryIn L r done area cells slot n place k → a ≡ foundIn L r done area cells slot place f
   unfolding foundIn
-  found-entry f e is key h =
-      h ∙ sym (ap (entryIn L r done area cells place) key) ∙ sym (ap (foundIn L r done area cells place) is)
+  found-entry f e is key size h =
+      h ∙ sym (ap₂ (λ (m : ℕ) (j : Key). entryIn L r done area cells slot m place j) size key) ∙ sym (ap (foundIn L r done area cells slot place) is)
 
 -- what the reader gives in the slot's segment
 module _ (L : Layout) (r : Record) (done : Commit) (area cells : List ℕ) (slot offset : ℕ) {t : Read}
     (given : t ≡ answer L (entryAt L (segmentOf area (r .size) slot) offset)) where
   pub entry-object :
       {k : Key} {v : Version} {kind n : ℕ} → t ≡ Read.Object k v kind n → {a : After} →
-      a ≡ entryIn L r done area cells (slot * r .size + offset) k → a ≡ finishEntry L r done area cells slot offset
+      a ≡ entryIn L r done area cells slot n (slot * r .size + offset) k → a ≡ finishEntry L r done area cells slot offset
   unfolding finishEntry
   entry-object {k} {v} {kind} {n} e h =
       let w = tells-object L (entryAt L (segmentOf area (r .size) slot) offset) k v kind n (sym given ∙ e) in
-      found-entry L r done area cells (slot * r .size + offset) (entryAt L (segmentOf area (r .size) slot) offset) (w .told) (w .is) (w .its-key) h
+      found-entry L r done area cells slot (slot * r .size + offset) (entryAt L (segmentOf area (r .size) slot) offset) (w .told) (w .is) (w .its-key)
+      (pick-false (isTombstone (w .told)) 0 (sizeOf L (w .told)) (w .tombstone) ∙ w .its-size) h
 
   pub entry-tombstone :
       {k : Key} {v : Version} {n : ℕ} → t ≡ Read.Tombstone k v n → {a : After} →
-      a ≡ entryIn L r done area cells (slot * r .size + offset) k → a ≡ finishEntry L r done area cells slot offset
+      a ≡ entryIn L r done area cells slot 0 (slot * r .size + offset) k → a ≡ finishEntry L r done area cells slot offset
   unfolding finishEntry
   entry-tombstone {k} {v} {n} e h =
       let w = tells-tombstone L (entryAt L (segmentOf area (r .size) slot) offset) k v n (sym given ∙ e) in
-      found-entry L r done area cells (slot * r .size + offset) (entryAt L (segmentOf area (r .size) slot) offset) (w .told) (w .is) (w .its-key) h
+      found-entry L r done area cells slot (slot * r .size + offset) (entryAt L (segmentOf area (r .size) slot) offset) (w .told) (w .is) (w .its-key)
+      (pick-true (isTombstone (w .told)) 0 (sizeOf L (w .told)) (w .tombstone)) h
 
   module _ {x : Stepped} (ex : x ≡ refusedStep r Refusal.BadRecord) where
     refuses : (f : Found) → entryAt L (segmentOf area (r .size) slot) offset ≡ f
-        → foundIn L r done area cells (slot * r .size + offset) f ≡ unfit r cells → record { stepped = x; cells = cells } ≡ finishEntry L r done area cells slot offset
+        → foundIn L r done area cells slot (slot * r .size + offset) f ≡ unfit r cells → record { stepped = x; cells = cells } ≡ finishEntry L r done area cells slot offset
     unfolding finishEntry
     refuses f is u =
         ap (λ (s : Stepped). record { stepped = s; cells = cells }) ex
-        ∙ sym (ap (foundIn L r done area cells (slot * r .size + offset)) is ∙ u)
+        ∙ sym (ap (foundIn L r done area cells slot (slot * r .size + offset)) is ∙ u)
 
     pub entry-end : t ≡ Read.End → record { stepped = x; cells = cells } ≡ finishEntry L r done area cells slot offset
     unfolding foundIn
@@ -156,12 +184,15 @@ module _ (L : Layout) (r : Record) (area cells : List ℕ) (n : ℕ) where
 
 module _ (L : Layout) (r : Record) (area cells : List ℕ) where
   pub rebuilt-goes :
-      (d : Commit) (version : ℕ) {b : Built} {cells′ : List ℕ} →
-      _≡_ {A = Rebuilt} (record { answer = b; cells = cells′ }) (rebuilt L r area cells (d .map)) → {x : Stepped} → x ≡ answeredWith r d version b →
-      record { stepped = x; cells = cells′ } ≡ finishRebuilt L r area cells d version
-  rebuilt-goes d version {b} {cells′} eb ex =
-      ap (λ (s : Stepped). record { stepped = s; cells = cells′ }) ex
-      ∙ ap (λ (a : Rebuilt). record { stepped = answeredWith r d version (a .answer); cells = a .cells }) eb
+      (slot victims : ℕ) (d : Commit) (version : ℕ) {b : Built} {cells′ : List ℕ} →
+      _≡_ {A = Rebuilt} (record { answer = b; cells = cells′ }) (rebuilt L r area cells (d .map)) → {counts : List ℕ} →
+      counts ≡ renewedAt L (r .size) area slot victims (r .counts) → {x : Stepped} → x ≡ answeredWith r d version counts b →
+      record { stepped = x; cells = cells′ } ≡ finishRebuilt L r area cells slot victims d version
+  rebuilt-goes slot victims d version {b} {cells′} eb ec ex =
+      ap (λ (s : Stepped). record { stepped = s; cells = cells′ }) (ex ∙ ap (λ (l : List ℕ). answeredWith r d version l b) ec)
+      ∙ ap
+      (λ (a : Rebuilt).
+      record { stepped = answeredWith r d version (renewedAt L (r .size) area slot victims (r .counts)) (a .answer); cells = a .cells }) eb
 
   module _ (slot victims n : ℕ) {w m : ℕ} (ew : w ≡ less (r .map) victims) (em : m ≡ withBit w slot) where
     -- d is what the code makes of the record's head and counters
@@ -169,16 +200,16 @@ module _ (L : Layout) (r : Record) (area cells : List ℕ) where
     new-commit next ed = ed ∙ ap (λ (j : ℕ). headCommit r slot n j next) (em ∙ ap (λ (j : ℕ). withBit j slot) ew)
 
     pub clean-goes :
-        {d : Commit} → d ≡ headCommit r slot n m (r .next) → {a : After} → a ≡ finishRebuilt L r area cells d 0 →
+        {d : Commit} → d ≡ headCommit r slot n m (r .next) → {a : After} → a ≡ finishRebuilt L r area cells slot victims d 0 →
         a ≡ finishClean L r area cells slot victims n
     unfolding finishClean
-    clean-goes ed e = e ∙ ap (λ (c : Commit). finishRebuilt L r area cells c 0) (new-commit (r .next) ed)
+    clean-goes ed e = e ∙ ap (λ (c : Commit). finishRebuilt L r area cells slot victims c 0) (new-commit (r .next) ed)
 
     pub forget-goes :
-        {d : Commit} → d ≡ headCommit r slot n m (nextAfter r) → {a : After} → a ≡ finishRebuilt L r area cells d (r .next .0) →
+        {d : Commit} → d ≡ headCommit r slot n m (nextAfter r) → {a : After} → a ≡ finishRebuilt L r area cells slot victims d (r .next .0) →
         a ≡ finishForget L r area cells slot victims n
     unfolding finishForget
-    forget-goes ed e = e ∙ ap (λ (c : Commit). finishRebuilt L r area cells c (r .next .0)) (new-commit (nextAfter r) ed)
+    forget-goes ed e = e ∙ ap (λ (c : Commit). finishRebuilt L r area cells slot victims c (r .next .0)) (new-commit (nextAfter r) ed)
 
 -- ---- after the store
 

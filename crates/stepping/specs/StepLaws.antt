@@ -161,29 +161,29 @@ module _ (r : Record) where
   abbrev Late : Stepped → Type 0
   Late x = (c : Refusal) → x .answer ≡ StepAnswer.Refused c → x ≡ refusedStep r BadRecord
 
-  answered-late : (done : Commit) (version : ℕ) (b : Built) → Late (answeredWith r done version b)
+  answered-late : (done : Commit) (version : ℕ) (counts : List ℕ) (b : Built) → Late (answeredWith r done version counts b)
   unfolding answeredWith pick
-  answered-late done version (Built.Keys n) = go (ltb n (r .cells))
+  answered-late done version counts (Built.Keys n) = go (ltb n (r .cells))
     where
-      go : (t : Bool) → Late (pick t (record { answer = StepAnswer.Done (record { 0 = version }); rec = committed r done n }) (refusedStep r BadRecord))
+      go : (t : Bool) → Late (pick t (record { answer = StepAnswer.Done (record { 0 = version }); rec = committed r done n counts }) (refusedStep r BadRecord))
       go true c f = let z : _≡_ {A = ℕ} 0 1 = cc in absurd (omega arith)
       go false c f = refl
-  answered-late done version Built.TooMany = λ c f. refl
+  answered-late done version counts Built.TooMany = λ c f. refl
 
 module _ (L : Layout) (r : Record) (area cells : List ℕ) where
-  found-late : (done : Commit) (place : ℕ) (f : Found) → Late r (foundIn L r done area cells place f .stepped)
+  found-late : (done : Commit) (slot place : ℕ) (f : Found) → Late r (foundIn L r done area cells slot place f .stepped)
   unfolding foundIn
-  found-late done place (entry e) = answered-late r done (r .next .0) _
-  found-late done place end = λ c f. refl
-  found-late done place damage = λ c f. refl
+  found-late done slot place (entry e) = answered-late r done (r .next .0) _ _
+  found-late done slot place end = λ c f. refl
+  found-late done slot place damage = λ c f. refl
 
   finish-late : (p : Pending) → Late r (finishWith L r area cells p .stepped)
   unfolding finishWith finishAppend finishHead finishClean finishForget finishEntry
   finish-late Idle = λ c f. refl
-  finish-late (Append n k) = found-late _ _ _
-  finish-late (NewHead i n k) = found-late _ _ _
-  finish-late (Clean i v n k) = answered-late r _ 0 _
-  finish-late (Forget i v n k) = answered-late r _ (r .next .0) _
+  finish-late (Append n k) = found-late _ _ _ _
+  finish-late (NewHead i n k) = found-late _ _ _ _
+  finish-late (Clean i v n k) = answered-late r _ 0 _ _
+  finish-late (Forget i v n k) = answered-late r _ (r .next .0) _ _
 
   advanced-late : Late r (advanced L r area cells .stepped)
   unfolding advanced pick

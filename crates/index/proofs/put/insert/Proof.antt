@@ -1,7 +1,8 @@
 -- `index::put::insert` meets its contract: a law for each arm, at what the search found.
 use mathlib.Core.Path.{_≡_, sym, _∙_, ap}
 use denote.Ref.{now}
-use Prim.Native.Nat.{ℕ}
+use Prim.Native.Nat.{ℕ, _-_}
+use lib.ListN.{getD}
 use mathlib.Core.List.{List}
 use Rattle.index.specs.declared.Inserted.{Inserted}
 use native.Mathlib.Omega.{arith}
@@ -53,8 +54,8 @@ slice-read-old c = inside (c .before .before) .below
 sub-old : tie.Need-sub-old
 sub-old c = inside (c .before .before) .taken
 
-cast-old : tie.Need-cast-old
-cast-old c = omega (arith, c .slice-known3 .given (c .before .before .i2 .given .0 .0))
+cast-read32 : tie.Need-cast-read32
+cast-read32 c = omega (arith, c .slice-known3 .given (c .before .before .i2 .given .0 .0))
 
 add-read32 : tie.Need-add-read32
 add-read32 c = omega (arith, c .slice-known3 .given (c .before .before .i2 .given .0 .0))
@@ -73,7 +74,11 @@ returns : tie.Need-returns
 unfolding edition1
 returns c =
     let t = c .before .before .before .before in
-    ap (λ (l : List ℕ). record { answer = Inserted.Newer; cells = l }) (c .before .before .put2 .ensures)
+    let i = t .before .before .before .before .before in
+    ap
+    (λ (l : List ℕ).
+    record { answer = Inserted.Newer (getD (now (i .before .before .before .before .before .before .args .cells)) (i .i2 .given .0 .0) 0 - 1); cells = l })
+    (c .before .before .put2 .ensures)
     ∙ sym
     (insert-newer edition1 _ _ _ _ _ _ (is-at (t .before .before .before .before .before)) (rw (t .before .before .read32 .ensures) at (t .if1 .taken)))
 
@@ -112,7 +117,7 @@ insert-spec =
     mul-old
     slice-read-old
     sub-old
-    cast-old
+    cast-read32
     add-read32
     read32-requires
     put-requires-2
