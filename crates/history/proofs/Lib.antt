@@ -6,6 +6,7 @@ pub mod Steps
 pub mod Readings
 pub mod Recoveries
 pub mod Theorem
+pub mod Counting
 pub mod Books
 pub mod Corollaries
 pub mod Expecting

@@ -18,9 +18,10 @@ use Rattle.model.specs.Log.{View, Head, Placed, viewsOf, newer, headOf, logOf, 
 use Rattle.model.specs.Causes.{Cause, when, firstCause}
 use Rattle.model.specs.Recovery.{headElse, hasNumber, sharing, namesNoDigest, logDamaged, logSlots, logUnder, recordUnder, imageCauses, keyCauses, lentCauses, orderBad, recoverCauses, recordFrom, recovered, recovery}
 use Rattle.model.specs.Operations.{logNow}
+use Rattle.model.specs.Counts.{countsOf}
 use Rattle.laws.specs.LogLaws.{log-same}
 use Rattle.laws.specs.RecoverLaws.{recovered-facts}
-use Rattle.isolation.proofs.Hidden.{hiddenLog, hiddenScan, hiddenViews, scan-end, scan-damaged, log-hidden, keys-hidden, shared-hidden, highest-hidden}
+use Rattle.isolation.proofs.Hidden.{hiddenLog, hiddenScan, hiddenViews, scan-end, scan-damaged, log-hidden, keys-hidden, shared-hidden, highest-hidden, counts-hidden}
 
 -- what does not go by hidden values is the same of logs that differ in these alone
 pub same-by :
@@ -91,6 +92,9 @@ module _ (of : ℕ → Bool) (v v′ : ℕ → View) (n : ℕ) (h : Head) (a : A
   high : highest (logUnder v n h) ≡ highest (logUnder v′ n h)
   high = same-by of highest (highest-hidden of) logs
 
+  present-bytes : (L : Layout) → countsOf L (logUnder v n h) ≡ countsOf L (logUnder v′ n h)
+  present-bytes L = same-by of (countsOf L) (counts-hidden of L) logs
+
   pub image-alike : (o : Option Head) → headElse o ≡ h → imageCauses v n o ≡ imageCauses v′ n o
   image-alike o e =
       rw (
@@ -104,12 +108,13 @@ module _ (of : ℕ → Bool) (v v′ : ℕ → View) (n : ℕ) (h : Head) (a : A
   pub keys-alike : (m : ℕ) (o : Option Head) → headElse o ≡ h → keyCauses v n m o ≡ keyCauses v′ n m o
   keys-alike m o e = rw (e, keys)
 
-  pub under-alike : (s m : ℕ) → h .slot < n → logSlots h (h .slot) ≡ true → recordUnder v n s m h ≡ recordUnder v′ n s m h
-  under-alike s m below own =
+  pub under-alike : (L : Layout) (s m : ℕ) → h .slot < n → logSlots h (h .slot) ≡ true → recordUnder L v n s m h ≡ recordUnder L v′ n s m h
+  under-alike L s m below own =
       rw (
         sym (scan-end of (v (h .slot) .scan)) ∙ ap endOf (a .scans (h .slot) below own) ∙ scan-end of (v′ (h .slot) .scan),
         high,
         keys,
+        present-bytes L,
       )
 
 -- ---- on areas
@@ -153,9 +158,9 @@ module _ (of : ℕ → Bool) (L : Layout) (n s : ℕ) (area area′ : List ℕ) 
     -- and gives the same record where the head is a slot of the log.
     pub record-alike : (m : ℕ) → headElse top .slot < n → named map (headElse top .slot) ≡ true → recordFrom L n s m area ≡ recordFrom L n s m area′
     record-alike m below named-own =
-        under-alike of (viewsOf L area s) (viewsOf L area′ s) n (headElse top) views-own s m below
+        under-alike of (viewsOf L area s) (viewsOf L area′ s) n (headElse top) views-own L s m below
         (subst (λ (k : ℕ). named k (headElse top .slot) ≡ true) own named-own) ∙
-        ap (λ (o : Option Head). recordUnder (viewsOf L area′ s) n s m (headElse o)) heads
+        ap (λ (o : Option Head). recordUnder L (viewsOf L area′ s) n s m (headElse o)) heads
 
 -- what is known of the head where recovery is accepted
 pub head-inside :

@@ -14,6 +14,7 @@ use Rattle.segment.specs.declared.Key.{Key}
 use Rattle.record.specs.declared.Record.{Record}
 use Rattle.model.specs.Log.{Item, Scan, damaged, scanned, itemsOf, endOf, isDamaged, View, Placed, placedIn, logOf, sameKey, laterOf, latest, objectOnly, present, hasKey, keysOf, hasVersion, versionShared, highest}
 use Rattle.model.specs.Operations.{isVersion, objectOutside, isKept, keptOf, kept, allEncoded, tombstoneEntry, replaced, replacedBy, slotOf, forgottenLog, forgetVictim, forgetKept}
+use Rattle.model.specs.Counts.{isPresent, moreBytes, tally, countsOf}
 use Rattle.laws.specs.Scans.{itemAt, itemsFrom, length-allEncoded}
 
 -- ---- definitions
@@ -210,6 +211,21 @@ module _ (of : ℕ → Bool) where
 
   pub kept-hidden : (victims : ℕ) (log : List Placed) → kept victims (hiddenLog of log) ≡ map (hidden of) (kept victims log)
   kept-hidden victims log = kept-of-hidden victims log log
+
+  -- ---- the present bytes of the slots
+
+  is-present-hidden : (log : List Placed) (e : Entry) → isPresent (hiddenLog of log) (hidden of e) ≡ isPresent log e
+  is-present-hidden log e =
+      ap (λ (o : Option Placed). isVersion o (e .version)) (present-hidden log (keyOf e)) ∙ is-version-hidden (present log (keyOf e)) (e .version)
+
+  tally-hidden : (L : Layout) (log xs : List Placed) → tally L (hiddenLog of log) (hiddenLog of xs) ≡ tally L log xs
+  unfolding tally
+  tally-hidden L log [] = refl
+  tally-hidden L log (x ∷ xs) =
+      λ i. moreBytes (x .slot) (pick (is-present-hidden log (x .entry) i) (size-hidden L (x .entry) i) 0) (tally-hidden L log xs i)
+
+  pub counts-hidden : (L : Layout) (log : List Placed) → countsOf L (hiddenLog of log) ≡ countsOf L log
+  counts-hidden L log = tally-hidden L log log
 
   -- ---- a tombstone in the place of a live object
 

@@ -157,7 +157,7 @@ next-above a b h = let e : b ≡ max a b = omega arith in λ i. record { 0 = e i
 pub next-kept : (a : Version) (b : ℕ) → b ≤ a .0 → a ≡ record { 0 = max (a .0) b }
 next-kept a b h = let e : a .0 ≡ max (a .0) b = omega arith in λ i. record { 0 = e i }
 
-pub record-with : (L : Layout) (n s m : ℕ) (area : List ℕ) (slot : ℕ) (d : Digest) (top : Version) (keys e : ℕ) (next : Version)
+pub record-with : (L : Layout) (n s m : ℕ) (area : List ℕ) (slot : ℕ) (d : Digest) (top : Version) (keys e : ℕ) (next : Version) (counts : List ℕ)
     → e ≡ endOf (scan L (segmentOf area s slot)) → next ≡ record { 0 = max (d .next .0) (top .0 + 1) }
     → record {
       slots = n;
@@ -169,9 +169,10 @@ pub record-with : (L : Layout) (n s m : ℕ) (area : List ℕ) (slot : ℕ) (d :
       map = d .map;
       next = next;
       keys = keys;
+      counts = counts;
       pending = Idle;
-    } ≡ recordWith L n s m area slot d top keys
-record-with L n s m area slot d top keys e next p q =
+    } ≡ recordWith L n s m area slot d top keys counts
+record-with L n s m area slot d top keys e next counts p q =
     λ i.
     record {
       slots = n;
@@ -183,5 +184,6 @@ record-with L n s m area slot d top keys e next p q =
       map = d .map;
       next = q i;
       keys = keys;
+      counts = counts;
       pending = Idle;
     }

@@ -4,5 +4,7 @@ pub mod Order
 pub mod Lookups
 pub mod LookupLaws
 pub mod Recovering
+pub mod Counting
+pub mod CountLaws
 pub mod CheckLaws
 pub mod RecoverPromises

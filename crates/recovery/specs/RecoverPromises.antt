@@ -28,6 +28,7 @@ use Rattle.model.specs.Causes.{Cause, when, firstCause}
 use Rattle.model.specs.Recovery.{orderBad, headElse, digestBad, logDamaged, logSlots, logUnder, keysBad, recordUnder, lentCauses, imageCauses, keyCauses, recoverCauses, recordFrom, recoveryFor, recovery}
 use Rattle.model.specs.Index.{IndexRule}
 use Rattle.model.specs.Operations.{logNow}
+use Rattle.model.specs.Counts.{countsOf}
 use Rattle.model.specs.Promises.{RecoverPromise, IndexAfter}
 use Rattle.laws.specs.CauseLaws.{cause-first, cause-none, first-some, first-none}
 use Rattle.laws.specs.Passed.{LentPassed, lent-passed, ImagePassed, image-passed}
@@ -40,6 +41,8 @@ use Rattle.index.specs.BuildLaws.{Holds, built-rule, built-over}
 use Rattle.index.specs.declared.Built.{Built}
 use Rattle.recovery.specs.FormatLaws.{Fits, geometry-fits}
 use Rattle.recovery.specs.LookupLaws.{log-stands}
+use Rattle.recovery.specs.Counting.{countedIn}
+use Rattle.recovery.specs.CountLaws.{counted-log}
 use Rattle.recovery.specs.Recovering.{lentFirst, imageFor, imageOf, recordWith, refusedWith}
 use Rattle.recovery.specs.declared.Image.{Image}
 
@@ -272,17 +275,28 @@ module _ (L : Layout) (n s : ℕ) (order area cells : List ℕ) where
           let t = told a k cells′ e counts in
           omega (arith, ltb-false (m - 1) (length (keysOf log)) (t .few), cells-few)
 
-      pub keys-promise : (a : Built) (k : ℕ) (cells′ : List ℕ) (rec : Record) → Rebuilds a cells′ → a ≡ Built.Keys k
-          → rec ≡ recordWith L n s (length cells′) area i d top k
+      -- the cells are as many as before
+      pub cells-kept : (a : Built) (k : ℕ) (cells′ : List ℕ) → Rebuilds a cells′ → a ≡ Built.Keys k → length cells′ < 4097
+      cells-kept a k cells′ e counts = omega (arith, told a k cells′ e counts .long, cells-few)
+
+      -- the present bytes that are counted over the cells
+      counts-told : (a : Built) (k : ℕ) (cells′ : List ℕ) → Rebuilds a cells′ → a ≡ Built.Keys k → countedIn L s area cells′ ≡ countsOf L log
+      counts-told a k cells′ e counts =
+          counted-log L s area log cells′ (told a k cells′ e counts .rule) (image-versions v n i d top image)
+          (log-stands L area s (named (d .map)) n (image-scans v n i d top image))
+
+      pub keys-promise : (a : Built) (k : ℕ) (cells′ counts : List ℕ) (rec : Record) → Rebuilds a cells′ → a ≡ Built.Keys k
+          → counts ≡ countedIn L s area cells′ → rec ≡ recordWith L n s (length cells′) area i d top k counts
           → RecoverPromise L n s order area cells cells′ (record { answer = RecoverAnswer.Recovered; rec = rec })
       unfolding recovery recoveryFor IndexAfter
-      keys-promise a k cells′ rec e counts its =
+      keys-promise a k cells′ bytes rec e counts number its =
           let t = told a k cells′ e counts in
+          let present-bytes : bytes ≡ countsOf L log = number ∙ counts-told a k cells′ e counts in
           let nothing : cause ≡ none = on-keys ∙ cause-none (when (keysBad m log) TooManyKeys) [] (t .few) nil in
-          let same : rec ≡ recordUnder v n s m (record { slot = i; digest = d }) =
-          its ∙ (λ j. recordWith L n s (t .long j) area i d (image .top-is j) (t .keys j)) in
+          let same : rec ≡ recordUnder L v n s m (record { slot = i; digest = d }) =
+          its ∙ (λ j. recordWith L n s (t .long j) area i d (image .top-is j) (t .keys j) (present-bytes j)) in
           let answered : record { answer = RecoverAnswer.Recovered; rec = rec } ≡ recovery L n s m order area =
-          ap (λ (x : Record). record { answer = RecoverAnswer.Recovered; rec = x }) (same ∙ ap (recordUnder v n s m) (sym (image .head)))
+          ap (λ (x : Record). record { answer = RecoverAnswer.Recovered; rec = x }) (same ∙ ap (recordUnder L v n s m) (sym (image .head)))
           ∙ ap (λ (o : Option Refusal). recoveryFor o (recordFrom L n s m area)) (sym nothing) in
           record {
             answers = answered;

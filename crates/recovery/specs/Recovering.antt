@@ -38,9 +38,9 @@ imageOf v n = imageFor v n (headElse (headOf v n)) (firstCause (imageCauses v n 
 abbrev pub imageUnder : (ℕ → View) → ℕ → Head → Image
 imageUnder v n h = imageFor v n h (firstCause (imageCauses v n (some h)))
 
--- the record of a head, the highest version in its log, and the number of its keys
-abbrev pub recordWith : Layout → ℕ → ℕ → ℕ → List ℕ → ℕ → Digest → Version → ℕ → Record
-recordWith L n s m area slot d top keys =
+-- the record of a head, the highest version in its log, the number of its keys, and the present bytes of the slots
+abbrev pub recordWith : Layout → ℕ → ℕ → ℕ → List ℕ → ℕ → Digest → Version → ℕ → List ℕ → Record
+recordWith L n s m area slot d top keys counts =
     record {
       slots = n;
       size = s;
@@ -51,6 +51,7 @@ recordWith L n s m area slot d top keys =
       map = d .map;
       next = record { 0 = max (d .next .0) (top .0 + 1) };
       keys = keys;
+      counts = counts;
       pending = Idle;
     }
 

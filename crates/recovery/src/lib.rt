@@ -3,6 +3,7 @@ use record::Refusal;
 use segment::Digest;
 use segment::Version;
 
+pub mod count;
 pub mod format;
 pub mod read;
 pub mod recover;

@@ -1,6 +1,7 @@
 // Recovery (01, "Refused calls" and "The log and its map"): the record of an area and its index, or the first cause.
 use crate::Checked;
 use crate::Image;
+use crate::count::count;
 use crate::format::geometry_bad;
 use index::Built;
 use index::build::build;
@@ -180,9 +181,10 @@ fn record_of(
     digest: Digest,
     highest: Version,
     keys: u32,
+    counts: [u32; 32],
 ) -> Record
     requires { ⌜ (slot * s + s ≤ length (now area)) × (highest .0 < 4294967295) × (s ≤ 2048) × (slot < 32) ⌝ }
-    ensures { λ r. ⌜ r ≡ recordWith edition1 n s m (now (area .entry)) slot digest highest keys ⌝ }
+    ensures { λ r. ⌜ r ≡ recordWith edition1 n s m (now (area .entry)) slot digest highest keys counts ⌝ }
 {
     let number = digest.number;
     let end = end_of(cut(s as usize, area, slot));
@@ -197,6 +199,7 @@ fn record_of(
         map: digest.map,
         next,
         keys,
+        counts,
         pending: Pending::Idle,
     }
 }
@@ -238,6 +241,7 @@ fn recover_image(n: u32, s: u32, order: &[u8], area: &[u8], index: &mut [u32]) -
                         digest,
                         highest,
                         keys as u32,
+                        count(s, area, index),
                     ),
                 },
             }

@@ -23,18 +23,18 @@ end-of-requires c κs = search needs
 next-version-requires : tie.Need-next-version-requires
 next-version-requires c κs = search needs
 
-cast-t14 : tie.Need-cast-t14
-cast-t14 c = search needs
-
 cast-t15 : tie.Need-cast-t15
-cast-t15 c =
+cast-t15 c = search needs
+
+cast-t16 : tie.Need-cast-t16
+cast-t16 c =
     let a = c .before .before .before .before .before .args in
     omega (arith, ends (c .before), end-fits edition1 (a .area .now) (a .s) (a .slot) (c .before .before .before .before .before .pre .0))
 
 returns : tie.Need-returns
-returns c = record-with edition1 _ _ _ _ _ _ _ _ _ _ (ends (c .before)) (c .next-version .ensures)
+returns c = record-with edition1 _ _ _ _ _ _ _ _ _ _ _ (ends (c .before)) (c .next-version .ensures)
 
 pub record-of-spec : {M : Type 1} → statement M
 record-of-spec =
     tie.close
-    (tie.spec cut-requires end-of-requires next-version-requires cast-t14 cast-t15 returns)
+    (tie.spec cut-requires end-of-requires next-version-requires cast-t15 cast-t16 returns)

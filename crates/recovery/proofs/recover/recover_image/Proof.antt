@@ -6,7 +6,7 @@ use Rattle.segment.specs.Layout.{edition1}
 use Rattle.model.specs.Log.{viewsOf}
 use Rattle.laws.specs.Stores.{slot-inside}
 use Rattle.recovery.specs.Recovering.{imageOf}
-use Rattle.recovery.specs.RecoverPromises.{lent-fits, lent-shape, cells-few, keys-few, head-inside, highest-fits, image-promise, over-promise, keys-promise}
+use Rattle.recovery.specs.RecoverPromises.{lent-fits, lent-shape, cells-few, keys-few, cells-kept, head-inside, highest-fits, image-promise, over-promise, keys-promise}
 use Rattle.recovery.specs.declared.Image.{Image}
 use borrow.Author.Needs.{needs}
 use Rattle.recovery.proofs.recover.recover_image.Statement.{statement}
@@ -62,11 +62,20 @@ cast-record-of-2 c =
     let a = t .args in
     omega (arith, keys-few edition1 (a .n) (a .s) (a .order .now) (a .area .now) (a .index .now) (t .pre) _ _ _ (sound k) _ _ _ (b .build .ensures) (c .before .keys .given .1))
 
+count-requires : tie.Need-count-requires
+count-requires c κs =
+    let k = c .before .before .before .before .before .before .before .before .before in
+    let b = c .before .before .before .before .before .before in
+    let t = k .before .before .before .before .before .before in
+    let a = t .args in
+    let f = lent-fits edition1 (a .n) (a .s) (a .order .now) (a .area .now) (a .index .now) (t .pre) in
+    let long = cells-kept edition1 (a .n) (a .s) (a .order .now) (a .area .now) (a .index .now) (t .pre) _ _ _ (sound k) _ _ _ (b .build .ensures) (c .before .before .keys .given .1) in
+    (omega arith, omega arith, omega (arith, long))
+
 record-of-requires : tie.Need-record-of-requires
 unfolding edition1
 record-of-requires c κs =
-    let k = c .before .before .before .before .before .before .before .before in
-    let b = c .before .before .before .before .before in
+    let k = c .before .before .before .before .before .before .before .before .before .before in
     let t = k .before .before .before .before .before .before in
     let a = t .args in
     let f = lent-fits edition1 (a .n) (a .s) (a .order .now) (a .area .now) (a .index .now) (t .pre) in
@@ -101,12 +110,12 @@ same-length-2 c = search needs
 
 returns-3 : tie.Need-returns-3
 returns-3 c =
-    let k = c .before .before .before .before .before .before .before .before .before in
-    let b = c .before .before .before .before .before .before in
+    let k = c .before .before .before .before .before .before .before .before .before .before .before in
+    let b = c .before .before .before .before .before .before .before .before in
     let t = k .before .before .before .before .before .before in
     let a = t .args in
-    keys-promise edition1 (a .n) (a .s) (a .order .now) (a .area .now) (a .index .now) (t .pre) _ _ _ (sound k) _ _ _ _ (b .build .ensures)
-    (c .before .before .keys .given .1) (c .record-of .ensures)
+    keys-promise edition1 (a .n) (a .s) (a .order .now) (a .area .now) (a .index .now) (t .pre) _ _ _ (sound k) _ _ _ _ _ (b .build .ensures)
+    (c .before .before .before .before .keys .given .1) (c .before .count .ensures) (c .record-of .ensures)
 
 pub recover-image-spec : {M : Type 1} → statement M
 recover-image-spec =
@@ -122,6 +131,7 @@ recover-image-spec =
     enum-known-keys
     cast-record-of
     cast-record-of-2
+    count-requires
     record-of-requires
     returns
     same-length

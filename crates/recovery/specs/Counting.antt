@@ -1,0 +1,36 @@
+-- 02, R-5: the present bytes of the slots as recovery counts them, over the cells of the index, for any cells and any area.
+use Prim.Native.Nat.{ℕ, _-_, _/_, _≤_}
+use mathlib.Core.List.{List, [], _∷_}
+use lib.Dec.{eqb}
+use lib.ListN.{getD, replicate}
+use Rattle.segment.specs.Choice.{pick}
+use Rattle.segment.specs.Layout.{Layout}
+use Rattle.segment.specs.Area.{standsAt}
+use Rattle.segment.specs.declared.Read.{Read}
+use Rattle.model.specs.Counts.{moreBytes}
+
+-- an object's whole length; a tombstone counts for nothing, as does a place where no entry stands
+unfoldable pub objectLength : Read → ℕ
+objectLength (Read.Object k v kind n) = n
+objectLength (Read.Tombstone k v n) = 0
+objectLength Read.End = 0
+objectLength Read.Damage = 0
+
+abbrev pub objectAt : Layout → ℕ → List ℕ → ℕ → ℕ
+objectAt L S area p = objectLength (standsAt L S area p)
+
+-- One cell more: it is free (0), or one higher than a place, whose object is counted in the number of the place's slot. A slot
+-- that has no number counts for nothing.
+unfoldable pub countCell : Layout → ℕ → List ℕ → ℕ → List ℕ → List ℕ
+countCell L S area c counts = pick (eqb c 0) counts (moreBytes ((c - 1) / S) (objectAt L S area (c - 1)) counts)
+
+unfoldable pub countCells : Layout → ℕ → List ℕ → List ℕ → List ℕ → List ℕ
+countCells L S area [] counts = counts
+countCells L S area (c ∷ cells) counts = countCells L S area cells (countCell L S area c counts)
+
+abbrev pub countedIn : Layout → ℕ → List ℕ → List ℕ → List ℕ
+countedIn L S area cells = countCells L S area cells (replicate 32 0)
+
+-- none of the numbers is above m
+abbrev pub NoneAbove : ℕ → List ℕ → Type 0
+NoneAbove m counts = (i : ℕ) → getD counts i 0 ≤ m
