@@ -18,3 +18,5 @@ pub mod Cases
 pub mod MoreCases
 pub mod RequestCases
 pub mod FullCases
+pub mod Fewest
+pub mod FewestCases

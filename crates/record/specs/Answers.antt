@@ -1,5 +1,6 @@
 -- What each answer says in 01's terms: the refusal's number, or the values that the call gives. 0 is no refusal's number.
 use Prim.Native.Nat.{ℕ}
+use mathlib.Core.List.{List, [], _∷_}
 use mathlib.Core.Option.{Option, none, some}
 use lib.ListN.{replicate}
 use Rattle.record.specs.Refusals.{numberOfRefusal}
@@ -11,6 +12,7 @@ use Rattle.record.specs.declared.RecoverAnswer.{RecoverAnswer}
 use Rattle.record.specs.declared.ReadAnswer.{ReadAnswer}
 use Rattle.record.specs.declared.StartAnswer.{StartAnswer}
 use Rattle.record.specs.declared.StepAnswer.{StepAnswer}
+use Rattle.record.specs.declared.FewestAnswer.{FewestAnswer}
 use Rattle.record.specs.declared.Record.{Record}
 
 -- What an answer says: the number of the refusal, or 0 with the call's values.
@@ -36,6 +38,11 @@ unfoldable pub saidBy : Option Refusal → Said → Said
 saidBy none s = s
 saidBy (some c) s = refusal (numberOfRefusal c)
 
+-- What a question tells besides, as a list of numbers: none where it is refused.
+unfoldable pub toldBy : Option Refusal → List ℕ → List ℕ
+toldBy none t = t
+toldBy (some c) t = []
+
 -- accepted or its number
 abbrev pub formatSaid : FormatAnswer → Said
 formatSaid FormatAnswer.Formatted = taken
@@ -60,6 +67,15 @@ abbrev pub stepSaid : StepAnswer → Said
 stepSaid (StepAnswer.Left k) = takenWith k
 stepSaid (StepAnswer.Done v) = record { refused = 0; stores = 0; version = v .0; kind = 0 }
 stepSaid (StepAnswer.Refused r) = refusal (numberOfRefusal r)
+
+-- the slot is told
+abbrev pub fewestSaid : FewestAnswer → Said
+fewestSaid (FewestAnswer.Slot i) = taken
+fewestSaid (FewestAnswer.Refused r) = refusal (numberOfRefusal r)
+
+abbrev pub fewestTold : FewestAnswer → List ℕ
+fewestTold (FewestAnswer.Slot i) = i ∷ []
+fewestTold (FewestAnswer.Refused r) = []
 
 -- how many stores a pending operation has left; 0 where none is pending
 abbrev pub storesLeft : Pending → ℕ

@@ -1,4 +1,4 @@
-// The store record, the pending operation, the refusals and the answers of the seven calls.
+// The store record, the pending operation, the refusals and the answers of the calls.
 use segment::DigestNumber;
 use segment::Version;
 ghost use mathlib.Core.Path.{_≡_};
@@ -151,6 +151,17 @@ pub enum StepAnswer {
 
 pub struct Stepped {
     pub answer: StepAnswer,
+    pub rec: Record,
+}
+
+// The slot of the log that has the fewest present bytes (02, R-5).
+pub enum FewestAnswer {
+    Slot(u32),
+    Refused(Refusal),
+}
+
+pub struct Fewest {
+    pub answer: FewestAnswer,
     pub rec: Record,
 }
 

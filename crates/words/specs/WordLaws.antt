@@ -2,31 +2,48 @@
 use Prim.Native.Nat.{ℕ, zero, suc, _+_, _≤_, _<_}
 use mathlib.Core.Path.{_≡_, refl, sym, ap, _∙_}
 use mathlib.Core.Bool.{Bool, true, false}
-use mathlib.Core.List.{List, [], _∷_, _++_}
-use native.Mathlib.Nat.{zero-add}
+use mathlib.Core.List.{List, [], _∷_, _++_, append-nil}
 use native.Mathlib.Omega.{arith}
 use lib.Dec.{eqb, leb}
-use lib.ListN.{length, getD, set, take, drop, take-append-drop}
-use lib.Seq.{sets, sets-eq, drop-cons, length-take-le}
+use lib.ListN.{length, getD, set, replicate, take, drop, take-append-drop, length-drop, length-append}
+use lib.Seq.{sets, sets-eq, length-sets, drop-cons, length-take-le, take-add, take-at, drop-set-lt}
 use borrow.Author.Tests.{leb-true, le-leb, lt-leb, eqb-true, eqb-false, eq-eqb, ne-eqb}
-use Rattle.segment.specs.Choice.{pick, pick-true, pick-false, both, both-left, both-right, both-false-left, either}
+use Rattle.segment.specs.Choice.{pick, pick-true, pick-false, both, both-left, both-right, both-false-left, both-true, either}
 use Rattle.record.specs.Answers.{blank, withPending}
 use Rattle.record.specs.declared.Pending.{Pending}
 use Rattle.record.specs.declared.Pending.the-variants.{Idle, Append, NewHead, Clean, Forget}
 use Rattle.record.specs.declared.Record.{Record}
-use Rattle.words.specs.Words.{recordWords, numberWords, pendingWords, wordsOf, word, zeros, pendingFits, pendingOf, recordIn, isRecord, decoded}
+use Rattle.words.specs.Words.{recordWords, numberWords, pendingWords, wordsOf, word, zeros, reserveZero, pendingFits, pendingOf, countsIn, recordIn, isRecord, decoded}
 use Rattle.words.specs.declared.Decoded.{Decoded}
 
 -- ---- what the code does, in its steps
 
--- the numbers first, and then the pending operation
-pub numbers-first : (w w₁ w₂ : List ℕ) (r : Record) → w₁ ≡ sets w 0 (numberWords r) → w₂ ≡ sets w₁ 9 (pendingWords (r .pending))
-    → w₂ ≡ sets w 0 (wordsOf r)
-numbers-first w w₁ w₂ r e₁ e₂ = e₂ ∙ ap (λ (l : List ℕ). sets l 9 (pendingWords (r .pending))) e₁
+-- the words behind a pending operation
+after-pending : (w : List ℕ) (p : Pending) (cs : List ℕ) → sets (sets w 12 (pendingWords p)) 17 cs ≡ sets w 12 (pendingWords p ++ cs)
+after-pending w Idle cs = refl
+after-pending w (Append n k) cs = refl
+after-pending w (NewHead s n k) cs = refl
+after-pending w (Clean s v n k) cs = refl
+after-pending w (Forget s v n k) cs = refl
+
+-- the numbers first, then the pending operation, then the counts
+pub in-order : (w w₁ w₂ w₃ : List ℕ) (r : Record) → w₁ ≡ sets w 0 (numberWords r) → w₂ ≡ sets w₁ 12 (pendingWords (r .pending)) → w₃ ≡ sets w₂ 17 (r .counts)
+    → w₃ ≡ sets w 0 (wordsOf r)
+in-order w w₁ w₂ w₃ r e₁ e₂ e₃ =
+    e₃
+    ∙ ap (λ (l : List ℕ). sets l 17 (r .counts)) e₂
+    ∙ ap (λ (l : List ℕ). sets (sets l 12 (pendingWords (r .pending))) 17 (r .counts)) e₁
+    ∙ after-pending (sets w 0 (numberWords r)) (r .pending) (r .counts)
+
+-- the counts are copied over 32 zeros
+pub copied-counts : (w cs : List ℕ) → recordWords ≤ length w → cs ≡ sets (replicate 32 0) 0 (countsIn w) → cs ≡ countsIn w
+copied-counts w cs h e =
+    let l : length (countsIn w) ≡ 32 = length-take-le 32 (drop 17 w) (omega (arith, length-drop 17 w)) in
+    e ∙ sets-eq (countsIn w) (replicate 32 0) 0 (omega arith) ∙ rw l (append-nil (countsIn w))
 
 -- in each arm the operation is known
-pub known-pending : (w w′ : List ℕ) {p q : Pending} → p ≡ q → w′ ≡ sets w 9 (pendingWords q) → w′ ≡ sets w 9 (pendingWords p)
-known-pending w w′ e f = f ∙ ap (λ (x : Pending). sets w 9 (pendingWords x)) (sym e)
+pub known-pending : (w w′ : List ℕ) {p q : Pending} → p ≡ q → w′ ≡ sets w 12 (pendingWords q) → w′ ≡ sets w 12 (pendingWords p)
+known-pending w w′ e f = f ∙ ap (λ (x : Pending). sets w 12 (pendingWords x)) (sym e)
 
 pub zeros-on : (a b : ℕ) → a ≡ 0 → eqb b 0 ≡ zeros a b
 unfolding zeros both
@@ -107,33 +124,71 @@ unfolding isRecord
 too-short w h = both-false-left _ _ (lt-leb recordWords (length w) h)
 
 pub long-enough : (w : List ℕ) → recordWords ≤ length w
-    → isRecord w ≡ pendingFits (word w 9) (word w 10) (word w 11) (word w 12) (word w 13)
+    → isRecord w ≡ both (reserveZero (word w 8) (word w 10) (word w 11)) (pendingFits (word w 12) (word w 13) (word w 14) (word w 15) (word w 16))
 unfolding isRecord both
 long-enough w h = rw (le-leb recordWords (length w) h)
 
 -- ---- a record's words decode to the record
 
--- a run of stores at the front of what is long enough
-filled : (w : List ℕ) (r : Record) (p : Pending) → recordWords ≤ length w
-    → (rest : List ℕ) × (sets w 0 (numberWords r ++ pendingWords p) ≡ numberWords r ++ pendingWords p ++ rest)
-filled w r Idle h = (_, sets-eq (numberWords r ++ pendingWords Idle) w 0 h)
-filled w r (Append n k) h = (_, sets-eq (numberWords r ++ pendingWords (Append n k)) w 0 h)
-filled w r (NewHead s n k) h = (_, sets-eq (numberWords r ++ pendingWords (NewHead s n k)) w 0 h)
-filled w r (Clean s v n k) h = (_, sets-eq (numberWords r ++ pendingWords (Clean s v n k)) w 0 h)
-filled w r (Forget s v n k) h = (_, sets-eq (numberWords r ++ pendingWords (Forget s v n k)) w 0 h)
+pending-five : (p : Pending) → length (pendingWords p) ≡ 5
+pending-five Idle = refl
+pending-five (Append n k) = refl
+pending-five (NewHead s n k) = refl
+pending-five (Clean s v n k) = refl
+pending-five (Forget s v n k) = refl
 
-says : (r : Record) (p : Pending) (rest : List ℕ) → decoded (numberWords r ++ pendingWords p ++ rest) ≡ record { ok = true; rec = withPending r p }
-unfolding pendingFits pendingOf zeros pick both either
-says r Idle rest = let w = numberWords r ++ pendingWords Idle ++ rest in decoded-record w (long-enough w (omega arith))
-says r (Append n k) rest = let w = numberWords r ++ pendingWords (Append n k) ++ rest in decoded-record w (long-enough w (omega arith))
-says r (NewHead s n k) rest = let w = numberWords r ++ pendingWords (NewHead s n k) ++ rest in decoded-record w (long-enough w (omega arith))
-says r (Clean s v n k) rest = let w = numberWords r ++ pendingWords (Clean s v n k) ++ rest in decoded-record w (long-enough w (omega arith))
-says r (Forget s v n k) rest = let w = numberWords r ++ pendingWords (Forget s v n k) ++ rest in decoded-record w (long-enough w (omega arith))
+all-words : (r : Record) → length (r .counts) ≡ 32 → length (wordsOf r) ≡ recordWords
+all-words r l = omega (arith, length-append (pendingWords (r .pending)) (r .counts), pending-five (r .pending))
 
-pub decode-encode : (r : Record) (w : List ℕ) → recordWords ≤ length w → decoded (sets w 0 (wordsOf r)) ≡ record { ok = true; rec = r }
-decode-encode r w h =
-    let f = filled w r (r .pending) h in
-    ap decoded (f .1) ∙ says r (r .pending) (f .0)
+-- a record whose numbers and counts are those of r
+abbrev likewise : Record → List ℕ → Pending → Decoded
+likewise r c p =
+    record {
+      ok = true;
+      rec =
+          record {
+            slots = r .slots;
+            size = r .size;
+            cells = r .cells;
+            head = r .head;
+            end = r .end;
+            digest = r .digest;
+            map = r .map;
+            next = r .next;
+            keys = r .keys;
+            counts = c;
+            pending = p;
+          };
+    }
+
+module _ (r : Record) (rest : List ℕ) (l : length (r .counts) ≡ 32) where
+  enough : 32 ≤ length (r .counts ++ rest)
+  enough = omega (arith, length-append (r .counts) rest)
+
+  front : take 32 (r .counts ++ rest) ≡ r .counts
+  front = take-at (r .counts) rest 32 l
+
+  says : (p : Pending) → decoded (numberWords r ++ pendingWords p ++ r .counts ++ rest) ≡ record { ok = true; rec = withPending r p }
+  unfolding reserveZero pendingFits pendingOf zeros pick both either
+  says Idle =
+      let w = numberWords r ++ pendingWords Idle ++ r .counts ++ rest in
+      decoded-record w (long-enough w (omega (arith, enough))) ∙ ap (λ (c : List ℕ). likewise r c Idle) front
+  says (Append n k) =
+      let w = numberWords r ++ pendingWords (Append n k) ++ r .counts ++ rest in
+      decoded-record w (long-enough w (omega (arith, enough))) ∙ ap (λ (c : List ℕ). likewise r c (Append n k)) front
+  says (NewHead s n k) =
+      let w = numberWords r ++ pendingWords (NewHead s n k) ++ r .counts ++ rest in
+      decoded-record w (long-enough w (omega (arith, enough))) ∙ ap (λ (c : List ℕ). likewise r c (NewHead s n k)) front
+  says (Clean s v n k) =
+      let w = numberWords r ++ pendingWords (Clean s v n k) ++ r .counts ++ rest in
+      decoded-record w (long-enough w (omega (arith, enough))) ∙ ap (λ (c : List ℕ). likewise r c (Clean s v n k)) front
+  says (Forget s v n k) =
+      let w = numberWords r ++ pendingWords (Forget s v n k) ++ r .counts ++ rest in
+      decoded-record w (long-enough w (omega (arith, enough))) ∙ ap (λ (c : List ℕ). likewise r c (Forget s v n k)) front
+
+pub decode-encode : (r : Record) (w : List ℕ) → length (r .counts) ≡ 32 → recordWords ≤ length w
+    → decoded (sets w 0 (wordsOf r)) ≡ record { ok = true; rec = r }
+decode-encode r w l h = ap decoded (sets-eq (wordsOf r) w 0 (omega (arith, all-words r l))) ∙ says r _ l (r .pending)
 
 -- ---- words that decode to a record are its words
 
@@ -180,17 +235,49 @@ unfolding wordsFrom
 from-words w i zero h = refl
 from-words w i (suc n) h = rw (drop-cons w i 0 (omega arith)) (ap (λ (l : List ℕ). word w i ∷ l) (from-words w (suc i) n (omega arith)))
 
-sets-same : (w : List ℕ) (n : ℕ) → n ≤ length w → sets w 0 (take n w) ≡ w
-sets-same w n h =
-    let l : length (take n w) ≡ n = length-take-le n w h in
-    sets-eq (take n w) w 0 (omega arith) ∙ rw (l, zero-add n) (take-append-drop n w)
+-- a part that is stored where it stands
+part-same : (w : List ℕ) (i n : ℕ) → i + n ≤ length w → sets w i (take n (drop i w)) ≡ w
+part-same w i n h =
+    let l : length (take n (drop i w)) ≡ n = length-take-le n (drop i w) (omega (arith, length-drop i w)) in
+    sets-eq (take n (drop i w)) w i (omega arith)
+    ∙ rw l (ap (λ (x : List ℕ). x ++ drop (i + n) w) (sym (take-add i n w)) ∙ take-append-drop (i + n) w)
 
-pub encode-decode : (w : List ℕ) → isRecord w ≡ true → sets w 0 (wordsOf (recordIn w)) ≡ w
-unfolding wordsFrom
-encode-decode w e =
-    let long = record-long w e in
-    let fits = sym (long-enough w long) ∙ e in
-    let back = pending-back (word w 9) (word w 10) (word w 11) (word w 12) (word w 13) fits in
-    ap (λ (l : List ℕ). sets w 0 (numberWords (recordIn w) ++ l)) back
-    ∙ ap (λ (l : List ℕ). sets w 0 l) (sym (from-words w 0 14 long))
-    ∙ sets-same w 14 long
+-- stores before a place leave what stands from it on
+behind-sets : (vs w : List ℕ) (i n : ℕ) → i + length vs ≤ n → drop n (sets w i vs) ≡ drop n w
+behind-sets [] w i n h = refl
+behind-sets (x ∷ vs) w i n h = behind-sets vs (set w i x) (suc i) n (omega arith) ∙ drop-set-lt n w i x (omega arith)
+
+module _ (w : List ℕ) (e : isRecord w ≡ true) where
+  tests : both (reserveZero (word w 8) (word w 10) (word w 11)) (pendingFits (word w 12) (word w 13) (word w 14) (word w 15) (word w 16)) ≡ true
+  tests = sym (long-enough w (record-long w e)) ∙ e
+
+  numbers-same : sets w 0 (numberWords (recordIn w)) ≡ w
+  unfolding reserveZero wordsFrom
+  numbers-same =
+      let reserve = both-left _ _ tests in
+      let high : word w 8 ≡ 0 = zeros-left (word w 8) (word w 10) (both-left _ _ reserve) in
+      let edition : word w 10 ≡ 0 = zeros-right (word w 8) (word w 10) (both-left _ _ reserve) in
+      let switch : word w 11 ≡ 0 = eqb-true (word w 11) 0 (both-right _ _ reserve) in
+      let same : numberWords (recordIn w) ≡ take 12 w = sym (from-words w 0 12 (omega (arith, record-long w e)) ∙ cc) in
+      ap (λ (l : List ℕ). sets w 0 l) same ∙ part-same w 0 12 (omega (arith, record-long w e))
+
+  counts-same : (p : Pending) → sets (sets w 12 (pendingWords p)) 17 (countsIn w) ≡ sets w 12 (pendingWords p)
+  counts-same p =
+      let v = sets w 12 (pendingWords p) in
+      ap (λ (l : List ℕ). sets v 17 (take 32 l)) (sym (behind-sets (pendingWords p) w 12 17 (omega (arith, pending-five p))))
+      ∙ part-same v 17 32 (omega (arith, record-long w e, length-sets w 12 (pendingWords p)))
+
+  pending-same : sets w 12 (pendingWords (recordIn w .pending)) ≡ w
+  unfolding wordsFrom
+  pending-same =
+      ap (λ (l : List ℕ). sets w 12 l)
+      (pending-back (word w 12) (word w 13) (word w 14) (word w 15) (word w 16) (both-right _ _ tests)
+      ∙ sym (from-words w 12 5 (omega (arith, record-long w e))))
+      ∙ part-same w 12 5 (omega (arith, record-long w e))
+
+  -- Where a record differs from what the words say in its pending operation alone, its words are these with that operation's.
+  pub pending-alone : (p : Pending) → sets w 12 (pendingWords p) ≡ sets w 0 (wordsOf (withPending (recordIn w) p))
+  pending-alone p = in-order w w _ _ (withPending (recordIn w) p) (sym numbers-same) refl (sym (counts-same p))
+
+  pub encode-decode : sets w 0 (wordsOf (recordIn w)) ≡ w
+  encode-decode = sym (pending-alone (recordIn w .pending)) ∙ pending-same

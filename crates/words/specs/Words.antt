@@ -1,10 +1,11 @@
--- The store record as 14 words of 32 bits: its nine numbers in the order of its fields, then the pending operation: a tag, the new head's slot, the victims, the length of what the work
--- buffer holds, and the stores left. A word that an operation has no use for is 0.
+-- The store record as 49 words of 32 bits: its nine numbers in the order of its fields, with three words in reserve between them; then the pending operation: a tag, the new head's
+-- slot, the victims, the length of what the work buffer holds, and the stores left; then the present bytes of the 32 slots. A word in reserve is 0, and so is one that an operation has no
+-- use for. The reserve is for a wider next version (its upper half, behind the lower), and for an edition and a switch, behind the number of keys.
 use Prim.Native.Nat.{ℕ}
 use mathlib.Core.Bool.{Bool, true, false}
 use mathlib.Core.List.{List, [], _∷_, _++_}
 use lib.Dec.{eqb, leb}
-use lib.ListN.{length, getD}
+use lib.ListN.{length, getD, take, drop}
 use Rattle.segment.specs.Choice.{pick, both, either}
 use Rattle.record.specs.Answers.{blank}
 use Rattle.record.specs.declared.Pending.{Pending}
@@ -14,7 +15,7 @@ use Rattle.words.specs.declared.Decoded.{Decoded}
 
 -- how many words a record takes
 abbrev pub recordWords : ℕ
-recordWords = 14
+recordWords = 49
 
 -- ---- the words of a record
 
@@ -26,15 +27,19 @@ pendingWords (Clean s v n k) = 3 ∷ s ∷ v ∷ n ∷ k ∷ []
 pendingWords (Forget s v n k) = 4 ∷ s ∷ v ∷ n ∷ k ∷ []
 
 abbrev pub numberWords : Record → List ℕ
-numberWords r = r .slots ∷ r .size ∷ r .cells ∷ r .head ∷ r .end ∷ r .digest .0 ∷ r .map ∷ r .next .0 ∷ r .keys ∷ []
+numberWords r = r .slots ∷ r .size ∷ r .cells ∷ r .head ∷ r .end ∷ r .digest .0 ∷ r .map ∷ r .next .0 ∷ 0 ∷ r .keys ∷ 0 ∷ 0 ∷ []
 
 abbrev pub wordsOf : Record → List ℕ
-wordsOf r = numberWords r ++ pendingWords (r .pending)
+wordsOf r = numberWords r ++ pendingWords (r .pending) ++ r .counts
 
 -- ---- the record of words
 
 unfoldable pub zeros : ℕ → ℕ → Bool
 zeros a b = both (eqb a 0) (eqb b 0)
+
+-- whether the words in reserve are 0
+unfoldable pub reserveZero : ℕ → ℕ → ℕ → Bool
+reserveZero a b c = both (zeros a b) (eqb c 0)
 
 -- whether five words are those of a pending operation
 unfoldable pub pendingFits : ℕ → ℕ → ℕ → ℕ → ℕ → Bool
@@ -48,6 +53,9 @@ pendingOf t s v n k =
 abbrev pub word : List ℕ → ℕ → ℕ
 word w i = getD w i 0
 
+abbrev pub countsIn : List ℕ → List ℕ
+countsIn w = take 32 (drop 17 w)
+
 abbrev pub recordIn : List ℕ → Record
 recordIn w =
     record {
@@ -59,13 +67,16 @@ recordIn w =
       digest = record { 0 = word w 5 };
       map = word w 6;
       next = record { 0 = word w 7 };
-      keys = word w 8;
-      pending = pendingOf (word w 9) (word w 10) (word w 11) (word w 12) (word w 13);
+      keys = word w 9;
+      counts = countsIn w;
+      pending = pendingOf (word w 12) (word w 13) (word w 14) (word w 15) (word w 16);
     }
 
 -- whether the first words of what is lent are a record's
 unfoldable pub isRecord : List ℕ → Bool
-isRecord w = both (leb recordWords (length w)) (pendingFits (word w 9) (word w 10) (word w 11) (word w 12) (word w 13))
+isRecord w =
+    both (leb recordWords (length w))
+    (both (reserveZero (word w 8) (word w 10) (word w 11)) (pendingFits (word w 12) (word w 13) (word w 14) (word w 15) (word w 16)))
 
 -- the record, or the blank one where the words are no record's
 unfoldable pub decoded : List ℕ → Decoded

@@ -4,16 +4,19 @@ use record::Record;
 use record::blank;
 use segment::DigestNumber;
 use segment::Version;
-ghost use Prim.Native.Nat.{_≤_};
+ghost use Prim.Native.Nat.{_+_, _≤_};
 ghost use mathlib.Core.Path.{_≡_};
 ghost use mathlib.Core.Bool.{true};
 ghost use mathlib.Core.List.{[], _∷_};
 ghost use lib.ListN.{length};
 ghost use lib.Seq.{sets};
-ghost use Rattle.words.specs.Words.{recordWords, numberWords, pendingWords, zeros, pendingFits, pendingOf, wordsOf, recordIn, isRecord, decoded};
+ghost use Rattle.words.specs.Words.{recordWords, numberWords, pendingWords, zeros, reserveZero, pendingFits, pendingOf, wordsOf, countsIn, recordIn, isRecord, decoded};
 
 // How many words a record takes.
-pub const WORDS: usize = 14;
+pub const WORDS: usize = 49;
+
+// The word of the first count.
+const COUNTS: usize = 17;
 
 // Whether words are a record, and the record; the blank one where they are not.
 pub struct Decoded {
@@ -21,21 +24,22 @@ pub struct Decoded {
     pub rec: Record,
 }
 
-// The five words of a pending operation, from the tenth on.
+// The five words of a pending operation.
 fn put_pending(words: &mut [u32], tag: u32, slot: u32, victims: u32, bytes: u32, left: u32)
     requires { ⌜ recordWords ≤ length (now words) ⌝ }
-    ensures { λ _. ⌜ now (words .exit) ≡ sets (now (words .entry)) 9 (tag ∷ slot ∷ victims ∷ bytes ∷ left ∷ []) ⌝ }
+    ensures { λ _. ⌜ now (words .exit) ≡ sets (now (words .entry)) 12 (tag ∷ slot ∷ victims ∷ bytes ∷ left ∷ []) ⌝ }
 {
-    words[9] = tag;
-    words[10] = slot;
-    words[11] = victims;
-    words[12] = bytes;
-    words[13] = left;
+    words[12] = tag;
+    words[13] = slot;
+    words[14] = victims;
+    words[15] = bytes;
+    words[16] = left;
 }
 
-fn encode_pending(p: Pending, words: &mut [u32])
+// The pending operation alone: what a step writes that leaves stores to be done, and with it nothing else of the record.
+pub fn encode_pending(p: Pending, words: &mut [u32])
     requires { ⌜ recordWords ≤ length (now words) ⌝ }
-    ensures { λ _. ⌜ now (words .exit) ≡ sets (now (words .entry)) 9 (pendingWords p) ⌝ }
+    ensures { λ _. ⌜ now (words .exit) ≡ sets (now (words .entry)) 12 (pendingWords p) ⌝ }
 {
     match p {
         Pending::Idle => put_pending(words, 0, 0, 0, 0, 0),
@@ -56,7 +60,7 @@ fn encode_pending(p: Pending, words: &mut [u32])
     }
 }
 
-// The nine numbers of a record besides its pending operation.
+// The numbers of a record before its pending operation, and the words in reserve between them.
 fn put_numbers(rec: Record, words: &mut [u32])
     requires { ⌜ recordWords ≤ length (now words) ⌝ }
     ensures { λ _. ⌜ now (words .exit) ≡ sets (now (words .entry)) 0 (numberWords rec) ⌝ }
@@ -71,7 +75,22 @@ fn put_numbers(rec: Record, words: &mut [u32])
     words[5] = number.0;
     words[6] = rec.map;
     words[7] = next.0;
-    words[8] = rec.keys;
+    words[8] = 0;
+    words[9] = rec.keys;
+    words[10] = 0;
+    words[11] = 0;
+}
+
+// All of `from`, from a place of `to` on.
+fn copy_words(to: &mut [u32], at: usize, from: &[u32])
+    requires { ⌜ at + length (now from) ≤ length (now to) ⌝ }
+    ensures { λ _. ⌜ now (to .exit) ≡ sets (now (to .entry)) at (now (from .entry)) ⌝ }
+{
+    let mut i = 0;
+    while i < from.len() {
+        to[at + i] = from[i];
+        i += 1;
+    }
 }
 
 // The record into the first words of what is lent; the others stay.
@@ -80,8 +99,10 @@ pub fn encode(rec: Record, words: &mut [u32])
     ensures { λ _. ⌜ now (words .exit) ≡ sets (now (words .entry)) 0 (wordsOf rec) ⌝ }
 {
     let pending = rec.pending;
+    let counts = rec.counts;
     put_numbers(rec, words);
     encode_pending(pending, words);
+    copy_words(words, COUNTS, &counts);
 }
 
 // Whether two words are 0.
@@ -89,6 +110,13 @@ fn zeros(a: u32, b: u32) -> bool
     ensures { λ r. ⌜ r ≡ zeros a b ⌝ }
 {
     a == 0 && b == 0
+}
+
+// Whether the three words in reserve are 0.
+fn reserve_zero(high: u32, edition: u32, switch: u32) -> bool
+    ensures { λ r. ⌜ r ≡ reserveZero high edition switch ⌝ }
+{
+    zeros(high, edition) && switch == 0
 }
 
 // Whether five words are those of a pending operation: words that it has no use for are 0.
@@ -127,12 +155,23 @@ fn pending_of(tag: u32, slot: u32, victims: u32, length: u32, left: u32) -> Pend
     }
 }
 
+// The present bytes of the 32 slots.
+fn counts_in(words: &[u32]) -> [u32; 32]
+    requires { ⌜ recordWords ≤ length (now words) ⌝ }
+    ensures { λ r. ⌜ r ≡ countsIn (now (words .entry)) ⌝ }
+{
+    let mut counts = [0; 32];
+    copy_words(&mut counts, 0, &words[COUNTS..WORDS]);
+    counts
+}
+
 // The record that the first words say, where there are enough of them.
 fn record_in(words: &[u32]) -> Record
     requires { ⌜ recordWords ≤ length (now words) ⌝ }
     ensures { λ r. ⌜ r ≡ recordIn (now (words .entry)) ⌝ }
 {
-    let pending = pending_of(words[9], words[10], words[11], words[12], words[13]);
+    let pending = pending_of(words[12], words[13], words[14], words[15], words[16]);
+    let counts = counts_in(words);
     Record {
         slots: words[0],
         size: words[1],
@@ -142,7 +181,8 @@ fn record_in(words: &[u32]) -> Record
         digest: DigestNumber(words[5]),
         map: words[6],
         next: Version(words[7]),
-        keys: words[8],
+        keys: words[9],
+        counts,
         pending,
     }
 }
@@ -154,7 +194,8 @@ fn is_record(words: &[u32]) -> bool
     if words.len() < WORDS {
         return false;
     }
-    pending_fits(words[9], words[10], words[11], words[12], words[13])
+    reserve_zero(words[8], words[10], words[11])
+        && pending_fits(words[12], words[13], words[14], words[15], words[16])
 }
 
 pub fn decode(words: &[u32]) -> Decoded

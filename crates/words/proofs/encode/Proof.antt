@@ -1,6 +1,7 @@
 -- `words::encode` meets its contract.
-use Rattle.words.specs.WordLaws.{numbers-first}
+use native.Mathlib.Omega.{arith}
 use borrow.Author.Needs.{needs}
+use Rattle.words.specs.WordLaws.{in-order}
 use Rattle.words.proofs.encode.Statement.{statement}
 use Rattle.words.proofs.encode.Tie as tie
 
@@ -10,13 +11,27 @@ put-numbers-requires c κs = search needs
 encode-pending-requires : tie.Need-encode-pending-requires
 encode-pending-requires c κs = search needs
 
+slice-aggregate-copy-words : tie.Need-slice-aggregate-copy-words
+slice-aggregate-copy-words c = search needs
+
+copy-words-requires : tie.Need-copy-words-requires
+copy-words-requires c κs = omega (arith, slice-aggregate-copy-words c)
+
 same-length : tie.Need-same-length
 same-length c = search needs
 
 returns : tie.Need-returns
 returns c =
-    let a = c .before .before .before .before .before .before .before .before .before .args in
-    numbers-first (a .words .now) _ _ (a .rec) (c .before .before .before .before .before .before .put-numbers .ensures) (c .before .before .encode-pending .ensures)
+    let a = c .before .before .before .before .before .before .before .before .before .before .before .before .before .before .before .args in
+    in-order (a .words .now) _ _ _ (a .rec) (c .before .before .before .before .before .before .before .before .before .before .before .put-numbers .ensures) (c .before .before .before .before .before .before .before .encode-pending .ensures) (c .before .before .copy-words .ensures)
 
 pub encode-spec : {M : Type 1} → statement M
-encode-spec = tie.close (tie.spec put-numbers-requires encode-pending-requires same-length returns)
+encode-spec =
+    tie.close
+    (tie.spec
+    put-numbers-requires
+    encode-pending-requires
+    slice-aggregate-copy-words
+    copy-words-requires
+    same-length
+    returns)

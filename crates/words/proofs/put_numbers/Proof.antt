@@ -32,6 +32,15 @@ slice-write-words-8 c = simp length-set (omega arith)
 slice-write-words-9 : tie.Need-slice-write-words-9
 slice-write-words-9 c = simp length-set (omega arith)
 
+slice-write-words-10 : tie.Need-slice-write-words-10
+slice-write-words-10 c = simp length-set (omega arith)
+
+slice-write-words-11 : tie.Need-slice-write-words-11
+slice-write-words-11 c = simp length-set (omega arith)
+
+slice-write-words-12 : tie.Need-slice-write-words-12
+slice-write-words-12 c = simp length-set (omega arith)
+
 same-length : tie.Need-same-length
 same-length c = search needs
 
@@ -51,5 +60,8 @@ put-numbers-spec =
     slice-write-words-7
     slice-write-words-8
     slice-write-words-9
+    slice-write-words-10
+    slice-write-words-11
+    slice-write-words-12
     same-length
     returns)

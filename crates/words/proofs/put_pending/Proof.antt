@@ -18,7 +18,7 @@ slice-write-words-4 : tie.Need-slice-write-words-4
 slice-write-words-4 c = simp length-set (omega arith)
 
 slice-write-words-5 : tie.Need-slice-write-words-5
-slice-write-words-5 c = search needs
+slice-write-words-5 c = simp length-set (omega arith)
 
 same-length : tie.Need-same-length
 same-length c = search needs

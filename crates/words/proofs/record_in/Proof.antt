@@ -1,4 +1,4 @@
--- `words::store_of` meets its contract.
+-- `words::record_in` meets its contract.
 use borrow.Author.Needs.{needs}
 use Rattle.words.proofs.record_in.Statement.{statement}
 use Rattle.words.proofs.record_in.Tie as tie
@@ -21,32 +21,35 @@ shared-slice-read-pending-of-5 c = search needs
 pending-of-requires : tie.Need-pending-of-requires
 pending-of-requires c κs = search needs
 
-shared-slice-read-t4 : tie.Need-shared-slice-read-t4
-shared-slice-read-t4 c = search needs
+counts-in-requires : tie.Need-counts-in-requires
+counts-in-requires c κs = search needs
 
-shared-slice-read-t12 : tie.Need-shared-slice-read-t12
-shared-slice-read-t12 c = search needs
+shared-slice-read-t5 : tie.Need-shared-slice-read-t5
+shared-slice-read-t5 c = search needs
 
-shared-slice-read-t10 : tie.Need-shared-slice-read-t10
-shared-slice-read-t10 c = search needs
+shared-slice-read-t13 : tie.Need-shared-slice-read-t13
+shared-slice-read-t13 c = search needs
 
-shared-slice-read-t8 : tie.Need-shared-slice-read-t8
-shared-slice-read-t8 c = search needs
+shared-slice-read-t11 : tie.Need-shared-slice-read-t11
+shared-slice-read-t11 c = search needs
 
-shared-slice-read-t6 : tie.Need-shared-slice-read-t6
-shared-slice-read-t6 c = search needs
+shared-slice-read-t9 : tie.Need-shared-slice-read-t9
+shared-slice-read-t9 c = search needs
 
-shared-slice-read-t19 : tie.Need-shared-slice-read-t19
-shared-slice-read-t19 c = search needs
+shared-slice-read-t7 : tie.Need-shared-slice-read-t7
+shared-slice-read-t7 c = search needs
 
-shared-slice-read-t22 : tie.Need-shared-slice-read-t22
-shared-slice-read-t22 c = search needs
+shared-slice-read-t20 : tie.Need-shared-slice-read-t20
+shared-slice-read-t20 c = search needs
 
-shared-slice-read-t24 : tie.Need-shared-slice-read-t24
-shared-slice-read-t24 c = search needs
+shared-slice-read-t23 : tie.Need-shared-slice-read-t23
+shared-slice-read-t23 c = search needs
 
-shared-slice-read-t27 : tie.Need-shared-slice-read-t27
-shared-slice-read-t27 c = search needs
+shared-slice-read-t25 : tie.Need-shared-slice-read-t25
+shared-slice-read-t25 c = search needs
+
+shared-slice-read-t28 : tie.Need-shared-slice-read-t28
+shared-slice-read-t28 c = search needs
 
 returns : tie.Need-returns
 returns c = cc
@@ -61,13 +64,14 @@ record-in-spec =
     shared-slice-read-pending-of-4
     shared-slice-read-pending-of-5
     pending-of-requires
-    shared-slice-read-t4
-    shared-slice-read-t12
-    shared-slice-read-t10
-    shared-slice-read-t8
-    shared-slice-read-t6
-    shared-slice-read-t19
-    shared-slice-read-t22
-    shared-slice-read-t24
-    shared-slice-read-t27
+    counts-in-requires
+    shared-slice-read-t5
+    shared-slice-read-t13
+    shared-slice-read-t11
+    shared-slice-read-t9
+    shared-slice-read-t7
+    shared-slice-read-t20
+    shared-slice-read-t23
+    shared-slice-read-t25
+    shared-slice-read-t28
     returns)
