@@ -32,8 +32,8 @@ ghost use Rattle.segment.specs.Layout.{edition1};
 ghost use Rattle.model.specs.Operations.{appendCommit, headCommit};
 ghost use Rattle.stepping.specs.Finish.{refusedStep, keysAfter, answeredWith, entryIn, finishEntry, finishAppend, finishHead, finishRebuilt, finishClean, finishForget, oneLess, finishWith, advanced};
 ghost use Rattle.record.specs.Answers.{storesLeft};
-ghost use Rattle.stepping.specs.Next.{PendingIn};
-ghost use Rattle.stepping.specs.Agree.{agreesWith};
+ghost use Rattle.telling.specs.Next.{PendingIn};
+ghost use Rattle.telling.specs.Agree.{agreesWith};
 
 // The record goes back as it was.
 pub fn refused(rec: Record, cause: Refusal) -> Stepped

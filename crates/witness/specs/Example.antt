@@ -29,8 +29,8 @@ use Rattle.index.specs.Insert.{insertedAt, tallied, insertNext, insertAll}
 use Rattle.index.specs.Search.{probe, hasKeyAt}
 use Rattle.starting.specs.Stores.{commitStores}
 use Rattle.stepping.specs.Finish.{keysAfter, answeredWith, foundIn, finishEntry, finishAppend, finishHead, upFrom, finishClean, finishForget, oneLess, finishWith, advanced}
-use Rattle.stepping.specs.Agree.{entryAgrees, slotAgrees, victimsAgree, agreesWith, testedStore}
-use Rattle.stepping.specs.Next.{commitStore, fitsSlot, fitsLeft, slotStore, slotNext, pendingNext}
+use Rattle.telling.specs.Agree.{entryAgrees, slotAgrees, victimsAgree, agreesWith, testedStore}
+use Rattle.telling.specs.Next.{commitStore, fitsSlot, fitsLeft, slotStore, slotNext, pendingNext}
 use Rattle.witness.specs.Answers.{cellsBy}
 use Rattle.witness.specs.Compared.{expectedNumber, callNumbers, eventNumbers, eventValue, compared, events-equal}
 use Rattle.witness.specs.Steps.{storedBy, steppedUnless}

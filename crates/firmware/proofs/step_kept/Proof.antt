@@ -44,7 +44,7 @@ use denote.Triple.Walked.{says, Stays, stay-ref, gave-slice, stay-dropped, walkO
 use denote.Exit.{yes}
 use Rattle.segment.specs.Layout.{edition1}
 use Rattle.model.specs.Promises.{StepPromise}
-use Rattle.stepping.specs.Agree.{StepTested}
+use Rattle.stepping.specs.Tested.{StepTested}
 use Rattle.record.specs.declared.Record.{Record}
 use Rattle.record.specs.declared.Stepped.{Stepped}
 use Rattle.record.proofs.Record as T
