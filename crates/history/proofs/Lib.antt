@@ -3,9 +3,11 @@ pub mod Invariant
 pub mod Starts
 pub mod Finished
 pub mod Steps
+pub mod Tellings
 pub mod Readings
 pub mod Recoveries
 pub mod Theorem
+pub mod Device
 pub mod Books
 pub mod Corollaries
 pub mod Expecting

@@ -10,6 +10,7 @@ use Rattle.record.specs.declared.RecoverAnswer.{RecoverAnswer}
 use Rattle.record.specs.declared.ReadAnswer.{ReadAnswer}
 use Rattle.record.specs.declared.StartAnswer.{StartAnswer}
 use Rattle.record.specs.declared.StepAnswer.{StepAnswer}
+use Rattle.record.specs.declared.TellAnswer.{TellAnswer}
 use Rattle.record.specs.declared.Record.{Record}
 
 -- What an answer says: the number of the refusal, or 0 with the call's values.
@@ -59,6 +60,11 @@ abbrev pub stepSaid : StepAnswer → Said
 stepSaid (StepAnswer.Left k) = takenWith k
 stepSaid (StepAnswer.Done v) = record { refused = 0; stores = 0; version = v .0; kind = 0 }
 stepSaid (StepAnswer.Refused r) = refusal (numberOfRefusal r)
+
+-- accepted or its number; the store that is told stands beside
+abbrev pub tellSaid : TellAnswer → Said
+tellSaid (TellAnswer.At place byte) = taken
+tellSaid (TellAnswer.Refused r) = refusal (numberOfRefusal r)
 
 -- how many stores a pending operation has left; 0 where none is pending
 abbrev pub storesLeft : Pending → ℕ

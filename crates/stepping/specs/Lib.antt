@@ -6,3 +6,4 @@ pub mod EntryLaws
 pub mod CleanLaws
 pub mod ExactLaws
 pub mod StepLaws
+pub mod Foretold

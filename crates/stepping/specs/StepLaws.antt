@@ -46,6 +46,10 @@ use Rattle.stepping.specs.ExactLaws.{Ends, operation-ends}
 use Rattle.telling.specs.declared.NextStore.{NextStore}
 use Rattle.telling.specs.declared.NextStore.the-variants.{At, Bad}
 
+-- no place and some place are not the same
+bad-at : {p b : ℕ} → _≡_ {A = NextStore} Bad (At p b) → ⊥
+bad-at q = let z : _≡_ {A = ℕ} 0 1 = cc in omega arith
+
 -- ---- refused
 
 same-byte : (area : List ℕ) → OneByte area area
@@ -77,7 +81,12 @@ module _ (L : Layout) (r : Record) (area cells work : List ℕ) (c : Refusal) (f
         }
 
     pub refused-tested : StepTested L r area area cells cells work x
-    refused-tested = record { before-store = λ f t. absurd (never f); behind-store = λ d f. inl refl }
+    refused-tested =
+        record {
+          before-store = λ f t. absurd (never f);
+          stores = λ f p b t. absurd (never f);
+          behind-store = λ d f. inl refl;
+        }
 
 -- ---- the stores left of what is laid down
 
@@ -312,6 +321,7 @@ module _ (L : Layout) (roomy : Roomy L) (r : Record) (area cells work : List ℕ
     bad-tested e =
         record {
           before-store = λ f t. refused-same r area cells BadRecord e;
+          stores = λ f p b t. absurd (bad-at (sym bad ∙ t));
           behind-store = λ c f. inl refl;
         }
 
@@ -348,9 +358,13 @@ module _ (L : Layout) (roomy : Roomy L) (r : Record) (area cells work : List ℕ
     pub stored-tested : StepTested L r area (set area p b) cells cells′ work x
     stored-tested =
         record {
-          before-store = λ f t. absurd (not-bad (sym t ∙ at));
+          before-store = λ f t. absurd (bad-at (sym t ∙ at));
+          stores = λ f q c t. same-store q c (sym at ∙ t);
           behind-store = λ c f. inr (last-only c f, late-bad c f);
         }
       where
-        not-bad : _≡_ {A = NextStore} Bad (At p b) → ⊥
-        not-bad q = let z : _≡_ {A = ℕ} 0 1 = cc in omega arith
+        same-store : (q c : ℕ) → _≡_ {A = NextStore} (At p b) (At q c) → set area p b ≡ set area q c
+        same-store q c w =
+            let place : p ≡ q = cc in
+            let byte : b ≡ c = cc in
+            ap (λ (x : ℕ). set area x b) place ∙ ap (set area q) byte

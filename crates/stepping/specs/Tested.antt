@@ -5,7 +5,7 @@ use mathlib.Core.Bool.{true, false}
 use mathlib.Core.List.{List}
 use mathlib.Core.Logic.{_⊎_}
 use mathlib.Core.Option.{none}
-use lib.ListN.{length}
+use lib.ListN.{length, set}
 use Rattle.segment.specs.Choice.{pick-false}
 use Rattle.segment.specs.Layout.{Layout, versionLimit, numberLimit}
 use Rattle.record.specs.Answers.{storesLeft}
@@ -19,14 +19,18 @@ use Rattle.model.specs.Refused.{stepCauses}
 use Rattle.model.specs.Promises.{StepRefused, lentLengths}
 use Rattle.telling.specs.Agree.{agreesWith, testedStore}
 use Rattle.telling.specs.AgreeLaws.{takesVersion, takesNumber, version-disagrees, number-disagrees}
-use Rattle.telling.specs.declared.NextStore.the-variants.{Bad}
+use Rattle.telling.specs.declared.NextStore.the-variants.{At, Bad}
 
--- Whatever the record: where one of these tests fails the step is refused with 4 and changes nothing. Behind its store a step is
--- refused only if it is the last one, with 4, by what it finds in the log or in the index, and hands the record back.
+-- Whatever the record: where one of these tests fails the step is refused with 4 and changes nothing, and where they are passed it makes
+-- the store that they found. Behind its store a step is refused only if it is the last one, with 4, by what it finds in the log or in
+-- the index, and hands the record back.
 pub record StepTested (L : Layout) (r : Record) (area area′ cells cells′ work : List ℕ) (a : Stepped) : Type 0 where
   pub before-store :
       firstCause (stepCauses L r (lentLengths area cells work)) ≡ none → testedStore L (length area) work r ≡ Bad →
       StepRefused r area area′ cells cells′ a BadRecord
+  pub stores :
+      firstCause (stepCauses L r (lentLengths area cells work)) ≡ none → (place byte : ℕ) →
+      testedStore L (length area) work r ≡ At place byte → area′ ≡ set area place byte
   pub behind-store :
       (c : Refusal) → a .answer ≡ StepAnswer.Refused c →
       (area′ ≡ area) ⊎ ((storesLeft (r .pending) ≡ 1) × (a ≡ record { answer = StepAnswer.Refused BadRecord; rec = r }))

@@ -5,3 +5,5 @@ pub mod PlanLaws
 pub mod Agree
 pub mod AgreeLaws
 pub mod TestLaws
+pub mod Told
+pub mod ToldLaws
