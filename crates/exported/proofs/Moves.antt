@@ -9,7 +9,7 @@ use lib.ListN.{length, take, drop}
 use Rattle.segment.specs.Choice.{pick, pick-false}
 use Rattle.segment.specs.Layout.{edition1}
 use Rattle.segment.specs.declared.Key.{Key}
-use Rattle.record.specs.Answers.{Said, refusal, taken, takenWith, recoverSaid, readSaid, startSaid, stepSaid}
+use Rattle.record.specs.Answers.{Said, refusal, taken, takenWith, recoverSaid, readSaid, startSaid, stepSaid, tellSaid}
 use Rattle.record.specs.Range.{fitsLent}
 use Rattle.record.specs.RangeLaws.{blank-unfit}
 use Rattle.record.specs.Refusals.{numberOfRefusal}
@@ -21,21 +21,22 @@ use Rattle.record.specs.declared.Refusal.the-variants.{BadRecord}
 use Rattle.record.specs.declared.StartAnswer.{StartAnswer}
 use Rattle.record.specs.declared.Stepped.{Stepped}
 use Rattle.record.specs.declared.StepAnswer.{StepAnswer}
+use Rattle.record.specs.declared.TellAnswer.{TellAnswer}
 use Rattle.model.specs.Arguments.{typed-key, typed-write, typed-delete, typed-clean}
 use Rattle.model.specs.Operations.{Operation, write, delete, clean, Typed}
 use Rattle.record.specs.declared.Tables.{Tables}
 use Rattle.model.specs.Refused.{Terms, isPending}
 use Rattle.laws.specs.Starts.{early-bad}
-use Rattle.model.specs.Promises.{Begun, begun, readLengths, lentLengths}
+use Rattle.model.specs.Promises.{Begun, begun, readLengths, lentLengths, tellLengths}
 use Rattle.laws.specs.CauseLaws.{cause-first, refusal-number}
 use Rattle.words.specs.Words.{recordWords, isRecord, decoded}
 use Rattle.words.specs.WordLaws.{record-long, decoded-record, decoded-none, decode-encode}
 use Rattle.words.specs.declared.Decoded.{Decoded}
-use Rattle.history.specs.Book.{reads, readsValue, starts, steps, asks, recovers, saying, giving, Event, called}
+use Rattle.history.specs.Book.{reads, readsValue, tells, starts, steps, asks, recovers, Answer, saying, giving, telling, Event, called}
 use Rattle.history.specs.Runs as Store
 use Rattle.history.specs.Runs.{World, recoveredWorld, Run}
-use Rattle.kurdavel.specs.Crossing.{keptWords, wordsAfter, RecoverCrossed, ReadCrossed, ValueCrossed, storesAfter, StartCrossed, leftTold, toldAfter, StepCrossed}
-use Rattle.exported.specs.Runs.{HeldWords, Memory, heldBy, worldOf, KeyArgument, Arguments, numberSaid, stepTold, readTold, recoveredMemory, Exports, start, step, read, readValue, recover, short, cuts, ExportedRun, stop, go}
+use Rattle.kurdavel.specs.Crossing.{keptWords, wordsAfter, RecoverCrossed, ReadCrossed, ValueCrossed, storesAfter, StartCrossed, leftTold, toldAfter, StepCrossed, placeTold, byteTold, TellCrossed}
+use Rattle.exported.specs.Runs.{HeldWords, Memory, heldBy, worldOf, KeyArgument, Arguments, numberSaid, stepTold, readTold, storeTold, recoveredMemory, Exports, start, step, read, readValue, tell, recover, short, cuts, ExportedRun, stop, go}
 
 -- ---- arguments: whatever has its C type is typed
 
@@ -80,6 +81,15 @@ read-said a version kind number e f g = no-stores a ∙ (λ i. readTold (sym e i
     no-stores : (a : ReadAnswer) → readSaid a ≡ readTold (readSaid a .refused) (readSaid a .version) (readSaid a .kind)
     no-stores (ReadAnswer.Present v k) = refl
     no-stores (ReadAnswer.Refused c) = refl
+
+store-told :
+    (a : TellAnswer) (place byte number : ℕ) → number ≡ tellSaid a .refused → place ≡ placeTold a → byte ≡ byteTold a →
+    telling a ≡ storeTold number place byte
+unfolding placeTold byteTold pick
+store-told (TellAnswer.At p b) place byte number e f g = λ i. storeTold (sym e i) (sym f i) (sym g i)
+store-told (TellAnswer.Refused c) place byte number e f g =
+    sym (pick-false (eqb (numberOfRefusal c) 0) (record { said = taken; value = byte ∷ []; place = place }) (saying (refusal (numberOfRefusal c))) (refusal-number c)) ∙
+    ap (λ (k : ℕ). storeTold k place byte) (sym e)
 
 recover-said : (a : RecoverAnswer) (number : ℕ) → number ≡ recoverSaid a .refused → recoverSaid a ≡ numberSaid number taken
 recover-said RecoverAnswer.Recovered number e = taken-said number taken e
@@ -203,6 +213,19 @@ module _ (n s : ℕ) where
       Store.go (Store.ask (Store.read {h = heldBy h} typed (c .promised)))
       (Store.go (Store.ask (Store.readValue {h = heldBy h} typed (c .value))) Store.stop)
 
+  tell-runs :
+      (area work : List ℕ) (h : HeldWords) (m : Option ℕ) (place byte number : ℕ) →
+      (isPending (decoded (h .words) .rec .pending) ≡ true → work ≡ h .work) → TellCrossed (h .words) area work place byte number →
+      Runs (worldOf (record { area = area; held = some h; cells = m }))
+      (called (asks tells) (tellLengths area work) (storeTold number place byte) ∷ []) (worldOf (record { area = area; held = some h; cells = m }))
+  tell-runs area work h m place byte number own c =
+      subst
+      (λ (a : Answer).
+      Runs (worldOf (record { area = area; held = some h; cells = m })) (called (asks tells) (tellLengths area work) a ∷ [])
+      (worldOf (record { area = area; held = some h; cells = m })))
+      (store-told (c .foretold .answer) place byte number (c .numbered) (c .place-told) (c .byte-told))
+      (Store.go (Store.ask (Store.tell {h = heldBy h} own (c .promised))) Store.stop)
+
   -- ---- recovery
 
   module _ (m : Memory) (cells′ words words′ : List ℕ) (rec : Record) (number : ℕ) (long : recordWords ≤ length words) where
@@ -252,6 +275,7 @@ module _ (n s : ℕ) where
   exports-run (read {area} {h} {m} {v} {k} {version} {kind} {number} p c) =
       read-runs area h m v k version kind number p c
   exports-run (readValue {area} {h} {m} {v} {k} {place} {bytes} {number} p c) = value-runs area h m v k place bytes number p c
+  exports-run (tell {area} {work} {h} {m} {place} {byte} {number} own c) = tell-runs area work h m place byte number own c
   exports-run (recover {m} {order} {cells} {cells′} {words} {words′} {number} long c) =
       recover-runs m order cells cells′ words words′ number long c
   exports-run (short less c) = Store.stop

@@ -15,11 +15,11 @@ use Rattle.record.specs.Answers.{Said, refusal, taken, takenWith, readSaid}
 use Rattle.model.specs.Operations.{Operation, write, delete, clean}
 use Rattle.record.specs.declared.Tables.{Tables}
 use Rattle.model.specs.Refused.{Terms, isPending}
-use Rattle.model.specs.Promises.{readLengths, lentLengths}
+use Rattle.model.specs.Promises.{readLengths, lentLengths, tellLengths}
 use Rattle.words.specs.Words.{recordWords, decoded}
-use Rattle.history.specs.Book.{reads, readsValue, starts, steps, asks, recovers, saying, giving, Event, called, cut}
+use Rattle.history.specs.Book.{reads, readsValue, tells, starts, steps, asks, recovers, Answer, saying, giving, Event, called, cut}
 use Rattle.history.specs.Runs.{Held, World}
-use Rattle.kurdavel.specs.Crossing.{RecoverCrossed, ReadCrossed, ValueCrossed, StartCrossed, StepCrossed}
+use Rattle.kurdavel.specs.Crossing.{RecoverCrossed, ReadCrossed, ValueCrossed, StartCrossed, StepCrossed, TellCrossed}
 
 -- ---- what is held
 
@@ -72,6 +72,11 @@ stepTold left version = record { refused = 0; stores = left; version = version; 
 abbrev pub readTold : (number version kind : ℕ) → Said
 readTold number version kind = record { refused = number; stores = 0; version = version; kind = kind }
 
+-- The store that is told, by the number returned and what is told through pointers.
+abbrev pub storeTold : (number place byte : ℕ) → Answer
+storeTold number place byte =
+    pick (eqb number 0) (record { said = taken; value = byte ∷ []; place = place }) (saying (refusal number))
+
 -- ---- the transitions
 
 -- An accepted recovery gives the words and the index; one that is refused with 20 leaves no index, and any other leaves all as it was.
@@ -113,6 +118,14 @@ pub data Exports (n s : ℕ) : Memory → List Event → Memory → Type 0 where
       (called (asks (reads v k)) (readLengths area (h .cells)) (saying (readSaid (c .reading .answer)))
       ∷ called (asks (readsValue v k)) (readLengths area (h .cells)) (giving (take bytes (drop place area)))
       ∷ [])
+      (record { area = area; held = some h; cells = m })
+  -- kurdavel_next_store; while an operation is pending it gets the work buffer that the start filled
+  tell :
+      {area work : List ℕ} {h : HeldWords} {m : Option ℕ} {place byte number : ℕ} →
+      (isPending (decoded (h .words) .rec .pending) ≡ true → work ≡ h .work) →
+      TellCrossed (h .words) area work place byte number →
+      Exports n s (record { area = area; held = some h; cells = m })
+      (called (asks tells) (tellLengths area work) (storeTold number place byte) ∷ [])
       (record { area = area; held = some h; cells = m })
   -- kurdavel_recover with the N and S of the format, any order list, any index and room for the words
   recover :

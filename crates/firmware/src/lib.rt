@@ -7,12 +7,15 @@ use record::Stepped;
 use stepping::step;
 ghost use Rattle.segment.specs.Layout.{edition1};
 ghost use Rattle.model.specs.Promises.{StepPromise};
+ghost use Rattle.stepping.specs.Tested.{StepTested};
 
 // One step of the pending operation, as `step` makes it; the record behind `rec` becomes the one that `step` hands back.
 pub fn step_kept(rec: &mut Record, area: &mut [u8], index: &mut [u32], work: &[u8]) -> StepAnswer
     ensures { λ r.
         ⌜
         StepPromise edition1 (now (rec .entry)) (now (area .entry)) (now (area .exit)) (now (index .entry)) (now (index .exit)) (now (work .entry))
+        (record { answer = r; rec = now (rec .exit) })
+        × StepTested edition1 (now (rec .entry)) (now (area .entry)) (now (area .exit)) (now (index .entry)) (now (index .exit)) (now (work .entry))
         (record { answer = r; rec = now (rec .exit) })
         ⌝ }
 {
@@ -27,6 +30,7 @@ pub fn step_held(rec: Record, area: &mut [u8], index: &mut [u32], work: &[u8]) -
     ensures { λ r.
         ⌜
         StepPromise edition1 rec (now (area .entry)) (now (area .exit)) (now (index .entry)) (now (index .exit)) (now (work .entry)) r
+        × StepTested edition1 rec (now (area .entry)) (now (area .exit)) (now (index .entry)) (now (index .exit)) (now (work .entry)) r
         ⌝ }
 {
     let mut kept = rec;

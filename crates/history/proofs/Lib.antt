@@ -3,10 +3,12 @@ pub mod Invariant
 pub mod Starts
 pub mod Finished
 pub mod Steps
+pub mod Tellings
 pub mod Readings
 pub mod Recoveries
 pub mod Theorem
 pub mod Counting
+pub mod Device
 pub mod Books
 pub mod Corollaries
 pub mod Expecting

@@ -29,14 +29,15 @@ use Rattle.model.specs.Causes.{when, firstCause}
 use Rattle.model.specs.Recovery.{recovered}
 use Rattle.model.specs.Operations.{Operation, write, delete, clean, logNow, writtenEntry, tombstoneEntry, fitsHead, noRoom, laidAppend, laidHead, laidEntry, laidForget, laid, storesFor}
 use Rattle.model.specs.Refused.{Lengths, recordBad, keyAbsent, outsideTables, readCauses}
-use Rattle.model.specs.Promises.{ReadPromise, ValuePromise, readAnswer, presentAnswer, readLengths, Part, partOf, valueAnswer, valuePart}
+use Rattle.model.specs.Promises.{ReadPromise, ValuePromise, readAnswer, presentAnswer, readLengths, Part, partOf, valueAnswer, valuePart, tellLengths}
 use Rattle.laws.specs.CauseLaws.{cause-skip, cause-first}
 use Rattle.laws.specs.MapLaws.{valueAt, unplaced}
 use Rattle.laws.specs.Operated.{OperationLaws}
-use Rattle.history.specs.Book.{Question, reads, readsValue, asks, Answer, saying, giving, called, accepted, Kept, Book, feed, feedCall, versionTold}
-use Rattle.history.specs.Runs.{Held, World, Asked, read, readValue}
+use Rattle.history.specs.Book.{Question, reads, readsValue, tells, asks, Answer, saying, giving, telling, called, accepted, Kept, Book, feed, feedCall, versionTold}
+use Rattle.history.specs.Runs.{Held, World, Asked, read, readValue, tell}
 use Rattle.history.specs.Demand3.{bookAnswer, bookValue, QuestionAgrees, EventAgrees}
 use Rattle.history.proofs.Invariant.{Inv, Holding, HeldGood, Phase, idle, pending, bookEntry, started-accepted, next-of, log-of, with-geometry}
+use Rattle.history.proofs.Tellings.{tell-keeps}
 
 -- ---- the record that is held passes the tests of range and length
 
@@ -249,3 +250,5 @@ module _ (L : Layout) (laws : OperationLaws L) (n s : ℕ) where
   ask-keeps b t (read {area} {h} {m} {v} {k} {a} ty p) inv = read-keeps area h m b t inv (inv .held) k v (readLengths area (h .cells)) a p
   ask-keeps b t (readValue {area} {h} {m} {v} {k} {p} ty promise) inv =
       value-keeps area h m b t inv (inv .held) k v (readLengths area (h .cells)) p promise
+  ask-keeps b t (tell {area} {work} {h} {m} {a} own p) inv =
+      tell-keeps L n s area work h m a b t own p inv (inv .held .phase) (feed-asks b tells (tellLengths area work) (telling (a .answer)))

@@ -6,16 +6,19 @@ use mathlib.Core.Option.{Option, none, some}
 use lib.Dec.{eqb}
 use Rattle.segment.specs.Choice.{pick}
 use Rattle.segment.specs.declared.Key.{Key}
-use Rattle.record.specs.Answers.{Said, taken}
+use Rattle.record.specs.Answers.{Said, taken, refusal}
+use Rattle.record.specs.Refusals.{numberOfRefusal}
 use Rattle.record.specs.declared.Tables.{Tables}
+use Rattle.record.specs.declared.TellAnswer.{TellAnswer}
 use Rattle.model.specs.Log.{sameKeys}
 use Rattle.model.specs.Operations.{Operation, write, delete, clean}
 use Rattle.model.specs.Refused.{Lengths, Terms}
 
--- A call that changes nothing: a read within some tables, and a read of the value.
+-- A call that changes nothing: a read within some tables, a read of the value, and what the next step will store.
 pub data Question : Type 0 where
   reads : Tables → Key → Question
   readsValue : Tables → Key → Question
+  tells : Question
 
 -- A call on the store with its arguments: a start (write, delete or clean) on some terms, a step, a question, a recovery with N, S
 -- and the order list.
@@ -25,17 +28,23 @@ pub data Call : Type 0 where
   asks : Question → Call
   recovers : ℕ → ℕ → List ℕ → Call
 
--- What a call answers: its numbers, and the value bytes that it gives.
+-- What a call answers: its numbers, the bytes that it gives, and the place in the area that it tells, 0 where it tells none.
 pub record Answer : Type 0 where
   pub said : Said
   pub value : List ℕ
+  pub place : ℕ
 
 -- an answer without a value, and a value alone
 abbrev pub saying : Said → Answer
-saying a = record { said = a; value = [] }
+saying a = record { said = a; value = []; place = 0 }
 
 abbrev pub giving : List ℕ → Answer
-giving v = record { said = taken; value = v }
+giving v = record { said = taken; value = v; place = 0 }
+
+-- the place and byte of a store, or the refusal
+abbrev pub telling : TellAnswer → Answer
+telling (TellAnswer.At place byte) = record { said = taken; value = byte ∷ []; place = place }
+telling (TellAnswer.Refused c) = saying (refusal (numberOfRefusal c))
 
 -- A call with the lengths of what it was lent and with what it answered, or a cut. Of a call's input only what the lent memory
 -- holds is not in its event.

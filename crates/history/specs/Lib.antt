@@ -2,4 +2,5 @@
 pub mod Book
 pub mod Runs
 pub mod Demand3
+pub mod Device
 pub mod Finishing

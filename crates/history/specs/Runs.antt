@@ -11,6 +11,7 @@ use Rattle.segment.specs.Choice.{pick}
 use Rattle.segment.specs.Layout.{Layout}
 use Rattle.segment.specs.declared.Key.{Key}
 use Rattle.record.specs.Answers.{recoverSaid, readSaid, startSaid, stepSaid}
+use Rattle.record.specs.declared.Foretold.{Foretold}
 use Rattle.record.specs.declared.Record.{Record}
 use Rattle.record.specs.declared.Recovery.{Recovery}
 use Rattle.record.specs.declared.Reading.{Reading}
@@ -19,8 +20,8 @@ use Rattle.record.specs.declared.Stepped.{Stepped}
 use Rattle.record.specs.declared.Tables.{Tables}
 use Rattle.model.specs.Operations.{Operation, Typed, TypedKey}
 use Rattle.model.specs.Refused.{Lengths, Terms, isPending}
-use Rattle.model.specs.Promises.{RecoverPromise, readLengths, ReadPromise, Part, partOf, ValuePromise, lentLengths, StartPromise, StepPromise}
-use Rattle.history.specs.Book.{Question, reads, readsValue, starts, steps, asks, recovers, Answer, saying, giving, Event, called, cut, accepted}
+use Rattle.model.specs.Promises.{RecoverPromise, readLengths, ReadPromise, Part, partOf, ValuePromise, lentLengths, StartPromise, StepPromise, tellLengths, TellPromise}
+use Rattle.history.specs.Book.{Question, reads, readsValue, tells, starts, steps, asks, recovers, Answer, saying, giving, telling, Event, called, cut, accepted}
 
 -- What the firmware holds from an accepted recovery to the next cut: the newest record, the index of that recovery, and the work
 -- buffer that the last accepted start filled.
@@ -51,7 +52,8 @@ recoveredWorld w cells′ r =
     (record { area = w .area; held = some (record { rec = r .rec; cells = cells′; work = [] }); cells = some (length cells′) })
     (pick (eqb (recoverSaid (r .answer) .refused) 20) (record { area = w .area; held = none; cells = w .cells }) w)
 
--- What a question answers in a world, by its promise. Reads need a record, and are allowed while an operation is pending.
+-- What a question answers in a world, by its promise. Questions need a record, and are allowed while an operation is pending; what the
+-- next step will store is asked with the work buffer that the step will get.
 pub data Asked (L : Layout) : World → Question → Lengths → Answer → Type 0 where
   read :
       {area : List ℕ} {h : Held} {m : Option ℕ} {v : Tables} {k : Key} {a : Reading} → TypedKey k → ReadPromise L (h .rec) area (h .cells) v k a →
@@ -59,6 +61,10 @@ pub data Asked (L : Layout) : World → Question → Lengths → Answer → Type
   readValue :
       {area : List ℕ} {h : Held} {m : Option ℕ} {v : Tables} {k : Key} {p : Part} → TypedKey k → ValuePromise L (h .rec) area (h .cells) v k p →
       Asked L (record { area = area; held = some h; cells = m }) (readsValue v k) (readLengths area (h .cells)) (giving (partOf area p))
+  tell :
+      {area work : List ℕ} {h : Held} {m : Option ℕ} {a : Foretold} → (isPending (h .rec .pending) ≡ true → work ≡ h .work) →
+      TellPromise L (h .rec) area work a →
+      Asked L (record { area = area; held = some h; cells = m }) tells (tellLengths area work) (telling (a .answer))
 
 -- One event. A cut takes what is held and leaves the area with the stores made so far. The stores of an operation are made one by
 -- one, each by a step, and no other call stores anything; so a cut during a call is one before it, or one after it once its store

@@ -197,7 +197,7 @@ module _ (of any : ℕ → Bool) (L : Layout) (r : Record) (log log′ : List Pl
         sym (pending-hidden of any L r log o k) ∙ ap (λ (x : List Placed). laid L r x (hiddenOperation any o) .pending k) logs ∙
         ap (λ (x : Operation). laid L r (hiddenLog of log′) x .pending k) same ∙ pending-hidden of any L r log′ o′ k
 
-    long-same : length (laid L r log o .bytes) ≡ length (laid L r log′ o′ .bytes)
+    pub long-same : length (laid L r log o .bytes) ≡ length (laid L r log′ o′ .bytes)
     long-same =
         sym (bytes-hidden of any L r log o) ∙ ap (λ (x : List Placed). length (laid L r x (hiddenOperation any o) .bytes)) logs ∙
         ap (λ (x : Operation). length (laid L r (hiddenLog of log′) x .bytes)) same ∙ bytes-hidden of any L r log′ o′

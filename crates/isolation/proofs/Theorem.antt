@@ -18,17 +18,17 @@ use Rattle.model.specs.Log.{Placed}
 use Rattle.model.specs.Causes.{firstCause}
 use Rattle.record.specs.Reach.{holdsTable}
 use Rattle.model.specs.Refused.{Lengths, Terms, readCauses}
-use Rattle.model.specs.Promises.{RecoverPromise, StartPromise, Genuine, ReadPromise, ValuePromise, partOf, readLengths, lentLengths}
+use Rattle.model.specs.Promises.{RecoverPromise, StartPromise, Genuine, ReadPromise, ValuePromise, partOf, readLengths, lentLengths, tellLengths}
 use Rattle.laws.specs.CauseLaws.{no-cause}
 use Rattle.laws.specs.Starts.{StartInside, start-inside}
 use Rattle.laws.specs.Entering.{Roomy}
 use Rattle.laws.specs.Operated.{OperationLaws}
 use Rattle.laws.specs.OperationsKept.{operation-laws, edition1-roomy}
-use Rattle.history.specs.Book.{Question, reads, readsValue, Call, starts, steps, asks, recovers, Answer, saying, giving, Event, called, cut, Book, freshBook, feed, versionTold}
-use Rattle.history.specs.Runs.{World, freshWorld, Asked, read, readValue, Moves, start, step, ask, recover, cuts, Run, stop, go}
+use Rattle.history.specs.Book.{Question, reads, readsValue, tells, telling, Call, starts, steps, asks, recovers, Answer, saying, giving, Event, called, cut, Book, freshBook, feed, versionTold}
+use Rattle.history.specs.Runs.{World, freshWorld, Asked, read, readValue, tell, Moves, start, step, ask, recover, cuts, Run, stop, go}
 use Rattle.history.proofs.Invariant.{Inv, HeldGood, baseCells}
 use Rattle.history.proofs.Theorem.{move-keeps, fresh}
-use Rattle.isolation.specs.Owners.{Owner, servo, media, blankedOperation, blanked, SameCall, SameInput, SameInputs, SameAnswer, SameAnswers, sameOwner, startRange, rangeOf, rangeHolds, gives}
+use Rattle.isolation.specs.Owners.{Owner, servo, media, blankedOperation, blanked, SameCall, SameInput, SameInputs, SameNumbers, SameToServo, SameAnswer, SameAnswers, sameOwner, startRange, rangeOf, rangeHolds, gives}
 use Rattle.isolation.specs.Isolation.{IsolationFor, Isolation}
 use Rattle.isolation.proofs.Hidden.{zeroed}
 use Rattle.isolation.proofs.Operations.{hiddenOperation}
@@ -36,6 +36,7 @@ use Rattle.isolation.proofs.Pair.{HeldBoth, Pair}
 use Rattle.isolation.proofs.PairStarts.{held-alike, start-both}
 use Rattle.isolation.proofs.PairSteps.{step-both}
 use Rattle.isolation.proofs.PairReads.{read-both, value-both}
+use Rattle.isolation.proofs.PairTells.{tell-both}
 use Rattle.isolation.proofs.PairRecoveries.{cut-both, recover-both}
 
 -- ---- what the same input says
@@ -74,9 +75,20 @@ same-kind (recovers n s order) (asks q) e = let z : _≡_ {A = ℕ} 0 1 = cc in 
 
 -- what is the same whole serves either owner
 answer-own : (who : Owner) (c c′ : Call) (l l′ : Lengths) (a : Answer) → SameAnswer who (called c l a) (called c′ l′ a)
-unfolding SameAnswer
-answer-own servo c c′ l l′ a = refl
-answer-own media c c′ l l′ a = refl
+unfolding SameAnswer SameToServo
+answer-own servo (starts q o) c′ l l′ a = refl
+answer-own servo steps c′ l l′ a = refl
+answer-own servo (asks (reads u k)) c′ l l′ a = refl
+answer-own servo (asks (readsValue u k)) c′ l l′ a = refl
+answer-own servo (asks tells) c′ l l′ a = (refl, refl)
+answer-own servo (recovers n s order) c′ l l′ a = refl
+answer-own media c c′ l l′ a = (refl, refl)
+
+-- and numbers alone serve either owner of the call that tells the next store
+numbers-same : (who : Owner) (l l′ : Lengths) (a a′ : Answer) → SameNumbers a a′ → SameAnswer who (called (asks tells) l a) (called (asks tells) l′ a′)
+unfolding SameAnswer SameToServo
+numbers-same servo l l′ a a′ e = e
+numbers-same media l l′ a a′ e = e
 
 answer-same : (who : Owner) (c c′ : Call) (l l′ : Lengths) (a a′ : Answer) → a ≡ a′ → SameAnswer who (called c l a) (called c′ l′ a′)
 answer-same who c c′ l l′ a a′ e = subst (λ (x : Answer). SameAnswer who (called c l a) (called c′ l′ x)) e (answer-own who c c′ l l′ a)
@@ -178,9 +190,9 @@ module _ (L : Layout) (roomy : Roomy L) (n s : ℕ) (of : ℕ → Bool) where
           (who : Owner) → Covers of who (called (asks (readsValue u k)) (readLengths area (h .cells)) (giving (partOf area p))) →
           SameAnswer who (called (asks (readsValue u k)) (readLengths area (h .cells)) (giving (partOf area p)))
           (called (asks (readsValue u′ k′)) (readLengths area′ (h′ .cells)) (giving (partOf area′ p′)))
-      by-owner media c = unfold SameAnswer in refl
+      by-owner media c = unfold SameAnswer in (refl, refl)
       by-owner servo c =
-          unfold SameAnswer Covers rangeOf rangeHolds in
+          unfold SameAnswer SameToServo Covers rangeOf rangeHolds in
           ap giving
           (value-both of L laws area area′ (h .cells) (h′ .cells) (h .rec) (held-alike of L n s area area′ m b h (inv .held) (pair .alike))
           (inv .held .genuine)
@@ -191,6 +203,13 @@ module _ (L : Layout) (roomy : Roomy L) (n s : ℕ) (of : ℕ → Bool) where
           (subst⁻¹ (λ (r : Record). ValuePromise L r area′ (h′ .cells) u′ k′ p′) (pair .held .rec-same) q′))))
   asked-both b b′ t t′ who (read ty p) (readValue ty′ q′) inv inv′ pair e lent c = let z : _≡_ {A = ℕ} 0 1 = cc in absurd (omega arith)
   asked-both b b′ t t′ who (readValue ty q) (read ty′ p′) inv inv′ pair e lent c = let z : _≡_ {A = ℕ} 0 1 = cc in absurd (omega arith)
+  asked-both b b′ t t′ who (tell {area} {work} {h} {m} {a} own p) (tell {area = area′} {work = work′} {h = h′} {m = m′} {a = a′} own′ p′) inv inv′ pair e lent c =
+      numbers-same who (tellLengths area work) (tellLengths area′ work′) (telling (a .answer)) (telling (a′ .answer))
+      (tell-both of L area area′ work work′ h h′ a a′ (pair .held) lent own own′ p p′)
+  asked-both b b′ t t′ who (tell own p) (read ty′ p′) inv inv′ pair e lent c = let z : _≡_ {A = ℕ} 0 1 = cc in absurd (omega arith)
+  asked-both b b′ t t′ who (tell own p) (readValue ty′ q′) inv inv′ pair e lent c = let z : _≡_ {A = ℕ} 0 1 = cc in absurd (omega arith)
+  asked-both b b′ t t′ who (read ty p) (tell own′ p′) inv inv′ pair e lent c = let z : _≡_ {A = ℕ} 0 1 = cc in absurd (omega arith)
+  asked-both b b′ t t′ who (readValue ty q) (tell own′ p′) inv inv′ pair e lent c = let z : _≡_ {A = ℕ} 0 1 = cc in absurd (omega arith)
 
   abbrev Both : Owner → World → World → Event → Event → Type 0
   Both who x x′ e e′ = Pair of L n s x x′ × SameAnswer who e e′

@@ -11,7 +11,7 @@ use Rattle.record.specs.declared.Tables.{Tables}
 use Rattle.model.specs.Operations.{Operation, write, delete, clean}
 use Rattle.record.specs.Reach.{holdsTable}
 use Rattle.model.specs.Refused.{Terms}
-use Rattle.history.specs.Book.{reads, readsValue, Call, starts, steps, asks, recovers, Event, called, cut}
+use Rattle.history.specs.Book.{reads, readsValue, tells, Call, starts, steps, asks, recovers, Answer, Event, called, cut}
 
 -- Who made a call. Steps, cleanings, recoveries and cuts are common; it does not matter whose they are said to be.
 pub data Owner : Type 0 where
@@ -55,11 +55,25 @@ SameInputs (who ∷ owners) (e ∷ es) [] = ⊥
 
 -- ---- the same answer
 
--- Servo gets the same answer, the value that it reads among it; of media's answers all numbers are the same: refusals, stores,
--- versions and kinds.
+-- the same in all numbers: refusals, stores, versions, kinds and the place that is told
+abbrev pub SameNumbers : Answer → Answer → Type 0
+SameNumbers a a′ = (a .said ≡ a′ .said) × (a .place ≡ a′ .place)
+
+-- Servo gets the same answer, the value that it reads among it. What the next step will store is the one call whose bytes are nobody's
+-- answer: who drives the device makes it for both owners, and while a write of media's or a cleaning is pending the byte may be one of
+-- media's values. Of it all numbers are the same.
+unfoldable pub SameToServo : Call → Answer → Answer → Type 0
+SameToServo (starts q o) a a′ = a ≡ a′
+SameToServo steps a a′ = a ≡ a′
+SameToServo (asks (reads t k)) a a′ = a ≡ a′
+SameToServo (asks (readsValue t k)) a a′ = a ≡ a′
+SameToServo (asks tells) a a′ = SameNumbers a a′
+SameToServo (recovers n s order) a a′ = a ≡ a′
+
+-- Of media's answers all numbers are the same.
 unfoldable pub SameAnswer : Owner → Event → Event → Type 0
-SameAnswer servo (called c lent a) (called c′ lent′ a′) = a ≡ a′
-SameAnswer media (called c lent a) (called c′ lent′ a′) = a .said ≡ a′ .said
+SameAnswer servo (called c lent a) (called c′ lent′ a′) = SameToServo c a a′
+SameAnswer media (called c lent a) (called c′ lent′ a′) = SameNumbers a a′
 SameAnswer who (called c lent a) cut = ⊥
 SameAnswer who cut (called c lent a) = ⊥
 SameAnswer who cut cut = Unit
@@ -91,6 +105,7 @@ rangeOf (called (starts q o) lent a) = startRange q o
 rangeOf (called steps lent a) = none
 rangeOf (called (asks (reads given k)) lent a) = some given
 rangeOf (called (asks (readsValue given k)) lent a) = some given
+rangeOf (called (asks tells) lent a) = none
 rangeOf (called (recovers n s order) lent a) = none
 rangeOf cut = none
 

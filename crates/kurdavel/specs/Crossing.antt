@@ -9,7 +9,7 @@ use lib.ListN.{length}
 use lib.Seq.{sets}
 use Rattle.segment.specs.Layout.{edition1}
 use Rattle.segment.specs.declared.Key.{Key}
-use Rattle.record.specs.Answers.{formatSaid, recoverSaid, readSaid, startSaid, stepSaid}
+use Rattle.record.specs.Answers.{formatSaid, recoverSaid, readSaid, startSaid, stepSaid, tellSaid}
 use Rattle.record.specs.declared.Record.{Record}
 use Rattle.record.specs.declared.FormatAnswer.{FormatAnswer}
 use Rattle.record.specs.declared.Recovery.{Recovery}
@@ -20,10 +20,14 @@ use Rattle.record.specs.declared.Start.{Start}
 use Rattle.record.specs.declared.StartAnswer.{StartAnswer}
 use Rattle.record.specs.declared.Stepped.{Stepped}
 use Rattle.record.specs.declared.StepAnswer.{StepAnswer}
+use Rattle.record.specs.declared.Foretold.{Foretold}
+use Rattle.record.specs.declared.TellAnswer.{TellAnswer}
 use Rattle.model.specs.Operations.{Operation}
 use Rattle.record.specs.declared.Tables.{Tables}
 use Rattle.model.specs.Refused.{Terms}
-use Rattle.model.specs.Promises.{FormatPromise, RecoverPromise, ReadPromise, ValuePromise, StartPromise, StepPromise}
+use Rattle.model.specs.Promises.{FormatPromise, RecoverPromise, ReadPromise, ValuePromise, StartPromise, StepPromise, TellPromise}
+use Rattle.telling.specs.Told.{toldBy}
+use Rattle.stepping.specs.Tested.{StepTested}
 use Rattle.words.specs.Words.{recordWords, wordsOf, decoded}
 
 -- the words after a call that handed this record back
@@ -111,7 +115,27 @@ toldAfter (StepAnswer.Refused c) old = old
 pub record StepCrossed (words words′ area area′ cells cells′ work : List ℕ) (left left′ version version′ number : ℕ) : Type 0 where
   pub stepped : Stepped
   pub promised : StepPromise edition1 (decoded words .rec) area area′ cells cells′ work stepped
+  pub tested : StepTested edition1 (decoded words .rec) area area′ cells cells′ work stepped
   pub numbered : number ≡ stepSaid (stepped .answer) .refused
   pub left-told : left′ ≡ leftTold (stepped .answer) left
   pub version-told : version′ ≡ toldAfter (stepped .answer) version
   pub says : words′ ≡ keptWords (decoded words .ok) words (stepped .rec)
+
+-- ---- the next store told
+
+unfoldable pub placeTold : TellAnswer → ℕ
+placeTold (TellAnswer.At place byte) = place
+placeTold (TellAnswer.Refused c) = 0
+
+unfoldable pub byteTold : TellAnswer → ℕ
+byteTold (TellAnswer.At place byte) = byte
+byteTold (TellAnswer.Refused c) = 0
+
+-- What is told of the next store, for every input (`toldBy`) and as it is promised; where it is refused place and byte are 0.
+pub record TellCrossed (words area work : List ℕ) (place byte number : ℕ) : Type 0 where
+  pub foretold : Foretold
+  pub found : foretold ≡ toldBy edition1 (decoded words .rec) area work
+  pub promised : TellPromise edition1 (decoded words .rec) area work foretold
+  pub numbered : number ≡ tellSaid (foretold .answer) .refused
+  pub place-told : place ≡ placeTold (foretold .answer)
+  pub byte-told : byte ≡ byteTold (foretold .answer)

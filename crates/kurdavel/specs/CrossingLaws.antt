@@ -1,7 +1,7 @@
 -- What the exported functions promise, from what the calls behind them ensure: one law for each function, over the case of
 -- the answer that a `match` found.
 use Prim.Native.Nat.{ℕ, _+_, _*_, _≤_, _<_}
-use mathlib.Core.Path.{_≡_, refl, sym, ap, _∙_, subst⁻¹}
+use mathlib.Core.Path.{_≡_, refl, sym, ap, _∙_, subst, subst⁻¹}
 use mathlib.Core.Bool.{Bool, true, false, not}
 use mathlib.Core.List.{List}
 use native.Mathlib.Nat.{mul-le-mul}
@@ -12,7 +12,7 @@ use borrow.Author.Tests.{not-true}
 use Rattle.segment.specs.Layout.{edition1}
 use Rattle.segment.specs.declared.Key.{Key}
 use Rattle.segment.specs.declared.Version.{Version}
-use Rattle.record.specs.Answers.{blank, formatSaid, recoverSaid, readSaid, startSaid, stepSaid}
+use Rattle.record.specs.Answers.{blank, formatSaid, recoverSaid, readSaid, startSaid, stepSaid, tellSaid}
 use Rattle.record.specs.Range.{fitsLent}
 use Rattle.record.specs.RangeLaws.{lent, blank-unfit}
 use Rattle.record.specs.declared.Record.{Record}
@@ -24,11 +24,15 @@ use Rattle.record.specs.declared.Start.{Start}
 use Rattle.record.specs.declared.StartAnswer.{StartAnswer}
 use Rattle.record.specs.declared.Stepped.{Stepped}
 use Rattle.record.specs.declared.StepAnswer.{StepAnswer}
+use Rattle.record.specs.declared.Foretold.{Foretold}
+use Rattle.record.specs.declared.TellAnswer.{TellAnswer}
 use Rattle.model.specs.Operations.{Operation}
 use Rattle.record.specs.Reach.{holdsTable}
 use Rattle.record.specs.declared.Tables.{Tables}
 use Rattle.model.specs.Refused.{Terms}
-use Rattle.model.specs.Promises.{FormatPromise, RecoverPromise, ValuePromise, StartPromise, StepPromise}
+use Rattle.model.specs.Promises.{FormatPromise, RecoverPromise, ValuePromise, StartPromise, StepPromise, TellPromise}
+use Rattle.telling.specs.Told as Told
+use Rattle.stepping.specs.Tested.{StepTested}
 use Rattle.index.specs.Search.{searchFor}
 use Rattle.index.specs.declared.Found.{Found}
 use Rattle.recovery.specs.Lookups.{lookupAt, lookedUp, toldBy, partBy}
@@ -37,7 +41,7 @@ use Rattle.recovery.specs.declared.Lookup.{Lookup}
 use Rattle.words.specs.Words.{recordWords, wordsOf, isRecord, decoded}
 use Rattle.words.specs.WordLaws.{record-long, decoded-record, decoded-none}
 use Rattle.words.specs.declared.Decoded.{Decoded}
-use Rattle.kurdavel.specs.Crossing.{FormatCrossed, RecoverCrossed, wordsAfter, ReadCrossed, ValueCrossed, Handed, storesAfter, StartCrossed, keptWords, StepCrossed, leftTold, toldAfter}
+use Rattle.kurdavel.specs.Crossing.{FormatCrossed, RecoverCrossed, wordsAfter, ReadCrossed, ValueCrossed, Handed, storesAfter, StartCrossed, keptWords, StepCrossed, leftTold, toldAfter, placeTold, byteTold, TellCrossed}
 
 -- words that decode to a record are enough of them
 pub ok-long : (words : List ℕ) {d : Decoded} → d ≡ decoded words → d .ok ≡ true → recordWords ≤ length words
@@ -188,16 +192,32 @@ start-crossed {x = x} f p h =
 -- ---- step
 
 pub step-crossed : {words words′ area area′ cells cells′ work : List ℕ} {left left′ version version′ number : ℕ} {d : Decoded} {x : Stepped}
-    {b : StepAnswer} → d ≡ decoded words → StepPromise edition1 (d .rec) area area′ cells cells′ work x
+    {b : StepAnswer} → d ≡ decoded words → StepPromise edition1 (d .rec) area area′ cells cells′ work x × StepTested edition1 (d .rec) area area′ cells cells′ work x
     → words′ ≡ keptWords (d .ok) words (x .rec) → x .answer ≡ b → number ≡ stepSaid b .refused
     → left′ ≡ leftTold b left → version′ ≡ toldAfter b version
     → StepCrossed words words′ area area′ cells cells′ work left left′ version version′ number
 step-crossed {words = words} {left = left} {version = version} {x = x} f p w e m l v =
     record {
       stepped = x;
-      promised = rw (ap (λ (a : Decoded). a .rec) f) at p;
+      promised = rw (ap (λ (a : Decoded). a .rec) f) at (p .0);
+      tested = rw (ap (λ (a : Decoded). a .rec) f) at (p .1);
       numbered = m ∙ ap (λ (a : StepAnswer). stepSaid a .refused) (sym e);
       left-told = l ∙ ap (λ (a : StepAnswer). leftTold a left) (sym e);
       version-told = v ∙ ap (λ (a : StepAnswer). toldAfter a version) (sym e);
       says = w ∙ ap (λ (a : Decoded). keptWords (a .ok) words (x .rec)) f;
+    }
+
+-- ---- the next store told
+
+pub tell-crossed : {words area work : List ℕ} {place byte number : ℕ} {d : Decoded} {x : Foretold} {b : TellAnswer} → d ≡ decoded words
+    → (x ≡ Told.toldBy edition1 (d .rec) area work) × TellPromise edition1 (d .rec) area work x → x .answer ≡ b → number ≡ tellSaid b .refused
+    → place ≡ placeTold b → byte ≡ byteTold b → TellCrossed words area work place byte number
+tell-crossed {words} {area} {work} {x = x} f p e m l v =
+    record {
+      foretold = x;
+      found = p .0 ∙ ap (λ (a : Decoded). Told.toldBy edition1 (a .rec) area work) f;
+      promised = subst (λ (a : Decoded). TellPromise edition1 (a .rec) area work x) f (p .1);
+      numbered = m ∙ ap (λ (a : TellAnswer). tellSaid a .refused) (sym e);
+      place-told = l ∙ ap placeTold (sym e);
+      byte-told = v ∙ ap byteTold (sym e);
     }

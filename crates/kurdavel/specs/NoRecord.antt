@@ -1,5 +1,5 @@
 -- Words that are no record, as the exported calls' contracts have it: every call answers 4, and nothing that is lent changes,
--- but that a value's place and length are told as 0. Format takes no record, and recovery takes words only to write them: there
+-- but that a value's place and length, and a store's place and byte, are told as 0. Format takes no record, and recovery takes words only to write them: there
 -- only too few of them are refused.
 use Prim.Native.Nat.{ℕ, _<_}
 use mathlib.Core.Path.{_≡_, ap, _∙_, subst⁻¹}
@@ -9,7 +9,7 @@ use native.Mathlib.Omega.{arith}
 use lib.ListN.{length}
 use Rattle.segment.specs.Layout.{edition1}
 use Rattle.segment.specs.declared.Key.{Key}
-use Rattle.record.specs.Answers.{blank, readSaid, startSaid, stepSaid}
+use Rattle.record.specs.Answers.{blank, readSaid, startSaid, stepSaid, tellSaid}
 use Rattle.record.specs.Range.{fitsLent}
 use Rattle.record.specs.RangeLaws.{blank-unfit}
 use Rattle.record.specs.declared.Refusal.the-variants.{BadRecord}
@@ -17,6 +17,7 @@ use Rattle.record.specs.declared.ReadAnswer.{ReadAnswer}
 use Rattle.record.specs.declared.StartAnswer.{StartAnswer}
 use Rattle.record.specs.declared.Stepped.{Stepped}
 use Rattle.record.specs.declared.StepAnswer.{StepAnswer}
+use Rattle.record.specs.declared.TellAnswer.{TellAnswer}
 use Rattle.record.specs.declared.Record.{Record}
 use Rattle.model.specs.Operations.{Operation}
 use Rattle.record.specs.declared.Tables.{Tables}
@@ -27,7 +28,7 @@ use Rattle.laws.specs.CauseLaws.{cause-first}
 use Rattle.words.specs.Words.{recordWords, isRecord, decoded}
 use Rattle.words.specs.WordLaws.{decoded-none}
 use Rattle.words.specs.declared.Decoded.{Decoded}
-use Rattle.kurdavel.specs.Crossing.{RecoverCrossed, ReadCrossed, ValueCrossed, storesAfter, StartCrossed, keptWords, StepCrossed, leftTold, toldAfter}
+use Rattle.kurdavel.specs.Crossing.{RecoverCrossed, ReadCrossed, ValueCrossed, storesAfter, StartCrossed, keptWords, StepCrossed, leftTold, toldAfter, placeTold, byteTold, TellCrossed}
 
 -- such words say the blank record, which fails the tests of 4 whatever is lent
 not-ok : (words : List ℕ) → isRecord words ≡ false → decoded words .ok ≡ false
@@ -90,4 +91,14 @@ step-none {words = words} {words′ = words′} {left = left} {version = version
       t .index-same,
       x .left-told ∙ ap (λ (a : StepAnswer). leftTold a left) e,
       x .version-told ∙ ap (λ (a : StepAnswer). toldAfter a version) e,
+    )
+
+pub tell-none : {words area work : List ℕ} {place byte number : ℕ} → isRecord words ≡ false → TellCrossed words area work place byte number
+    → (number ≡ 4) × (place ≡ 0) × (byte ≡ 0)
+unfolding placeTold byteTold
+tell-none {words = words} f x =
+    let e : x .foretold .answer ≡ TellAnswer.Refused BadRecord = x .promised .refused BadRecord (cause-first _ _ (unfit words f _ _)) in (
+      x .numbered ∙ ap (λ (a : TellAnswer). tellSaid a .refused) e,
+      x .place-told ∙ ap placeTold e,
+      x .byte-told ∙ ap byteTold e,
     )

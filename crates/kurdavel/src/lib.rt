@@ -1,4 +1,4 @@
-// The store for a firmware in C or Rust (include/kurdavel.h): the seven calls and the value read, over slices and numbers.
+// The store for a firmware in C or Rust (include/kurdavel.h): the calls and the value read, over slices and numbers.
 // Each function decodes the record from the words that are lent, makes the call, and encodes what it hands back. Nothing is
 // required of the caller's values: words that are no record are refused with 4. The answer is 0 or the refusal's number.
 use firmware::step_held;
@@ -12,6 +12,7 @@ use record::Start;
 use record::StartAnswer;
 use record::StepAnswer;
 use record::Tables;
+use record::TellAnswer;
 use record::number;
 use record::range::fits_lent;
 use record::reach::holds_table;
@@ -26,6 +27,7 @@ use store::clean;
 use store::delete;
 use store::format;
 use store::recover;
+use store::tell;
 use store::write;
 use store::write_expecting;
 use words::WORDS;
@@ -39,7 +41,7 @@ ghost use Rattle.model.specs.Operations.{write, delete, clean};
 ghost use Rattle.model.specs.Refused.{freely, reaching};
 ghost use Rattle.record.specs.declared.Expected.{Expected};
 ghost use Rattle.words.specs.Words.{recordWords};
-ghost use Rattle.kurdavel.specs.Crossing.{FormatCrossed, RecoverCrossed, ReadCrossed, ValueCrossed, StartCrossed, StepCrossed, keptWords, Handed};
+ghost use Rattle.kurdavel.specs.Crossing.{FormatCrossed, RecoverCrossed, ReadCrossed, ValueCrossed, StartCrossed, StepCrossed, TellCrossed, keptWords, Handed};
 
 #[no_mangle]
 pub extern "C" fn kurdavel_format(slots: u32, size: u32, area: &mut [u8]) -> u32
@@ -346,6 +348,39 @@ pub extern "C" fn kurdavel_step(
         StepAnswer::Done(told) => {
             *left = 0;
             *version = told.0;
+            0
+        }
+    }
+}
+
+// Place and byte of the store that the next step will make; both are 0 where it is refused.
+#[no_mangle]
+pub extern "C" fn kurdavel_next_store(
+    words: &[u32],
+    area: &[u8],
+    work: &[u8],
+    place: &mut u32,
+    byte: &mut u32,
+) -> u32
+    ensures { λ r.
+        ⌜
+        TellCrossed (now (words .entry)) (now (area .entry)) (now (work .entry)) (now (place .exit)) (now (byte .exit)) r
+        ⌝ }
+{
+    *place = 0;
+    *byte = 0;
+    let decoded = decode(words);
+    let rec = decoded.rec;
+    let foretold = tell(rec, area, work);
+    let answer = foretold.answer;
+    match answer {
+        TellAnswer::Refused(cause) => number(cause),
+        TellAnswer::At {
+            place: at,
+            byte: stored,
+        } => {
+            *place = at;
+            *byte = stored as u32;
             0
         }
     }

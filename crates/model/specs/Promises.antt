@@ -15,7 +15,7 @@ use Rattle.segment.specs.Choice.{pick}
 use Rattle.segment.specs.Layout.{Layout, entrySize}
 use Rattle.segment.specs.Entry.{Entry, bytesIn, kindOf}
 use Rattle.segment.specs.declared.Key.{Key}
-use Rattle.record.specs.Answers.{Said, taken, takenWith, refusal, saidBy, formatSaid, recoverSaid, readSaid, startSaid, stepSaid, withPending, storesLeft}
+use Rattle.record.specs.Answers.{Said, taken, takenWith, refusal, saidBy, formatSaid, recoverSaid, readSaid, startSaid, stepSaid, tellSaid, withPending, storesLeft}
 use Rattle.record.specs.declared.Pending.{Pending}
 use Rattle.record.specs.declared.Pending.the-variants.{Idle, Append, NewHead, Clean}
 use Rattle.record.specs.declared.Refusal.{Refusal}
@@ -31,12 +31,14 @@ use Rattle.record.specs.declared.Start.{Start}
 use Rattle.record.specs.declared.StartAnswer.{StartAnswer}
 use Rattle.record.specs.declared.Stepped.{Stepped}
 use Rattle.record.specs.declared.StepAnswer.{StepAnswer}
+use Rattle.record.specs.declared.Foretold.{Foretold}
+use Rattle.record.specs.declared.TellAnswer.{TellAnswer}
 use Rattle.model.specs.Log.{Placed, placeOf, present}
 use Rattle.model.specs.Causes.{Cause, firstCause}
 use Rattle.model.specs.Recovery.{recovered, recovery, recoverCauses}
 use Rattle.model.specs.Index.{IndexRule}
 use Rattle.model.specs.Operations.{Operation, Typed, logNow, laid, planFor, storesFor, startedRecord, stored, toldVersion, finishedRecord, formatted}
-use Rattle.model.specs.Refused.{Lengths, Terms, freely, formatCauses, reachCauses, readCauses, earlyCauses, startCauses, stepCauses}
+use Rattle.model.specs.Refused.{Lengths, Terms, freely, formatCauses, reachCauses, readCauses, earlyCauses, startCauses, stepCauses, tellCauses}
 
 -- Each answer is fixed twice over, in two languages: as the value that the call returns, and (`says`) as the number and values
 -- that 01 gives it, by the definitions that the events of a list and the book use.
@@ -263,3 +265,25 @@ pub record StepPromise (L : Layout) (r : Record) (area area′ cells cells′ wo
   pub exact :
       firstCause (stepCauses L r (lentLengths area cells work)) ≡ none → Genuine L area r cells → (s : Started L area r work) →
       StepExact L r area area′ cells cells′ work a s
+
+-- ---- the next store told, for a medium that is no memory
+
+abbrev pub tellLengths : List ℕ → List ℕ → Lengths
+tellLengths area work = record { area = length area; index = 0; work = length work }
+
+-- the store of a started operation whose turn it is: the next element of its plan
+abbrev pub turnOf : (L : Layout) (area : List ℕ) (r : Record) (work : List ℕ) → Started L area r work → ℕ × ℕ
+turnOf L area r work s = getD (planFor L (s .idle) (logNow L (s .before) (s .idle)) (s .operation)) (s .since) (0, 0)
+
+-- Record, area and work buffer are only read. Where a cause of the step holds that needs no index, the first of them is told; else, of a
+-- started operation, place and byte of the store that its next step makes. Whatever is told lies in the area.
+pub record TellPromise (L : Layout) (r : Record) (area work : List ℕ) (a : Foretold) : Type 0 where
+  pub hands-back : a .rec ≡ r
+  pub refused : (c : Refusal) → firstCause (tellCauses L r (tellLengths area work)) ≡ some c → a .answer ≡ TellAnswer.Refused c
+  pub exact :
+      firstCause (tellCauses L r (tellLengths area work)) ≡ none → (s : Started L area r work) →
+      a .answer ≡ TellAnswer.At (turnOf L area r work s .0) (turnOf L area r work s .1)
+  pub inside : (place byte : ℕ) → a .answer ≡ TellAnswer.At place byte → place < length area
+  pub says :
+      ((c : Refusal) × (firstCause (tellCauses L r (tellLengths area work)) ≡ some c)) ⊎ Started L area r work →
+      tellSaid (a .answer) ≡ saidBy (firstCause (tellCauses L r (tellLengths area work))) taken

@@ -194,3 +194,8 @@ earlyCauses L r l t (clean victims) = when (recordBad L r l) BadRecord ∷ []
 -- Step: 4, 3, 6.
 abbrev pub stepCauses : Layout → Record → Lengths → List Cause
 stepCauses L r l = when (recordBad L r l) BadRecord ∷ when (workShort r l) WorkShort ∷ when (not (isPending (r .pending))) NonePending ∷ []
+
+-- Tell, which foretells a step's store: the step's causes. No index is lent, so of the lent lengths 4 looks at the area's alone; the index
+-- counts as long as the record says.
+abbrev pub tellCauses : Layout → Record → Lengths → List Cause
+tellCauses L r l = stepCauses L r (record { area = l .area; index = r .cells; work = l .work })

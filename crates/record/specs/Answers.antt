@@ -13,6 +13,7 @@ use Rattle.record.specs.declared.ReadAnswer.{ReadAnswer}
 use Rattle.record.specs.declared.StartAnswer.{StartAnswer}
 use Rattle.record.specs.declared.StepAnswer.{StepAnswer}
 use Rattle.record.specs.declared.FewestAnswer.{FewestAnswer}
+use Rattle.record.specs.declared.TellAnswer.{TellAnswer}
 use Rattle.record.specs.declared.Record.{Record}
 
 -- What an answer says: the number of the refusal, or 0 with the call's values.
@@ -76,6 +77,11 @@ fewestSaid (FewestAnswer.Refused r) = refusal (numberOfRefusal r)
 abbrev pub fewestTold : FewestAnswer → List ℕ
 fewestTold (FewestAnswer.Slot i) = i ∷ []
 fewestTold (FewestAnswer.Refused r) = []
+
+-- accepted or its number; the store that is told stands beside
+abbrev pub tellSaid : TellAnswer → Said
+tellSaid (TellAnswer.At place byte) = taken
+tellSaid (TellAnswer.Refused r) = refusal (numberOfRefusal r)
 
 -- how many stores a pending operation has left; 0 where none is pending
 abbrev pub storesLeft : Pending → ℕ

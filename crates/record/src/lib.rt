@@ -165,6 +165,17 @@ pub struct Fewest {
     pub rec: Record,
 }
 
+// The store that the next step will make, told before it: its place in the area, and its byte.
+pub enum TellAnswer {
+    At { place: u32, byte: u8 },
+    Refused(Refusal),
+}
+
+pub struct Foretold {
+    pub answer: TellAnswer,
+    pub rec: Record,
+}
+
 // The number of a cause.
 pub fn number(r: Refusal) -> u32
     ensures { λ n. ⌜ n ≡ numberOfRefusal r ⌝ }

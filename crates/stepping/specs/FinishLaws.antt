@@ -35,7 +35,7 @@ use Rattle.index.specs.Insert.{Insertion, inserted}
 use Rattle.index.specs.Build.{Rebuilt}
 use Rattle.index.specs.declared.Built.{Built}
 use Rattle.index.specs.declared.Inserted.{Inserted}
-use Rattle.stepping.specs.Next.{PendingIn}
+use Rattle.telling.specs.Next.{PendingIn}
 use Rattle.stepping.specs.Finish.{After, refusedStep, unfit, keysAfter, answeredWith, lostBy, countsAfter, entryIn, foundIn, finishEntry, finishAppend, finishHead, rebuilt, finishRebuilt, finishClean, finishForget, oneLess, finishWith, advanced}
 
 -- ---- the keys after an insertion

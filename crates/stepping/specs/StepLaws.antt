@@ -15,13 +15,12 @@ use Rattle.segment.specs.Entry.{Entry, Found, entry, end, damage}
 use Rattle.segment.specs.declared.Key.{Key}
 use Rattle.record.specs.Answers.{stepSaid, storesLeft, withPending}
 use Rattle.record.specs.Committed.{committed}
-use Rattle.record.specs.Range.{fitsLent}
 use Rattle.record.specs.RangeLaws.{Lent, lent}
 use Rattle.record.specs.declared.Commit.{Commit}
 use Rattle.record.specs.declared.Pending.{Pending}
 use Rattle.record.specs.declared.Pending.the-variants.{Idle, Append, NewHead, Clean, Forget}
 use Rattle.record.specs.declared.Refusal.{Refusal}
-use Rattle.record.specs.declared.Refusal.the-variants.{BadRecord, WorkShort, NonePending}
+use Rattle.record.specs.declared.Refusal.the-variants.{BadRecord}
 use Rattle.record.specs.declared.StepAnswer.{StepAnswer}
 use Rattle.record.specs.declared.Stepped.{Stepped}
 use Rattle.record.specs.declared.Record.{Record}
@@ -29,9 +28,8 @@ use Rattle.model.specs.Log.{Placed}
 use Rattle.model.specs.Index.{IndexRule}
 use Rattle.model.specs.Operations.{Operation, write, delete, clean, Laid, laid, laidAppend, laidHead, laidEntry, laidForget, fitsHead, noRoom, writtenEntry, tombstoneEntry, logNow, planFor, stored, finishedRecord, toldVersion}
 use Rattle.model.specs.Causes.{firstCause}
-use Rattle.model.specs.Refused.{recordBad, isPending, stepCauses}
+use Rattle.model.specs.Refused.{isPending, stepCauses}
 use Rattle.model.specs.Promises.{Genuine, Started, OneByte, StepRefused, StepPromise, StepExact, stepped, IndexStepped, lentLengths}
-use Rattle.laws.specs.CauseLaws.{cause-none, cause-first, cause-skip}
 use Rattle.laws.specs.Passed.{step-passed}
 use Rattle.laws.specs.SaidLaws.{step-says}
 use Rattle.laws.specs.Stores.{stored-next, stored-all}
@@ -39,64 +37,18 @@ use Rattle.laws.specs.Operated.{Accepted}
 use Rattle.laws.specs.Entering.{Roomy}
 use Rattle.laws.specs.OperationsKept.{operation-laws}
 use Rattle.index.specs.declared.Built.{Built}
-use Rattle.stepping.specs.Agree.{agreesWith, testedStore, StepTested}
-use Rattle.stepping.specs.AgreeLaws.{laid-agrees}
-use Rattle.stepping.specs.PlanLaws.{atOf, accepted, next-started}
+use Rattle.telling.specs.Agree.{testedStore}
+use Rattle.stepping.specs.Tested.{StepTested}
+use Rattle.telling.specs.TestLaws.{tested-turn, never-bad}
+use Rattle.telling.specs.PlanLaws.{atOf, accepted}
 use Rattle.stepping.specs.Finish.{After, refusedStep, answeredWith, foundIn, finishEntry, finishAppend, finishHead, finishClean, finishForget, oneLess, finishWith, advanced}
 use Rattle.stepping.specs.ExactLaws.{Ends, operation-ends}
-use Rattle.stepping.specs.declared.NextStore.{NextStore}
-use Rattle.stepping.specs.declared.NextStore.the-variants.{At, Bad}
+use Rattle.telling.specs.declared.NextStore.{NextStore}
+use Rattle.telling.specs.declared.NextStore.the-variants.{At, Bad}
 
--- ---- the causes, at the tests of the code
-
-pending-left : (p : Pending) → storesLeft p ≡ 0 → ((p ≡ Idle → ⊥) → 0 < storesLeft p) → isPending p ≡ false
-unfolding isPending
-pending-left Idle e h = refl
-pending-left (Append n k) e h = absurd (omega (arith, h (λ q. let z : _≡_ {A = ℕ} 0 1 = cc in absurd (omega arith))))
-pending-left (NewHead i n k) e h = absurd (omega (arith, h (λ q. let z : _≡_ {A = ℕ} 0 1 = cc in absurd (omega arith))))
-pending-left (Clean i v n k) e h = absurd (omega (arith, h (λ q. let z : _≡_ {A = ℕ} 0 1 = cc in absurd (omega arith))))
-pending-left (Forget i v n k) e h = absurd (omega (arith, h (λ q. let z : _≡_ {A = ℕ} 0 1 = cc in absurd (omega arith))))
-
-left-pending : (p : Pending) → (storesLeft p ≡ 0 → ⊥) → isPending p ≡ true
-unfolding isPending
-left-pending Idle h = absurd (h refl)
-left-pending (Append n k) h = refl
-left-pending (NewHead i n k) h = refl
-left-pending (Clean i v n k) h = refl
-left-pending (Forget i v n k) h = refl
-
-no-causes : firstCause [] ≡ none
-unfolding firstCause
-no-causes = refl
-
-module _ (L : Layout) (r : Record) (area cells work : List ℕ) {t : Bool} (found : t ≡ fitsLent L r (length area) (length cells)) where
-  abbrev First : Option Refusal → Type 0
-  First o = firstCause (stepCauses L r (lentLengths area cells work)) ≡ o
-
-  pub step-bad : not t ≡ true → First (some BadRecord)
-  step-bad e = cause-first _ _ (ap not (sym found) ∙ e)
-
-  module _ (fits : not t ≡ false) where
-    pub step-lent : Lent L r (length area) (length cells)
-    step-lent = lent L r (length area) (length cells) (sym found ∙ not-false t fits)
-
-    past-first : recordBad L r (lentLengths area cells work) ≡ false
-    past-first = ap not (sym found) ∙ fits
-
-    pub step-short : length work < r .size → First (some WorkShort)
-    step-short h = cause-skip _ _ past-first ∙ cause-first _ _ (lt-ltb (length work) (r .size) h)
-
-    module _ (long : r .size ≤ length work) {k : ℕ} (left : k ≡ storesLeft (r .pending)) where
-      pub step-none : k ≡ 0 → First (some NonePending)
-      step-none e =
-          cause-skip _ _ past-first ∙ cause-skip _ _ (le-ltb (length work) (r .size) long)
-          ∙ cause-first _ _ (ap not (pending-left (r .pending) (sym left ∙ e) (step-lent .left-some)))
-
-      pub step-goes : (k ≡ 0 → ⊥) → First none
-      step-goes h =
-          cause-none _ _ past-first
-          (cause-none _ _ (le-ltb (length work) (r .size) long)
-          (cause-none _ _ (ap not (left-pending (r .pending) (λ e. h (left ∙ e)))) no-causes))
+-- no place and some place are not the same
+bad-at : {p b : ℕ} → _≡_ {A = NextStore} Bad (At p b) → ⊥
+bad-at q = let z : _≡_ {A = ℕ} 0 1 = cc in omega arith
 
 -- ---- refused
 
@@ -129,7 +81,12 @@ module _ (L : Layout) (r : Record) (area cells work : List ℕ) (c : Refusal) (f
         }
 
     pub refused-tested : StepTested L r area area cells cells work x
-    refused-tested = record { before-store = λ f t. absurd (never f); behind-store = λ d f. inl refl }
+    refused-tested =
+        record {
+          before-store = λ f t. absurd (never f);
+          stores = λ f p b t. absurd (never f);
+          behind-store = λ d f. inl refl;
+        }
 
 -- ---- the stores left of what is laid down
 
@@ -238,23 +195,11 @@ module _ (L : Layout) (roomy : Roomy L) (r : Record) (area cells work : List ℕ
     acc : Accepted L (s .before) (s .idle) (s .operation)
     acc = accepted L (operation-laws L roomy) area r work s
 
-    long-enough : s .idle .size ≤ length work
-    long-enough = subst (λ (x : Record). x .size ≤ length work) (s .record-now) work-long
+    turn : testedStore L (length area) work r ≡ atOf (getD plan (s .since) (0, 0))
+    turn = tested-turn L (operation-laws L roomy) r area work work-long s
 
-    started-agrees : agreesWith L r (r .pending) ≡ true
-    started-agrees =
-        ap (λ (x : Record). agreesWith L x (x .pending)) (s .record-now)
-        ∙ laid-agrees L (s .before) (s .idle) (s .operation) acc (length plan - s .since)
-
-    pub turn : testedStore L (length area) work r ≡ atOf (getD plan (s .since) (0, 0))
-    unfolding testedStore
-    turn = pick-true _ _ _ started-agrees ∙ next-started L (operation-laws L roomy) area r work s long-enough
-
-    pub no-bad : testedStore L (length area) work r ≡ Bad → ⊥
-    no-bad e =
-        let q : Bad ≡ atOf (getD plan (s .since) (0, 0)) = sym e ∙ turn in
-        let z : _≡_ {A = ℕ} 0 1 = cc in
-        omega arith
+    no-bad : testedStore L (length area) work r ≡ Bad → ⊥
+    no-bad = never-bad L (operation-laws L roomy) r area work work-long s
 
     module _ (p b : ℕ) (at : testedStore L (length area) work r ≡ At p b) where
       stores-next : set area p b ≡ stored before (take (suc (s .since)) plan)
@@ -376,6 +321,7 @@ module _ (L : Layout) (roomy : Roomy L) (r : Record) (area cells work : List ℕ
     bad-tested e =
         record {
           before-store = λ f t. refused-same r area cells BadRecord e;
+          stores = λ f p b t. absurd (bad-at (sym bad ∙ t));
           behind-store = λ c f. inl refl;
         }
 
@@ -412,9 +358,13 @@ module _ (L : Layout) (roomy : Roomy L) (r : Record) (area cells work : List ℕ
     pub stored-tested : StepTested L r area (set area p b) cells cells′ work x
     stored-tested =
         record {
-          before-store = λ f t. absurd (never-bad (sym t ∙ at));
+          before-store = λ f t. absurd (bad-at (sym t ∙ at));
+          stores = λ f q c t. same-store q c (sym at ∙ t);
           behind-store = λ c f. inr (last-only c f, late-bad c f);
         }
       where
-        never-bad : _≡_ {A = NextStore} Bad (At p b) → ⊥
-        never-bad q = let z : _≡_ {A = ℕ} 0 1 = cc in omega arith
+        same-store : (q c : ℕ) → _≡_ {A = NextStore} (At p b) (At q c) → set area p b ≡ set area q c
+        same-store q c w =
+            let place : p ≡ q = cc in
+            let byte : b ≡ c = cc in
+            ap (λ (x : ℕ). set area x b) place ∙ ap (set area q) byte

@@ -1,26 +1,19 @@
 // The step: one store of the pending operation, and at the last one the record and the index brought up to date.
-use agree::agrees;
 use finish::advance;
 use finish::refused;
-use next::next_store;
 use record::Record;
 use record::Refusal;
 use record::Stepped;
 use record::range::fits_lent;
 use record::stores_left;
+use telling::NextStore;
+use telling::agree::agrees;
+use telling::next::next_store;
 ghost use Rattle.segment.specs.Layout.{edition1};
 ghost use Rattle.model.specs.Promises.{StepPromise};
-ghost use Rattle.stepping.specs.Agree.{StepTested};
+ghost use Rattle.stepping.specs.Tested.{StepTested};
 
-mod agree;
 mod finish;
-pub mod next;
-
-// Where the next store goes and what it stores. A record that no start and no steps give may have none.
-pub enum NextStore {
-    At { place: usize, byte: u8 },
-    Bad,
-}
 
 // One step of the pending operation. It makes one store, by the one assignment below; for the rest the area is only read, and
 // the work buffer is left as it is. It answers the stores left, and at the last one the version, 0 for a cleaning. Refused

@@ -34,3 +34,7 @@ pub use cleaning::clean::clean;
 // tells its version, and brings record and index up to date. Refused with 4, 3 or 6, it changes nothing, but for one case that
 // no genuine store meets: the last step may find behind its store that the new entry cannot be read or that the index is full.
 pub use stepping::step;
+
+// Tells place and byte of the store that the next step will make, for a medium that is no memory. Only reads. Refused with 4, 3 or
+// 6; of the lent lengths 4 looks at the area's alone.
+pub use telling::tell::tell;

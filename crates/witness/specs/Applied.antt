@@ -22,7 +22,8 @@ use Rattle.model.specs.Play.{opened}
 use Rattle.record.specs.Reach.{holdsTable, allTables}
 use Rattle.model.specs.Recovery.{orderBad, recovery}
 use Rattle.model.specs.Promises.{formatAnswer, areaUnless, FormatPromise, RecoverPromise, ReadPromise, Part, partOf, ValuePromise}
-use Rattle.history.specs.Book.{reads, starts, asks, Answer, saying, Event, called, cut, accepted, bookVersion, Book, freshBook, versionFor, feed, bookOf, highestTold, versionTold}
+use Rattle.record.specs.declared.TellAnswer.{TellAnswer}
+use Rattle.history.specs.Book.{reads, starts, asks, Answer, saying, telling, Event, called, cut, accepted, bookVersion, Book, freshBook, versionFor, feed, bookOf, highestTold, versionTold}
 use Rattle.history.specs.Demand3.{LargeEnough, bookAnswer, bookValue, GivesBook, StepAgrees, QuestionAgrees, EventAgrees, EventsAgree, Demand3Of}
 use Rattle.history.proofs.Readings.{feed-asks}
 use Rattle.history.proofs.Theorem.{demand-3}
@@ -30,7 +31,7 @@ use Rattle.history.specs.Finishing.{goesOn, allGoOn}
 use Rattle.history.proofs.Corollaries.{agree-at, agree-behind, told-below-next}
 use Rattle.history.proofs.Expecting.{expected-found, replaces-expected}
 use Rattle.witness.specs.Answers.{recoveredCells, recover-made}
-use Rattle.witness.specs.Example.{computing, booking, bytes-of, nine, nine-typed, ten, ten-typed, ones, twos, threes, expecting, told, lent, startedOn, started, stepped, recovered, readEvent, valueEvent, readsAs, leaving, begins, writes, idles, half, meanwhile, fails, others, deletes, cleans, ends, before, area₀, events, all, run, two, cleaned}
+use Rattle.witness.specs.Example.{computing, booking, bytes-of, nine, nine-typed, ten, ten-typed, ones, twos, threes, expecting, told, lent, startedOn, started, stepped, recovered, readEvent, valueEvent, readsAs, leaving, begins, writes, idles, half, meanwhile, fails, others, deletes, cleans, ends, before, area₀, events, all, run, two, cleaned, foretold}
 
 pub formats : FormatPromise edition1 4 256 before area₀ FormatAnswer.Formatted
 unfolding opened formatAnswer areaUnless saidBy
@@ -124,7 +125,7 @@ pub no-step : accepted (saying (refusal 6)) ≡ true → ⊥
 unfolding EventAgrees StepAgrees booking
 no-step =
     agree-at freshBook (begins ++ writes) (stepped (refusal 6))
-    (readsAs nine (told 0 1 1) ones ++ (half ++ (meanwhile ++ (fails ++ (others ++ (deletes ++ (cleans ++ ends)))))))
+    (readsAs nine (told 0 1 1) ones ++ (foretold (saying (refusal 6)) ∷ half ++ (meanwhile ++ (fails ++ (others ++ (deletes ++ (cleans ++ ends)))))))
     (demanded .agrees)
 
 -- ---- what reads answered
@@ -168,7 +169,7 @@ pub found-first : 1 ≡ bookVersion (bookOf (begins ++ (writes ++ (idles ++ call
 found-first =
     expected-found 4 256 before area₀ (bytes-of 1024 0xaa (omega arith)) formats
     (begins ++ (writes ++ (idles ++ called (starts (expecting 0) (write nine twos)) (lent 256) (saying (refusal 21)) ∷ [])))
-    (leaving 7 13 ++ (meanwhile ++ (fails ++ (others ++ (deletes ++ (cleans ++ ends)))))) (expecting 1) (record { 0 = 1 }) nine twos (lent 256)
+    (foretold (telling (TellAnswer.At 33 7)) ∷ leaving 7 13 ++ (meanwhile ++ (fails ++ (others ++ (deletes ++ (cleans ++ ends)))))) (expecting 1) (record { 0 = 1 }) nine twos (lent 256)
     (saying (told 20 0 0)) (all .world) run refl refl
 
 -- so the last step of the latter replaced nothing, and it has the key's value now at the version told

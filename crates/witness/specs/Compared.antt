@@ -11,9 +11,9 @@ use Rattle.record.specs.declared.Tables.{Tables}
 use Rattle.model.specs.Operations.{write, delete, clean}
 use Rattle.model.specs.Refused.{Terms}
 use Rattle.model.specs.Table.{Row, row, failing, Hold, rows-hold}
-use Rattle.history.specs.Book.{reads, readsValue, Call, starts, steps, asks, recovers, Event, called, cut}
+use Rattle.history.specs.Book.{reads, readsValue, tells, Call, starts, steps, asks, recovers, Event, called, cut}
 
--- ---- an event as numbers: what is told, the lengths lent, which call it is, and its arguments; and its value
+-- ---- an event as numbers: what is told, with the place, the lengths lent, which call it is, and its arguments; and its value
 
 -- 0 where nothing is expected, else one more than the version
 unfoldable pub expectedNumber : Expected → ℕ
@@ -27,12 +27,13 @@ callNumbers (asks (reads t k)) = 2 ∷ t .first ∷ t .last ∷ k .table ∷ k .
 callNumbers (asks (readsValue t k)) = 3 ∷ t .first ∷ t .last ∷ k .table ∷ k .key ∷ []
 callNumbers (starts t (clean victims)) = 4 ∷ expectedNumber (t .expected) ∷ t .tables .first ∷ t .tables .last ∷ victims ∷ []
 callNumbers (starts t (delete k)) = 5 ∷ expectedNumber (t .expected) ∷ t .tables .first ∷ t .tables .last ∷ k .table ∷ k .key ∷ []
+callNumbers (asks tells) = 7 ∷ []
 callNumbers (starts t (write k value)) = 6 ∷ expectedNumber (t .expected) ∷ t .tables .first ∷ t .tables .last ∷ k .table ∷ k .key ∷ value
 
 unfoldable pub eventNumbers : Event → List ℕ
 eventNumbers cut = []
 eventNumbers (called c l a) =
-    a .said .refused ∷ a .said .stores ∷ a .said .version ∷ a .said .kind ∷ l .area ∷ l .index ∷ l .work ∷ callNumbers c
+    a .said .refused ∷ a .said .stores ∷ a .said .version ∷ a .said .kind ∷ a .place ∷ l .area ∷ l .index ∷ l .work ∷ callNumbers c
 
 unfoldable pub eventValue : Event → List ℕ
 eventValue cut = []
@@ -60,13 +61,18 @@ callFrom (suc (suc zero)) xs = asks (reads (tablesFrom xs) (keyFrom (drop 2 xs))
 callFrom (suc (suc (suc zero))) xs = asks (readsValue (tablesFrom xs) (keyFrom (drop 2 xs)))
 callFrom (suc (suc (suc (suc zero)))) xs = starts (termsFrom xs) (clean (getD xs 3 0))
 callFrom (suc (suc (suc (suc (suc zero))))) xs = starts (termsFrom xs) (delete (keyFrom (drop 3 xs)))
-callFrom (suc (suc (suc (suc (suc (suc n)))))) xs = starts (termsFrom xs) (write (keyFrom (drop 3 xs)) (drop 5 xs))
+callFrom (suc (suc (suc (suc (suc (suc zero)))))) xs = starts (termsFrom xs) (write (keyFrom (drop 3 xs)) (drop 5 xs))
+callFrom (suc (suc (suc (suc (suc (suc (suc n))))))) xs = asks tells
 
 eventFrom : List ℕ → List ℕ → Event
 eventFrom [] value = cut
 eventFrom (x ∷ xs) value =
-    called (callFrom (getD xs 6 0) (drop 7 xs)) (record { area = getD xs 3 0; index = getD xs 4 0; work = getD xs 5 0 })
-    (record { said = record { refused = x; stores = getD xs 0 0; version = getD xs 1 0; kind = getD xs 2 0 }; value = value })
+    called (callFrom (getD xs 7 0) (drop 8 xs)) (record { area = getD xs 4 0; index = getD xs 5 0; work = getD xs 6 0 })
+    (record {
+      said = record { refused = x; stores = getD xs 0 0; version = getD xs 1 0; kind = getD xs 2 0 };
+      value = value;
+      place = getD xs 3 0;
+    })
 
 terms-back : (t : Terms) → record { expected = expectedFrom (expectedNumber (t .expected)); tables = t .tables } ≡ t
 unfolding expectedNumber expectedFrom
@@ -83,6 +89,7 @@ event-back (called steps l a) = refl
 event-back (called (recovers n s order) l a) = refl
 event-back (called (asks (reads t k)) l a) = refl
 event-back (called (asks (readsValue t k)) l a) = refl
+event-back (called (asks tells) l a) = refl
 event-back (called (starts t (clean victims)) l a) = ap (λ (x : Terms). called (starts x (clean victims)) l a) (terms-back t)
 event-back (called (starts t (delete k)) l a) = ap (λ (x : Terms). called (starts x (delete k)) l a) (terms-back t)
 event-back (called (starts t (write k value)) l a) = ap (λ (x : Terms). called (starts x (write k value)) l a) (terms-back t)

@@ -21,7 +21,7 @@ use Rattle.model.specs.Play.{opened, keyed}
 use Rattle.record.specs.Reach.{allTables}
 use Rattle.model.specs.Refused.{Lengths, Terms, freely}
 use Rattle.model.specs.Table.{failing}
-use Rattle.history.specs.Book.{reads, readsValue, starts, steps, asks, recovers, saying, giving, Event, called, cut, Kept, Awaited, Book, finish, oneOff, takeOne, feedCall, feed, bookAfter, bookOf}
+use Rattle.history.specs.Book.{reads, readsValue, tells, starts, steps, asks, recovers, Answer, saying, giving, telling, Event, called, cut, Kept, Awaited, Book, finish, oneOff, takeOne, feedCall, feed, bookAfter, bookOf}
 use Rattle.history.specs.Runs.{freshWorld, Run}
 use Rattle.index.specs.Build as Build
 use Rattle.index.specs.Build.{entriesFrom, inLog, listed}
@@ -29,12 +29,14 @@ use Rattle.index.specs.Insert.{insertedAt, tallied, insertNext, insertAll}
 use Rattle.index.specs.Search.{probe, hasKeyAt}
 use Rattle.starting.specs.Stores.{commitStores}
 use Rattle.stepping.specs.Finish.{keysAfter, answeredWith, foundIn, finishEntry, finishAppend, finishHead, upFrom, finishClean, finishForget, oneLess, finishWith, advanced}
-use Rattle.stepping.specs.Agree.{entryAgrees, slotAgrees, victimsAgree, agreesWith, testedStore}
-use Rattle.stepping.specs.Next.{commitStore, fitsSlot, fitsLeft, slotStore, slotNext, pendingNext}
+use Rattle.telling.specs.Agree.{entryAgrees, slotAgrees, victimsAgree, agreesWith, testedStore}
+use Rattle.record.specs.declared.TellAnswer.{TellAnswer}
+use Rattle.telling.specs.Told.{toldStore, toldUnless}
+use Rattle.telling.specs.Next.{commitStore, fitsSlot, fitsLeft, slotStore, slotNext, pendingNext}
 use Rattle.witness.specs.Answers.{cellsBy}
 use Rattle.witness.specs.Compared.{expectedNumber, callNumbers, eventNumbers, eventValue, compared, events-equal}
 use Rattle.witness.specs.Steps.{storedBy, steppedUnless}
-use Rattle.witness.specs.Commands.{Command, operate, advance, question, restart, powerCut, answerBy, Played, played, playOn, playAll, commands-run}
+use Rattle.witness.specs.Commands.{Command, operate, advance, question, restart, powerCut, answerBy, lentBy, Played, played, playOn, playAll, commands-run}
 
 -- ---- the commands
 
@@ -89,8 +91,10 @@ commands =
     (starting (write nine ones) (nine-typed, bytes-of 8 0x11 (omega arith))
     ∷ replicate 20 advance ++ advance
     ∷ looking nine nine-typed
-    (startingOn (expecting 0) (write nine twos) (nine-typed, bytes-of 8 0x22 (omega arith))
+    (question tells tt
+    ∷ startingOn (expecting 0) (write nine twos) (nine-typed, bytes-of 8 0x22 (omega arith))
     ∷ startingOn (expecting 1) (write nine twos) (nine-typed, bytes-of 8 0x22 (omega arith))
+    ∷ question tells tt
     ∷ replicate 7 advance ++ looking nine nine-typed
     (powerCut
     ∷ recovering
@@ -129,6 +133,10 @@ readEvent k a = called (asks (reads allTables k)) (lent 0) (saying a)
 abbrev pub valueEvent : Key → List ℕ → Event
 valueEvent k value = called (asks (readsValue allTables k)) (lent 0) (giving value)
 
+-- what is told of the next store, with the work buffer of the last start
+abbrev pub foretold : Answer → Event
+foretold a = called (asks tells) (record { area = 1024; index = 0; work = 256 }) a
+
 -- a read that is answered so, and the value
 abbrev pub readsAs : Key → Said → List ℕ → List Event
 readsAs k a value = readEvent k a ∷ valueEvent k value ∷ []
@@ -149,19 +157,21 @@ finished = finishedOn freely
 abbrev pub begins : List Event
 begins = recovered ∷ readsAs nine (refusal 8) []
 
--- The first write is version 1, of kind 1; a step too many is refused with 6.
+-- The first write is version 1, of kind 1; a step too many is refused with 6, and so is who asks for the store of a further step.
 abbrev pub writes : List Event
 writes = finished (write nine ones) 19 1
 
 abbrev pub idles : List Event
-idles = stepped (refusal 6) ∷ readsAs nine (told 0 1 1) ones
+idles = stepped (refusal 6) ∷ readsAs nine (told 0 1 1) ones ++ foretold (saying (refusal 6)) ∷ []
 
--- The second one is refused with 21 while it expects the key to be absent. Expecting version 1 it is started; 7 of its 20 stores are
--- made, and reads meanwhile show the first.
+-- The second one is refused with 21 while it expects the key to be absent. Expecting version 1 it is started, and its first store is
+-- told: the entry comes to stand at 32, and behind its kind byte comes the first byte of its table. 7 of its 20 stores are made, and
+-- reads meanwhile show the first.
 abbrev pub half : List Event
 half =
     called (starts (expecting 0) (write nine twos)) (lent 256) (saying (refusal 21))
     ∷ startedOn (expecting 1) (write nine twos) 20
+    ∷ foretold (telling (TellAnswer.At 33 7))
     ∷ leaving 7 13
 
 abbrev pub meanwhile : List Event
@@ -206,7 +216,7 @@ unfoldable pub computing : Unit {0}
 unfolding opened fnvStep fnvFrom withBit less around entriesFrom inLog listed Build.finished insertedAt tallied insertNext insertAll probe hasKeyAt
     keysAfter answeredWith foundIn finishEntry finishAppend finishHead upFrom finishClean finishForget oneLess finishWith advanced
     entryAgrees slotAgrees victimsAgree agreesWith testedStore
-    commitStores commitStore fitsSlot fitsLeft slotStore slotNext pendingNext cellsBy storedBy steppedUnless answerBy played playOn compared expectedNumber callNumbers eventNumbers eventValue
+    commitStores commitStore fitsSlot fitsLeft slotStore slotNext pendingNext cellsBy storedBy steppedUnless toldStore toldUnless answerBy lentBy played playOn compared expectedNumber callNumbers eventNumbers eventValue
 computing = tt
 
 computed : failing (compared (all .events) events) ≡ []

@@ -15,14 +15,15 @@ use Rattle.model.specs.Operations.{write, clean, TypedKey}
 use Rattle.model.specs.Play.{keyed}
 use Rattle.model.specs.Refused.{Terms}
 use Rattle.model.specs.Table.{failing}
-use Rattle.history.specs.Book.{reads, readsValue, starts, asks, saying, giving, Event, called, cut}
+use Rattle.record.specs.declared.TellAnswer.{TellAnswer}
+use Rattle.history.specs.Book.{reads, readsValue, tells, starts, asks, saying, giving, telling, Event, called, cut}
 use Rattle.history.specs.Runs.{freshWorld, Run}
 use Rattle.isolation.specs.Owners.{Owner, servo, media, blankedOperation, blanked, SameCall, SameInput, SameInputs, SameAnswers, sameOwner, startRange, rangeOf, NoTableShared}
 use Rattle.isolation.proofs.Lists.{same-own, same-append, liesWithin, allWithin, ranges-apart}
 use Rattle.isolation.proofs.Theorem.{isolation}
 use Rattle.witness.specs.Compared.{compared, events-equal}
 use Rattle.witness.specs.Commands.{Command, advance, question, powerCut, Played, playAll, commands-run}
-use Rattle.witness.specs.Example.{computing, bytes-of, nine, nine-typed, ones, startingOn, starting, recovering, told, lent, startedOn, stepped, recovered, leaving, finishedOn, finished, before, area₀}
+use Rattle.witness.specs.Example.{computing, bytes-of, nine, nine-typed, ones, startingOn, starting, recovering, told, lent, startedOn, stepped, recovered, leaving, finishedOn, finished, before, area₀, foretold}
 use Rattle.witness.specs.Applied.{formats}
 
 -- ---- the commands, by the byte of which media's values are made
@@ -60,7 +61,8 @@ commands b h =
     (asking low defects defects-typed
     (asking high defects defects-typed
     (startingOn (within high) (write defects (replicate 24 b)) (defects-typed, bytes-of 24 b h)
-    ∷ replicate 7 advance ++ powerCut
+    ∷ replicate 12 advance ++ question tells tt
+    ∷ powerCut
     ∷ recovering
     ∷ starting (clean 1) (omega arith)
     ∷ replicate 53 advance ++ asking seven nine nine-typed (asking high defects defects-typed []))))
@@ -92,20 +94,24 @@ abbrev pub mediaTurnedAway : ℕ → List Event
 mediaTurnedAway b = called (starts (within high) (write nine (replicate 8 b))) (lent 256) (saying (refusal 22)) ∷ []
 
 abbrev pub third : ℕ → List Event
-third b = startedOn (within high) (write defects (replicate 24 b)) 36 ∷ leaving 7 29
+third b = startedOn (within high) (write defects (replicate 24 b)) 36 ∷ leaving 12 24
+
+-- who drives the device is told the next store of it, one of media's bytes; say that servo drives it
+abbrev pub driving : ℕ → List Event
+driving b = foretold (telling (TellAnswer.At 64 b)) ∷ []
 
 abbrev pub last : List Event
 last = cut ∷ recovered ∷ finished (clean 1) 52 0 ++ servoReads
 
 abbrev pub events : ℕ → List Event
 events b =
-    first ++ (second b ++ (mediaTurnedAway b ++ ((servoReads ++ servoTurnedAway) ++ (mediaReads b ++ (third b ++ (last ++ mediaReads b))))))
+    first ++ (second b ++ (mediaTurnedAway b ++ ((servoReads ++ servoTurnedAway) ++ (mediaReads b ++ (third b ++ (driving b ++ (last ++ mediaReads b)))))))
 
 -- whose they are
 abbrev pub owners : List Owner
 owners =
-    replicate 22 servo ++ (replicate 21 media ++ (replicate 1 media ++ (replicate 4 servo ++ (replicate 2 media ++ (replicate 8 media ++ (replicate 58 servo ++
-    replicate 2 media))))))
+    replicate 22 servo ++ (replicate 21 media ++ (replicate 1 media ++ (replicate 4 servo ++ (replicate 2 media ++ (replicate 13 media ++ (replicate 1 servo ++ (replicate 58 servo ++
+    replicate 2 media)))))))
 
 -- ---- the runs
 
@@ -142,9 +148,13 @@ turned-same : SameInputs (replicate 1 media) (mediaTurnedAway 1) (mediaTurnedAwa
 unfolding SameInputs SameInput SameCall blanked blankedOperation
 turned-same = ((refl, refl), tt)
 
-third-same : SameInputs (replicate 8 media) (third 1) (third 2)
+third-same : SameInputs (replicate 13 media) (third 1) (third 2)
 unfolding SameInputs SameInput SameCall blanked blankedOperation
-third-same = ((refl, refl), same-own (replicate 7 media) (leaving 7 29) refl)
+third-same = ((refl, refl), same-own (replicate 12 media) (leaving 12 24) refl)
+
+driving-same : SameInputs (replicate 1 servo) (driving 1) (driving 2)
+unfolding SameInputs SameInput SameCall
+driving-same = ((refl, refl), tt)
 
 reads-same : SameInputs (replicate 2 media) (mediaReads 1) (mediaReads 2)
 unfolding SameInputs SameInput SameCall blanked
@@ -157,8 +167,9 @@ same =
     (same-append (replicate 1 media) _ (mediaTurnedAway 1) (mediaTurnedAway 2) _ _ turned-same
     (same-append (replicate 4 servo) _ (servoReads ++ servoTurnedAway) (servoReads ++ servoTurnedAway) _ _ (same-own (replicate 4 servo) (servoReads ++ servoTurnedAway) refl)
     (same-append (replicate 2 media) _ (mediaReads 1) (mediaReads 2) _ _ reads-same
-    (same-append (replicate 8 media) _ (third 1) (third 2) _ _ third-same
-    (same-append (replicate 58 servo) _ last last _ _ (same-own (replicate 58 servo) last refl) reads-same))))))
+    (same-append (replicate 13 media) _ (third 1) (third 2) _ _ third-same
+    (same-append (replicate 1 servo) _ (driving 1) (driving 2) _ _ driving-same
+    (same-append (replicate 58 servo) _ last last _ _ (same-own (replicate 58 servo) last refl) reads-same)))))))
 
 -- servo's ranges end with table 7, and media's begin with table 8
 apart : NoTableShared owners (events 1)

@@ -25,11 +25,11 @@ use Rattle.index.specs.Search.{versionAt, searchFor}
 use Rattle.index.specs.Build.{finished, built}
 use Rattle.index.specs.declared.Found.{Found}
 use Rattle.index.specs.declared.Inserted.{Inserted}
-use Rattle.stepping.specs.Agree.{testedStore}
+use Rattle.telling.specs.Agree.{testedStore}
 use Rattle.stepping.specs.Finish.{After, refusedStep, unfit, foundIn, finishEntry, finishAppend, finishHead, cleanMap, finishClean, finishForget, finishWith, advanced}
 use Rattle.stepping.specs.StepLaws.{refused-promise, bad-promise, stored-promise}
-use Rattle.stepping.specs.declared.NextStore.{NextStore}
-use Rattle.stepping.specs.declared.NextStore.the-variants.{At, Bad}
+use Rattle.telling.specs.declared.NextStore.{NextStore}
+use Rattle.telling.specs.declared.NextStore.the-variants.{At, Bad}
 
 -- What a step leaves: the area, and what it leaves besides.
 pub record Moved : Type 0 where

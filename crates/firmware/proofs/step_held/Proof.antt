@@ -47,6 +47,7 @@ use denote.Exit.{yes}
 use Rattle.segment.specs.Layout.{edition1}
 use Rattle.model.specs.Promises.{StepPromise}
 use Rattle.record.specs.declared.Record.{Record}
+use Rattle.stepping.specs.Tested.{StepTested}
 use Rattle.record.specs.declared.StepAnswer.{StepAnswer}
 use Rattle.record.specs.declared.Stepped.{Stepped}
 use Rattle.record.proofs.Record as T
@@ -150,7 +151,8 @@ module _ {M : Type 1} (𝓤 : URA M) (H : Heap 𝓤) (A : Atoms 𝓤) (W : Given
   Slices = owns (MutSlice (named 0) κ₁ u8 ∷ MutSlice (named 1) κ₂ u32 ∷ ShrSlice (named 2) κ₃ u8 ∷ []) (area, (index, (work, tt))) (s₁ ∷ [], (s₂ ∷ [], (s₃ ∷ [], tt)))
 
   abbrev Promised : Stepped → List ℕ → List ℕ → Type 0
-  Promised r ys zs = StepPromise edition1 h (area .now) ys (index .now) zs (work .now) r
+  Promised r ys zs =
+      StepPromise edition1 h (area .now) ys (index .now) zs (work .now) r × StepTested edition1 h (area .now) ys (index .now) zs (work .now) r
 
   abbrev Post : Val → SProp 𝓤
   Post = walkOf 𝓤 H A step-held.ended stayed (step-held.clauses 𝓤 H A at-mem run) .post (((κ₁, (κ₂, (κ₃, tt))), (q₁, (q₂, (q₃, tt))), tt, a, at), tt)

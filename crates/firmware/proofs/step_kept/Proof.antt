@@ -44,7 +44,7 @@ use denote.Triple.Walked.{says, Stays, stay-ref, gave-slice, stay-dropped, walkO
 use denote.Exit.{yes}
 use Rattle.segment.specs.Layout.{edition1}
 use Rattle.model.specs.Promises.{StepPromise}
-use Rattle.stepping.specs.Agree.{StepTested}
+use Rattle.stepping.specs.Tested.{StepTested}
 use Rattle.record.specs.declared.Record.{Record}
 use Rattle.record.specs.declared.Stepped.{Stepped}
 use Rattle.record.proofs.Record as T
@@ -128,11 +128,8 @@ module _ {M : Type 1} (𝓤 : URA M) (H : Heap 𝓤) (A : Atoms 𝓤) (W : Given
   after-is was r w is = LL.owed Result.the-type Result′.the-laws r _ is .1 .0
 
   abbrev Promised : Stepped → List ℕ → List ℕ → Type 0
-  Promised r ys zs = StepPromise edition1 h (area .now) ys (index .now) zs (work .now) r
-
-  -- what `step` ensures: besides, what it tests before its store
-  abbrev Ensured : Stepped → List ℕ → List ℕ → Type 0
-  Ensured r ys zs = Promised r ys zs × StepTested edition1 h (area .now) ys (index .now) zs (work .now) r
+  Promised r ys zs =
+      StepPromise edition1 h (area .now) ys (index .now) zs (work .now) r × StepTested edition1 h (area .now) ys (index .now) zs (work .now) r
 
   abbrev Post : Val → SProp 𝓤
   Post = walkOf 𝓤 H A step-kept.ended stayed (step-kept.clauses 𝓤 H A at-mem run) .post (((κ, (κ₁, (κ₂, (κ₃, tt)))), (q, (q₁, (q₂, (q₃, tt)))), tt, a, at), tt)
@@ -186,8 +183,8 @@ module _ {M : Type 1} (𝓤 : URA M) (H : Heap 𝓤) (A : Atoms 𝓤) (W : Given
         use1 W (later (some (λ (r : Stepped). (Tokens ⊛ ‵ (Result.the-row .own r (w ∷ []))) ⊛ raw (ensured 𝓤 H A step.ended (step.clauses 𝓤 H A at-mem run) (κ₁, (κ₂, (κ₃, tt))) passed tt r)))) (id⊢ 𝓤 _) $ await ! tt $ pick ! (λ r.
         -- what `step` ensures, at some last lists
         split ! $ move ! (1 ∷ []) $
-        use1 W (some (λ (zs : Unit {0} × (List ℕ × (List ℕ × (Unit {0} × Unit {0})))). ‵ (lasts step.ended (κ₁, (κ₂, (κ₃, tt))) passed zs) ⊛ raw (fact 𝓤 (Ensured r (zs .1 .0) (zs .1 .1 .0))))) (id⊢ 𝓤 _) $ pick ! (λ zs.
-        split ! $ move ! (1 ∷ []) $ heard ! (Ensured r (zs .1 .0) (zs .1 .1 .0)) (λ e. fsplit ! $ drop ! $
+        use1 W (some (λ (zs : Unit {0} × (List ℕ × (List ℕ × (Unit {0} × Unit {0})))). ‵ (lasts step.ended (κ₁, (κ₂, (κ₃, tt))) passed zs) ⊛ raw (fact 𝓤 (Promised r (zs .1 .0) (zs .1 .1 .0))))) (id⊢ 𝓤 _) $ pick ! (λ zs.
+        split ! $ move ! (1 ∷ []) $ heard ! (Promised r (zs .1 .0) (zs .1 .1 .0)) (λ e. fsplit ! $ drop ! $
         fsplit ! $ fsplit ! $ move ! (1 ∷ []) $ feqL ! (λ same₁. move ! (1 ∷ []) $ fsplit ! $ fsplit ! $ move ! (1 ∷ []) $ feqL ! (λ same₂.
         -- [index's last list; true; area's; the tokens and the result; the record's cell; …]
         move ! (3 ∷ []) $ split ! $ move ! (1 ∷ []) $ facts ! Result.the-row (Is Result.the-row) (shows 𝓤 H A Result.the-row) r (w ∷ []) (λ is.
@@ -203,7 +200,7 @@ module _ {M : Type 1} (𝓤 : URA M) (H : Heap 𝓤) (A : Atoms 𝓤) (W : Given
         returns ! (look ! 27 refl) $ forget ! 7 refl $ forget ! 9 refl $ forget ! 11 refl $ forget ! 13 refl $ forget ! 15 refl $ forget ! 17 refl $ forget ! 19 refl $ forget ! 21 refl $ forget ! 23 refl $ forget ! 25 refl $ forget ! 27 refl $
         move ! (27 ∷ 28 ∷ []) $ free1 ! $ move ! (25 ∷ 26 ∷ []) $ free1 ! $ move ! (23 ∷ 24 ∷ []) $ free1 ! $ move ! (21 ∷ 22 ∷ []) $ free1 ! $ move ! (19 ∷ 20 ∷ []) $ free1 ! $ move ! (17 ∷ 18 ∷ []) $ free1 ! $
         move ! (15 ∷ 16 ∷ []) $ free1 ! $ move ! (13 ∷ 14 ∷ []) $ free1 ! $ move ! (11 ∷ 12 ∷ []) $ free1 ! $ move ! (9 ∷ 10 ∷ []) $ free1 ! $ move ! (7 ∷ 8 ∷ []) $ free1 ! $ free0 ! $
-        keep ! (0 ∷ 1 ∷ 2 ∷ 3 ∷ 4 ∷ 6 ∷ []) $ by ! (exits r w is (zs .1 .0) (zs .1 .1 .0) same₁ same₂ (e .0))))))))))))))))))))))
+        keep ! (0 ∷ 1 ∷ 2 ∷ 3 ∷ 4 ∷ 6 ∷ []) $ by ! (exits r w is (zs .1 .0) (zs .1 .1 .0) same₁ same₂ e)))))))))))))))))))))
 
 module _ {M : Type 1} (𝓤 : URA M) (H : Heap 𝓤) (A : Atoms 𝓤) (W : Given 𝓤 H A) (at-mem : Memory → SProp 𝓤) (run : Routine → Fun 𝓤) where
   step-kept-walks : (C : Calls 𝓤 H) (Λ : Loops 𝓤 H) → FmC 𝓤 H (W .laws) C → Triple 𝓤 (C #step) (Step 𝓤 H A at-mem run) → Walks 𝓤 H A step-kept.ended stayed (WpFn 𝓤 H C Λ code.function) (step-kept.clauses 𝓤 H A at-mem run)

@@ -13,12 +13,13 @@ use Rattle.model.specs.Causes.{firstCause}
 use Rattle.model.specs.Refused.{stepCauses}
 use Rattle.model.specs.Promises.{lentLengths}
 use Rattle.laws.specs.OperationsKept.{edition1-roomy}
-use Rattle.stepping.specs.Next.{nextStore, PendingIn}
-use Rattle.stepping.specs.NextLaws.{next-inside}
-use Rattle.stepping.specs.Agree.{agreesWith, testedStore}
-use Rattle.stepping.specs.AgreeLaws.{tested-unfit, agrees-found, tested-next}
-use Rattle.stepping.specs.StepLaws.{step-bad, step-lent, step-short, step-none, step-goes, refused-promise, refused-tested, bad-promise, bad-tested, stored-promise, stored-tested}
-use Rattle.stepping.specs.declared.NextStore.the-variants.{At}
+use Rattle.telling.specs.Next.{nextStore, PendingIn}
+use Rattle.telling.specs.NextLaws.{next-inside}
+use Rattle.telling.specs.Agree.{agreesWith, testedStore}
+use Rattle.telling.specs.TestLaws.{step-bad, step-lent, step-short, step-none, step-goes}
+use Rattle.telling.specs.AgreeLaws.{tested-unfit, agrees-found, tested-next}
+use Rattle.stepping.specs.StepLaws.{refused-promise, refused-tested, bad-promise, bad-tested, stored-promise, stored-tested}
+use Rattle.telling.specs.declared.NextStore.the-variants.{At}
 use Rattle.stepping.proofs.step.Statement.{statement}
 use Rattle.stepping.proofs.step.Tie as tie
 
@@ -27,12 +28,12 @@ no-cause : (c : tie.Else3)
     → let a = c .before .before .before .before .before .before .before .before .before .args in firstCause (stepCauses edition1 (a .rec) (lentLengths (now (a .area)) (now (a .index)) (now (a .work)))) ≡ none
 no-cause c =
     let a = c .before .before .before .before .before .before .before .before .before .args in
-    step-goes edition1 (a .rec) (now (a .area)) (now (a .index)) (now (a .work)) (c .before .before .before .before .before .fits-lent .ensures) (c .before .before .before .before .if1 .left) (c .before .before .if2 .left) (c .before .stores-left .ensures) (c .if3 .left)
+    step-goes edition1 (a .rec) (lentLengths (now (a .area)) (now (a .index)) (now (a .work))) (c .before .before .before .before .before .fits-lent .ensures) (c .before .before .before .before .if1 .left) (c .before .before .if2 .left) (c .before .stores-left .ensures) (c .if3 .left)
 
 in-range : (c : tie.Else3) → let a = c .before .before .before .before .before .before .before .before .before .args in Lent edition1 (a .rec) (length (now (a .area))) (length (now (a .index)))
 in-range c =
     let a = c .before .before .before .before .before .before .before .before .before .args in
-    step-lent edition1 (a .rec) (now (a .area)) (now (a .index)) (now (a .work)) (c .before .before .before .before .before .fits-lent .ensures) (c .before .before .before .before .if1 .left)
+    step-lent edition1 (a .rec) (lentLengths (now (a .area)) (now (a .index)) (now (a .work))) (c .before .before .before .before .before .fits-lent .ensures) (c .before .before .before .before .if1 .left)
 
 -- once the pending operation agrees with the record
 agreed : (c : tie.Else4) → let a = c .before .before .before .before .before .before .before .before .before .before .before .args in agreesWith edition1 (a .rec) (a .rec .pending) ≡ true
@@ -62,19 +63,19 @@ inside c =
 returns : tie.Need-returns
 returns c =
     let a = c .before .before .before .before .before .before .args in
-    let first = step-bad edition1 (a .rec) (now (a .area)) (now (a .index)) (now (a .work)) (c .before .before .fits-lent .ensures) (c .before .if1 .taken) in
+    let first = step-bad edition1 (a .rec) (lentLengths (now (a .area)) (now (a .index)) (now (a .work))) (c .before .before .fits-lent .ensures) (c .before .if1 .taken) in
     (refused-promise edition1 _ _ _ _ _ first (c .refused .ensures), refused-tested edition1 _ _ _ _ _ first (c .refused .ensures))
 
 returns-2 : tie.Need-returns-2
 returns-2 c =
     let a = c .before .before .before .before .before .before .before .before .args in
-    let first = step-short edition1 (a .rec) (now (a .area)) (now (a .index)) (now (a .work)) (c .before .before .before .before .fits-lent .ensures) (c .before .before .before .if1 .left) (c .before .if2 .taken) in
+    let first = step-short edition1 (a .rec) (lentLengths (now (a .area)) (now (a .index)) (now (a .work))) (c .before .before .before .before .fits-lent .ensures) (c .before .before .before .if1 .left) (c .before .if2 .taken) in
     (refused-promise edition1 _ _ _ _ _ first (c .refused2 .ensures), refused-tested edition1 _ _ _ _ _ first (c .refused2 .ensures))
 
 returns-3 : tie.Need-returns-3
 returns-3 c =
     let a = c .before .before .before .before .before .before .before .before .before .before .args in
-    let first = step-none edition1 (a .rec) (now (a .area)) (now (a .index)) (now (a .work)) (c .before .before .before .before .before .before .fits-lent .ensures) (c .before .before .before .before .before .if1 .left) (c .before .before .before .if2 .left) (c .before .before .stores-left .ensures) (c .before .if3 .taken) in
+    let first = step-none edition1 (a .rec) (lentLengths (now (a .area)) (now (a .index)) (now (a .work))) (c .before .before .before .before .before .before .fits-lent .ensures) (c .before .before .before .before .before .if1 .left) (c .before .before .before .if2 .left) (c .before .before .stores-left .ensures) (c .before .if3 .taken) in
     (refused-promise edition1 _ _ _ _ _ first (c .refused3 .ensures), refused-tested edition1 _ _ _ _ _ first (c .refused3 .ensures))
 
 agrees-requires : tie.Need-agrees-requires

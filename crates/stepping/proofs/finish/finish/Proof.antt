@@ -3,7 +3,7 @@ use borrow.Author.Needs.{needs}
 use native.Mathlib.Omega.{arith}
 use Rattle.segment.specs.Layout.{edition1}
 use Rattle.stepping.specs.FinishLaws.{in-append, in-head, in-clean, in-forget, with-idle, with-append, with-head, with-clean, with-forget}
-use Rattle.stepping.specs.AgreeLaws.{append-agrees, head-agrees, clean-agrees, forget-agrees}
+use Rattle.telling.specs.AgreeLaws.{append-agrees, head-agrees, clean-agrees, forget-agrees}
 use Rattle.stepping.proofs.finish.finish.Statement.{statement}
 use Rattle.stepping.proofs.finish.finish.Tie as tie
 

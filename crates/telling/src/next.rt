@@ -1,0 +1,172 @@
+// Place and byte of the next store (01, "Operations, store by store"). Nothing here writes.
+use crate::NextStore;
+use record::Pending;
+use record::Record;
+use starting::stores::commit_stores;
+ghost use Prim.Native.Nat.{_+_, _*_, _≤_, _<_};
+ghost use mathlib.Core.Path.{_≡_};
+ghost use lib.ListN.{length};
+ghost use Rattle.starting.specs.Stores.{commitStores};
+ghost use Rattle.telling.specs.Next.{commitStore, fitsSlot, slotNext, nextStore};
+
+// The store that comes after `done` others, where the first `count` bytes of the work buffer come to an offset of the slot that
+// begins at `base`.
+fn commit_store(
+    base: usize,
+    size: usize,
+    offset: usize,
+    count: usize,
+    area: &[u8],
+    work: &[u8],
+    done: usize,
+) -> NextStore
+    requires { ⌜ (base + size ≤ length (now area)) × (offset + count ≤ size) × (0 < count) × (count ≤ length (now work)) × (done < commitStores size offset count) ⌝ }
+    ensures { λ r. ⌜ r ≡ commitStore base size offset count (now (work .entry)) done ⌝ }
+{
+    let from = done + 1;
+    if from == commit_stores(size, offset, count) {
+        return NextStore::At {
+            place: base + offset,
+            byte: work[0],
+        };
+    }
+    if from < count {
+        let place = base + offset + from;
+        return NextStore::At {
+            place,
+            byte: work[from],
+        };
+    }
+    NextStore::At {
+        place: base + offset + count,
+        byte: 0,
+    }
+}
+
+// Whether the bytes are some, all in the work buffer, and fit the slot, which lies in the area.
+fn fits_slot(
+    area: &[u8],
+    work: &[u8],
+    size: usize,
+    slot: usize,
+    offset: usize,
+    count: usize,
+) -> bool
+    requires { ⌜ (size < 4294967296) × (slot < 4294967296) × (offset < 4294967296) × (count < 4294967296) ⌝ }
+    ensures { λ r. ⌜ r ≡ fitsSlot (length (now (area .entry))) (length (now (work .entry))) size slot offset count ⌝ }
+{
+    if count == 0 {
+        return false;
+    }
+    if work.len() < count {
+        return false;
+    }
+    if size < offset + count {
+        return false;
+    }
+    slot * size + size <= area.len()
+}
+
+// The next store of an operation that has `left` stores left, and that makes `first` stores of 0 at the slot's byte 0 before it
+// commits.
+fn slot_next(
+    area: &[u8],
+    work: &[u8],
+    size: usize,
+    slot: usize,
+    offset: usize,
+    count: usize,
+    first: usize,
+    left: usize,
+) -> NextStore
+    requires { ⌜ (size < 4294967296) × (slot < 4294967296) × (offset < 4294967296) × (count < 4294967296) × (first ≤ 1) ⌝ }
+    ensures { λ r. ⌜ r ≡ slotNext (length (now (area .entry))) (now (work .entry)) size slot offset count first left ⌝ }
+{
+    if !fits_slot(area, work, size, slot, offset, count) {
+        return NextStore::Bad;
+    }
+    let total = commit_stores(size, offset, count) + first;
+    if left == 0 {
+        return NextStore::Bad;
+    }
+    if total < left {
+        return NextStore::Bad;
+    }
+    if total - left < first {
+        return NextStore::At {
+            place: slot * size,
+            byte: 0,
+        };
+    }
+    commit_store(
+        slot * size,
+        size,
+        offset,
+        count,
+        area,
+        work,
+        total - left - first,
+    )
+}
+
+// Where the next store goes and what it stores: an append commits at the head's end, a new head at its start after a store of 0
+// there.
+pub fn next_store(rec: Record, area: &[u8], work: &[u8]) -> NextStore
+    ensures { λ r. ⌜ r ≡ nextStore (length (now (area .entry))) (now (work .entry)) rec ⌝ }
+{
+    let pending = rec.pending;
+    let size = rec.size as usize;
+    match pending {
+        Pending::Idle => NextStore::Bad,
+        Pending::Append { length, left } => slot_next(
+            area,
+            work,
+            size,
+            rec.head as usize,
+            rec.end as usize,
+            length as usize,
+            0,
+            left as usize,
+        ),
+        Pending::NewHead { slot, length, left } => slot_next(
+            area,
+            work,
+            size,
+            slot as usize,
+            0,
+            length as usize,
+            1,
+            left as usize,
+        ),
+        Pending::Clean {
+            slot,
+            victims: _,
+            length,
+            left,
+        } => slot_next(
+            area,
+            work,
+            size,
+            slot as usize,
+            0,
+            length as usize,
+            1,
+            left as usize,
+        ),
+        Pending::Forget {
+            slot,
+            victims: _,
+            length,
+            left,
+        } => slot_next(
+            area,
+            work,
+            size,
+            slot as usize,
+            0,
+            length as usize,
+            1,
+            left as usize,
+        ),
+    }
+}
