@@ -112,14 +112,14 @@ none-unfit words e a i =
     ap (λ (d : Decoded). not (fitsLent edition1 (d .rec) a i)) (decoded-none words e) ∙ ap not (blank-unfit edition1 a i)
 
 pub words-say :
-    (words words′ : List ℕ) (r : Record) → words′ ≡ keptWords (decoded words .ok) words r →
+    (words words′ : List ℕ) (r : Record) → words′ ≡ keptWords (decoded words .ok) words r → (decoded words .ok ≡ true → length (r .counts) ≡ 32) →
     (isRecord words ≡ false → r ≡ decoded words .rec) → decoded words′ .rec ≡ r
 unfolding keptWords
-words-say words words′ r w same =
+words-say words words′ r w long same =
     by-record words (decoded words′ .rec ≡ r)
     (λ e ok.
     ap (λ (l : List ℕ). decoded l .rec) (w ∙ ap (λ (t : Bool). keptWords t words r) ok) ∙
-    ap (λ (d : Decoded). d .rec) (decode-encode r words (record-long words e)))
+    ap (λ (d : Decoded). d .rec) (decode-encode r words (long ok) (record-long words e)))
     (λ e ok. ap (λ (l : List ℕ). decoded l .rec) (w ∙ ap (λ (t : Bool). keptWords t words r) ok) ∙ sym (same e))
 
 -- ---- the calls
@@ -157,7 +157,7 @@ module _ (n s : ℕ) where
     where
       says : decoded words′ .rec ≡ c .start .rec
       says =
-          words-say (h .words) words′ (c .start .rec) (c .handed .says)
+          words-say (h .words) words′ (c .start .rec) (c .handed .says) (c .handed .long)
           (λ e. ap (λ (b : Begun). b .start .rec) (c .promised .early BadRecord (early-bad edition1 (decoded (h .words) .rec) _ t o (none-unfit (h .words) e _ _))))
 
   step-runs :
@@ -183,7 +183,7 @@ module _ (n s : ℕ) where
     where
       says : decoded words′ .rec ≡ c .stepped .rec
       says =
-          words-say (h .words) words′ (c .stepped .rec) (c .says)
+          words-say (h .words) words′ (c .stepped .rec) (c .says) (c .long)
           (λ e. ap (λ (a : Stepped). a .rec) (c .promised .refused BadRecord (cause-first _ _ (none-unfit (h .words) e _ _)) .answers))
 
   read-runs :

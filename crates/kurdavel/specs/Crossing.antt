@@ -9,7 +9,7 @@ use lib.ListN.{length}
 use lib.Seq.{sets}
 use Rattle.segment.specs.Layout.{edition1}
 use Rattle.segment.specs.declared.Key.{Key}
-use Rattle.record.specs.Answers.{formatSaid, recoverSaid, readSaid, startSaid, stepSaid, tellSaid}
+use Rattle.record.specs.Answers.{formatSaid, recoverSaid, readSaid, startSaid, stepSaid, tellSaid, fewestSaid, withPending}
 use Rattle.record.specs.declared.Record.{Record}
 use Rattle.record.specs.declared.FormatAnswer.{FormatAnswer}
 use Rattle.record.specs.declared.Recovery.{Recovery}
@@ -20,15 +20,18 @@ use Rattle.record.specs.declared.Start.{Start}
 use Rattle.record.specs.declared.StartAnswer.{StartAnswer}
 use Rattle.record.specs.declared.Stepped.{Stepped}
 use Rattle.record.specs.declared.StepAnswer.{StepAnswer}
+use Rattle.record.specs.declared.Fewest.{Fewest}
+use Rattle.record.specs.declared.FewestAnswer.{FewestAnswer}
 use Rattle.record.specs.declared.Foretold.{Foretold}
 use Rattle.record.specs.declared.TellAnswer.{TellAnswer}
+use Rattle.model.specs.Fewest.{FewestPromise}
 use Rattle.model.specs.Operations.{Operation}
 use Rattle.record.specs.declared.Tables.{Tables}
 use Rattle.model.specs.Refused.{Terms}
 use Rattle.model.specs.Promises.{FormatPromise, RecoverPromise, ReadPromise, ValuePromise, StartPromise, StepPromise, TellPromise}
 use Rattle.telling.specs.Told.{toldBy}
 use Rattle.stepping.specs.Tested.{StepTested}
-use Rattle.words.specs.Words.{recordWords, wordsOf, decoded}
+use Rattle.words.specs.Words.{recordWords, wordsOf, isRecord, recordIn, decoded}
 
 -- the words after a call that handed this record back
 unfoldable pub keptWords : Bool → List ℕ → Record → List ℕ
@@ -52,6 +55,7 @@ pub record Recovers (n s : ℕ) (order area cells cells′ words words′ : List
   pub promised : RecoverPromise edition1 n s order area cells cells′ recovery
   pub numbered : number ≡ recoverSaid (recovery .answer) .refused
   pub says : words′ ≡ wordsAfter (recovery .answer) words (recovery .rec)
+  pub long : recovery .answer ≡ RecoverAnswer.Recovered → length (recovery .rec .counts) ≡ 32
 
 -- Where the record has no room, 4, and all stays.
 pub record TooShort (cells cells′ words words′ : List ℕ) (number : ℕ) : Type 0 where
@@ -94,6 +98,7 @@ pub record Handed (ok : Bool) (start : Start) (words words′ : List ℕ) (store
   pub numbered : number ≡ startSaid (start .answer) .refused
   pub told : stores′ ≡ storesAfter (start .answer) stores
   pub says : words′ ≡ keptWords ok words (start .rec)
+  pub long : ok ≡ true → length (start .rec .counts) ≡ 32
 
 pub record StartCrossed (t : Terms) (o : Operation) (words words′ area cells work work′ : List ℕ) (stores stores′ number : ℕ) : Type 0 where
   pub start : Start
@@ -120,6 +125,13 @@ pub record StepCrossed (words words′ area area′ cells cells′ work : List �
   pub left-told : left′ ≡ leftTold (stepped .answer) left
   pub version-told : version′ ≡ toldAfter (stepped .answer) version
   pub says : words′ ≡ keptWords (decoded words .ok) words (stepped .rec)
+  pub long : decoded words .ok ≡ true → length (stepped .rec .counts) ≡ 32
+
+-- what is known of a record after a step, given the words before it: they are a record's, and while stores are left it is that record
+-- but for its pending operation
+pub record SteppedOn (ok : Bool) (words : List ℕ) (answer : StepAnswer) (r : Record) : Type 0 where
+  pub are-record : ok ≡ true → isRecord words ≡ true
+  pub goes-on : ok ≡ true → (k : ℕ) → answer ≡ StepAnswer.Left k → r ≡ withPending (recordIn words) (r .pending)
 
 -- ---- the next store told
 
@@ -139,3 +151,16 @@ pub record TellCrossed (words area work : List ℕ) (place byte number : ℕ) : 
   pub numbered : number ≡ tellSaid (foretold .answer) .refused
   pub place-told : place ≡ placeTold (foretold .answer)
   pub byte-told : byte ≡ byteTold (foretold .answer)
+
+-- ---- the slot with the fewest present bytes
+
+unfoldable pub slotTold : FewestAnswer → ℕ
+slotTold (FewestAnswer.Slot i) = i
+slotTold (FewestAnswer.Refused c) = 0
+
+-- The slot, or 0 where it is refused.
+pub record FewestCrossed (words : List ℕ) (slot number : ℕ) : Type 0 where
+  pub fewest : Fewest
+  pub promised : FewestPromise edition1 (decoded words .rec) fewest
+  pub numbered : number ≡ fewestSaid (fewest .answer) .refused
+  pub slot-told : slot ≡ slotTold (fewest .answer)

@@ -12,7 +12,7 @@ use borrow.Author.Tests.{not-true}
 use Rattle.segment.specs.Layout.{edition1}
 use Rattle.segment.specs.declared.Key.{Key}
 use Rattle.segment.specs.declared.Version.{Version}
-use Rattle.record.specs.Answers.{blank, formatSaid, recoverSaid, readSaid, startSaid, stepSaid, tellSaid}
+use Rattle.record.specs.Answers.{blank, formatSaid, recoverSaid, readSaid, startSaid, stepSaid, tellSaid, fewestSaid, withPending}
 use Rattle.record.specs.Range.{fitsLent}
 use Rattle.record.specs.RangeLaws.{lent, blank-unfit}
 use Rattle.record.specs.declared.Record.{Record}
@@ -24,8 +24,11 @@ use Rattle.record.specs.declared.Start.{Start}
 use Rattle.record.specs.declared.StartAnswer.{StartAnswer}
 use Rattle.record.specs.declared.Stepped.{Stepped}
 use Rattle.record.specs.declared.StepAnswer.{StepAnswer}
+use Rattle.record.specs.declared.Fewest.{Fewest}
+use Rattle.record.specs.declared.FewestAnswer.{FewestAnswer}
 use Rattle.record.specs.declared.Foretold.{Foretold}
 use Rattle.record.specs.declared.TellAnswer.{TellAnswer}
+use Rattle.model.specs.Fewest.{FewestPromise}
 use Rattle.model.specs.Operations.{Operation}
 use Rattle.record.specs.Reach.{holdsTable}
 use Rattle.record.specs.declared.Tables.{Tables}
@@ -38,10 +41,10 @@ use Rattle.index.specs.declared.Found.{Found}
 use Rattle.recovery.specs.Lookups.{lookupAt, lookedUp, toldBy, partBy}
 use Rattle.recovery.specs.LookupLaws.{looked-unfit, looked-fit, read-promise, value-promise, looked-outside}
 use Rattle.recovery.specs.declared.Lookup.{Lookup}
-use Rattle.words.specs.Words.{recordWords, wordsOf, isRecord, decoded}
-use Rattle.words.specs.WordLaws.{record-long, decoded-record, decoded-none}
+use Rattle.words.specs.Words.{recordWords, pendingWords, wordsOf, isRecord, decoded}
+use Rattle.words.specs.WordLaws.{record-long, counts-long, decoded-record, decoded-none, pending-alone}
 use Rattle.words.specs.declared.Decoded.{Decoded}
-use Rattle.kurdavel.specs.Crossing.{FormatCrossed, RecoverCrossed, wordsAfter, ReadCrossed, ValueCrossed, Handed, storesAfter, StartCrossed, keptWords, StepCrossed, leftTold, toldAfter, placeTold, byteTold, TellCrossed}
+use Rattle.kurdavel.specs.Crossing.{FormatCrossed, RecoverCrossed, wordsAfter, ReadCrossed, ValueCrossed, Handed, storesAfter, StartCrossed, keptWords, StepCrossed, SteppedOn, leftTold, toldAfter, placeTold, byteTold, TellCrossed, slotTold, FewestCrossed}
 
 -- words that decode to a record are enough of them
 pub ok-long : (words : List ℕ) {d : Decoded} → d ≡ decoded words → d .ok ≡ true → recordWords ≤ length words
@@ -49,6 +52,17 @@ ok-long words {d} e ok = go (isRecord words) refl
   where
     go : (t : Bool) → isRecord words ≡ t → recordWords ≤ length words
     go true f = record-long words f
+    go false f =
+        let no : decoded words .ok ≡ false = ap (λ (x : Decoded). x .ok) (decoded-none words f) in
+        let yes : decoded words .ok ≡ true = sym (ap (λ (x : Decoded). x .ok) e) ∙ ok in
+        let z : _≡_ {A = ℕ} 0 1 = cc in
+        absurd (omega arith)
+
+pub ok-record : (words : List ℕ) {d : Decoded} → d ≡ decoded words → d .ok ≡ true → isRecord words ≡ true
+ok-record words {d} e ok = go (isRecord words) refl
+  where
+    go : (t : Bool) → isRecord words ≡ t → t ≡ true
+    go true f = refl
     go false f =
         let no : decoded words .ok ≡ false = ap (λ (x : Decoded). x .ok) (decoded-none words f) in
         let yes : decoded words .ok ≡ true = sym (ap (λ (x : Decoded). x .ok) e) ∙ ok in
@@ -75,9 +89,9 @@ recover-short h = record { short = λ _. record { numbered = refl; index-same = 
 
 pub recover-crossed : {n s : ℕ} {order area cells cells′ words words′ : List ℕ} {x : Recovery} {b : RecoverAnswer} {number : ℕ}
     → recordWords ≤ length words → RecoverPromise edition1 n s order area cells cells′ x → x .answer ≡ b
-    → number ≡ recoverSaid b .refused → words′ ≡ wordsAfter b words (x .rec)
+    → number ≡ recoverSaid b .refused → words′ ≡ wordsAfter b words (x .rec) → (b ≡ RecoverAnswer.Recovered → length (x .rec .counts) ≡ 32)
     → RecoverCrossed n s order area cells cells′ words words′ number
-recover-crossed {words = words} {x = x} h p e m w =
+recover-crossed {words = words} {x = x} h p e m w l =
     record {
       short = λ g. absurd (omega arith);
       recovers = λ _. record {
@@ -85,6 +99,7 @@ recover-crossed {words = words} {x = x} h p e m w =
         promised = p;
         numbered = m ∙ ap (λ (a : RecoverAnswer). recoverSaid a .refused) (sym e);
         says = w ∙ ap (λ (a : RecoverAnswer). wordsAfter a words (x .rec)) (sym e);
+        long = λ f. l (sym e ∙ f);
       };
     }
 
@@ -170,13 +185,14 @@ value-crossed {words} {area} {cells} {t} {k} {place} {bytes} {b = b} l e m v i w
 -- ---- write, delete and clean
 
 pub handed : {ok : Bool} {x : Start} {words words′ : List ℕ} {stores stores′ number : ℕ} {b : StartAnswer}
-    → words′ ≡ keptWords ok words (x .rec) → x .answer ≡ b → number ≡ startSaid b .refused → stores′ ≡ storesAfter b stores
-    → Handed ok x words words′ stores stores′ number
+    → (words′ ≡ keptWords ok words (x .rec)) × (ok ≡ true → length (x .rec .counts) ≡ 32) → x .answer ≡ b → number ≡ startSaid b .refused
+    → stores′ ≡ storesAfter b stores → Handed ok x words words′ stores stores′ number
 handed {stores = stores} w e m s =
     record {
       numbered = m ∙ ap (λ (a : StartAnswer). startSaid a .refused) (sym e);
       told = s ∙ ap (λ (a : StartAnswer). storesAfter a stores) (sym e);
-      says = w;
+      says = w .0;
+      long = w .1;
     }
 
 pub start-crossed : {t : Terms} {o : Operation} {words words′ area cells work work′ : List ℕ} {stores stores′ number : ℕ} {d : Decoded} {x : Start}
@@ -193,7 +209,7 @@ start-crossed {x = x} f p h =
 
 pub step-crossed : {words words′ area area′ cells cells′ work : List ℕ} {left left′ version version′ number : ℕ} {d : Decoded} {x : Stepped}
     {b : StepAnswer} → d ≡ decoded words → StepPromise edition1 (d .rec) area area′ cells cells′ work x × StepTested edition1 (d .rec) area area′ cells cells′ work x
-    → words′ ≡ keptWords (d .ok) words (x .rec) → x .answer ≡ b → number ≡ stepSaid b .refused
+    → (words′ ≡ keptWords (d .ok) words (x .rec)) × (d .ok ≡ true → length (x .rec .counts) ≡ 32) → x .answer ≡ b → number ≡ stepSaid b .refused
     → left′ ≡ leftTold b left → version′ ≡ toldAfter b version
     → StepCrossed words words′ area area′ cells cells′ work left left′ version version′ number
 step-crossed {words = words} {left = left} {version = version} {x = x} f p w e m l v =
@@ -204,8 +220,34 @@ step-crossed {words = words} {left = left} {version = version} {x = x} f p w e m
       numbered = m ∙ ap (λ (a : StepAnswer). stepSaid a .refused) (sym e);
       left-told = l ∙ ap (λ (a : StepAnswer). leftTold a left) (sym e);
       version-told = v ∙ ap (λ (a : StepAnswer). toldAfter a version) (sym e);
-      says = w ∙ ap (λ (a : Decoded). keptWords (a .ok) words (x .rec)) f;
+      says = w .0 ∙ ap (λ (a : Decoded). keptWords (a .ok) words (x .rec)) f;
+      long = λ ok. w .1 (ap (λ (a : Decoded). a .ok) f ∙ ok);
     }
+
+-- the words that a step goes by are a record's, and that record goes on while stores are left
+pub steps-on : {words area area′ cells cells′ work : List ℕ} {d : Decoded} {x : Stepped} → d ≡ decoded words
+    → StepTested edition1 (d .rec) area area′ cells cells′ work x → SteppedOn (d .ok) words (x .answer) (x .rec)
+steps-on {words} {d = d} {x = x} f t =
+    record {
+      are-record = ok-record words f;
+      goes-on =
+          λ ok k e.
+          t .goes-on k e
+          ∙ ap (λ (r : Record). withPending r (x .rec .pending))
+          (ap (λ (a : Decoded). a .rec) (f ∙ decoded-record words (ok-record words f ok)));
+    }
+
+-- the words of the pending operation alone
+pub kept-pending : (words words′ : List ℕ) {ok : Bool} (r : Record) {k : ℕ} {a : StepAnswer} → SteppedOn ok words a r → ok ≡ true → a ≡ StepAnswer.Left k
+    → words′ ≡ sets words 12 (pendingWords (r .pending)) → words′ ≡ keptWords ok words r
+kept-pending words words′ r {k} h ok e w =
+    kept-on words words′ r ok
+    (w ∙ pending-alone words (h .are-record ok) (r .pending) ∙ ap (λ (s : Record). sets words 0 (wordsOf s)) (sym (h .goes-on ok k e)))
+
+pub long-pending : (words : List ℕ) {ok : Bool} (r : Record) {k : ℕ} {a : StepAnswer} → SteppedOn ok words a r → ok ≡ true → a ≡ StepAnswer.Left k
+    → length (r .counts) ≡ 32
+long-pending words r {k} h ok e =
+    ap (λ (s : Record). length (s .counts)) (h .goes-on ok k e) ∙ counts-long words (h .are-record ok)
 
 -- ---- the next store told
 
@@ -220,4 +262,16 @@ tell-crossed {words} {area} {work} {x = x} f p e m l v =
       numbered = m ∙ ap (λ (a : TellAnswer). tellSaid a .refused) (sym e);
       place-told = l ∙ ap placeTold (sym e);
       byte-told = v ∙ ap byteTold (sym e);
+    }
+
+-- ---- the slot with the fewest present bytes
+
+pub fewest-crossed : {words : List ℕ} {slot number : ℕ} {d : Decoded} {x : Fewest} {b : FewestAnswer} → d ≡ decoded words
+    → FewestPromise edition1 (d .rec) x → x .answer ≡ b → number ≡ fewestSaid b .refused → slot ≡ slotTold b → FewestCrossed words slot number
+fewest-crossed {x = x} f p e m l =
+    record {
+      fewest = x;
+      promised = subst (λ (a : Decoded). FewestPromise edition1 (a .rec) x) f p;
+      numbered = m ∙ ap (λ (a : FewestAnswer). fewestSaid a .refused) (sym e);
+      slot-told = l ∙ ap slotTold (sym e);
     }

@@ -4,6 +4,7 @@
 use firmware::step_held;
 use index::search::search;
 use record::Expected;
+use record::FewestAnswer;
 use record::FormatAnswer;
 use record::ReadAnswer;
 use record::Record;
@@ -25,6 +26,7 @@ use segment::Version;
 use segment::layout::HEAD_SIZE;
 use store::clean;
 use store::delete;
+use store::fewest_present;
 use store::format;
 use store::recover;
 use store::tell;
@@ -33,6 +35,7 @@ use store::write_expecting;
 use words::WORDS;
 use words::decode;
 use words::encode;
+use words::encode_pending;
 ghost use Prim.Native.Nat.{_≤_};
 ghost use mathlib.Core.Path.{_≡_};
 ghost use mathlib.Core.Bool.{true};
@@ -41,7 +44,7 @@ ghost use Rattle.model.specs.Operations.{write, delete, clean};
 ghost use Rattle.model.specs.Refused.{freely, reaching};
 ghost use Rattle.record.specs.declared.Expected.{Expected};
 ghost use Rattle.words.specs.Words.{recordWords};
-ghost use Rattle.kurdavel.specs.Crossing.{FormatCrossed, RecoverCrossed, ReadCrossed, ValueCrossed, StartCrossed, StepCrossed, TellCrossed, keptWords, Handed};
+ghost use Rattle.kurdavel.specs.Crossing.{FormatCrossed, RecoverCrossed, ReadCrossed, ValueCrossed, StartCrossed, StepCrossed, SteppedOn, FewestCrossed, TellCrossed, keptWords, Handed};
 
 #[no_mangle]
 pub extern "C" fn kurdavel_format(slots: u32, size: u32, area: &mut [u8]) -> u32
@@ -176,10 +179,30 @@ pub extern "C" fn kurdavel_read_value(
 // The record back into its words, if they were a record's.
 fn keep(words: &mut [u32], ok: bool, rec: Record)
     requires { ⌜ (ok ≡ true → recordWords ≤ length (now words)) ⌝ }
-    ensures { λ _. ⌜ now (words .exit) ≡ keptWords ok (now (words .entry)) rec ⌝ }
+    ensures kept { λ _. ⌜ now (words .exit) ≡ keptWords ok (now (words .entry)) rec ⌝ }
+    ensures long { λ _. ⌜ (ok ≡ true → length (rec .counts) ≡ 32) ⌝ }
 {
     if ok {
         encode(rec, words);
+    }
+}
+
+// The record after a step back into its words, if they were a record's. While stores are left only the words of its pending operation
+// change.
+fn keep_stepped(words: &mut [u32], ok: bool, answer: StepAnswer, rec: Record)
+    requires { ⌜ SteppedOn ok (now words) answer rec ⌝ }
+    ensures kept { λ _. ⌜ now (words .exit) ≡ keptWords ok (now (words .entry)) rec ⌝ }
+    ensures long { λ _. ⌜ (ok ≡ true → length (rec .counts) ≡ 32) ⌝ }
+{
+    match answer {
+        StepAnswer::Left(_) => {
+            if ok {
+                let pending = rec.pending;
+                encode_pending(pending, words);
+            }
+        }
+        StepAnswer::Done(_) => keep(words, ok, rec),
+        StepAnswer::Refused(_) => keep(words, ok, rec),
     }
 }
 
@@ -337,7 +360,7 @@ pub extern "C" fn kurdavel_step(
     let stepped = step_held(rec, area, index, work);
     let after = stepped.rec;
     let answer = stepped.answer;
-    keep(words, decoded.ok, after);
+    keep_stepped(words, decoded.ok, answer, after);
     match answer {
         StepAnswer::Refused(cause) => number(cause),
         StepAnswer::Left(count) => {
@@ -381,6 +404,25 @@ pub extern "C" fn kurdavel_next_store(
         } => {
             *place = at;
             *byte = stored as u32;
+            0
+        }
+    }
+}
+
+// The slot of the log with the fewest present bytes, by the record alone; 0 where it is refused.
+#[no_mangle]
+pub extern "C" fn kurdavel_fewest(words: &[u32], slot: &mut u32) -> u32
+    ensures { λ r. ⌜ FewestCrossed (now (words .entry)) (now (slot .exit)) r ⌝ }
+{
+    *slot = 0;
+    let decoded = decode(words);
+    let rec = decoded.rec;
+    let fewest = fewest_present(rec);
+    let answer = fewest.answer;
+    match answer {
+        FewestAnswer::Refused(cause) => number(cause),
+        FewestAnswer::Slot(found) => {
+            *slot = found;
             0
         }
     }

@@ -60,6 +60,10 @@ refused-same : (r : Record) (area cells : List ℕ) (c : Refusal) {x : Stepped} 
 refused-same r area cells c e =
     record { answers = e; says = ap (λ (y : Stepped). stepSaid (y .answer)) e; area-same = refl; index-same = refl }
 
+-- a refusal leaves no stores
+refused-left : (r : Record) (c : Refusal) (k : ℕ) → refusedStep r c .answer ≡ StepAnswer.Left k → ⊥
+refused-left r c k e = let z : _≡_ {A = ℕ} 0 1 = cc in absurd (omega arith)
+
 module _ (L : Layout) (r : Record) (area cells work : List ℕ) (c : Refusal) (first : firstCause (stepCauses L r (lentLengths area cells work)) ≡ some c) where
   same : (d : Refusal) → firstCause (stepCauses L r (lentLengths area cells work)) ≡ some d → c ≡ d
   same d f = let q : _≡_ {A = Option Refusal} (some c) (some d) = sym first ∙ f in cc
@@ -86,6 +90,7 @@ module _ (L : Layout) (r : Record) (area cells work : List ℕ) (c : Refusal) (f
           before-store = λ f t. absurd (never f);
           stores = λ f p b t. absurd (never f);
           behind-store = λ d f. inl refl;
+          goes-on = λ k f. absurd (refused-left r c k (ap (λ (y : Stepped). y .answer) (sym e) ∙ f));
         }
 
 -- ---- the stores left of what is laid down
@@ -155,6 +160,51 @@ module _ (L : Layout) (r : Record) (area cells : List ℕ) where
           (finishWith L r area cells (r .pending)) .stepped)
       go true = λ c f. let z : _≡_ {A = ℕ} 0 1 = cc in absurd (omega arith)
       go false = finish-late (r .pending)
+
+-- ---- while stores are left only the pending operation changes
+
+module _ (r : Record) where
+  abbrev Going : Stepped → Type 0
+  Going x = (k : ℕ) → x .answer ≡ StepAnswer.Left k → x .rec ≡ withPending r (x .rec .pending)
+
+  -- the last step leaves none
+  answered-going : (done : Commit) (version : ℕ) (counts : List ℕ) (b : Built) → Going (answeredWith r done version counts b)
+  unfolding answeredWith pick
+  answered-going done version counts (Built.Keys n) = go (ltb n (r .cells))
+    where
+      go : (t : Bool) → Going (pick t (record { answer = StepAnswer.Done (record { 0 = version }); rec = committed r done n counts }) (refusedStep r BadRecord))
+      go true k f = let z : _≡_ {A = ℕ} 0 1 = cc in absurd (omega arith)
+      go false k f = absurd (refused-left r BadRecord k f)
+  answered-going done version counts Built.TooMany = λ k f. absurd (refused-left r BadRecord k f)
+
+module _ (L : Layout) (r : Record) (area cells : List ℕ) where
+  found-going : (done : Commit) (slot place : ℕ) (f : Found) → Going r (foundIn L r done area cells slot place f .stepped)
+  unfolding foundIn
+  found-going done slot place (entry e) = answered-going r done (r .next .0) _ _
+  found-going done slot place end = λ k f. absurd (refused-left r BadRecord k f)
+  found-going done slot place damage = λ k f. absurd (refused-left r BadRecord k f)
+
+  finish-going : (p : Pending) → Going r (finishWith L r area cells p .stepped)
+  unfolding finishWith finishAppend finishHead finishClean finishForget finishEntry
+  finish-going Idle = λ k f. absurd (refused-left r BadRecord k f)
+  finish-going (Append n k) = found-going _ _ _ _
+  finish-going (NewHead i n k) = found-going _ _ _ _
+  finish-going (Clean i v n k) = answered-going r _ 0 _ _
+  finish-going (Forget i v n k) = answered-going r _ (r .next .0) _ _
+
+  advanced-going : Going r (advanced L r area cells .stepped)
+  unfolding advanced pick
+  advanced-going = go (ltb 1 (storesLeft (r .pending)))
+    where
+      go : (t : Bool) → Going r
+          (pick t
+          (record {
+            stepped = record { answer = StepAnswer.Left (storesLeft (r .pending) - 1); rec = withPending r (oneLess (r .pending)) };
+            cells = cells;
+          })
+          (finishWith L r area cells (r .pending)) .stepped)
+      go true = λ k f. refl
+      go false = finish-going (r .pending)
 
 -- ---- a step of a started operation
 
@@ -323,6 +373,7 @@ module _ (L : Layout) (roomy : Roomy L) (r : Record) (area cells work : List ℕ
           before-store = λ f t. refused-same r area cells BadRecord e;
           stores = λ f p b t. absurd (bad-at (sym bad ∙ t));
           behind-store = λ c f. inl refl;
+          goes-on = λ k f. absurd (refused-left r BadRecord k (ap (λ (y : Stepped). y .answer) (sym e) ∙ f));
         }
 
   module _ (p b : ℕ) (at : testedStore L (length area) work r ≡ At p b) {x : Stepped} {cells′ : List ℕ}
@@ -361,6 +412,7 @@ module _ (L : Layout) (roomy : Roomy L) (r : Record) (area cells work : List ℕ
           before-store = λ f t. absurd (bad-at (sym t ∙ at));
           stores = λ f q c t. same-store q c (sym at ∙ t);
           behind-store = λ c f. inr (last-only c f, late-bad c f);
+          goes-on = λ k f. subst (λ (a : After). Going r (a .stepped)) (sym e) (advanced-going L r (set area p b) cells) k f;
         }
       where
         same-store : (q c : ℕ) → _≡_ {A = NextStore} (At p b) (At q c) → set area p b ≡ set area q c

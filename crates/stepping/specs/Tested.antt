@@ -8,7 +8,7 @@ use mathlib.Core.Option.{none}
 use lib.ListN.{length, set}
 use Rattle.segment.specs.Choice.{pick-false}
 use Rattle.segment.specs.Layout.{Layout, versionLimit, numberLimit}
-use Rattle.record.specs.Answers.{storesLeft}
+use Rattle.record.specs.Answers.{storesLeft, withPending}
 use Rattle.record.specs.declared.Refusal.{Refusal}
 use Rattle.record.specs.declared.Refusal.the-variants.{BadRecord}
 use Rattle.record.specs.declared.StepAnswer.{StepAnswer}
@@ -34,6 +34,8 @@ pub record StepTested (L : Layout) (r : Record) (area area′ cells cells′ wor
   pub behind-store :
       (c : Refusal) → a .answer ≡ StepAnswer.Refused c →
       (area′ ≡ area) ⊎ ((storesLeft (r .pending) ≡ 1) × (a ≡ record { answer = StepAnswer.Refused BadRecord; rec = r }))
+  -- while stores are left only the pending operation of the record changes
+  pub goes-on : (k : ℕ) → a .answer ≡ StepAnswer.Left k → a .rec ≡ withPending r (a .rec .pending)
 
 -- Whatever record a step gets: with no version or no digest number left for its operation it is refused, and nothing changes.
 module _ (L : Layout) (r : Record) (area area′ cells cells′ work : List ℕ) (a : Stepped) (tested : StepTested L r area area′ cells cells′ work a)

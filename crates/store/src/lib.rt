@@ -38,3 +38,7 @@ pub use stepping::step;
 // Tells place and byte of the store that the next step will make, for a medium that is no memory. Only reads. Refused with 4, 3 or
 // 6; of the lent lengths 4 looks at the area's alone.
 pub use telling::tell::tell;
+
+// Tells the slot of the log with the fewest present bytes, the lowest where several have as few, from the record alone. Allowed during an
+// operation. Refused with 4.
+pub use fullness::fewest_present;

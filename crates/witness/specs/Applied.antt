@@ -1,12 +1,12 @@
 -- Demand 3 speaks about the computed run: what recovery gives at its end, whichever order the slots are read in, and what its steps and
 -- reads answered.
 use Prim.Native.Nat.{ℕ, _-_, _<_}
-use mathlib.Core.Path.{_≡_, refl, _∙_, ap, subst, subst⁻¹}
+use mathlib.Core.Path.{_≡_, refl, sym, _∙_, ap, subst, subst⁻¹}
 use mathlib.Core.Bool.{true, false}
 use mathlib.Core.List.{List, [], _∷_, _++_}
-use mathlib.Core.Option.{Option, some}
+use mathlib.Core.Option.{Option, none, some}
 use native.Mathlib.Omega.{arith}
-use lib.ListN.{length}
+use lib.ListN.{length, replicate}
 use Rattle.segment.specs.Choice.{both, pick-true}
 use Rattle.segment.specs.Layout.{edition1}
 use Rattle.segment.specs.declared.Key.{Key}
@@ -17,16 +17,19 @@ use Rattle.record.specs.declared.ReadAnswer.{ReadAnswer}
 use Rattle.record.specs.declared.Recovery.{Recovery}
 use Rattle.record.specs.declared.RecoverAnswer.{RecoverAnswer}
 use Rattle.record.specs.declared.Refusal.{Refusal}
-use Rattle.model.specs.Operations.{write}
+use Rattle.model.specs.Counts.{countsOf}
+use Rattle.model.specs.Operations.{logNow, write}
 use Rattle.model.specs.Play.{opened}
 use Rattle.record.specs.Reach.{holdsTable, allTables}
 use Rattle.model.specs.Recovery.{orderBad, recovery}
 use Rattle.model.specs.Promises.{formatAnswer, areaUnless, FormatPromise, RecoverPromise, ReadPromise, Part, partOf, ValuePromise}
 use Rattle.record.specs.declared.TellAnswer.{TellAnswer}
 use Rattle.history.specs.Book.{reads, starts, asks, Answer, saying, telling, Event, called, cut, accepted, bookVersion, Book, freshBook, versionFor, feed, bookOf, highestTold, versionTold}
+use Rattle.history.specs.Runs.{Held}
 use Rattle.history.specs.Demand3.{LargeEnough, bookAnswer, bookValue, GivesBook, StepAgrees, QuestionAgrees, EventAgrees, EventsAgree, Demand3Of}
 use Rattle.history.proofs.Readings.{feed-asks}
 use Rattle.history.proofs.Theorem.{demand-3}
+use Rattle.history.proofs.Counting.{counts-kept}
 use Rattle.history.specs.Finishing.{goesOn, allGoOn}
 use Rattle.history.proofs.Corollaries.{agree-at, agree-behind, told-below-next}
 use Rattle.history.proofs.Expecting.{expected-found, replaces-expected}
@@ -182,3 +185,23 @@ replaced-none =
     (leaving 35 1) (deletes ++ (cleans ++ ends)) (expecting 0) (record { 0 = 0 }) ten threes (lent 256) (lent 256) (saying (told 36 0 0))
     (saying (told 0 2 0)) (all .world) run refl refl refl
     (record { awaited = record { operation = write ten threes; left = 1 }; pending = refl; one-left = refl; is-accepted = refl })
+
+-- ---- the present bytes of the slots (02, R-5)
+
+-- the numbers of a record that is held
+abbrev heldCounts : Option Held → List ℕ
+heldCounts none = []
+heldCounts (some h) = h .rec .counts
+
+-- At the end slot 1 alone has any: the object of the second key, which the cleaning has brought there.
+abbrev pub left-counts : List ℕ
+left-counts = 0 ∷ 35 ∷ replicate 30 0
+
+computed-counts : heldCounts (all .world .held) ≡ left-counts
+unfolding computing
+computed-counts = refl
+
+-- That is what a scan of the log counts.
+pub scanned-counts : (h : Held) → all .world .held ≡ some h → countsOf edition1 (logNow edition1 (all .world .area) (h .rec)) ≡ left-counts
+scanned-counts h e =
+    sym (counts-kept 4 256 before area₀ (bytes-of 1024 0xaa (omega arith)) formats events (all .world) run h e) ∙ ap heldCounts (sym e) ∙ computed-counts

@@ -56,7 +56,7 @@ length-inserted L area cells place version (Found.At i) = go (ltb (versionAt L a
   where
     go : (t : Bool) →
         length
-        (pick {A = Insertion} t (record { answer = Inserted.Newer; cells = set cells i (place + 1) }) (record { answer = Inserted.Older; cells = cells }) .cells)
+        (pick {A = Insertion} t (record { answer = Inserted.Newer (getD cells i 0 - 1); cells = set cells i (place + 1) }) (record { answer = Inserted.Older; cells = cells }) .cells)
         ≡ length cells
     go true = length-set cells i (place + 1)
     go false = refl
@@ -76,7 +76,7 @@ module _ (L : Layout) (area : List ℕ) (S m : ℕ) where
       go : (t : Bool) → Cells m (pick t (counted cells (n + 1)) over)
       go true = e
       go false = tt
-  tallied-cells Inserted.Newer cells n e = e
+  tallied-cells (Inserted.Newer old) cells n e = e
   tallied-cells Inserted.Older cells n e = e
   tallied-cells Inserted.Full cells n e = tt
 
@@ -112,15 +112,15 @@ module _ (L : Layout) (r : Record) (area cells : List ℕ) where
   either-long true a b p q = p
   either-long false a b p q = q
 
-  found-long : (done : Commit) (place : ℕ) (f : Entered) → Long (foundIn L r done area cells place f)
+  found-long : (done : Commit) (slot place : ℕ) (f : Entered) → Long (foundIn L r done area cells slot place f)
   unfolding foundIn
-  found-long done place (entry e) = length-inserted L area cells place (r .next .0) (searchFor L area cells (keyOf e))
-  found-long done place end = refl
-  found-long done place damage = refl
+  found-long done slot place (entry e) = length-inserted L area cells place (r .next .0) (searchFor L area cells (keyOf e))
+  found-long done slot place end = refl
+  found-long done slot place damage = refl
 
   entry-long : (done : Commit) (slot offset : ℕ) → Long (finishEntry L r done area cells slot offset)
   unfolding finishEntry
-  entry-long done slot offset = found-long done (slot * r .size + offset) (entryAt L (segmentOf area (r .size) slot) offset)
+  entry-long done slot offset = found-long done slot (slot * r .size + offset) (entryAt L (segmentOf area (r .size) slot) offset)
 
   finish-long : (p : Pending) → Long (finishWith L r area cells p)
   unfolding finishWith finishAppend finishHead finishClean finishForget

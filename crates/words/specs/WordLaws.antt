@@ -119,6 +119,9 @@ pub record-long : (w : List ℕ) → isRecord w ≡ true → recordWords ≤ len
 unfolding isRecord
 record-long w e = leb-true recordWords (length w) (both-left _ _ e)
 
+pub counts-long : (w : List ℕ) → isRecord w ≡ true → length (countsIn w) ≡ 32
+counts-long w e = length-take-le 32 (drop 17 w) (omega (arith, length-drop 17 w, record-long w e))
+
 pub too-short : (w : List ℕ) → length w < recordWords → isRecord w ≡ false
 unfolding isRecord
 too-short w h = both-false-left _ _ (lt-leb recordWords (length w) h)

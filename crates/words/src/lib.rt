@@ -93,10 +93,12 @@ fn copy_words(to: &mut [u32], at: usize, from: &[u32])
     }
 }
 
-// The record into the first words of what is lent; the others stay.
+// The record into the first words of what is lent; the others stay. An array's length is no part of its value in a contract, so it is
+// said beside.
 pub fn encode(rec: Record, words: &mut [u32])
     requires { ⌜ recordWords ≤ length (now words) ⌝ }
-    ensures { λ _. ⌜ now (words .exit) ≡ sets (now (words .entry)) 0 (wordsOf rec) ⌝ }
+    ensures put { λ _. ⌜ now (words .exit) ≡ sets (now (words .entry)) 0 (wordsOf rec) ⌝ }
+    ensures long { λ _. ⌜ length (rec .counts) ≡ 32 ⌝ }
 {
     let pending = rec.pending;
     let counts = rec.counts;

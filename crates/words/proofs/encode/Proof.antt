@@ -22,8 +22,10 @@ same-length c = search needs
 
 returns : tie.Need-returns
 returns c =
-    let a = c .before .before .before .before .before .before .before .before .before .before .before .before .before .before .before .args in
-    in-order (a .words .now) _ _ _ (a .rec) (c .before .before .before .before .before .before .before .before .before .before .before .put-numbers .ensures) (c .before .before .before .before .before .before .before .encode-pending .ensures) (c .before .before .copy-words .ensures)
+    let a = c .before .before .before .before .before .before .before .before .before .before .before .before .before .before .before .args in (
+      in-order (a .words .now) _ _ _ (a .rec) (c .before .before .before .before .before .before .before .before .before .before .before .put-numbers .ensures) (c .before .before .before .before .before .before .before .encode-pending .ensures) (c .before .before .copy-words .ensures),
+      ?,
+    )
 
 pub encode-spec : {M : Type 1} → statement M
 encode-spec =
