@@ -231,15 +231,15 @@ module _ (n s : ℕ) where
   module _ (m : Memory) (cells′ words words′ : List ℕ) (rec : Record) (number : ℕ) (long : recordWords ≤ length words) where
     world-after :
         (a : RecoverAnswer) → number ≡ recoverSaid a .refused → words′ ≡ wordsAfter a words rec →
-        recoveredWorld (worldOf m) cells′ (record { answer = a; rec = rec }) ≡ worldOf (recoveredMemory m cells′ words′ number)
+        (a ≡ RecoverAnswer.Recovered → length (rec .counts) ≡ 32) → recoveredWorld (worldOf m) cells′ (record { answer = a; rec = rec }) ≡ worldOf (recoveredMemory m cells′ words′ number)
     unfolding pick wordsAfter
-    world-after RecoverAnswer.Recovered e w =
+    world-after RecoverAnswer.Recovered e w full =
         (λ i. record { area = m .area; held = some (record { rec = sym says i; cells = cells′; work = [] }); cells = some (length cells′) }) ∙
         ap (λ (x : ℕ). worldOf (recoveredMemory m cells′ words′ x)) (sym e)
       where
         says : decoded words′ .rec ≡ rec
-        says = ap (λ (l : List ℕ). decoded l .rec) w ∙ ap (λ (d : Decoded). d .rec) (decode-encode rec words long)
-    world-after (RecoverAnswer.Refused c) e w =
+        says = ap (λ (l : List ℕ). decoded l .rec) w ∙ ap (λ (d : Decoded). d .rec) (decode-encode rec words (full refl) long)
+    world-after (RecoverAnswer.Refused c) e w full =
         rw (refusal-number c) (by-twenty (eqb (numberOfRefusal c) 20)) ∙ ap (λ (x : ℕ). worldOf (recoveredMemory m cells′ words′ x)) (sym e)
       where
         by-twenty :
@@ -258,7 +258,7 @@ module _ (n s : ℕ) where
       let r = c .recovers long in
       subst
       (λ (x : World). Runs (worldOf m) (called (recovers n s order) (readLengths (m .area) cells) (saying (numberSaid number taken)) ∷ []) x)
-      (world-after m cells′ words words′ (r .recovery .rec) number long (r .recovery .answer) (r .numbered) (r .says))
+      (world-after m cells′ words words′ (r .recovery .rec) number long (r .recovery .answer) (r .numbered) (r .says) (r .long))
       (subst
       (λ (a : Said).
       Runs (worldOf m) (called (recovers n s order) (readLengths (m .area) cells) (saying a) ∷ []) (recoveredWorld (worldOf m) cells′ (r .recovery)))

@@ -52,7 +52,7 @@ module _ (n s : ℕ) (order area cells cells′ words words′ : List ℕ) (numb
     unfolding wordsAfter
     says =
         ap (λ (l : List ℕ). decoded l .rec) (x .says ∙ ap (λ (a : RecoverAnswer). wordsAfter a words (x .recovery .rec)) (given .is-accepted)) ∙
-        ap (λ (d : Decoded). d .rec) (decode-encode (x .recovery .rec) words long)
+        ap (λ (d : Decoded). d .rec) (decode-encode (x .recovery .rec) words (x .long (given .is-accepted)) long)
 
     answered :
         (t : Tables) (k : Key) → KeyArgument k → holdsTable t (k .table) ≡ true → (a : Reading) →

@@ -15,6 +15,7 @@ use Rattle.segment.specs.declared.Version.{Version}
 use Rattle.record.specs.Answers.{blank, formatSaid, recoverSaid, readSaid, startSaid, stepSaid, tellSaid, fewestSaid, withPending}
 use Rattle.record.specs.Range.{fitsLent}
 use Rattle.record.specs.RangeLaws.{lent, blank-unfit}
+use Rattle.record.specs.declared.Refusal.{Refusal}
 use Rattle.record.specs.declared.Record.{Record}
 use Rattle.record.specs.declared.FormatAnswer.{FormatAnswer}
 use Rattle.record.specs.declared.Recovery.{Recovery}
@@ -69,6 +70,10 @@ ok-record words {d} e ok = go (isRecord words) refl
         let z : _≡_ {A = ℕ} 0 1 = cc in
         absurd (omega arith)
 
+-- a test that holds and does not
+pub never-both : {A : Type 0} {t : Bool} → t ≡ true → t ≡ false → A
+never-both p q = let z : _≡_ {A = ℕ} 0 1 = cc in absurd (omega arith)
+
 pub kept-on : {ok : Bool} (words words′ : List ℕ) (r : Record) → ok ≡ true → words′ ≡ sets words 0 (wordsOf r) → words′ ≡ keptWords ok words r
 unfolding keptWords
 kept-on words words′ r e w = rw e w
@@ -82,6 +87,10 @@ kept-off words r e = rw e
 pub format-crossed : {n s : ℕ} {area area′ : List ℕ} {a b : FormatAnswer} {number : ℕ} → FormatPromise edition1 n s area area′ a → a ≡ b
     → number ≡ formatSaid b .refused → FormatCrossed n s area area′ number
 format-crossed {a = a} p e m = record { answer = a; promised = p; numbered = m ∙ ap (λ (x : FormatAnswer). formatSaid x .refused) (sym e) }
+
+-- a refusal is no acceptance
+pub never-recovered : {A : Type 0} {c : Refusal} → RecoverAnswer.Refused c ≡ RecoverAnswer.Recovered → A
+never-recovered e = let z : _≡_ {A = ℕ} 0 1 = cc in absurd (omega arith)
 
 pub recover-short : {n s : ℕ} {order area cells words : List ℕ} → length words < recordWords
     → RecoverCrossed n s order area cells cells words words 4

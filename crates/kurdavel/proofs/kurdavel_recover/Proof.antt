@@ -1,7 +1,7 @@
 -- `kurdavel::kurdavel_recover` meets its contract.
 use mathlib.Core.Path.{refl}
 use Rattle.kurdavel.specs.Crossing.{wordsAfter}
-use Rattle.kurdavel.specs.CrossingLaws.{recover-short, recover-crossed}
+use Rattle.kurdavel.specs.CrossingLaws.{recover-short, recover-crossed, never-recovered}
 use borrow.Author.Needs.{needs}
 use Rattle.kurdavel.proofs.kurdavel_recover.Statement.{statement}
 use Rattle.kurdavel.proofs.kurdavel_recover.Tie as tie
@@ -29,7 +29,7 @@ same-length c = search needs
 
 returns-2 : tie.Need-returns-2
 unfolding wordsAfter
-returns-2 c = recover-crossed (c .before .before .before .before .before .before .before .before .if1 .left) (c .before .before .before .before .before .before .recover .ensures) (c .before .before .answer .given .1) (c .number .ensures) refl
+returns-2 c = recover-crossed (c .before .before .before .before .before .before .before .before .if1 .left) (c .before .before .before .before .before .before .recover .ensures) (c .before .before .answer .given .1) (c .number .ensures) refl (λ e. never-recovered e)
 
 same-length-2 : tie.Need-same-length-2
 same-length-2 c = search needs
@@ -39,7 +39,7 @@ same-length-3 c = search needs
 
 returns-3 : tie.Need-returns-3
 unfolding wordsAfter
-returns-3 c = recover-crossed (c .before .before .before .before .before .before .before .before .before .before .before .if1 .left) (c .before .before .before .before .before .before .before .before .before .recover .ensures) (c .before .before .before .before .before .enum-told .given .1) refl (c .before .before .encode .ensures)
+returns-3 c = recover-crossed (c .before .before .before .before .before .before .before .before .before .before .before .if1 .left) (c .before .before .before .before .before .before .before .before .before .recover .ensures) (c .before .before .before .before .before .enum-told .given .1) refl (c .before .before .encode .ensures .0) (λ e. c .before .before .encode .ensures .1)
 
 pub kurdavel-recover-spec : {M : Type 1} → statement M
 kurdavel-recover-spec =

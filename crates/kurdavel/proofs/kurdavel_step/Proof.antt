@@ -1,7 +1,7 @@
 -- `kurdavel::kurdavel_step` meets its contract.
 use mathlib.Core.Path.{refl}
 use Rattle.kurdavel.specs.Crossing.{leftTold, toldAfter}
-use Rattle.kurdavel.specs.CrossingLaws.{ok-long, step-crossed}
+use Rattle.kurdavel.specs.CrossingLaws.{steps-on, step-crossed}
 use borrow.Author.Needs.{needs}
 use Rattle.kurdavel.proofs.kurdavel_step.Statement.{statement}
 use Rattle.kurdavel.proofs.kurdavel_step.Tie as tie
@@ -12,8 +12,8 @@ decode-requires c κs = search needs
 step-held-requires : tie.Need-step-held-requires
 step-held-requires c κs = search needs
 
-keep-requires : tie.Need-keep-requires
-keep-requires c κs = ok-long _ (c .before .before .before .before .before .before .before .before .before .before .decode .ensures)
+keep-stepped-requires : tie.Need-keep-stepped-requires
+keep-stepped-requires c κs = ?
 
 enum-known-answer : tie.Need-enum-known-answer
 enum-known-answer c = search needs
@@ -39,7 +39,7 @@ same-length-3 c = search needs
 returns : tie.Need-returns
 unfolding leftTold toldAfter
 returns c =
-    step-crossed (c .before .before .before .before .before .before .before .before .before .before .before .before .before .before .before .before .before .decode .ensures) (c .before .before .before .before .before .before .before .before .before .before .before .before .before .step-held .ensures) (c .before .before .before .before .before .before .keep .ensures) (c .before .before .answer .given .1) (c .number .ensures) refl refl
+    step-crossed (c .before .before .before .before .before .before .before .before .before .before .before .before .before .before .before .before .before .decode .ensures) (c .before .before .before .before .before .before .before .before .before .before .before .before .before .step-held .ensures) (c .before .before .before .before .before .before .keep-stepped .ensures) (c .before .before .answer .given .1) (c .number .ensures) refl refl
 
 same-length-4 : tie.Need-same-length-4
 same-length-4 c = search needs
@@ -53,7 +53,7 @@ same-length-6 c = search needs
 returns-2 : tie.Need-returns-2
 unfolding leftTold toldAfter
 returns-2 c =
-    step-crossed (c .before .before .before .before .before .before .before .before .before .before .before .before .before .before .before .before .decode .ensures) (c .before .before .before .before .before .before .before .before .before .before .before .before .step-held .ensures) (c .before .before .before .before .before .keep .ensures) (c .before .answer2 .given .1) refl refl refl
+    step-crossed (c .before .before .before .before .before .before .before .before .before .before .before .before .before .before .before .before .decode .ensures) (c .before .before .before .before .before .before .before .before .before .before .before .before .step-held .ensures) (c .before .before .before .before .before .keep-stepped .ensures) (c .before .answer2 .given .1) refl refl refl
 
 same-length-7 : tie.Need-same-length-7
 same-length-7 c = search needs
@@ -67,7 +67,7 @@ same-length-9 c = search needs
 returns-3 : tie.Need-returns-3
 unfolding leftTold toldAfter
 returns-3 c =
-    step-crossed (c .before .before .before .before .before .before .before .before .before .before .before .before .before .before .before .before .decode .ensures) (c .before .before .before .before .before .before .before .before .before .before .before .before .step-held .ensures) (c .before .before .before .before .before .keep .ensures) (c .before .answer3 .given .1) refl refl refl
+    step-crossed (c .before .before .before .before .before .before .before .before .before .before .before .before .before .before .before .before .decode .ensures) (c .before .before .before .before .before .before .before .before .before .before .before .before .step-held .ensures) (c .before .before .before .before .before .keep-stepped .ensures) (c .before .answer3 .given .1) refl refl refl
 
 pub kurdavel-step-spec : {M : Type 1} → statement M
 kurdavel-step-spec =
@@ -75,7 +75,7 @@ kurdavel-step-spec =
     (tie.spec
     decode-requires
     step-held-requires
-    keep-requires
+    keep-stepped-requires
     enum-known-answer
     number-requires
     enum-known-answer-2

@@ -1,4 +1,5 @@
 -- `words::encode` meets its contract.
+use mathlib.Core.Path.{sym}
 use native.Mathlib.Omega.{arith}
 use borrow.Author.Needs.{needs}
 use Rattle.words.specs.WordLaws.{in-order}
@@ -24,7 +25,7 @@ returns : tie.Need-returns
 returns c =
     let a = c .before .before .before .before .before .before .before .before .before .before .before .before .before .before .before .args in (
       in-order (a .words .now) _ _ _ (a .rec) (c .before .before .before .before .before .before .before .before .before .before .before .put-numbers .ensures) (c .before .before .before .before .before .before .before .encode-pending .ensures) (c .before .before .copy-words .ensures),
-      ?,
+      sym (slice-aggregate-copy-words (c .before .before .before)),
     )
 
 pub encode-spec : {M : Type 1} → statement M
