@@ -382,15 +382,15 @@ pub extern "C" fn kurdavel_next_store(
     words: &[u32],
     area: &[u8],
     work: &[u8],
-    place: &mut u32,
+    at: &mut u32,
     byte: &mut u32,
 ) -> u32
     ensures { λ r.
         ⌜
-        TellCrossed (now (words .entry)) (now (area .entry)) (now (work .entry)) (now (place .exit)) (now (byte .exit)) r
+        TellCrossed (now (words .entry)) (now (area .entry)) (now (work .entry)) (now (at .exit)) (now (byte .exit)) r
         ⌝ }
 {
-    *place = 0;
+    *at = 0;
     *byte = 0;
     let decoded = decode(words);
     let rec = decoded.rec;
@@ -399,10 +399,10 @@ pub extern "C" fn kurdavel_next_store(
     match answer {
         TellAnswer::Refused(cause) => number(cause),
         TellAnswer::At {
-            place: at,
+            place: found,
             byte: stored,
         } => {
-            *place = at;
+            *at = found;
             *byte = stored as u32;
             0
         }
