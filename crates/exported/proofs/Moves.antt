@@ -9,7 +9,7 @@ use lib.ListN.{length, take, drop}
 use Rattle.segment.specs.Choice.{pick, pick-false}
 use Rattle.segment.specs.Layout.{edition1}
 use Rattle.segment.specs.declared.Key.{Key}
-use Rattle.record.specs.Answers.{Said, refusal, taken, takenWith, recoverSaid, readSaid, startSaid, stepSaid, tellSaid}
+use Rattle.record.specs.Answers.{Said, refusal, taken, takenWith, recoverSaid, readSaid, startSaid, stepSaid, tellSaid, fewestSaid}
 use Rattle.record.specs.Range.{fitsLent}
 use Rattle.record.specs.RangeLaws.{blank-unfit}
 use Rattle.record.specs.Refusals.{numberOfRefusal}
@@ -21,10 +21,12 @@ use Rattle.record.specs.declared.Refusal.the-variants.{BadRecord}
 use Rattle.record.specs.declared.StartAnswer.{StartAnswer}
 use Rattle.record.specs.declared.Stepped.{Stepped}
 use Rattle.record.specs.declared.StepAnswer.{StepAnswer}
+use Rattle.record.specs.declared.FewestAnswer.{FewestAnswer}
 use Rattle.record.specs.declared.TellAnswer.{TellAnswer}
 use Rattle.model.specs.Arguments.{typed-key, typed-write, typed-delete, typed-clean}
 use Rattle.model.specs.Operations.{Operation, write, delete, clean, Typed}
 use Rattle.record.specs.declared.Tables.{Tables}
+use Rattle.model.specs.Fewest.{noLengths}
 use Rattle.model.specs.Refused.{Terms, isPending}
 use Rattle.laws.specs.Starts.{early-bad}
 use Rattle.model.specs.Promises.{Begun, begun, readLengths, lentLengths, tellLengths}
@@ -32,11 +34,12 @@ use Rattle.laws.specs.CauseLaws.{cause-first, refusal-number}
 use Rattle.words.specs.Words.{recordWords, isRecord, decoded}
 use Rattle.words.specs.WordLaws.{record-long, decoded-record, decoded-none, decode-encode}
 use Rattle.words.specs.declared.Decoded.{Decoded}
-use Rattle.history.specs.Book.{reads, readsValue, tells, starts, steps, asks, recovers, Answer, saying, giving, telling, Event, called}
+use Rattle.history.specs.Book.{reads, readsValue, tells, fewest, starts, steps, asks, recovers, Answer, saying, giving, telling, naming, Event, called}
 use Rattle.history.specs.Runs as Store
 use Rattle.history.specs.Runs.{World, recoveredWorld, Run}
-use Rattle.kurdavel.specs.Crossing.{keptWords, wordsAfter, RecoverCrossed, ReadCrossed, ValueCrossed, storesAfter, StartCrossed, leftTold, toldAfter, StepCrossed, placeTold, byteTold, TellCrossed}
-use Rattle.exported.specs.Runs.{HeldWords, Memory, heldBy, worldOf, KeyArgument, Arguments, numberSaid, stepTold, readTold, storeTold, recoveredMemory, Exports, start, step, read, readValue, tell, recover, short, cuts, ExportedRun, stop, go}
+use Rattle.kurdavel.specs.Crossing.{keptWords, wordsAfter, RecoverCrossed, ReadCrossed, ValueCrossed, storesAfter, StartCrossed, leftTold, toldAfter, StepCrossed, placeTold, byteTold, TellCrossed, FewestCrossed}
+use Rattle.kurdavel.specs.Crossing as Crossing
+use Rattle.exported.specs.Runs.{HeldWords, Memory, heldBy, worldOf, KeyArgument, Arguments, numberSaid, stepTold, readTold, storeTold, slotTold, recoveredMemory, Exports, start, step, read, readValue, tell, least, recover, short, cuts, ExportedRun, stop, go}
 
 -- ---- arguments: whatever has its C type is typed
 
@@ -90,6 +93,14 @@ store-told (TellAnswer.At p b) place byte number e f g = λ i. storeTold (sym e 
 store-told (TellAnswer.Refused c) place byte number e f g =
     sym (pick-false (eqb (numberOfRefusal c) 0) (record { said = taken; value = byte ∷ []; place = place }) (saying (refusal (numberOfRefusal c))) (refusal-number c)) ∙
     ap (λ (k : ℕ). storeTold k place byte) (sym e)
+
+slot-told :
+    (a : FewestAnswer) (slot number : ℕ) → number ≡ fewestSaid a .refused → slot ≡ Crossing.slotTold a → naming a ≡ slotTold number slot
+unfolding Crossing.slotTold pick
+slot-told (FewestAnswer.Slot i) slot number e f = λ j. slotTold (sym e j) (sym f j)
+slot-told (FewestAnswer.Refused c) slot number e f =
+    sym (pick-false (eqb (numberOfRefusal c) 0) (record { said = taken; value = slot ∷ []; place = 0 }) (saying (refusal (numberOfRefusal c))) (refusal-number c)) ∙
+    ap (λ (k : ℕ). slotTold k slot) (sym e)
 
 recover-said : (a : RecoverAnswer) (number : ℕ) → number ≡ recoverSaid a .refused → recoverSaid a ≡ numberSaid number taken
 recover-said RecoverAnswer.Recovered number e = taken-said number taken e
@@ -226,6 +237,18 @@ module _ (n s : ℕ) where
       (store-told (c .foretold .answer) place byte number (c .numbered) (c .place-told) (c .byte-told))
       (Store.go (Store.ask (Store.tell {h = heldBy h} own (c .promised))) Store.stop)
 
+  fewest-runs :
+      (area : List ℕ) (h : HeldWords) (m : Option ℕ) (slot number : ℕ) → FewestCrossed (h .words) slot number →
+      Runs (worldOf (record { area = area; held = some h; cells = m })) (called (asks fewest) noLengths (slotTold number slot) ∷ [])
+      (worldOf (record { area = area; held = some h; cells = m }))
+  fewest-runs area h m slot number c =
+      subst
+      (λ (a : Answer).
+      Runs (worldOf (record { area = area; held = some h; cells = m })) (called (asks fewest) noLengths a ∷ [])
+      (worldOf (record { area = area; held = some h; cells = m })))
+      (slot-told (c .fewest .answer) slot number (c .numbered) (c .slot-told))
+      (Store.go (Store.ask (Store.least {h = heldBy h} (c .promised))) Store.stop)
+
   -- ---- recovery
 
   module _ (m : Memory) (cells′ words words′ : List ℕ) (rec : Record) (number : ℕ) (long : recordWords ≤ length words) where
@@ -276,6 +299,7 @@ module _ (n s : ℕ) where
       read-runs area h m v k version kind number p c
   exports-run (readValue {area} {h} {m} {v} {k} {place} {bytes} {number} p c) = value-runs area h m v k place bytes number p c
   exports-run (tell {area} {work} {h} {m} {place} {byte} {number} own c) = tell-runs area work h m place byte number own c
+  exports-run (least {area} {h} {m} {slot} {number} c) = fewest-runs area h m slot number c
   exports-run (recover {m} {order} {cells} {cells′} {words} {words′} {number} long c) =
       recover-runs m order cells cells′ words words′ number long c
   exports-run (short less c) = Store.stop

@@ -12,14 +12,15 @@ use Rattle.word.specs.Number.{Bytes}
 use Rattle.segment.specs.Choice.{pick}
 use Rattle.segment.specs.declared.Key.{Key}
 use Rattle.record.specs.Answers.{Said, refusal, taken, takenWith, readSaid}
+use Rattle.model.specs.Fewest.{noLengths}
 use Rattle.model.specs.Operations.{Operation, write, delete, clean}
 use Rattle.record.specs.declared.Tables.{Tables}
 use Rattle.model.specs.Refused.{Terms, isPending}
 use Rattle.model.specs.Promises.{readLengths, lentLengths, tellLengths}
 use Rattle.words.specs.Words.{recordWords, decoded}
-use Rattle.history.specs.Book.{reads, readsValue, tells, starts, steps, asks, recovers, Answer, saying, giving, Event, called, cut}
+use Rattle.history.specs.Book.{reads, readsValue, tells, fewest, starts, steps, asks, recovers, Answer, saying, giving, Event, called, cut}
 use Rattle.history.specs.Runs.{Held, World}
-use Rattle.kurdavel.specs.Crossing.{RecoverCrossed, ReadCrossed, ValueCrossed, StartCrossed, StepCrossed, TellCrossed}
+use Rattle.kurdavel.specs.Crossing.{RecoverCrossed, ReadCrossed, ValueCrossed, StartCrossed, StepCrossed, TellCrossed, FewestCrossed}
 
 -- ---- what is held
 
@@ -77,6 +78,10 @@ abbrev pub storeTold : (number place byte : ℕ) → Answer
 storeTold number place byte =
     pick (eqb number 0) (record { said = taken; value = byte ∷ []; place = place }) (saying (refusal number))
 
+-- The slot that is told, likewise.
+abbrev pub slotTold : (number slot : ℕ) → Answer
+slotTold number slot = pick (eqb number 0) (record { said = taken; value = slot ∷ []; place = 0 }) (saying (refusal number))
+
 -- ---- the transitions
 
 -- An accepted recovery gives the words and the index; one that is refused with 20 leaves no index, and any other leaves all as it was.
@@ -126,6 +131,11 @@ pub data Exports (n s : ℕ) : Memory → List Event → Memory → Type 0 where
       TellCrossed (h .words) area work place byte number →
       Exports n s (record { area = area; held = some h; cells = m })
       (called (asks tells) (tellLengths area work) (storeTold number place byte) ∷ [])
+      (record { area = area; held = some h; cells = m })
+  -- kurdavel_fewest, which tells its slot through a pointer whether it is refused or not
+  least :
+      {area : List ℕ} {h : HeldWords} {m : Option ℕ} {slot number : ℕ} → FewestCrossed (h .words) slot number →
+      Exports n s (record { area = area; held = some h; cells = m }) (called (asks fewest) noLengths (slotTold number slot) ∷ [])
       (record { area = area; held = some h; cells = m })
   -- kurdavel_recover with the N and S of the format, any order list, any index and room for the words
   recover :

@@ -6,20 +6,22 @@ use mathlib.Core.Path.{_≡_, refl, sym, ap, _∙_, subst⁻¹}
 use mathlib.Core.Bool.{Bool, true, false, not}
 use mathlib.Core.List.{List, [], _∷_}
 use mathlib.Core.Option.{Option, none, some}
+use lib.Dec.{eqb}
 use lib.ListN.{length}
 use Rattle.word.specs.Number.{Bytes}
-use Rattle.segment.specs.Choice.{pick, isNone}
+use Rattle.segment.specs.Choice.{pick, both-left, isNone}
 use Rattle.segment.specs.Layout.{Layout, entrySize}
 use Rattle.segment.specs.Entry.{Entry, kindOf, bytesIn}
 use Rattle.segment.specs.declared.Key.{Key}
-use Rattle.record.specs.Answers.{readSaid, refusal, withPending, storesLeft}
+use Rattle.record.specs.Answers.{Said, taken, saidBy, readSaid, fewestSaid, refusal, withPending, storesLeft}
 use Rattle.record.specs.Reach.{holdsTable}
-use Rattle.record.specs.Range.{fitsLent}
+use Rattle.record.specs.Range.{inRange, lengthsOwn, fitsLent}
 use Rattle.record.specs.RangeLaws.{Lent, lent, fits-lent, lent-pending}
 use Rattle.record.specs.declared.Pending.{Pending}
 use Rattle.record.specs.declared.Pending.the-variants.{Idle}
 use Rattle.record.specs.declared.Reading.{Reading}
 use Rattle.record.specs.declared.ReadAnswer.{ReadAnswer}
+use Rattle.record.specs.declared.Fewest.{Fewest}
 use Rattle.record.specs.declared.Record.{Record}
 use Rattle.record.specs.declared.Refusal.{Refusal}
 use Rattle.record.specs.declared.Refusal.the-variants.{BadRecord, Absent, OutsideTables}
@@ -27,14 +29,15 @@ use Rattle.record.specs.declared.Tables.{Tables}
 use Rattle.model.specs.Log.{Placed, present}
 use Rattle.model.specs.Causes.{when, firstCause}
 use Rattle.model.specs.Recovery.{recovered}
+use Rattle.model.specs.Fewest.{FewestPromise, noLengths}
 use Rattle.model.specs.Operations.{Operation, write, delete, clean, logNow, writtenEntry, tombstoneEntry, fitsHead, noRoom, laidAppend, laidHead, laidEntry, laidForget, laid, storesFor}
 use Rattle.model.specs.Refused.{Lengths, recordBad, keyAbsent, outsideTables, readCauses}
 use Rattle.model.specs.Promises.{ReadPromise, ValuePromise, readAnswer, presentAnswer, readLengths, Part, partOf, valueAnswer, valuePart, tellLengths}
 use Rattle.laws.specs.CauseLaws.{cause-skip, cause-first}
 use Rattle.laws.specs.MapLaws.{valueAt, unplaced}
 use Rattle.laws.specs.Operated.{OperationLaws}
-use Rattle.history.specs.Book.{Question, reads, readsValue, tells, asks, Answer, saying, giving, telling, called, accepted, Kept, Book, feed, feedCall, versionTold}
-use Rattle.history.specs.Runs.{Held, World, Asked, read, readValue, tell}
+use Rattle.history.specs.Book.{Question, reads, readsValue, tells, fewest, asks, Answer, saying, giving, telling, naming, called, accepted, Kept, Book, feed, feedCall, versionTold}
+use Rattle.history.specs.Runs.{Held, World, Asked, read, readValue, tell, least}
 use Rattle.history.specs.Demand3.{bookAnswer, bookValue, QuestionAgrees, EventAgrees}
 use Rattle.history.proofs.Invariant.{Inv, Holding, HeldGood, Phase, idle, pending, bookEntry, started-accepted, next-of, log-of, with-geometry}
 use Rattle.history.proofs.Tellings.{tell-keeps}
@@ -242,6 +245,34 @@ module _ (L : Layout) (laws : OperationLaws L) (n s : ℕ) where
             (ap (partOf area) (promise .exact (good .genuine)) ∙ value-given area (h .cells) (h .rec) (inv .bytes) (good .genuine .recovers) fits v k (b .keys k) map-now),
       )
 
+  -- the record of a run is in range, so the slot with the fewest bytes is told
+  module _ (area : List ℕ) (h : Held) (m : Option ℕ) (b : Book) (t : ℕ) (a : Fewest) (p : FewestPromise L (h .rec) a)
+      (inv : Inv L n s (record { area = area; held = some h; cells = m }) b t) (good : Holding L n s area m b h) where
+    in-range : inRange L (h .rec) ≡ true
+    unfolding fitsLent
+    in-range = both-left (inRange L (h .rec)) (lengthsOwn (h .rec) (length area) (length (h .cells))) (held-fits area m b h (inv .bytes) good)
+
+    told : fewestSaid (a .answer) ≡ taken
+    unfolding saidBy
+    told =
+        p .says
+        ∙ ap (λ (c : Option Refusal). saidBy c taken) (cause-skip _ _ (ap not in-range) ∙ no-cause-left)
+      where
+        no-cause-left : firstCause [] ≡ none
+        no-cause-left = unfold firstCause in refl
+
+    fewest-keeps :
+        Inv L n s (record { area = area; held = some h; cells = m }) (feed b (called (asks fewest) noLengths (naming (a .answer))))
+        (max t (versionTold (called (asks fewest) noLengths (naming (a .answer)))))
+        × EventAgrees L b (called (asks fewest) noLengths (naming (a .answer)))
+    unfolding versionTold EventAgrees QuestionAgrees
+    fewest-keeps = (
+      subst⁻¹ (λ (x : Book). Inv L n s (record { area = area; held = some h; cells = m }) x (max t (fewestSaid (a .answer) .version)))
+          (feed-asks b fewest noLengths (naming (a .answer)))
+          (subst⁻¹ (λ (v : Said). Inv L n s (record { area = area; held = some h; cells = m }) b (max t (v .version))) told (rw (max-zero t) inv)),
+      ap (λ (v : Said). eqb (v .refused) 0) told,
+    )
+
   -- A question keeps the invariant, and answers what the book says.
   pub ask-keeps :
       {w : World} {q : Question} {l : Lengths} {a : Answer} (b : Book) (t : ℕ) → Asked L w q l a → Inv L n s w b t →
@@ -252,3 +283,4 @@ module _ (L : Layout) (laws : OperationLaws L) (n s : ℕ) where
       value-keeps area h m b t inv (inv .held) k v (readLengths area (h .cells)) p promise
   ask-keeps b t (tell {area} {work} {h} {m} {a} own p) inv =
       tell-keeps L n s area work h m a b t own p inv (inv .held .phase) (feed-asks b tells (tellLengths area work) (telling (a .answer)))
+  ask-keeps b t (least {area} {h} {m} {a} p) inv = fewest-keeps area h m b t a p inv (inv .held)

@@ -6,19 +6,22 @@ use mathlib.Core.Option.{Option, none, some}
 use lib.Dec.{eqb}
 use Rattle.segment.specs.Choice.{pick}
 use Rattle.segment.specs.declared.Key.{Key}
-use Rattle.record.specs.Answers.{Said, taken, refusal}
+use Rattle.record.specs.Answers.{Said, taken, refusal, fewestSaid, fewestTold}
 use Rattle.record.specs.Refusals.{numberOfRefusal}
 use Rattle.record.specs.declared.Tables.{Tables}
+use Rattle.record.specs.declared.FewestAnswer.{FewestAnswer}
 use Rattle.record.specs.declared.TellAnswer.{TellAnswer}
 use Rattle.model.specs.Log.{sameKeys}
 use Rattle.model.specs.Operations.{Operation, write, delete, clean}
 use Rattle.model.specs.Refused.{Lengths, Terms}
 
--- A call that changes nothing: a read within some tables, a read of the value, and what the next step will store.
+-- A call that changes nothing: a read within some tables, a read of the value, what the next step will store, and which slot
+-- has the fewest present bytes (02, R-5).
 pub data Question : Type 0 where
   reads : Tables → Key → Question
   readsValue : Tables → Key → Question
   tells : Question
+  fewest : Question
 
 -- A call on the store with its arguments: a start (write, delete or clean) on some terms, a step, a question, a recovery with N, S
 -- and the order list.
@@ -45,6 +48,10 @@ giving v = record { said = taken; value = v; place = 0 }
 abbrev pub telling : TellAnswer → Answer
 telling (TellAnswer.At place byte) = record { said = taken; value = byte ∷ []; place = place }
 telling (TellAnswer.Refused c) = saying (refusal (numberOfRefusal c))
+
+-- a slot, where a value has its bytes
+abbrev pub naming : FewestAnswer → Answer
+naming a = record { said = fewestSaid a; value = fewestTold a; place = 0 }
 
 -- A call with the lengths of what it was lent and with what it answered, or a cut. Of a call's input only what the lent memory
 -- holds is not in its event.

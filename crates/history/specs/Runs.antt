@@ -18,10 +18,12 @@ use Rattle.record.specs.declared.Reading.{Reading}
 use Rattle.record.specs.declared.Start.{Start}
 use Rattle.record.specs.declared.Stepped.{Stepped}
 use Rattle.record.specs.declared.Tables.{Tables}
+use Rattle.record.specs.declared.Fewest.{Fewest}
+use Rattle.model.specs.Fewest.{FewestPromise, noLengths}
 use Rattle.model.specs.Operations.{Operation, Typed, TypedKey}
 use Rattle.model.specs.Refused.{Lengths, Terms, isPending}
 use Rattle.model.specs.Promises.{RecoverPromise, readLengths, ReadPromise, Part, partOf, ValuePromise, lentLengths, StartPromise, StepPromise, tellLengths, TellPromise}
-use Rattle.history.specs.Book.{Question, reads, readsValue, tells, starts, steps, asks, recovers, Answer, saying, giving, telling, Event, called, cut, accepted}
+use Rattle.history.specs.Book.{Question, reads, readsValue, tells, fewest, starts, steps, asks, recovers, Answer, saying, giving, telling, naming, Event, called, cut, accepted}
 
 -- What the firmware holds from an accepted recovery to the next cut: the newest record, the index of that recovery, and the work
 -- buffer that the last accepted start filled.
@@ -65,6 +67,9 @@ pub data Asked (L : Layout) : World → Question → Lengths → Answer → Type
       {area work : List ℕ} {h : Held} {m : Option ℕ} {a : Foretold} → (isPending (h .rec .pending) ≡ true → work ≡ h .work) →
       TellPromise L (h .rec) area work a →
       Asked L (record { area = area; held = some h; cells = m }) tells (tellLengths area work) (telling (a .answer))
+  least :
+      {area : List ℕ} {h : Held} {m : Option ℕ} {a : Fewest} → FewestPromise L (h .rec) a →
+      Asked L (record { area = area; held = some h; cells = m }) fewest noLengths (naming (a .answer))
 
 -- One event. A cut takes what is held and leaves the area with the stores made so far. The stores of an operation are made one by
 -- one, each by a step, and no other call stores anything; so a cut during a call is one before it, or one after it once its store

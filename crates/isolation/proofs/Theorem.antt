@@ -17,6 +17,7 @@ use Rattle.record.specs.declared.Tables.{Tables}
 use Rattle.model.specs.Log.{Placed}
 use Rattle.model.specs.Causes.{firstCause}
 use Rattle.record.specs.Reach.{holdsTable}
+use Rattle.model.specs.Fewest.{FewestPromise, noLengths}
 use Rattle.model.specs.Refused.{Lengths, Terms, readCauses}
 use Rattle.model.specs.Promises.{RecoverPromise, StartPromise, Genuine, ReadPromise, ValuePromise, partOf, readLengths, lentLengths, tellLengths}
 use Rattle.laws.specs.CauseLaws.{no-cause}
@@ -24,8 +25,8 @@ use Rattle.laws.specs.Starts.{StartInside, start-inside}
 use Rattle.laws.specs.Entering.{Roomy}
 use Rattle.laws.specs.Operated.{OperationLaws}
 use Rattle.laws.specs.OperationsKept.{operation-laws, edition1-roomy}
-use Rattle.history.specs.Book.{Question, reads, readsValue, tells, telling, Call, starts, steps, asks, recovers, Answer, saying, giving, Event, called, cut, Book, freshBook, feed, versionTold}
-use Rattle.history.specs.Runs.{World, freshWorld, Asked, read, readValue, tell, Moves, start, step, ask, recover, cuts, Run, stop, go}
+use Rattle.history.specs.Book.{Question, reads, readsValue, tells, fewest, telling, naming, Call, starts, steps, asks, recovers, Answer, saying, giving, Event, called, cut, Book, freshBook, feed, versionTold}
+use Rattle.history.specs.Runs.{World, freshWorld, Asked, read, readValue, tell, least, Moves, start, step, ask, recover, cuts, Run, stop, go}
 use Rattle.history.proofs.Invariant.{Inv, HeldGood, baseCells}
 use Rattle.history.proofs.Theorem.{move-keeps, fresh}
 use Rattle.isolation.specs.Owners.{Owner, servo, media, blankedOperation, blanked, SameCall, SameInput, SameInputs, SameNumbers, SameToServo, SameAnswer, SameAnswers, sameOwner, startRange, rangeOf, rangeHolds, gives}
@@ -81,6 +82,7 @@ answer-own servo steps c′ l l′ a = refl
 answer-own servo (asks (reads u k)) c′ l l′ a = refl
 answer-own servo (asks (readsValue u k)) c′ l l′ a = refl
 answer-own servo (asks tells) c′ l l′ a = (refl, refl)
+answer-own servo (asks fewest) c′ l l′ a = refl
 answer-own servo (recovers n s order) c′ l l′ a = refl
 answer-own media c c′ l l′ a = (refl, refl)
 
@@ -210,6 +212,15 @@ module _ (L : Layout) (roomy : Roomy L) (n s : ℕ) (of : ℕ → Bool) where
   asked-both b b′ t t′ who (tell own p) (readValue ty′ q′) inv inv′ pair e lent c = let z : _≡_ {A = ℕ} 0 1 = cc in absurd (omega arith)
   asked-both b b′ t t′ who (read ty p) (tell own′ p′) inv inv′ pair e lent c = let z : _≡_ {A = ℕ} 0 1 = cc in absurd (omega arith)
   asked-both b b′ t t′ who (readValue ty q) (tell own′ p′) inv inv′ pair e lent c = let z : _≡_ {A = ℕ} 0 1 = cc in absurd (omega arith)
+  asked-both b b′ t t′ who (least {area} {h} {m} {a} p) (least {area = area′} {h = h′} {m = m′} {a = a′} p′) inv inv′ pair e lent c =
+      answer-same who (asks fewest) (asks fewest) noLengths noLengths (naming (a .answer)) (naming (a′ .answer))
+      (ap naming (p .answers ∙ sym (subst⁻¹ (λ (r : Record). FewestPromise L r a′) (pair .held .rec-same) p′ .answers)))
+  asked-both b b′ t t′ who (least p) (read ty′ p′) inv inv′ pair e lent c = let z : _≡_ {A = ℕ} 0 1 = cc in absurd (omega arith)
+  asked-both b b′ t t′ who (least p) (readValue ty′ q′) inv inv′ pair e lent c = let z : _≡_ {A = ℕ} 0 1 = cc in absurd (omega arith)
+  asked-both b b′ t t′ who (least p) (tell own′ p′) inv inv′ pair e lent c = let z : _≡_ {A = ℕ} 0 1 = cc in absurd (omega arith)
+  asked-both b b′ t t′ who (read ty p) (least p′) inv inv′ pair e lent c = let z : _≡_ {A = ℕ} 0 1 = cc in absurd (omega arith)
+  asked-both b b′ t t′ who (readValue ty q) (least p′) inv inv′ pair e lent c = let z : _≡_ {A = ℕ} 0 1 = cc in absurd (omega arith)
+  asked-both b b′ t t′ who (tell own p) (least p′) inv inv′ pair e lent c = let z : _≡_ {A = ℕ} 0 1 = cc in absurd (omega arith)
 
   abbrev Both : Owner → World → World → Event → Event → Type 0
   Both who x x′ e e′ = Pair of L n s x x′ × SameAnswer who e e′

@@ -11,7 +11,7 @@ use Rattle.record.specs.declared.Tables.{Tables}
 use Rattle.model.specs.Operations.{Operation, write, delete, clean}
 use Rattle.record.specs.Reach.{holdsTable}
 use Rattle.model.specs.Refused.{Terms}
-use Rattle.history.specs.Book.{reads, readsValue, tells, Call, starts, steps, asks, recovers, Answer, Event, called, cut}
+use Rattle.history.specs.Book.{reads, readsValue, tells, fewest, Call, starts, steps, asks, recovers, Answer, Event, called, cut}
 
 -- Who made a call. Steps, cleanings, recoveries and cuts are common; it does not matter whose they are said to be.
 pub data Owner : Type 0 where
@@ -68,6 +68,7 @@ SameToServo steps a a′ = a ≡ a′
 SameToServo (asks (reads t k)) a a′ = a ≡ a′
 SameToServo (asks (readsValue t k)) a a′ = a ≡ a′
 SameToServo (asks tells) a a′ = SameNumbers a a′
+SameToServo (asks fewest) a a′ = a ≡ a′
 SameToServo (recovers n s order) a a′ = a ≡ a′
 
 -- Of media's answers all numbers are the same.
@@ -106,6 +107,7 @@ rangeOf (called steps lent a) = none
 rangeOf (called (asks (reads given k)) lent a) = some given
 rangeOf (called (asks (readsValue given k)) lent a) = some given
 rangeOf (called (asks tells) lent a) = none
+rangeOf (called (asks fewest) lent a) = none
 rangeOf (called (recovers n s order) lent a) = none
 rangeOf cut = none
 

@@ -17,6 +17,7 @@ use Rattle.record.specs.declared.Record.{Record}
 use Rattle.record.specs.declared.Fewest.{Fewest}
 use Rattle.record.specs.declared.FewestAnswer.{FewestAnswer}
 use Rattle.model.specs.Causes.{Cause, when, firstCause}
+use Rattle.model.specs.Refused.{Lengths}
 
 -- every slot below n that the map names has at least b bytes
 unfoldable pub noneBelow : ℕ → List ℕ → ℕ → ℕ → Bool
@@ -37,6 +38,9 @@ abbrev pub fewestSlot : Record → ℕ
 fewestSlot r = lowestFrom (hasFewest (r .slots) (r .map) (r .counts)) 0 (r .slots)
 
 -- 4, by the record's range alone: nothing is lent.
+abbrev pub noLengths : Lengths
+noLengths = record { area = 0; index = 0; work = 0 }
+
 abbrev pub fewestCauses : Layout → Record → List Cause
 fewestCauses L r = when (not (inRange L r)) BadRecord ∷ []
 

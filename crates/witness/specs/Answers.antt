@@ -2,7 +2,7 @@
 use Prim.Native.Nat.{ℕ}
 use mathlib.Core.Path.{_≡_, refl, sym, ap}
 use mathlib.Core.Bool.{Bool, true, false}
-use mathlib.Core.List.{List}
+use mathlib.Core.List.{List, [], _∷_}
 use mathlib.Core.Option.{Option, none, some}
 use native.Mathlib.Omega.{arith}
 use lib.Dec.{eqb}
@@ -10,8 +10,10 @@ use lib.ListN.{length, replicate, length-replicate}
 use Rattle.segment.specs.Choice.{pick}
 use Rattle.segment.specs.Layout.{Layout}
 use Rattle.segment.specs.declared.Key.{Key}
+use Rattle.record.specs.Answers.{taken, saidBy, toldBy, fewestSaid, fewestTold}
 use Rattle.record.specs.RangeLaws.{between-low}
 use Rattle.record.specs.Refusals.{numberOfRefusal}
+use Rattle.record.specs.declared.Fewest.{Fewest}
 use Rattle.record.specs.declared.Reading.{Reading}
 use Rattle.record.specs.declared.Recovery.{Recovery}
 use Rattle.record.specs.declared.RecoverAnswer.{RecoverAnswer}
@@ -20,6 +22,7 @@ use Rattle.record.specs.declared.Record.{Record}
 use Rattle.record.specs.declared.Tables.{Tables}
 use Rattle.model.specs.Log.{present}
 use Rattle.model.specs.Causes.{firstCause}
+use Rattle.model.specs.Fewest.{fewestSlot, fewestCauses, fewestAnswer, FewestPromise}
 use Rattle.model.specs.Operations.{Operation, logNow}
 use Rattle.model.specs.Recovery.{recovery, recoveryFor, recoverCauses, recordFrom}
 use Rattle.model.specs.Refused.{Terms, reachCauses, readCauses, startCauses}
@@ -69,6 +72,24 @@ module _ (L : Layout) (r : Record) (area cells : List ℕ) (t : Tables) (k : Key
         early = λ c e. ap (λ (x : Option Refusal). valueAnswer L (r .size) x (present (logNow L area r) k)) (its-cause c e);
         exact = λ g. refl;
       }
+
+-- ---- the slot with the fewest present bytes
+
+abbrev pub fewestBy : Layout → Record → Fewest
+fewestBy L r = record { answer = fewestAnswer (firstCause (fewestCauses L r)) (fewestSlot r); rec = r }
+
+pub fewest-made : (L : Layout) (r : Record) → FewestPromise L r (fewestBy L r)
+unfolding fewestAnswer saidBy toldBy
+fewest-made L r =
+    record { hands-back = refl; answers = refl; says = said (firstCause (fewestCauses L r)); tells = told (firstCause (fewestCauses L r)) }
+  where
+    said : (c : Option Refusal) → fewestSaid (fewestAnswer c (fewestSlot r)) ≡ saidBy c taken
+    said none = refl
+    said (some c) = refl
+
+    told : (c : Option Refusal) → fewestTold (fewestAnswer c (fewestSlot r)) ≡ toldBy c (fewestSlot r ∷ [])
+    told none = refl
+    told (some c) = refl
 
 -- ---- write, delete and clean
 

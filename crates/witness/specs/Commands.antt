@@ -13,11 +13,12 @@ use Rattle.model.specs.Refused.{Lengths, Terms}
 use Rattle.model.specs.Recovery.{recovery}
 use Rattle.model.specs.Promises.{readLengths, partOf, Begun, lentLengths, tellLengths}
 use Rattle.laws.specs.OperationsKept.{edition1-laws}
+use Rattle.model.specs.Fewest.{noLengths}
 use Rattle.telling.specs.Told.{toldBy}
 use Rattle.telling.specs.ToldLaws.{told-promise}
-use Rattle.history.specs.Book.{Question, reads, readsValue, tells, starts, steps, asks, recovers, Answer, saying, giving, telling, Event, called, cut}
-use Rattle.history.specs.Runs.{Held, World, heldAfter, recoveredWorld, Asked, read, readValue, tell, Moves, start, step, ask, recover, cuts, Run, stop, go}
-use Rattle.witness.specs.Answers.{readBy, partBy, read-made, value-made, startedBy, start-made, recoveredCells, recover-made}
+use Rattle.history.specs.Book.{Question, reads, readsValue, tells, fewest, starts, steps, asks, recovers, Answer, saying, giving, telling, naming, Event, called, cut}
+use Rattle.history.specs.Runs.{Held, World, heldAfter, recoveredWorld, Asked, read, readValue, tell, least, Moves, start, step, ask, recover, cuts, Run, stop, go}
+use Rattle.witness.specs.Answers.{readBy, partBy, read-made, value-made, fewestBy, fewest-made, startedBy, start-made, recoveredCells, recover-made}
 use Rattle.witness.specs.Steps.{Moved, steppedBy, step-made}
 
 -- a question's key, where it has one, is of its types
@@ -25,6 +26,7 @@ abbrev pub TypedQuestion : Question → Type 0
 TypedQuestion (reads t k) = TypedKey k
 TypedQuestion (readsValue t k) = TypedKey k
 TypedQuestion tells = Unit
+TypedQuestion fewest = Unit
 
 -- Arguments are of their types. A start gets any terms and any work buffer, a recovery any order list and any index.
 pub data Command : Type 0 where
@@ -65,12 +67,14 @@ unfoldable pub answerBy : Layout → Held → List ℕ → Question → Answer
 answerBy L h area (reads t k) = saying (readSaid (readBy L (h .rec) area (h .cells) t k .answer))
 answerBy L h area (readsValue t k) = giving (partOf area (partBy L (h .rec) area (h .cells) t k))
 answerBy L h area tells = telling (toldBy L (h .rec) area (h .work) .answer)
+answerBy L h area fewest = naming (fewestBy L (h .rec) .answer)
 
 -- the lengths of what is lent with it: a read gets the index, and what the next step will store is asked with the step's work buffer
 unfoldable pub lentBy : Held → List ℕ → Question → Lengths
 lentBy h area (reads t k) = readLengths area (h .cells)
 lentBy h area (readsValue t k) = readLengths area (h .cells)
 lentBy h area tells = tellLengths area (h .work)
+lentBy h area fewest = noLengths
 
 abbrev pub askedWorld : Layout → World → Held → Question → Played
 askedWorld L w h q =
@@ -125,6 +129,7 @@ module _ (n s : ℕ) where
   asked area m h (reads u k) t = read t (read-made edition1 (h .rec) area (h .cells) u k)
   asked area m h (readsValue u k) t = readValue t (value-made edition1 (h .rec) area (h .cells) u k)
   asked area m h tells t = tell (λ e. refl) (told-promise edition1 edition1-laws (h .rec) area (h .work) refl)
+  asked area m h fewest t = least (fewest-made edition1 (h .rec))
 
   played-run : (area : List ℕ) (m : Option ℕ) (held : Option Held) (c : Command) →
       let w : World = record { area = area; held = held; cells = m } in From w (played edition1 n s w held c)

@@ -11,7 +11,7 @@ use Rattle.record.specs.declared.Tables.{Tables}
 use Rattle.model.specs.Operations.{write, delete, clean}
 use Rattle.model.specs.Refused.{Terms}
 use Rattle.model.specs.Table.{Row, row, failing, Hold, rows-hold}
-use Rattle.history.specs.Book.{reads, readsValue, tells, Call, starts, steps, asks, recovers, Event, called, cut}
+use Rattle.history.specs.Book.{reads, readsValue, tells, fewest, Call, starts, steps, asks, recovers, Event, called, cut}
 
 -- ---- an event as numbers: what is told, with the place, the lengths lent, which call it is, and its arguments; and its value
 
@@ -28,6 +28,7 @@ callNumbers (asks (readsValue t k)) = 3 ∷ t .first ∷ t .last ∷ k .table �
 callNumbers (starts t (clean victims)) = 4 ∷ expectedNumber (t .expected) ∷ t .tables .first ∷ t .tables .last ∷ victims ∷ []
 callNumbers (starts t (delete k)) = 5 ∷ expectedNumber (t .expected) ∷ t .tables .first ∷ t .tables .last ∷ k .table ∷ k .key ∷ []
 callNumbers (asks tells) = 7 ∷ []
+callNumbers (asks fewest) = 8 ∷ []
 callNumbers (starts t (write k value)) = 6 ∷ expectedNumber (t .expected) ∷ t .tables .first ∷ t .tables .last ∷ k .table ∷ k .key ∷ value
 
 unfoldable pub eventNumbers : Event → List ℕ
@@ -62,7 +63,8 @@ callFrom (suc (suc (suc zero))) xs = asks (readsValue (tablesFrom xs) (keyFrom (
 callFrom (suc (suc (suc (suc zero)))) xs = starts (termsFrom xs) (clean (getD xs 3 0))
 callFrom (suc (suc (suc (suc (suc zero))))) xs = starts (termsFrom xs) (delete (keyFrom (drop 3 xs)))
 callFrom (suc (suc (suc (suc (suc (suc zero)))))) xs = starts (termsFrom xs) (write (keyFrom (drop 3 xs)) (drop 5 xs))
-callFrom (suc (suc (suc (suc (suc (suc (suc n))))))) xs = asks tells
+callFrom (suc (suc (suc (suc (suc (suc (suc zero))))))) xs = asks tells
+callFrom (suc (suc (suc (suc (suc (suc (suc (suc n)))))))) xs = asks fewest
 
 eventFrom : List ℕ → List ℕ → Event
 eventFrom [] value = cut
@@ -90,6 +92,7 @@ event-back (called (recovers n s order) l a) = refl
 event-back (called (asks (reads t k)) l a) = refl
 event-back (called (asks (readsValue t k)) l a) = refl
 event-back (called (asks tells) l a) = refl
+event-back (called (asks fewest) l a) = refl
 event-back (called (starts t (clean victims)) l a) = ap (λ (x : Terms). called (starts x (clean victims)) l a) (terms-back t)
 event-back (called (starts t (delete k)) l a) = ap (λ (x : Terms). called (starts x (delete k)) l a) (terms-back t)
 event-back (called (starts t (write k value)) l a) = ap (λ (x : Terms). called (starts x (write k value)) l a) (terms-back t)
