@@ -34,12 +34,12 @@ use Rattle.laws.specs.CauseLaws.{cause-first, refusal-number}
 use Rattle.words.specs.Words.{recordWords, isRecord, decoded}
 use Rattle.words.specs.WordLaws.{record-long, decoded-record, decoded-none, decode-encode}
 use Rattle.words.specs.declared.Decoded.{Decoded}
-use Rattle.history.specs.Book.{reads, readsValue, tells, fewest, starts, steps, asks, recovers, Answer, saying, giving, telling, naming, Event, called}
+use Rattle.history.specs.Book.{reads, readsValue, tells, fewest, starts, steps, asks, recovers, Answer, saying, giving, telling, naming, Event, called, scans, scansValue}
 use Rattle.history.specs.Runs as Store
 use Rattle.history.specs.Runs.{World, recoveredWorld, Run}
-use Rattle.kurdavel.specs.Crossing.{keptWords, wordsAfter, RecoverCrossed, ReadCrossed, ValueCrossed, storesAfter, StartCrossed, leftTold, toldAfter, StepCrossed, placeTold, byteTold, TellCrossed, FewestCrossed}
+use Rattle.kurdavel.specs.Crossing.{keptWords, wordsAfter, RecoverCrossed, ReadCrossed, ValueCrossed, storesAfter, StartCrossed, leftTold, toldAfter, StepCrossed, placeTold, byteTold, TellCrossed, FewestCrossed, ScanCrossed, ScanValueCrossed}
 use Rattle.kurdavel.specs.Crossing as Crossing
-use Rattle.exported.specs.Runs.{HeldWords, Memory, heldBy, worldOf, KeyArgument, Arguments, numberSaid, stepTold, readTold, storeTold, slotTold, recoveredMemory, Exports, start, step, read, readValue, tell, least, recover, short, cuts, ExportedRun, stop, go}
+use Rattle.exported.specs.Runs.{HeldWords, Memory, heldBy, worldOf, KeyArgument, Arguments, numberSaid, stepTold, readTold, storeTold, slotTold, recoveredMemory, Exports, start, step, read, readValue, tell, least, recover, short, cuts, ExportedRun, stop, go, scan, scanValue}
 
 -- ---- arguments: whatever has its C type is typed
 
@@ -249,6 +249,26 @@ module _ (n s : ℕ) where
       (slot-told (c .fewest .answer) slot number (c .numbered) (c .slot-told))
       (Store.go (Store.ask (Store.least {h = heldBy h} (c .promised))) Store.stop)
 
+  scan-runs :
+      (m : Memory) (v : Tables) (k : Key) (version kind number : ℕ) → KeyArgument k → ScanCrossed n s (m .area) v k version kind number →
+      Runs (worldOf m) (called (asks (scans n s v k)) (readLengths (m .area) []) (saying (readTold number version kind)) ∷ []) (worldOf m)
+  scan-runs m v k version kind number p c =
+      subst (λ (a : Said). Runs (worldOf m) (called (asks (scans n s v k)) (readLengths (m .area) []) (saying a) ∷ []) (worldOf m))
+      (read-said (c .answer) version kind number (c .numbered) (c .version-told) (c .kind-told))
+      (Store.go (Store.look {w = worldOf m} (Store.scan (typed-key k (p .0) (p .1)) (c .promised))) Store.stop)
+
+  scan-value-runs :
+      (m : Memory) (v : Tables) (k : Key) (place bytes number : ℕ) → KeyArgument k → (c : ScanValueCrossed n s (m .area) v k place bytes number) →
+      Runs (worldOf m)
+      (called (asks (scans n s v k)) (readLengths (m .area) []) (saying (readSaid (c .answer)))
+      ∷ called (asks (scansValue n s v k)) (readLengths (m .area) []) (giving (take bytes (drop place (m .area))))
+      ∷ [])
+      (worldOf m)
+  scan-value-runs m v k place bytes number p c =
+      let typed = typed-key k (p .0) (p .1) in
+      Store.go (Store.look {w = worldOf m} (Store.scan typed (c .promised)))
+      (Store.go (Store.look {w = worldOf m} (Store.scanValue typed (c .value))) Store.stop)
+
   -- ---- recovery
 
   module _ (m : Memory) (cells′ words words′ : List ℕ) (rec : Record) (number : ℕ) (long : recordWords ≤ length words) where
@@ -300,6 +320,8 @@ module _ (n s : ℕ) where
   exports-run (readValue {area} {h} {m} {v} {k} {place} {bytes} {number} p c) = value-runs area h m v k place bytes number p c
   exports-run (tell {area} {work} {h} {m} {place} {byte} {number} own c) = tell-runs area work h m place byte number own c
   exports-run (least {area} {h} {m} {slot} {number} c) = fewest-runs area h m slot number c
+  exports-run (scan {m} {v} {k} {version} {kind} {number} p c) = scan-runs m v k version kind number p c
+  exports-run (scanValue {m} {v} {k} {place} {bytes} {number} p c) = scan-value-runs m v k place bytes number p c
   exports-run (recover {m} {order} {cells} {cells′} {words} {words′} {number} long c) =
       recover-runs m order cells cells′ words words′ number long c
   exports-run (short less c) = Store.stop

@@ -5,6 +5,7 @@ pub mod Finished
 pub mod Steps
 pub mod Tellings
 pub mod Readings
+pub mod Scannings
 pub mod Recoveries
 pub mod Theorem
 pub mod Counting

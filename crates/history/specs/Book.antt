@@ -15,13 +15,15 @@ use Rattle.model.specs.Log.{sameKeys}
 use Rattle.model.specs.Operations.{Operation, write, delete, clean}
 use Rattle.model.specs.Refused.{Lengths, Terms}
 
--- A call that changes nothing: a read within some tables, a read of the value, what the next step will store, and which slot
--- has the fewest present bytes (02, R-5).
+-- A call that changes nothing: a read within some tables, a read of the value, what the next step will store, which slot has the
+-- fewest present bytes (02, R-5), and the two reads by scan with N and S (02, R-9).
 pub data Question : Type 0 where
   reads : Tables → Key → Question
   readsValue : Tables → Key → Question
   tells : Question
   fewest : Question
+  scans : ℕ → ℕ → Tables → Key → Question
+  scansValue : ℕ → ℕ → Tables → Key → Question
 
 -- A call on the store with its arguments: a start (write, delete or clean) on some terms, a step, a question, a recovery with N, S
 -- and the order list.

@@ -8,6 +8,7 @@ pub mod PairStarts
 pub mod PairSteps
 pub mod PairReads
 pub mod PairTells
+pub mod PairScans
 pub mod PairRecoveries
 pub mod Theorem
 pub mod Lists

@@ -45,7 +45,11 @@ use Rattle.recovery.specs.declared.Lookup.{Lookup}
 use Rattle.words.specs.Words.{recordWords, pendingWords, wordsOf, isRecord, decoded}
 use Rattle.words.specs.WordLaws.{record-long, counts-long, decoded-record, decoded-none, pending-alone}
 use Rattle.words.specs.declared.Decoded.{Decoded}
-use Rattle.kurdavel.specs.Crossing.{FormatCrossed, RecoverCrossed, wordsAfter, ReadCrossed, ValueCrossed, Handed, storesAfter, StartCrossed, keptWords, StepCrossed, SteppedOn, leftTold, toldAfter, placeTold, byteTold, TellCrossed, slotTold, FewestCrossed}
+use Rattle.kurdavel.specs.Crossing.{FormatCrossed, RecoverCrossed, wordsAfter, ReadCrossed, ValueCrossed, Handed, storesAfter, StartCrossed, keptWords, StepCrossed, SteppedOn, leftTold, toldAfter, placeTold, byteTold, TellCrossed, slotTold, FewestCrossed, ScanCrossed, ScanValueCrossed}
+use Rattle.model.specs.Scanned.{ScanValue}
+use Rattle.scanning.specs.Seeking.{sought, answerOf, partFor}
+use Rattle.scanning.specs.SeekingLaws.{scan-promise, scan-value}
+use Rattle.scanning.specs.declared.Sought.{Sought}
 
 -- words that decode to a record are enough of them
 pub ok-long : (words : List ℕ) {d : Decoded} → d ≡ decoded words → d .ok ≡ true → recordWords ≤ length words
@@ -190,6 +194,33 @@ value-crossed {words} {area} {cells} {t} {k} {place} {bytes} {b = b} l e m v i w
       inside = i;
       nowhere = w;
     }
+
+-- ---- read by scan
+
+module _ {n s : ℕ} {area : List ℕ} {t : Tables} {k : Key} {number : ℕ} {x b : Sought} (found : x ≡ sought edition1 n s area t k) (is : x ≡ b)
+    (told : number ≡ readSaid (answerOf b) .refused) where
+  pub scan-crossed : {version kind : ℕ} → version ≡ readSaid (answerOf b) .version → kind ≡ readSaid (answerOf b) .kind
+      → ScanCrossed n s area t k version kind number
+  scan-crossed v w =
+      record {
+        answer = answerOf b;
+        promised = scan-promise edition1 n s area t k b (sym is ∙ found);
+        numbered = told;
+        version-told = v;
+        kind-told = w;
+      }
+
+  pub scan-value-crossed : {place bytes : ℕ} → record { place = place; bytes = bytes } ≡ partFor edition1 b → place + bytes ≤ length area
+      → ((number ≡ 0 → ⊥) → (place ≡ 0) × (bytes ≡ 0)) → ScanValueCrossed n s area t k place bytes number
+  scan-value-crossed v i w =
+      record {
+        answer = answerOf b;
+        promised = scan-promise edition1 n s area t k b (sym is ∙ found);
+        numbered = told;
+        value = subst⁻¹ (ScanValue edition1 n s area t k) v (scan-value edition1 n s area t k b (sym is ∙ found));
+        inside = i;
+        nowhere = w;
+      }
 
 -- ---- write, delete and clean
 

@@ -19,6 +19,7 @@ pub mod LogLaws
 pub mod Counted
 pub mod Recounted
 pub mod RecoverLaws
+pub mod ScanLaws
 pub mod Appended
 pub mod Headed
 pub mod Cleaned

@@ -10,6 +10,7 @@ pub mod Operations
 pub mod Arguments
 pub mod Refused
 pub mod Promises
+pub mod Scanned
 pub mod PromiseLaws
 pub mod Table
 pub mod Expected
@@ -20,3 +21,5 @@ pub mod RequestCases
 pub mod FullCases
 pub mod Fewest
 pub mod FewestCases
+pub mod DigestCases
+pub mod ScanCases
