@@ -89,6 +89,7 @@ pub enum Refusal {
     TooManyKeys,
     OtherVersion,
     OutsideTables,
+    NoPair,
 }
 
 // The tables that a caller may reach (02, R-2), from the first to the last, both included; none where the first is above the
@@ -153,6 +154,17 @@ pub struct Stepped {
     pub rec: Record,
 }
 
+// Two log slots that one new head can take over (02, R-7), the lower one first.
+pub enum JoinAnswer {
+    Pair { first: u32, second: u32 },
+    Refused(Refusal),
+}
+
+pub struct Joined {
+    pub answer: JoinAnswer,
+    pub rec: Record,
+}
+
 // The number of a cause.
 pub fn number(r: Refusal) -> u32
     ensures { λ n. ⌜ n ≡ numberOfRefusal r ⌝ }
@@ -180,6 +192,7 @@ pub fn number(r: Refusal) -> u32
         Refusal::TooManyKeys => 20,
         Refusal::OtherVersion => 21,
         Refusal::OutsideTables => 22,
+        Refusal::NoPair => 23,
     }
 }
 
