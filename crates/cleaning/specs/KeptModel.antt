@@ -54,7 +54,7 @@ splitOf r victims = record { slots = r .slots; size = r .size; victims = victims
 -- ---- what is kept, and its bytes, part by part
 
 module _ (L : Layout) where
-  encoded-append : (a b : List Entry) → allEncoded L (a ++ b) ≡ allEncoded L a ++ allEncoded L b
+  pub encoded-append : (a b : List Entry) → allEncoded L (a ++ b) ≡ allEncoded L a ++ allEncoded L b
   unfolding allEncoded
   encoded-append [] b = refl
   encoded-append (x ∷ a) b = ap (λ (l : List ℕ). encoded L x ++ l) (encoded-append a b) ∙ sym (append-assoc (encoded L x) (allEncoded L a) (allEncoded L b))
@@ -68,7 +68,7 @@ module _ (L : Layout) where
     unfolding keptOf
     kept-behind x xs e = pick-false (isKept victims log x) (x .entry ∷ keptOf victims log xs) (keptOf victims log xs) e
 
-    kept-append : (a b : List Placed) → keptOf victims log (a ++ b) ≡ keptOf victims log a ++ keptOf victims log b
+    pub kept-append : (a b : List Placed) → keptOf victims log (a ++ b) ≡ keptOf victims log a ++ keptOf victims log b
     unfolding keptOf
     kept-append [] b = refl
     kept-append (x ∷ a) b = go (isKept victims log x) refl (kept-append a b)
@@ -82,7 +82,7 @@ module _ (L : Layout) where
         go false e ih = kept-behind x (a ++ b) e ∙ ih ∙ ap (λ (l : List Entry). l ++ keptOf victims log b) (sym (kept-behind x a e))
 
     -- of slots that are no victims nothing is kept
-    kept-none : (xs : List Placed) → ((x : Placed) → In x xs → named victims (x .slot) ≡ false) → keptOf victims log xs ≡ []
+    pub kept-none : (xs : List Placed) → ((x : Placed) → In x xs → named victims (x .slot) ≡ false) → keptOf victims log xs ≡ []
     unfolding keptOf both
     kept-none [] f = refl
     kept-none (x ∷ xs) f = kept-behind x xs (rw (f x first)) ∙ kept-none xs (λ y m. f y (List·Memᴰ·tail m))
@@ -96,7 +96,7 @@ module _ (L : Layout) (area cells : List ℕ) (r : Record) (g : Genuine L area r
   abbrev log : List Placed
   log = logNow L area r
 
-  scans : AllScanned v (named (r .map)) (r .slots)
+  pub scans : AllScanned v (named (r .map)) (r .slots)
   scans =
       recovered-case L (r .slots) (r .size) (r .cells) area (λ (k : Record). AllScanned v (named (k .map)) (r .slots)) (λ h l f. f .scans)
       (withPending r Idle) (g .recovers)
@@ -104,7 +104,7 @@ module _ (L : Layout) (area cells : List ℕ) (r : Record) (g : Genuine L area r
   apart : Apart log
   apart = recovered-apart L (r .slots) (r .size) (r .cells) area (withPending r Idle) (g .recovers)
 
-  long : length area ≡ r .slots * r .size
+  pub long : length area ≡ r .slots * r .size
   long = recovered-lent L (r .slots) (r .size) (r .cells) area (withPending r Idle) (g .recovers) .long
 
   all-in : AllIn L area (r .size) log
@@ -190,7 +190,7 @@ module _ (L : Layout) (area cells : List ℕ) (r : Record) (g : Genuine L area r
       same-key j (a .top .entry) (p .of-key) ∙ ap (λ (x : Placed). keyOf (x .entry)) same ∙ sym (same-key k (b .top .entry) (q .of-key))
 
   -- the cell has the place of an entry exactly if it is its key's highest version
-  cell-highest : (x : Placed) → In x log → (c : KeyCell (keyOf (x .entry))) →
+  pub cell-highest : (x : Placed) → In x log → (c : KeyCell (keyOf (x .entry))) →
       eqb (getD cells (c .cell .cell) 0) (placeOf (r .size) x + 1) ≡ isHighest log (x .entry)
   unfolding isVersion
   cell-highest x m c =
@@ -209,6 +209,32 @@ module _ (L : Layout) (area cells : List ℕ) (r : Record) (g : Genuine L area r
           let same : y ≡ x = place-one y x n m (omega arith) in
           eqb-false (y .entry .version) (x .entry .version) e (ap (λ (z : Placed). z .entry .version) same))
 
+  -- the search for the key of an entry of a log slot tells it from another key
+  pub tells-in : length cells ≤ 4096 → (k : Key) (c : KeyCell k) (i : ℕ) → i < r .slots → named (r .map) i ≡ true → (y : Item) →
+      In y (slotItems L area (r .size) i) → Tells L area cells k (c .cell .cell) (headerOf L (y .entry))
+  unfolding sameKey sameKeys
+  tells-in few k c i h in-map y m =
+      record {
+        own = λ e. sym (ap (searchFor L area cells) (same-key k (y .entry) e)) ∙ c .finds;
+        other =
+            λ e. (
+              own .cell .cell,
+              omega (arith, own .cell .below),
+              λ q. clash (sameKey k (y .entry)) (ap (λ (j : Key). sameKey j (y .entry)) (sym (one-cell (keyOf (y .entry)) k own c q)) ∙ own-key (y .entry)) e,
+              own .finds,
+            );
+      }
+    where
+      own : KeyCell (keyOf (y .entry))
+      own =
+          key-cell (placedAt i y)
+          (in-log v (named (r .map)) (r .slots) (placedAt i y)
+          (record {
+            below = h;
+            picked = in-map;
+            item = subst (λ (is : List Item). In y is) (slot-items L area (r .size) (r .map) (r .slots) scans i h in-map) m;
+          }))
+
   -- ---- a cleaning
 
   module _ (victims : ℕ) (sub : within victims (r .map) ≡ true) (few : length cells ≤ 4096) where
@@ -218,31 +244,8 @@ module _ (L : Layout) (area cells : List ℕ) (r : Record) (g : Genuine L area r
     -- the search for the key of an entry of a slot outside the victims tells it from another key
     tells : (k : Key) (c : KeyCell k) (i : ℕ) → i < r .slots → named (less (r .map) victims) i ≡ true → (y : Item) →
         In y (slotItems L area (r .size) i) → Tells L area cells k (c .cell .cell) (headerOf L (y .entry))
-    unfolding sameKey sameKeys
-    tells k c i h out y m =
-        record {
-          own = λ e. sym (ap (searchFor L area cells) (same-key k (y .entry) e)) ∙ c .finds;
-          other =
-              λ e. (
-                own .cell .cell,
-                omega (arith, own .cell .below),
-                λ q. clash (sameKey k (y .entry)) (ap (λ (j : Key). sameKey j (y .entry)) (sym (one-cell (keyOf (y .entry)) k own c q)) ∙ own-key (y .entry)) e,
-                own .finds,
-              );
-        }
-      where
-        in-map : named (r .map) i ≡ true
-        in-map = both-left (named (r .map) i) (not (named victims i)) (sym (outside-named (r .map) victims i) ∙ out)
-
-        own : KeyCell (keyOf (y .entry))
-        own =
-            key-cell (placedAt i y)
-            (in-log v (named (r .map)) (r .slots) (placedAt i y)
-            (record {
-              below = h;
-              picked = in-map;
-              item = subst (λ (is : List Item). In y is) (slot-items L area (r .size) (r .map) (r .slots) scans i h in-map) m;
-            }))
+    tells k c i h out =
+        tells-in few k c i h (both-left (named (r .map) i) (not (named victims i)) (sym (outside-named (r .map) victims i) ∙ out))
 
     -- a key's cell is marked exactly if an object of the key stands outside the victims, once the walk is made
     abbrev pub walked : List ℕ

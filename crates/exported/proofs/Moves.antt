@@ -30,16 +30,18 @@ use Rattle.model.specs.Fewest.{noLengths}
 use Rattle.model.specs.Refused.{Terms, isPending}
 use Rattle.laws.specs.Starts.{early-bad}
 use Rattle.model.specs.Promises.{Begun, begun, readLengths, lentLengths, tellLengths}
+use Rattle.record.specs.Pairs.{PairSaid, joinSaid}
 use Rattle.laws.specs.CauseLaws.{cause-first, refusal-number}
 use Rattle.words.specs.Words.{recordWords, isRecord, decoded}
 use Rattle.words.specs.WordLaws.{record-long, decoded-record, decoded-none, decode-encode}
 use Rattle.words.specs.declared.Decoded.{Decoded}
-use Rattle.history.specs.Book.{reads, readsValue, tells, fewest, starts, steps, asks, recovers, Answer, saying, giving, telling, naming, Event, called, scans, scansValue}
+use Rattle.history.specs.Book.{reads, readsValue, tells, fewest, starts, steps, asks, recovers, Answer, saying, giving, telling, naming, Event, called, scans, scansValue, joins, pairing}
 use Rattle.history.specs.Runs as Store
 use Rattle.history.specs.Runs.{World, recoveredWorld, Run}
 use Rattle.kurdavel.specs.Crossing.{keptWords, wordsAfter, RecoverCrossed, ReadCrossed, ValueCrossed, storesAfter, StartCrossed, leftTold, toldAfter, StepCrossed, placeTold, byteTold, TellCrossed, FewestCrossed, ScanCrossed, ScanValueCrossed}
 use Rattle.kurdavel.specs.Crossing as Crossing
-use Rattle.exported.specs.Runs.{HeldWords, Memory, heldBy, worldOf, KeyArgument, Arguments, numberSaid, stepTold, readTold, storeTold, slotTold, recoveredMemory, Exports, start, step, read, readValue, tell, least, recover, short, cuts, ExportedRun, stop, go, scan, scanValue}
+use Rattle.exported.specs.Runs.{HeldWords, Memory, heldBy, worldOf, KeyArgument, Arguments, numberSaid, stepTold, readTold, storeTold, slotTold, recoveredMemory, Exports, start, step, read, readValue, tell, least, recover, short, cuts, ExportedRun, stop, go, scan, scanValue, join}
+use Rattle.kurdavel.specs.Joining.{JoinCrossed}
 
 -- ---- arguments: whatever has its C type is typed
 
@@ -269,6 +271,21 @@ module _ (n s : ℕ) where
       Store.go (Store.look {w = worldOf m} (Store.scan typed (c .promised)))
       (Store.go (Store.look {w = worldOf m} (Store.scanValue typed (c .value))) Store.stop)
 
+  join-runs :
+      (area : List ℕ) (h : HeldWords) (m : Option ℕ) (first second number : ℕ) → JoinCrossed (h .words) area (h .cells) first second number →
+      Runs (worldOf (record { area = area; held = some h; cells = m }))
+      (called (asks joins) (readLengths area (h .cells)) (pairing (record { refused = number; first = first; second = second })) ∷ [])
+      (worldOf (record { area = area; held = some h; cells = m }))
+  join-runs area h m first second number c =
+      subst
+      (λ (p : PairSaid).
+      Runs (worldOf (record { area = area; held = some h; cells = m })) (called (asks joins) (readLengths area (h .cells)) (pairing p) ∷ [])
+      (worldOf (record { area = area; held = some h; cells = m })))
+      said (Store.go (Store.ask (Store.join {h = heldBy h} (c .promised))) Store.stop)
+    where
+      said : joinSaid (c .joined .answer) ≡ record { refused = number; first = first; second = second }
+      said = λ i. record { refused = sym (c .numbered) i; first = sym (c .first-told) i; second = sym (c .second-told) i }
+
   -- ---- recovery
 
   module _ (m : Memory) (cells′ words words′ : List ℕ) (rec : Record) (number : ℕ) (long : recordWords ≤ length words) where
@@ -322,6 +339,7 @@ module _ (n s : ℕ) where
   exports-run (least {area} {h} {m} {slot} {number} c) = fewest-runs area h m slot number c
   exports-run (scan {m} {v} {k} {version} {kind} {number} p c) = scan-runs m v k version kind number p c
   exports-run (scanValue {m} {v} {k} {place} {bytes} {number} p c) = scan-value-runs m v k place bytes number p c
+  exports-run (join {area} {h} {m} {first} {second} {number} c) = join-runs area h m first second number c
   exports-run (recover {m} {order} {cells} {cells′} {words} {words′} {number} long c) =
       recover-runs m order cells cells′ words words′ number long c
   exports-run (short less c) = Store.stop

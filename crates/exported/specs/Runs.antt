@@ -18,9 +18,10 @@ use Rattle.record.specs.declared.Tables.{Tables}
 use Rattle.model.specs.Refused.{Terms, isPending}
 use Rattle.model.specs.Promises.{readLengths, lentLengths, tellLengths}
 use Rattle.words.specs.Words.{recordWords, decoded}
-use Rattle.history.specs.Book.{reads, readsValue, tells, fewest, starts, steps, asks, recovers, Answer, saying, giving, Event, called, cut, scans, scansValue}
+use Rattle.history.specs.Book.{reads, readsValue, tells, fewest, starts, steps, asks, recovers, Answer, saying, giving, Event, called, cut, scans, scansValue, joins, pairing}
 use Rattle.history.specs.Runs.{Held, World}
 use Rattle.kurdavel.specs.Crossing.{RecoverCrossed, ReadCrossed, ValueCrossed, StartCrossed, StepCrossed, TellCrossed, FewestCrossed, ScanCrossed, ScanValueCrossed}
+use Rattle.kurdavel.specs.Joining.{JoinCrossed}
 
 -- ---- what is held
 
@@ -149,6 +150,12 @@ pub data Exports (n s : ℕ) : Memory → List Event → Memory → Type 0 where
       ∷ called (asks (scansValue n s v k)) (readLengths (m .area) []) (giving (take bytes (drop place (m .area))))
       ∷ [])
       m
+  -- kurdavel_join, which tells its slots through pointers whether it is refused or not
+  join :
+      {area : List ℕ} {h : HeldWords} {m : Option ℕ} {first second number : ℕ} → JoinCrossed (h .words) area (h .cells) first second number →
+      Exports n s (record { area = area; held = some h; cells = m })
+      (called (asks joins) (readLengths area (h .cells)) (pairing (record { refused = number; first = first; second = second })) ∷ [])
+      (record { area = area; held = some h; cells = m })
   -- kurdavel_recover with the N and S of the format, any order list, any index and room for the words
   recover :
       {m : Memory} {order cells cells′ words words′ : List ℕ} {number : ℕ} → recordWords ≤ length words →

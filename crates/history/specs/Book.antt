@@ -8,6 +8,7 @@ use Rattle.segment.specs.Choice.{pick}
 use Rattle.segment.specs.declared.Key.{Key}
 use Rattle.record.specs.Answers.{Said, taken, refusal, fewestSaid, fewestTold}
 use Rattle.record.specs.Refusals.{numberOfRefusal}
+use Rattle.record.specs.Pairs.{PairSaid}
 use Rattle.record.specs.declared.Tables.{Tables}
 use Rattle.record.specs.declared.FewestAnswer.{FewestAnswer}
 use Rattle.record.specs.declared.TellAnswer.{TellAnswer}
@@ -16,12 +17,13 @@ use Rattle.model.specs.Operations.{Operation, write, delete, clean}
 use Rattle.model.specs.Refused.{Lengths, Terms}
 
 -- A call that changes nothing: a read within some tables, a read of the value, what the next step will store, which slot has the
--- fewest present bytes (02, R-5), and the two reads by scan with N and S (02, R-9).
+-- fewest present bytes (02, R-5), which two slots to join (02, R-7), and the two reads by scan with N and S (02, R-9).
 pub data Question : Type 0 where
   reads : Tables → Key → Question
   readsValue : Tables → Key → Question
   tells : Question
   fewest : Question
+  joins : Question
   scans : ℕ → ℕ → Tables → Key → Question
   scansValue : ℕ → ℕ → Tables → Key → Question
 
@@ -54,6 +56,10 @@ telling (TellAnswer.Refused c) = saying (refusal (numberOfRefusal c))
 -- a slot, where a value has its bytes
 abbrev pub naming : FewestAnswer → Answer
 naming a = record { said = fewestSaid a; value = fewestTold a; place = 0 }
+
+-- two slots, where a value has its bytes
+abbrev pub pairing : PairSaid → Answer
+pairing p = record { said = refusal (p .refused); value = p .first ∷ p .second ∷ []; place = 0 }
 
 -- A call with the lengths of what it was lent and with what it answered, or a cut. Of a call's input only what the lent memory
 -- holds is not in its event.

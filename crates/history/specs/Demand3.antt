@@ -11,6 +11,7 @@ use Rattle.segment.specs.Layout.{Layout, edition1}
 use Rattle.segment.specs.declared.Key.{Key}
 use Rattle.segment.specs.Entry.{kindFor}
 use Rattle.record.specs.Answers.{Said, readSaid, refusal}
+use Rattle.record.specs.Pairs.{noneSaid}
 use Rattle.record.specs.Reach.{holdsTable}
 use Rattle.record.specs.Range.{cellsGood}
 use Rattle.record.specs.declared.Expected.{Expected}
@@ -26,7 +27,7 @@ use Rattle.model.specs.Operations.{Operation, write, delete, clean, TypedKey}
 use Rattle.model.specs.Recovery.{orderBad}
 use Rattle.model.specs.Refused.{Terms}
 use Rattle.model.specs.Promises.{FormatPromise, RecoverPromise, ReadPromise, Part, partOf, ValuePromise}
-use Rattle.history.specs.Book.{Question, reads, readsValue, tells, fewest, starts, steps, asks, recovers, Answer, saying, giving, Event, called, cut, accepted, Kept, Awaited, Book, bookVersion, freshBook, feed, bookOf, versionFor, highestTold, scans, scansValue}
+use Rattle.history.specs.Book.{Question, reads, readsValue, tells, fewest, starts, steps, asks, recovers, Answer, saying, giving, Event, called, cut, accepted, Kept, Awaited, Book, bookVersion, freshBook, feed, bookOf, versionFor, highestTold, scans, scansValue, joins, pairing}
 use Rattle.history.specs.Runs.{World, freshWorld, Run}
 
 -- "its index as large as at the last accepted one": within the limits, and no smaller; before the first, any within the limits
@@ -72,12 +73,13 @@ TellAgrees a (some p) = a .said .refused ≡ 6 → ⊥
 -- A read answers version and kind of what the book holds of its key, or 8, and a read of the value that value; also while an
 -- operation is pending. A key whose table the caller may not reach is answered with 22 and no value, whatever the book holds (02, R-2). A
 -- read by scan answers the same at any moment (02, R-9). Of slots the book knows nothing; which one has the fewest present bytes is always
--- told.
+-- told, and while an operation is pending none are named to join (02, R-7).
 unfoldable pub QuestionAgrees : Layout → Book → Question → Answer → Type 0
 QuestionAgrees L b (reads t k) a = a ≡ saying (pick (holdsTable t (k .table)) (readSaid (bookAnswer L (b .keys k))) (refusal 22))
 QuestionAgrees L b (readsValue t k) a = a ≡ giving (pick (holdsTable t (k .table)) (bookValue (b .keys k)) [])
 QuestionAgrees L b tells a = TellAgrees a (b .pending)
 QuestionAgrees L b fewest a = accepted a ≡ true
+QuestionAgrees L b joins a = (x : Awaited) → b .pending ≡ some x → a ≡ pairing (noneSaid 5)
 QuestionAgrees L b (scans n s t k) a = a ≡ saying (pick (holdsTable t (k .table)) (readSaid (bookAnswer L (b .keys k))) (refusal 22))
 QuestionAgrees L b (scansValue n s t k) a = a ≡ giving (pick (holdsTable t (k .table)) (bookValue (b .keys k)) [])
 

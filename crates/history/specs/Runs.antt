@@ -12,8 +12,10 @@ use Rattle.segment.specs.Layout.{Layout}
 use Rattle.segment.specs.declared.Key.{Key}
 use Rattle.record.specs.Answers.{recoverSaid, readSaid, startSaid, stepSaid}
 use Rattle.record.specs.declared.Foretold.{Foretold}
+use Rattle.record.specs.Pairs.{joinSaid}
 use Rattle.record.specs.declared.Record.{Record}
 use Rattle.record.specs.declared.Recovery.{Recovery}
+use Rattle.record.specs.declared.Joined.{Joined}
 use Rattle.record.specs.declared.Reading.{Reading}
 use Rattle.record.specs.declared.ReadAnswer.{ReadAnswer}
 use Rattle.record.specs.declared.Start.{Start}
@@ -24,8 +26,9 @@ use Rattle.model.specs.Fewest.{FewestPromise, noLengths}
 use Rattle.model.specs.Operations.{Operation, Typed, TypedKey}
 use Rattle.model.specs.Refused.{Lengths, Terms, isPending}
 use Rattle.model.specs.Promises.{RecoverPromise, readLengths, ReadPromise, Part, partOf, ValuePromise, lentLengths, StartPromise, StepPromise, tellLengths, TellPromise}
-use Rattle.history.specs.Book.{Question, reads, readsValue, tells, fewest, starts, steps, asks, recovers, Answer, saying, giving, telling, naming, Event, called, cut, accepted, scans, scansValue}
+use Rattle.history.specs.Book.{Question, reads, readsValue, tells, fewest, starts, steps, asks, recovers, Answer, saying, giving, telling, naming, Event, called, cut, accepted, scans, scansValue, joins, pairing}
 use Rattle.model.specs.Scanned.{ScanPromise, ScanValue}
+use Rattle.model.specs.Joining.{JoinPromise}
 
 -- What the firmware holds from an accepted recovery to the next cut: the newest record, the index of that recovery, and the work
 -- buffer that the last accepted start filled.
@@ -72,6 +75,9 @@ pub data Asked (L : Layout) : World → Question → Lengths → Answer → Type
   least :
       {area : List ℕ} {h : Held} {m : Option ℕ} {a : Fewest} → FewestPromise L (h .rec) a →
       Asked L (record { area = area; held = some h; cells = m }) fewest noLengths (naming (a .answer))
+  join :
+      {area : List ℕ} {h : Held} {m : Option ℕ} {a : Joined} → JoinPromise L (h .rec) area (h .cells) a →
+      Asked L (record { area = area; held = some h; cells = m }) joins (readLengths area (h .cells)) (pairing (joinSaid (a .answer)))
 
 -- What a read by scan answers, by its promise. It gets N, S and the area alone, so nothing has to be held.
 pub data Scanned (L : Layout) (n s : ℕ) (area : List ℕ) : Question → Lengths → Answer → Type 0 where

@@ -27,8 +27,9 @@ use Rattle.laws.specs.Starts.{StartInside, start-inside}
 use Rattle.laws.specs.Entering.{Roomy}
 use Rattle.laws.specs.Operated.{OperationLaws}
 use Rattle.laws.specs.OperationsKept.{operation-laws, edition1-roomy}
-use Rattle.history.specs.Book.{Question, reads, readsValue, tells, fewest, telling, naming, Call, starts, steps, asks, recovers, Answer, saying, giving, Event, called, cut, Book, freshBook, feed, versionTold, scans, scansValue}
-use Rattle.history.specs.Runs.{World, freshWorld, Asked, read, readValue, tell, least, Moves, start, step, ask, recover, cuts, Run, stop, go, Scanned, scan, scanValue, look}
+use Rattle.history.specs.Book.{Question, reads, readsValue, tells, fewest, telling, naming, Call, starts, steps, asks, recovers, Answer, saying, giving, Event, called, cut, Book, freshBook, feed, versionTold, scans, scansValue, joins, pairing}
+use Rattle.history.specs.Runs.{World, freshWorld, Asked, read, readValue, tell, least, Moves, start, step, ask, recover, cuts, Run, stop, go, Scanned, scan, scanValue, look, join}
+use Rattle.model.specs.Joining.{JoinPromise}
 use Rattle.history.proofs.Invariant.{Inv, HeldGood, baseCells}
 use Rattle.history.proofs.Theorem.{move-keeps, fresh}
 use Rattle.isolation.specs.Owners.{Owner, servo, media, blankedOperation, blanked, SameCall, SameInput, SameInputs, SameNumbers, SameToServo, SameAnswer, SameAnswers, sameOwner, startRange, rangeOf, rangeHolds, gives}
@@ -39,7 +40,7 @@ use Rattle.isolation.proofs.Pair.{HeldBoth, Pair}
 use Rattle.isolation.proofs.PairStarts.{held-alike, start-both}
 use Rattle.isolation.proofs.PairSteps.{step-both}
 use Rattle.isolation.proofs.PairScans.{scan-inside, scan-both, scan-value-both}
-use Rattle.isolation.proofs.PairReads.{read-both, value-both}
+use Rattle.isolation.proofs.PairReads.{read-both, value-both, join-both}
 use Rattle.isolation.proofs.PairTells.{tell-both}
 use Rattle.isolation.proofs.PairRecoveries.{cut-both, recover-both}
 
@@ -86,6 +87,7 @@ answer-own servo (asks (reads u k)) c′ l l′ a = refl
 answer-own servo (asks (readsValue u k)) c′ l l′ a = refl
 answer-own servo (asks tells) c′ l l′ a = (refl, refl)
 answer-own servo (asks fewest) c′ l l′ a = refl
+answer-own servo (asks joins) c′ l l′ a = refl
 answer-own servo (asks (scans n s u k)) c′ l l′ a = refl
 answer-own servo (asks (scansValue n s u k)) c′ l l′ a = refl
 answer-own servo (recovers n s order) c′ l l′ a = refl
@@ -163,6 +165,9 @@ read-inside L r log l u k e = not-false (holdsTable u (k .table)) (no-cause (rea
 unfoldable byScan : Question → Bool
 byScan (reads u k) = false
 byScan (readsValue u k) = false
+byScan tells = false
+byScan fewest = false
+byScan joins = false
 byScan (scans n s u k) = true
 byScan (scansValue n s u k) = true
 
@@ -170,6 +175,9 @@ asked-by : {L : Layout} {w : World} {q : Question} {l : Lengths} {a : Answer} �
 unfolding byScan
 asked-by (read ty p) = refl
 asked-by (readValue ty p) = refl
+asked-by (tell own p) = refl
+asked-by (least p) = refl
+asked-by (join p) = refl
 
 scanned-by : {L : Layout} {n s : ℕ} {area : List ℕ} {q : Question} {l : Lengths} {a : Answer} → Scanned L n s area q l a → byScan q ≡ true
 unfolding byScan
@@ -225,6 +233,17 @@ module _ (L : Layout) (roomy : Roomy L) (n s : ℕ) (of : ℕ → Bool) where
           (subst⁻¹ (λ (v : Tables). ValuePromise L (h .rec) area′ (h′ .cells) v k p′) tables
           (subst⁻¹ (λ (j : Key). ValuePromise L (h .rec) area′ (h′ .cells) u′ j p′) keys
           (subst⁻¹ (λ (r : Record). ValuePromise L r area′ (h′ .cells) u′ k′ p′) (pair .held .rec-same) q′))))
+  asked-both b b′ t t′ who (join {area} {h} {m} {a} p) (join {area = area′} {h = h′} {m = m′} {a = a′} p′) inv inv′ pair e lent c =
+      answer-same who (asks joins) (asks joins) (readLengths area (h .cells)) (readLengths area′ (h′ .cells)) _ _
+      (ap pairing
+      (join-both of L area area′ (h .cells) (h′ .cells) (h .rec) (held-alike of L n s area area′ m b h (inv .held) (pair .alike))
+      (inv .held .genuine)
+      (subst⁻¹ (λ (r : Record). Genuine L area′ r (h′ .cells)) (pair .held .rec-same) (inv′ .held .genuine)) lent a a′ p
+      (subst⁻¹ (λ (r : Record). JoinPromise L r area′ (h′ .cells) a′) (pair .held .rec-same) p′)))
+  asked-both b b′ t t′ who (join p) (read ty′ p′) inv inv′ pair e lent c = let z : _≡_ {A = ℕ} 0 1 = cc in absurd (omega arith)
+  asked-both b b′ t t′ who (join p) (readValue ty′ q′) inv inv′ pair e lent c = let z : _≡_ {A = ℕ} 0 1 = cc in absurd (omega arith)
+  asked-both b b′ t t′ who (read ty p) (join p′) inv inv′ pair e lent c = let z : _≡_ {A = ℕ} 0 1 = cc in absurd (omega arith)
+  asked-both b b′ t t′ who (readValue ty q) (join p′) inv inv′ pair e lent c = let z : _≡_ {A = ℕ} 0 1 = cc in absurd (omega arith)
   asked-both b b′ t t′ who (read ty p) (readValue ty′ q′) inv inv′ pair e lent c = let z : _≡_ {A = ℕ} 0 1 = cc in absurd (omega arith)
   asked-both b b′ t t′ who (readValue ty q) (read ty′ p′) inv inv′ pair e lent c = let z : _≡_ {A = ℕ} 0 1 = cc in absurd (omega arith)
   asked-both b b′ t t′ who (tell {area} {work} {h} {m} {a} own p) (tell {area = area′} {work = work′} {h = h′} {m = m′} {a = a′} own′ p′) inv inv′ pair e lent c =
@@ -243,6 +262,10 @@ module _ (L : Layout) (roomy : Roomy L) (n s : ℕ) (of : ℕ → Bool) where
   asked-both b b′ t t′ who (read ty p) (least p′) inv inv′ pair e lent c = let z : _≡_ {A = ℕ} 0 1 = cc in absurd (omega arith)
   asked-both b b′ t t′ who (readValue ty q) (least p′) inv inv′ pair e lent c = let z : _≡_ {A = ℕ} 0 1 = cc in absurd (omega arith)
   asked-both b b′ t t′ who (tell own p) (least p′) inv inv′ pair e lent c = let z : _≡_ {A = ℕ} 0 1 = cc in absurd (omega arith)
+  asked-both b b′ t t′ who (join p) (tell own′ p′) inv inv′ pair e lent c = let z : _≡_ {A = ℕ} 0 1 = cc in absurd (omega arith)
+  asked-both b b′ t t′ who (join p) (least p′) inv inv′ pair e lent c = let z : _≡_ {A = ℕ} 0 1 = cc in absurd (omega arith)
+  asked-both b b′ t t′ who (tell own p) (join p′) inv inv′ pair e lent c = let z : _≡_ {A = ℕ} 0 1 = cc in absurd (omega arith)
+  asked-both b b′ t t′ who (least p) (join p′) inv inv′ pair e lent c = let z : _≡_ {A = ℕ} 0 1 = cc in absurd (omega arith)
 
   looked-both :
       {w w′ : World} {q q′ : Question} {l l′ : Lengths} {a a′ : Answer} (b b′ : Book) (t t′ : ℕ) (who : Owner) → Scanned L n s (w .area) q l a →

@@ -11,7 +11,7 @@ use Rattle.record.specs.declared.Tables.{Tables}
 use Rattle.model.specs.Operations.{Operation, write, delete, clean}
 use Rattle.record.specs.Reach.{holdsTable}
 use Rattle.model.specs.Refused.{Terms}
-use Rattle.history.specs.Book.{reads, readsValue, tells, fewest, Call, starts, steps, asks, recovers, Answer, Event, called, cut, scans, scansValue}
+use Rattle.history.specs.Book.{reads, readsValue, tells, fewest, Call, starts, steps, asks, recovers, Answer, Event, called, cut, scans, scansValue, joins}
 
 -- Who made a call. Steps, cleanings, recoveries and cuts are common; it does not matter whose they are said to be.
 pub data Owner : Type 0 where
@@ -69,6 +69,7 @@ SameToServo (asks (reads t k)) a a′ = a ≡ a′
 SameToServo (asks (readsValue t k)) a a′ = a ≡ a′
 SameToServo (asks tells) a a′ = SameNumbers a a′
 SameToServo (asks fewest) a a′ = a ≡ a′
+SameToServo (asks joins) a a′ = a ≡ a′
 SameToServo (asks (scans n s t k)) a a′ = a ≡ a′
 SameToServo (asks (scansValue n s t k)) a a′ = a ≡ a′
 SameToServo (recovers n s order) a a′ = a ≡ a′
@@ -112,6 +113,7 @@ rangeOf (called (asks tells) lent a) = none
 rangeOf (called (asks fewest) lent a) = none
 rangeOf (called (asks (scans n s given k)) lent a) = some given
 rangeOf (called (asks (scansValue n s given k)) lent a) = some given
+rangeOf (called (asks joins) lent a) = none
 rangeOf (called (recovers n s order) lent a) = none
 rangeOf cut = none
 

@@ -3,3 +3,4 @@ pub mod Crossing
 pub mod CrossingLaws
 pub mod NoRecord
 pub mod Foretold
+pub mod Joining

@@ -1,4 +1,4 @@
-// The store for a firmware in C or Rust (include/kurdavel.h): the calls and the value reads, over slices and numbers.
+// The store for a firmware in C or Rust (include/kurdavel.h): its calls and the value reads, over slices and numbers.
 // Each function decodes the record from the words that are lent, makes the call, and encodes what it hands back. Nothing is
 // required of the caller's values: words that are no record are refused with 4. The answer is 0 or the refusal's number.
 use firmware::step_held;
@@ -6,6 +6,7 @@ use index::search::search;
 use record::Expected;
 use record::FewestAnswer;
 use record::FormatAnswer;
+use record::JoinAnswer;
 use record::ReadAnswer;
 use record::Record;
 use record::RecoverAnswer;
@@ -28,6 +29,7 @@ use store::clean;
 use store::delete;
 use store::fewest_present;
 use store::format;
+use store::join;
 use store::recover;
 use store::tell;
 use store::write;
@@ -45,6 +47,7 @@ ghost use Rattle.model.specs.Refused.{freely, reaching};
 ghost use Rattle.record.specs.declared.Expected.{Expected};
 ghost use Rattle.words.specs.Words.{recordWords};
 ghost use Rattle.kurdavel.specs.Crossing.{FormatCrossed, RecoverCrossed, ReadCrossed, ValueCrossed, StartCrossed, StepCrossed, SteppedOn, FewestCrossed, TellCrossed, keptWords, Handed};
+ghost use Rattle.kurdavel.specs.Joining.{JoinCrossed};
 
 pub mod scan;
 
@@ -425,6 +428,39 @@ pub extern "C" fn kurdavel_fewest(words: &[u32], slot: &mut u32) -> u32
         FewestAnswer::Refused(cause) => number(cause),
         FewestAnswer::Slot(found) => {
             *slot = found;
+            0
+        }
+    }
+}
+
+// Which two slots to join; both are 0 where it is refused.
+#[no_mangle]
+pub extern "C" fn kurdavel_join(
+    words: &[u32],
+    area: &[u8],
+    index: &[u32],
+    first: &mut u32,
+    second: &mut u32,
+) -> u32
+    ensures { λ r.
+        ⌜
+        JoinCrossed (now (words .entry)) (now (area .entry)) (now (index .entry)) (now (first .exit)) (now (second .exit)) r
+        ⌝ }
+{
+    *first = 0;
+    *second = 0;
+    let decoded = decode(words);
+    let rec = decoded.rec;
+    let joined = join(rec, area, index);
+    let answer = joined.answer;
+    match answer {
+        JoinAnswer::Refused(cause) => number(cause),
+        JoinAnswer::Pair {
+            first: lower,
+            second: upper,
+        } => {
+            *first = lower;
+            *second = upper;
             0
         }
     }

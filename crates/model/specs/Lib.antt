@@ -23,3 +23,4 @@ pub mod Fewest
 pub mod FewestCases
 pub mod DigestCases
 pub mod ScanCases
+pub mod Joining

@@ -5,3 +5,4 @@ pub mod Committed
 pub mod Range
 pub mod RangeLaws
 pub mod Reach
+pub mod Pairs

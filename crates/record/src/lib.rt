@@ -90,6 +90,7 @@ pub enum Refusal {
     TooManyKeys,
     OtherVersion,
     OutsideTables,
+    NoPair,
     BadMap,
     MapNoDigest,
 }
@@ -178,6 +179,17 @@ pub struct Foretold {
     pub rec: Record,
 }
 
+// Two log slots that one new head can take over (02, R-7), the lower one first.
+pub enum JoinAnswer {
+    Pair { first: u32, second: u32 },
+    Refused(Refusal),
+}
+
+pub struct Joined {
+    pub answer: JoinAnswer,
+    pub rec: Record,
+}
+
 // The number of a cause.
 pub fn number(r: Refusal) -> u32
     ensures { λ n. ⌜ n ≡ numberOfRefusal r ⌝ }
@@ -205,6 +217,7 @@ pub fn number(r: Refusal) -> u32
         Refusal::TooManyKeys => 20,
         Refusal::OtherVersion => 21,
         Refusal::OutsideTables => 22,
+        Refusal::NoPair => 23,
         Refusal::BadMap => 24,
         Refusal::MapNoDigest => 25,
     }

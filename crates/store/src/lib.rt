@@ -47,3 +47,7 @@ pub use telling::tell::tell;
 // Tells the slot of the log with the fewest present bytes, the lowest where several have as few, from the record alone. Allowed during an
 // operation. Refused with 4.
 pub use fullness::fewest_present;
+
+// Names the two slots of the log, the lower one first, that one new head can take over by a cleaning of exactly these two: the
+// lowest such pair. Refused with 4, 5 or, where there is none, 23.
+pub use joining::join::join;

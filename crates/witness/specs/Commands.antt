@@ -8,6 +8,7 @@ use lib.ListN.{length}
 use Rattle.segment.specs.Layout.{Layout, edition1}
 use Rattle.record.specs.Answers.{recoverSaid, readSaid, startSaid, stepSaid}
 use Rattle.segment.specs.declared.Key.{Key}
+use Rattle.record.specs.Pairs.{joinSaid}
 use Rattle.record.specs.declared.Recovery.{Recovery}
 use Rattle.record.specs.declared.Tables.{Tables}
 use Rattle.model.specs.Operations.{Operation, Typed, TypedKey}
@@ -19,9 +20,9 @@ use Rattle.model.specs.Fewest.{noLengths}
 use Rattle.model.specs.Scanned.{scannedPart}
 use Rattle.telling.specs.Told.{toldBy}
 use Rattle.telling.specs.ToldLaws.{told-promise}
-use Rattle.history.specs.Book.{Question, reads, readsValue, tells, fewest, scans, scansValue, starts, steps, asks, recovers, Answer, saying, giving, telling, naming, Event, called, cut}
-use Rattle.history.specs.Runs.{Held, World, heldAfter, recoveredWorld, Asked, read, readValue, tell, least, scan, scanValue, Moves, start, step, ask, look, recover, cuts, Run, stop, go}
-use Rattle.witness.specs.Answers.{readBy, partBy, read-made, value-made, fewestBy, fewest-made, scanBy, scan-made, scan-value-made, startedBy, start-made, recoveredCells, recover-made}
+use Rattle.history.specs.Book.{Question, reads, readsValue, tells, fewest, scans, scansValue, starts, steps, asks, recovers, Answer, saying, giving, telling, naming, Event, called, cut, joins, pairing}
+use Rattle.history.specs.Runs.{Held, World, heldAfter, recoveredWorld, Asked, read, readValue, tell, least, scan, scanValue, Moves, start, step, ask, look, recover, cuts, Run, stop, go, join}
+use Rattle.witness.specs.Answers.{readBy, partBy, read-made, value-made, fewestBy, fewest-made, scanBy, scan-made, scan-value-made, startedBy, start-made, recoveredCells, recover-made, joinedBy, join-made}
 use Rattle.witness.specs.Steps.{Moved, steppedBy, step-made}
 
 -- A question's key, where it has one, is of its types. Those by scan need no record, and are commands of their own.
@@ -32,6 +33,7 @@ TypedQuestion tells = Unit
 TypedQuestion fewest = Unit
 TypedQuestion (scans n s t k) = ⊥
 TypedQuestion (scansValue n s t k) = ⊥
+TypedQuestion joins = Unit
 
 -- Arguments are of their types. A start gets any terms and any work buffer, a recovery any order list and any index.
 pub data Command : Type 0 where
@@ -75,6 +77,7 @@ answerBy L h area (reads t k) = saying (readSaid (readBy L (h .rec) area (h .cel
 answerBy L h area (readsValue t k) = giving (partOf area (partBy L (h .rec) area (h .cells) t k))
 answerBy L h area tells = telling (toldBy L (h .rec) area (h .work) .answer)
 answerBy L h area fewest = naming (fewestBy L (h .rec) .answer)
+answerBy L h area joins = pairing (joinSaid (joinedBy L (h .rec) area (h .cells) .answer))
 answerBy L h area (scans n s t k) = saying (readSaid (scanBy L n s area t k))
 answerBy L h area (scansValue n s t k) = giving (partOf area (scannedPart L n s area t k))
 
@@ -84,6 +87,7 @@ lentBy h area (reads t k) = readLengths area (h .cells)
 lentBy h area (readsValue t k) = readLengths area (h .cells)
 lentBy h area tells = tellLengths area (h .work)
 lentBy h area fewest = noLengths
+lentBy h area joins = readLengths area (h .cells)
 lentBy h area (scans n s t k) = readLengths area []
 lentBy h area (scansValue n s t k) = readLengths area []
 
@@ -160,6 +164,7 @@ module _ (n s : ℕ) where
   asked area m h fewest t = least (fewest-made edition1 (h .rec))
   asked area m h (scans k j u i) t = absurd t
   asked area m h (scansValue k j u i) t = absurd t
+  asked area m h joins t = join (join-made edition1 (h .rec) area (h .cells))
 
   played-run : (area : List ℕ) (m : Option ℕ) (held : Option Held) (c : Command) →
       let w : World = record { area = area; held = held; cells = m } in From w (played edition1 n s w held c)

@@ -11,7 +11,7 @@ use Rattle.record.specs.declared.Tables.{Tables}
 use Rattle.model.specs.Operations.{write, delete, clean}
 use Rattle.model.specs.Refused.{Terms}
 use Rattle.model.specs.Table.{Row, row, failing, Hold, rows-hold}
-use Rattle.history.specs.Book.{reads, readsValue, tells, fewest, Call, starts, steps, asks, recovers, Event, called, cut, scans, scansValue}
+use Rattle.history.specs.Book.{reads, readsValue, tells, fewest, Call, starts, steps, asks, recovers, Event, called, cut, scans, scansValue, joins}
 
 -- ---- an event as numbers: what is told, with the place, the lengths lent, which call it is, and its arguments; and its value
 
@@ -32,6 +32,7 @@ callNumbers (asks fewest) = 8 ∷ []
 callNumbers (asks (scans n s t k)) = 9 ∷ n ∷ s ∷ t .first ∷ t .last ∷ k .table ∷ k .key ∷ []
 callNumbers (asks (scansValue n s t k)) = 10 ∷ n ∷ s ∷ t .first ∷ t .last ∷ k .table ∷ k .key ∷ []
 callNumbers (starts t (write k value)) = 6 ∷ expectedNumber (t .expected) ∷ t .tables .first ∷ t .tables .last ∷ k .table ∷ k .key ∷ value
+callNumbers (asks joins) = 11 ∷ []
 
 unfoldable pub eventNumbers : Event → List ℕ
 eventNumbers cut = []
@@ -68,8 +69,9 @@ callFrom (suc (suc (suc (suc (suc (suc zero)))))) xs = starts (termsFrom xs) (wr
 callFrom (suc (suc (suc (suc (suc (suc (suc zero))))))) xs = asks tells
 callFrom (suc (suc (suc (suc (suc (suc (suc (suc zero)))))))) xs = asks fewest
 callFrom (suc (suc (suc (suc (suc (suc (suc (suc (suc zero))))))))) xs = asks (scans (getD xs 0 0) (getD xs 1 0) (tablesFrom (drop 2 xs)) (keyFrom (drop 4 xs)))
-callFrom (suc (suc (suc (suc (suc (suc (suc (suc (suc (suc n)))))))))) xs =
+callFrom (suc (suc (suc (suc (suc (suc (suc (suc (suc (suc zero)))))))))) xs =
     asks (scansValue (getD xs 0 0) (getD xs 1 0) (tablesFrom (drop 2 xs)) (keyFrom (drop 4 xs)))
+callFrom (suc (suc (suc (suc (suc (suc (suc (suc (suc (suc (suc n))))))))))) xs = asks joins
 
 eventFrom : List ℕ → List ℕ → Event
 eventFrom [] value = cut
@@ -100,6 +102,7 @@ event-back (called (asks tells) l a) = refl
 event-back (called (asks fewest) l a) = refl
 event-back (called (asks (scans n s t k)) l a) = refl
 event-back (called (asks (scansValue n s t k)) l a) = refl
+event-back (called (asks joins) l a) = refl
 event-back (called (starts t (clean victims)) l a) = ap (λ (x : Terms). called (starts x (clean victims)) l a) (terms-back t)
 event-back (called (starts t (delete k)) l a) = ap (λ (x : Terms). called (starts x (delete k)) l a) (terms-back t)
 event-back (called (starts t (write k value)) l a) = ap (λ (x : Terms). called (starts x (write k value)) l a) (terms-back t)

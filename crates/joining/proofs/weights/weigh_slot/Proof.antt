@@ -1,0 +1,134 @@
+-- `joining::weights::weigh_slot` meets its contract.
+use Prim.Native.Nat.{_+_, _*_, _-_, _≤_, _<_}
+use mathlib.Core.Path.{_≡_, _∙_, sym, subst⁻¹}
+use native.Mathlib.Omega.{arith}
+use lib.ListN.{length}
+use denote.Ref.{now}
+use Rattle.segment.specs.Layout.{edition1}
+use Rattle.cleaning.specs.EntriesLaws.{Meets, meets, stops-end, stops-damage, slot-lies, slot-long, place-short}
+use Rattle.joining.specs.Weights.{ShareFits}
+use Rattle.joining.specs.WeightsLaws.{Weighing, weighing-start, weighing-entry, weighing-stop, share-fits, share-short}
+use borrow.Author.Needs.{needs}
+use Rattle.joining.proofs.weights.weigh_slot.Statement.{statement}
+use Rattle.joining.proofs.weights.weigh_slot.Tie as tie
+
+abbrev Inv-loop : tie.InvT-loop
+Inv-loop area cells notes slot shares₀ size base s at₀ total₀ shares at total = Weighing edition1 area cells notes size slot s shares₀ shares at total
+
+abbrev μ-loop : tie.MeasureT-loop
+μ-loop area cells notes slot shares₀ size base s at₀ total₀ shares at total = length s - at
+
+-- the slot's part of the area is S bytes long
+long : (c : tie.After-cut Inv-loop μ-loop) → length (now (c .cut .result)) ≡ c .before .before .before .before .before .args .split .size
+long c = slot-long (c .before .before .before .before .before .pre .0 .slots) _ (c .before .before .before .before .before .pre .1 .0) _ (c .cut .ensures)
+
+-- the entry that the turn meets, and its place
+met : (c : tie.After-known-told Inv-loop μ-loop)
+    → Meets edition1 (now (c .before .before .before .before .before .cut .result)) (c .before .before .before .before .loop .at) (c .before .header .given .0 .0)
+met c = meets edition1 _ _ _ (c .before .before .before .next .ensures) _ (c .before .header .given .1)
+
+place : (c : tie.After-known-told Inv-loop μ-loop)
+    → c .before .before .before .before .before .before .before .before .before .before .args .slot * c .before .before .before .before .before .before .before .before .before .before .args .split .size + c .before .before .before .before .loop .at < 65536
+place c = place-short (c .before .before .before .before .before .before .before .before .before .before .pre .0 .slots) _ (c .before .before .before .before .before .before .before .before .before .before .pre .1 .0) _ (c .before .before .before .before .before .cut .ensures) _ _ (met c .fits) (met c .some-byte)
+
+mul-base : tie.Need-mul-base Inv-loop μ-loop
+mul-base c = omega (arith, c .before .before .before .before .pre .1 .0, c .before .before .before .before .pre .0 .slots .slots-high)
+
+cut-requires : tie.Need-cut-requires Inv-loop μ-loop
+cut-requires c κs = slot-lies (c .before .before .before .before .pre .0 .slots) (c .before .before .before .before .args .slot) (c .before .before .before .before .pre .1 .0)
+
+loop-holds : tie.Need-loop-holds Inv-loop μ-loop
+unfolding edition1
+loop-holds c = weighing-start edition1 _ _ _ _ _ _ _ (c .before .before .before .before .before .pre .1 .1 .1) (omega (arith, long c, c .before .before .before .before .before .pre .0 .slots .size-low))
+
+next-requires : tie.Need-next-requires Inv-loop μ-loop
+next-requires c κs = search needs
+
+enum-known-header : tie.Need-enum-known-header Inv-loop μ-loop
+enum-known-header c = search needs
+
+mul-share-of : tie.Need-mul-share-of Inv-loop μ-loop
+mul-share-of c = omega (arith, place c)
+
+add-share-of : tie.Need-add-share-of Inv-loop μ-loop
+add-share-of c = omega (arith, place c)
+
+share-of-requires : tie.Need-share-of-requires Inv-loop μ-loop
+share-of-requires c κs = (c .before .before .before .before .before .before .before .before .before .before .pre .0 .cells-few, (c .before .before .before .before .before .before .before .before .before .before .pre .0 .notes-long, place c))
+
+add-share-requires : tie.Need-add-share-requires Inv-loop μ-loop
+add-share-requires c κs = (
+  c .before .before .before .before .before .before .loop .inv .same-length ∙ c .before .before .before .before .before .before .before .before .before .before .before .before .pre .1 .1 .0,
+  (
+    omega (arith, c .before .before .before .before .before .before .before .before .before .before .before .before .pre .1 .0, c .before .before .before .before .before .before .before .before .before .before .before .before .pre .0 .slots .slots-high),
+    (
+      λ j few. omega (arith, c .before .before .before .before .before .before .loop .inv .low j few, c .before .before .before .before .before .before .loop .inv .short, c .before .before .before .before .before .before .loop .inv .inside, long (c .before .before .before .before .before .before .before), c .before .before .before .before .before .before .before .before .before .before .before .before .pre .0 .slots .size-high),
+      (
+        subst⁻¹ ShareFits (c .before .share-of .ensures) (share-fits edition1 _ _ _ _ _),
+        omega (arith, met (c .before .before), long (c .before .before .before .before .before .before .before), c .before .before .before .before .before .before .before .before .before .before .before .before .pre .0 .slots .size-high),
+      ),
+    ),
+  ),
+)
+
+add-total : tie.Need-add-total Inv-loop μ-loop
+add-total c = omega (arith, c .before .before .add-share .ensures .0, share-short (c .before .before .before .before .share-of .result) (c .before .before .before .before .before .before .header .given .0 .0 .length), met (c .before .before .before .before .before), long (c .before .before .before .before .before .before .before .before .before .before), c .before .before .before .before .before .before .before .before .before .loop .inv .short, c .before .before .before .before .before .before .before .before .before .before .before .before .before .before .before .pre .0 .slots .size-high)
+
+add-at : tie.Need-add-at Inv-loop μ-loop
+add-at c = omega (arith, met (c .before .before .before .before .before .before), long (c .before .before .before .before .before .before .before .before .before .before .before), c .before .before .before .before .before .before .before .before .before .before .before .before .before .before .before .before .pre .0 .slots .size-high)
+
+loop-less : tie.Need-loop-less Inv-loop μ-loop
+loop-less c = omega (arith, met (c .before .before .before .before .before .before))
+
+loop-again : tie.Need-loop-again Inv-loop μ-loop
+loop-again c =
+    weighing-entry edition1 _ _ _ _ _ _ _ _ _ _ (c .before .before .before .before .before .before .before .before .before .before .loop .inv) (met (c .before .before .before .before .before .before)) _ (c .before .before .before .before .before .share-of .ensures)
+    (omega (arith, c .before .before .before .before .before .before .before .before .before .before .loop .inv .same-length, c .before .before .before .before .before .before .before .before .before .before .before .before .before .before .before .before .pre .1 .1 .0, c .before .before .before .before .before .before .before .before .before .before .before .before .before .before .before .before .pre .1 .0, c .before .before .before .before .before .before .before .before .before .before .before .before .before .before .before .before .pre .0 .slots .slots-high)) _ _ (c .before .before .before .add-share .ensures)
+
+enum-told : tie.Need-enum-told Inv-loop μ-loop
+enum-told c = search needs
+
+same-length : tie.Need-same-length Inv-loop μ-loop
+same-length c = c .before .before .before .loop .inv .same-length
+
+returns : tie.Need-returns Inv-loop μ-loop
+returns c =
+    weighing-stop edition1 _ _ _ _ _ _ _ _ _ _ (c .before .before .before .loop .inv) (stops-end edition1 _ _ _ (c .before .before .next .ensures) (c .enum-told .given .1))
+    (c .before .before .before .before .cut .ensures) (omega (arith, long (c .before .before .before .before), c .before .before .before .before .before .before .before .before .before .pre .0 .slots .size-high))
+
+enum-told-2 : tie.Need-enum-told-2 Inv-loop μ-loop
+enum-told-2 c = search needs
+
+same-length-2 : tie.Need-same-length-2 Inv-loop μ-loop
+same-length-2 c = c .before .before .before .loop .inv .same-length
+
+returns-2 : tie.Need-returns-2 Inv-loop μ-loop
+returns-2 c =
+    weighing-stop edition1 _ _ _ _ _ _ _ _ _ _ (c .before .before .before .loop .inv) (stops-damage edition1 _ _ _ (c .before .before .next .ensures) (c .enum-told2 .given .1))
+    (c .before .before .before .before .cut .ensures) (omega (arith, long (c .before .before .before .before), c .before .before .before .before .before .before .before .before .before .pre .0 .slots .size-high))
+
+pub weigh-slot-spec : {M : Type 1} → statement M
+weigh-slot-spec =
+    tie.close
+    (tie.spec
+    Inv-loop
+    μ-loop
+    mul-base
+    cut-requires
+    loop-holds
+    next-requires
+    enum-known-header
+    mul-share-of
+    add-share-of
+    share-of-requires
+    add-share-requires
+    add-total
+    add-at
+    loop-less
+    loop-again
+    enum-told
+    same-length
+    returns
+    enum-told-2
+    same-length-2
+    returns-2)

@@ -1,0 +1,343 @@
+-- On a genuine store the pair that the code finds is the model's: what is kept of two slots is what is kept of each by the other.
+use Prim.Native.Nat.{ℕ, zero, suc, _+_, _*_, _^_, _≤_, _<_}
+use mathlib.Core.Path.{_≡_, refl, sym, _∙_, ap, subst}
+use mathlib.Core.Bool.{Bool, true, false, not}
+use mathlib.Core.Logic.{_⊎_, inl, inr}
+use mathlib.Core.Option.{some}
+use mathlib.Core.List.{List, [], _∷_, _++_, List·Memᴰ·tail, List·Memᴰ·not-nil}
+use native.Mathlib.Decide.{ℕ-discrete}
+use native.Mathlib.Omega.{arith}
+use lib.Dec.{eqb, leb, ltb}
+use lib.ListN.{length, getD, replicate, length-append, length-replicate, getD-replicate}
+use borrow.Author.Tests.{eq-eqb, ne-eqb, eqb-true, eqb-false, le-leb, lt-leb, le-ltb, lt-ltb, ltb-true, ltb-false}
+use Rattle.segment.specs.Choice.{pick, pick-true, pick-false, both, both-false-left, both-false-right, either, either-true-left, either-true-right}
+use Rattle.segment.specs.Layout.{Layout, digestSize}
+use Rattle.segment.specs.Entries.{headerOf}
+use Rattle.segment.specs.Entry.{Entry, encoded, sizeOf, keyOf, isTombstone}
+use Rattle.segment.specs.EntryLaws.{length-encoded}
+use Rattle.segment.specs.declared.Key.{Key}
+use Rattle.slot_map.specs.Bit.{bit, named, less}
+use Rattle.slot_map.specs.BitLaws.{bit-pow-same, bit-pow-other, bit-add-same, bit-add-other, set-named, clear-named}
+use Rattle.record.specs.declared.Record.{Record}
+use Rattle.model.specs.Log.{View, Item, Placed, placeOf, viewsOf, itemsOf, placedIn, logOf}
+use Rattle.model.specs.Operations.{logNow, isHighest, objectOutside, isKept, keptOf, kept, allEncoded}
+use Rattle.model.specs.Refused.{keptTooLong, keptLength}
+use Rattle.model.specs.Promises.{Genuine}
+use Rattle.model.specs.Joining.{pairOf, joinFits, joinPair, lowestPair}
+use Rattle.laws.specs.Members.{In, first, Within}
+use Rattle.laws.specs.LogLaws.{anyBelow, partOf, part-picked, part-passed, mem-placed, in-log, itemOf, log-in}
+use Rattle.laws.specs.Latest.{latest-some}
+use Rattle.laws.specs.Stores.{slots-apart}
+use Rattle.index.specs.declared.Found.{Found}
+use Rattle.cleaning.specs.Entries.{slotItems, slotHolds, objectIn}
+use Rattle.cleaning.specs.Outside.{outside-named, slot-items, object-same}
+use Rattle.cleaning.specs.KeptModel.{splitOf, encoded-append, kept-front, kept-behind, kept-append, kept-none, scans, inside, place-one, KeyCell, key-cell, cell-highest, tells-in}
+use Rattle.cleaning.specs.declared.Split.{Split}
+use Rattle.joining.specs.declared.Share.{Share}
+use Rattle.joining.specs.Notes.{tellsBut, elsewhere, noteAll}
+use Rattle.joining.specs.NotesLaws.{below-note, counts, standsIn}
+use Rattle.joining.specs.Weights.{noteShare, cellShare, shareAt, shareKept, weightAt, weightOf, slotWeight, weightsFit}
+use Rattle.joining.specs.WeightsLaws.{note-kept}
+use Rattle.joining.specs.PairLaws.{pair-same}
+
+-- the slots of the log
+abbrev pub logSplit : Record → Split
+logSplit r = record { slots = r .slots; size = r .size; victims = r .map; outside = r .map }
+
+-- ---- two slots as a map
+
+module _ (i j : ℕ) (apart : i ≡ j → ⊥) where
+  pub pair-named : (s : ℕ) → named (pairOf i j) s ≡ either (eqb s i) (eqb s j)
+  unfolding either
+  pair-named s = go (ℕ-discrete s i) (ℕ-discrete s j)
+    where
+      clear : bit (2 ^ i) j ≡ 0
+      clear = bit-pow-other i j apart
+
+      go : Dec (s ≡ i) → Dec (s ≡ j) → named (pairOf i j) s ≡ either (eqb s i) (eqb s j)
+      go (yes p) d =
+          ap (named (pairOf i j)) p
+          ∙ set-named (pairOf i j) i (bit-add-other (2 ^ i) j i clear (λ e. apart (sym e)) ∙ bit-pow-same i)
+          ∙ sym (either-true-left (eqb s i) (eqb s j) (eq-eqb s i p))
+      go (no p) (yes q) =
+          ap (named (pairOf i j)) q
+          ∙ set-named (pairOf i j) j (bit-add-same (2 ^ i) j clear)
+          ∙ sym (either-true-right (eqb s i) (eqb s j) (eq-eqb s j q))
+      go (no p) (no q) =
+          clear-named (pairOf i j) s (bit-add-other (2 ^ i) j s clear (λ e. q (sym e)) ∙ bit-pow-other i s (λ e. p (sym e)))
+          ∙ sym (rw (ne-eqb s i p, ne-eqb s j q))
+
+any-same : (f g : ℕ → Bool) (n : ℕ) → ((s : ℕ) → f s ≡ g s) → anyBelow f n ≡ anyBelow g n
+unfolding anyBelow
+any-same f g zero h = refl
+any-same f g (suc n) h = λ i. either (any-same f g n h i) (h n i)
+
+-- ---- sums over the slots
+
+unfoldable sumBelow : (ℕ → ℕ) → ℕ → ℕ
+sumBelow w zero = 0
+sumBelow w (suc n) = sumBelow w n + w n
+
+module _ (w : ℕ → ℕ) where
+  sum-none : (n : ℕ) → ((s : ℕ) → s < n → w s ≡ 0) → sumBelow w n ≡ 0
+  unfolding sumBelow
+  sum-none zero h = refl
+  sum-none (suc n) h = omega (arith, sum-none n (λ s l. h s (omega arith)), h n (omega arith))
+
+  sum-one : (i n : ℕ) → i < n → ((s : ℕ) → s < n → (s ≡ i → ⊥) → w s ≡ 0) → sumBelow w n ≡ w i
+  unfolding sumBelow
+  sum-one i zero l h = absurd (omega arith)
+  sum-one i (suc n) l h = go (ℕ-discrete i n) (λ m. sum-one i n m (λ s b. h s (omega arith)))
+    where
+      go : Dec (i ≡ n) → (i < n → sumBelow w n ≡ w i) → sumBelow w n + w n ≡ w i
+      go (yes p) ih = omega (arith, sum-none n (λ s b. h s (omega arith) (λ e. omega arith)), ap w p)
+      go (no p) ih = omega (arith, ih (omega arith), h n (omega arith) (λ e. p (sym e)))
+
+  sum-two : (i j n : ℕ) → i < j → j < n → ((s : ℕ) → s < n → (s ≡ i → ⊥) → (s ≡ j → ⊥) → w s ≡ 0) → sumBelow w n ≡ w i + w j
+  unfolding sumBelow
+  sum-two i j zero a l h = absurd (omega arith)
+  sum-two i j (suc n) a l h = go (ℕ-discrete j n) (λ m. sum-two i j n a m (λ s b. h s (omega arith)))
+    where
+      go : Dec (j ≡ n) → (j < n → sumBelow w n ≡ w i + w j) → sumBelow w n + w n ≡ w i + w j
+      go (yes p) ih = omega (arith, sum-one i n (omega arith) (λ s b q. h s (omega arith) q (λ e. omega arith)), ap w p)
+      go (no p) ih = omega (arith, ih (omega arith), h n (omega arith) (λ e. omega arith) (λ e. p (sym e)))
+
+-- ---- a genuine store
+
+module _ (L : Layout) (area cells : List ℕ) (r : Record) (g : Genuine L area r cells) (few : length cells ≤ 4096) where
+  abbrev v : ℕ → View
+  v = viewsOf L area (r .size)
+
+  abbrev log : List Placed
+  log = logNow L area r
+
+  abbrev pub notes : List ℕ
+  notes = noteAll L area cells (logSplit r) (replicate 4096 0)
+
+  -- the slot of a cell's entry
+  cell-slot : (k : Key) (c : KeyCell L area cells r g k) (s : ℕ) → elsewhere (r .size) s (getD cells (c .cell .cell) 0) ≡ not (eqb s (c .top .slot))
+  unfolding elsewhere either
+  cell-slot k c s = go (ℕ-discrete s (c .top .slot))
+    where
+      x : Placed
+      x = c .top
+
+      cell : ℕ
+      cell = getD cells (c .cell .cell) 0
+
+      lies : x .offset + sizeOf L (x .entry) ≤ r .size
+      lies = inside L area cells r g x (latest-some log k x (c .is) .member)
+
+      go : Dec (s ≡ x .slot) → either (leb cell (s * r .size)) (ltb (s * r .size + r .size) cell) ≡ not (eqb s (x .slot))
+      go (yes p) =
+          let same : s * r .size ≡ x .slot * r .size = ap (λ (n : ℕ). n * r .size) p in
+          rw (
+            lt-leb cell (s * r .size) (omega (arith, c .cell .holds, same)),
+            le-ltb (s * r .size + r .size) cell (omega (arith, c .cell .holds, same, lies)),
+            eq-eqb s (x .slot) p,
+          )
+      go (no p) = at (ltb s (x .slot)) refl
+        where
+          at : (t : Bool) → ltb s (x .slot) ≡ t → either (leb cell (s * r .size)) (ltb (s * r .size + r .size) cell) ≡ not (eqb s (x .slot))
+          at true q =
+              let low : s * r .size + r .size ≤ x .slot * r .size = slots-apart (r .size) (ltb-true s (x .slot) q) in
+              either-true-right (leb cell (s * r .size)) (ltb (s * r .size + r .size) cell) (lt-ltb (s * r .size + r .size) cell (omega (arith, c .cell .holds, low))) ∙ sym (ap not (ne-eqb s (x .slot) p))
+          at false q =
+              let above : x .slot < s = omega (arith, ltb-false s (x .slot) q) in
+              let high : x .slot * r .size + r .size ≤ s * r .size = slots-apart (r .size) above in
+              either-true-left (leb cell (s * r .size)) (ltb (s * r .size + r .size) cell) (le-leb cell (s * r .size) (omega (arith, c .cell .holds, high, lies))) ∙ sym (ap not (ne-eqb s (x .slot) p))
+
+  -- A note tells of a slot other than j exactly if an object of the key stands outside j and the slot of the key's latest entry.
+  note-means : (k : Key) (c : KeyCell L area cells r g k) (j : ℕ) → j < 32 → (c .top .slot ≡ j → ⊥) →
+      tellsBut (getD notes (c .cell .cell) 0) j ≡ objectOutside (pairOf (c .top .slot) j) log k
+  unfolding tellsBut either both
+  note-means k c j low apart =
+      below-note L area cells k (c .cell .cell) (c .top .slot) j (omega (arith, c .cell .below)) low (r .size) (cell-slot k c) (logSplit r) refl
+      (replicate 4096 0) (length-replicate {A = ℕ} 4096 0) clear (tells-in L area cells r g few k c) (r .slots) (omega arith)
+      ∙ any-same (standsIn L area cells k (c .cell .cell) (c .top .slot) j (omega (arith, c .cell .below)) low (r .size) (cell-slot k c) (logSplit r) refl (replicate 4096 0) (length-replicate {A = ℕ} 4096 0) clear (tells-in L area cells r g few k c))
+      (slotHolds L area (splitOf r (pairOf (c .top .slot) j)) k) (r .slots) slot-same
+      ∙ object-same L area (r .size) (r .map) (pairOf (c .top .slot) j) (r .slots) (scans L area cells r g) k
+    where
+      clear : tellsBut (getD (replicate 4096 0) (c .cell .cell) 0) j ≡ false
+      clear = ap (λ (n : ℕ). tellsBut n j) (getD-replicate 4096 (c .cell .cell) 0 0 (omega (arith, c .cell .below)))
+
+      regroup : (a p q o : Bool) → both a (both (both (not p) (not q)) o) ≡ both (both a (not (either p q))) o
+      regroup true true q o = refl
+      regroup true false q o = refl
+      regroup false p q o = refl
+
+      slot-same : (s : ℕ) →
+          both (named (r .map) s) (both (both (not (eqb s (c .top .slot))) (not (eqb s j))) (objectIn L k (slotItems L area (r .size) s)))
+          ≡ slotHolds L area (splitOf r (pairOf (c .top .slot) j)) k s
+      slot-same s =
+          regroup (named (r .map) s) (eqb s (c .top .slot)) (eqb s j) (objectIn L k (slotItems L area (r .size) s))
+          ∙ ap (λ (t : Bool). both (both (named (r .map) s) (not t)) (objectIn L k (slotItems L area (r .size) s))) (sym (pair-named (c .top .slot) j apart s))
+          ∙ ap (λ (t : Bool). both t (objectIn L k (slotItems L area (r .size) s))) (sym (outside-named (r .map) (pairOf (c .top .slot) j) s))
+
+  -- ---- what is kept of a slot by the other
+
+  module _ (i j : ℕ) (apart : i ≡ j → ⊥) (low : j < 32) where
+    own-victim : named (pairOf i j) i ≡ true
+    own-victim = pair-named i j apart i ∙ either-true-left (eqb i i) (eqb i j) (eq-eqb i i refl)
+
+    -- an entry's share is the model's test
+    share-same : (x : Placed) → In x log → x .slot ≡ i →
+        shareKept (shareAt L area cells notes (headerOf L (x .entry)) (placeOf (r .size) x)) j ≡ isKept (pairOf i j) log x
+    unfolding shareAt cellShare shareKept both either pick
+    share-same x m own =
+        ap (λ (f : Found). shareKept (cellShare cells notes (isTombstone (x .entry)) (placeOf (r .size) x) f) j) (c .finds)
+        ∙ ap (λ (t : Bool). shareKept (pick t (pick (isTombstone (x .entry)) (noteShare n) Share.Whole) Share.Nothing) j) (cell-highest L area cells r g x m c)
+        ∙ go (isHighest log (x .entry)) refl (isTombstone (x .entry))
+        ∙ sym (ap (λ (t : Bool). both t (both (isHighest log (x .entry)) (either (not (isTombstone (x .entry))) outside))) (ap (named (pairOf i j)) own ∙ own-victim))
+      where
+        c : KeyCell L area cells r g (keyOf (x .entry))
+        c = key-cell L area cells r g x m
+
+        n : ℕ
+        n = getD notes (c .cell .cell) 0
+
+        outside : Bool
+        outside = objectOutside (pairOf i j) log (keyOf (x .entry))
+
+        top-slot : isHighest log (x .entry) ≡ true → c .top .slot ≡ i
+        top-slot h =
+            let held : getD cells (c .cell .cell) 0 ≡ placeOf (r .size) x + 1 =
+            eqb-true (getD cells (c .cell .cell) 0) (placeOf (r .size) x + 1) (cell-highest L area cells r g x m c ∙ h) in
+            let place : placeOf (r .size) (c .top) ≡ placeOf (r .size) x = omega (arith, c .cell .holds, held) in
+            ap (λ (y : Placed). y .slot) (place-one L area cells r g (c .top) x (latest-some log (keyOf (x .entry)) (c .top) (c .is) .member) m place) ∙ own
+
+        told : isHighest log (x .entry) ≡ true → shareKept (noteShare n) j ≡ outside
+        told h =
+            let at = top-slot h in
+            note-kept n j low
+            ∙ note-means (keyOf (x .entry)) c j low (λ e. apart (sym at ∙ e))
+            ∙ ap (λ (s : ℕ). objectOutside (pairOf s j) log (keyOf (x .entry))) at
+
+        go : (h : Bool) → isHighest log (x .entry) ≡ h → (t : Bool) →
+            shareKept (pick h (pick t (noteShare n) Share.Whole) Share.Nothing) j ≡ both true (both h (either (not t) outside))
+        go false p t = refl
+        go true p true = told p
+        go true p false = refl
+
+    weight-same : (xs : List Placed) → Within xs log → ((x : Placed) → In x xs → x .slot ≡ i) →
+        weightOf L area cells notes (r .size) j xs ≡ length (allEncoded L (keptOf (pairOf i j) log xs))
+    unfolding weightOf allEncoded keptOf
+    weight-same [] w f = refl
+    weight-same (x ∷ xs) w f = go (isKept (pairOf i j) log x) refl (weight-same xs (λ y m. w y (List·Memᴰ·tail m)) (λ y m. f y (List·Memᴰ·tail m)))
+      where
+        one : (t : Bool) → isKept (pairOf i j) log x ≡ t → weightAt L area cells notes j (headerOf L (x .entry)) (placeOf (r .size) x) ≡ pick t (sizeOf L (x .entry)) 0
+        one t e = ap (λ (b : Bool). pick b (sizeOf L (x .entry)) 0) (share-same x (w x first) (f x first) ∙ e)
+
+        go : (t : Bool) → isKept (pairOf i j) log x ≡ t → weightOf L area cells notes (r .size) j xs ≡ length (allEncoded L (keptOf (pairOf i j) log xs)) →
+            weightAt L area cells notes j (headerOf L (x .entry)) (placeOf (r .size) x) + weightOf L area cells notes (r .size) j xs
+            ≡ length (allEncoded L (keptOf (pairOf i j) log (x ∷ xs)))
+        go true e ih =
+            omega (
+              arith,
+              one true e ∙ pick-true true (sizeOf L (x .entry)) 0 refl,
+              ih,
+              length-encoded L (x .entry),
+              length-append (encoded L (x .entry)) (allEncoded L (keptOf (pairOf i j) log xs)),
+            )
+            ∙ ap (λ (es : List Entry). length (allEncoded L es)) (sym (kept-front L (pairOf i j) log x xs e))
+        go false e ih =
+            omega (arith, one false e ∙ pick-false false (sizeOf L (x .entry)) 0 refl, ih)
+            ∙ ap (λ (es : List Entry). length (allEncoded L es)) (sym (kept-behind L (pairOf i j) log x xs e))
+
+  -- ---- the part of the log that one slot is
+
+  part-slot : (i : ℕ) (x : Placed) → In x (partOf v (named (r .map)) i) → x .slot ≡ i
+  part-slot i x m = go (named (r .map) i) refl
+    where
+      go : (t : Bool) → named (r .map) i ≡ t → x .slot ≡ i
+      go true e = mem-placed i x (itemsOf (v i .scan)) (rw (part-picked v (named (r .map)) i e) at m) .0
+      go false e = absurd (List·Memᴰ·not-nil (rw (part-passed v (named (r .map)) i e) at m))
+
+  part-in : (i : ℕ) → i < r .slots → named (r .map) i ≡ true → Within (partOf v (named (r .map)) i) log
+  part-in i h e x m =
+      let w = mem-placed i x (itemsOf (v i .scan)) (rw (part-picked v (named (r .map)) i e) at m) in
+      in-log v (named (r .map)) (r .slots) x
+      (record {
+        below = omega (arith, w .0);
+        picked = ap (named (r .map)) (w .0) ∙ e;
+        item = subst (λ (s : ℕ). In (itemOf x) (itemsOf (v s .scan))) (sym (w .0)) (w .1);
+      })
+
+  -- what is kept of slot s, where the victims are these
+  abbrev partLength : ℕ → ℕ → ℕ
+  partLength victims s = length (allEncoded L (keptOf victims log (partOf v (named (r .map)) s)))
+
+  slot-weight : (i j : ℕ) → (i ≡ j → ⊥) → j < 32 → i < r .slots → named (r .map) i ≡ true →
+      slotWeight L area cells notes (r .size) i j ≡ partLength (pairOf i j) i
+  slot-weight i j apart low h e =
+      ap (weightOf L area cells notes (r .size) j)
+      (ap (placedIn i) (slot-items L area (r .size) (r .map) (r .slots) (scans L area cells r g) i h e) ∙ sym (part-picked v (named (r .map)) i e))
+      ∙ weight-same i j apart low (partOf v (named (r .map)) i) (part-in i h e) (part-slot i)
+
+  -- all that is kept, slot by slot
+  parts-sum : (victims n : ℕ) → length (allEncoded L (keptOf victims log (logOf v (named (r .map)) n))) ≡ sumBelow (partLength victims) n
+  unfolding logOf keptOf allEncoded sumBelow
+  parts-sum victims zero = refl
+  parts-sum victims (suc n) =
+      ap (λ (es : List Entry). length (allEncoded L es)) (kept-append L victims log (logOf v (named (r .map)) n) (partOf v (named (r .map)) n))
+      ∙ ap length (encoded-append L (keptOf victims log (logOf v (named (r .map)) n)) (keptOf victims log (partOf v (named (r .map)) n)))
+      ∙ length-append (allEncoded L (keptOf victims log (logOf v (named (r .map)) n))) (allEncoded L (keptOf victims log (partOf v (named (r .map)) n)))
+      ∙ ap (λ (m : ℕ). m + partLength victims n) (parts-sum victims n)
+
+  swap : (i j : ℕ) → pairOf i j ≡ pairOf j i
+  swap i j = omega arith
+
+  -- 02, R-7: a cleaning of two slots keeps of each what is kept of it by the other.
+  pub pair-kept : r .slots ≤ 32 → (i j : ℕ) → i < j → j < r .slots → named (r .map) i ≡ true → named (r .map) j ≡ true →
+      keptLength L log (pairOf i j) ≡ slotWeight L area cells notes (r .size) i j + slotWeight L area cells notes (r .size) j i
+  unfolding allEncoded either
+  pair-kept most i j l h p q =
+      parts-sum (pairOf i j) (r .slots)
+      ∙ sum-two (partLength (pairOf i j)) i j (r .slots) l h others
+      ∙ (λ t. first-part t + second-part t)
+    where
+      apart : i ≡ j → ⊥
+      apart e = omega arith
+
+      others : (s : ℕ) → s < r .slots → (s ≡ i → ⊥) → (s ≡ j → ⊥) → partLength (pairOf i j) s ≡ 0
+      others s b a c =
+          ap (λ (es : List Entry). length (allEncoded L es))
+          (kept-none L (pairOf i j) log (partOf v (named (r .map)) s)
+          (λ x m. ap (named (pairOf i j)) (part-slot s x m) ∙ pair-named i j apart s ∙ rw (ne-eqb s i a, ne-eqb s j c)))
+
+      first-part : partLength (pairOf i j) i ≡ slotWeight L area cells notes (r .size) i j
+      first-part = sym (slot-weight i j apart (omega arith) (omega arith) p)
+
+      second-part : partLength (pairOf i j) j ≡ slotWeight L area cells notes (r .size) j i
+      second-part = ap (λ (m : ℕ). partLength m j) (swap i j) ∙ sym (slot-weight j i (λ e. apart (sym e)) (omega arith) h q)
+
+  fits-model : r .slots ≤ 32 → (i j : ℕ) → i < j → j < r .slots → weightsFit L area cells notes (logSplit r) i j ≡ joinFits L r log i j
+  unfolding weightsFit joinFits
+  fits-model most i j l h = go (named (r .map) i) refl (named (r .map) j) refl
+    where
+      weights : ℕ
+      weights = slotWeight L area cells notes (r .size) i j + slotWeight L area cells notes (r .size) j i
+
+      negated : (a b : ℕ) → leb a b ≡ not (ltb b a)
+      negated a b = at (ltb b a) refl
+        where
+          at : (t : Bool) → ltb b a ≡ t → leb a b ≡ not t
+          at true e = lt-leb a b (ltb-true b a e)
+          at false e = le-leb a b (omega (arith, ltb-false b a e))
+
+      test : named (r .map) i ≡ true → named (r .map) j ≡ true →
+          leb (digestSize L + weights) (r .size) ≡ not (keptTooLong L r (keptLength L log (pairOf i j)))
+      test p q =
+          negated (digestSize L + weights) (r .size)
+          ∙ ap (λ (n : ℕ). not (ltb (r .size) (digestSize L + n))) (sym (pair-kept most i j l h p q))
+
+      go : (p : Bool) → named (r .map) i ≡ p → (q : Bool) → named (r .map) j ≡ q →
+          both (both (named (r .map) i) (named (r .map) j)) (leb (digestSize L + weights) (r .size))
+          ≡ both (both (named (r .map) i) (named (r .map) j)) (not (keptTooLong L r (keptLength L log (pairOf i j))))
+      go true p true q = ap (both (both (named (r .map) i) (named (r .map) j))) (test p q)
+      go true p false q = both-false-left _ _ (both-false-right _ _ q) ∙ sym (both-false-left _ _ (both-false-right _ _ q))
+      go false p b q = both-false-left _ _ (both-false-left _ _ p) ∙ sym (both-false-left _ _ (both-false-left _ _ p))
+
+  -- The pair by the code's weights is the model's.
+  pub pair-model : r .slots ≤ 32 → lowestPair (weightsFit L area cells notes (logSplit r)) (r .slots) ≡ joinPair L r log
+  pair-model most = pair-same (weightsFit L area cells notes (logSplit r)) (joinFits L r log) (r .slots) (fits-model most)

@@ -1,0 +1,109 @@
+-- The second walk, over any area, any cells and any notes: what is kept of an entry by the other victim, and the numbers that a slot
+-- comes to have.
+use Prim.Native.Nat.{ℕ, zero, suc, _+_, _*_, _-_, _≤_, _<_}
+use mathlib.Core.Path.{_≡_}
+use mathlib.Core.Bool.{Bool, true, false, not}
+use mathlib.Core.List.{List, [], _∷_}
+use lib.Dec.{eqb, leb, ltb}
+use lib.ListN.{length, getD, set}
+use Rattle.segment.specs.Choice.{pick, both}
+use Rattle.segment.specs.Layout.{Layout, digestSize}
+use Rattle.segment.specs.Entries.{headerOf}
+use Rattle.segment.specs.declared.Header.{Header}
+use Rattle.slot_map.specs.Bit.{named}
+use Rattle.model.specs.Log.{Placed, placeOf, placedIn}
+use Rattle.index.specs.Search.{searchFor}
+use Rattle.index.specs.declared.Found.{Found}
+use Rattle.cleaning.specs.Entries.{slotItems}
+use Rattle.cleaning.specs.declared.Split.{Split}
+use Rattle.joining.specs.declared.Share.{Share}
+
+-- ---- the share of an entry
+
+-- of a tombstone, by the note of its cell
+unfoldable pub noteShare : ℕ → Share
+noteShare n = pick (eqb n 0) Share.Nothing (pick (ltb 32 n) Share.Whole (Share.Unless (n - 1)))
+
+-- an entry that the index does not have for its key is not kept, and an object that it has always is
+unfoldable pub cellShare : List ℕ → List ℕ → Bool → ℕ → Found → Share
+cellShare cells notes tombstone place (Found.At c) =
+    pick (eqb (getD cells c 0) (place + 1)) (pick tombstone (noteShare (getD notes c 0)) Share.Whole) Share.Nothing
+cellShare cells notes tombstone place (Found.Free c) = Share.Nothing
+cellShare cells notes tombstone place Found.Full = Share.Nothing
+
+unfoldable pub shareAt : Layout → List ℕ → List ℕ → List ℕ → Header → ℕ → Share
+shareAt L area cells notes h place = cellShare cells notes (h .tombstone) place (searchFor L area cells (h .key))
+
+-- it is kept where the other victim is slot j
+unfoldable pub shareKept : Share → ℕ → Bool
+shareKept Share.Nothing j = false
+shareKept Share.Whole j = true
+shareKept (Share.Unless p) j = not (eqb p j)
+
+-- ---- what is kept of a slot
+
+abbrev pub weightAt : Layout → List ℕ → List ℕ → List ℕ → ℕ → Header → ℕ → ℕ
+weightAt L area cells notes j h place = pick (shareKept (shareAt L area cells notes h place) j) (h .length) 0
+
+unfoldable pub weightOf : Layout → List ℕ → List ℕ → List ℕ → ℕ → ℕ → List Placed → ℕ
+weightOf L area cells notes S j [] = 0
+weightOf L area cells notes S j (x ∷ xs) =
+    weightAt L area cells notes j (headerOf L (x .entry)) (placeOf S x) + weightOf L area cells notes S j xs
+
+-- the bytes kept of slot i where the other victim is slot j
+abbrev pub slotWeight : Layout → List ℕ → List ℕ → List ℕ → ℕ → ℕ → ℕ → ℕ
+slotWeight L area cells notes S i j = weightOf L area cells notes S j (placedIn i (slotItems L area S i))
+
+-- ---- the numbers of the slots: for slot i and the other victim j the number at 32 i + j
+
+abbrev pub Low : List ℕ → ℕ → ℕ → Type 0
+Low shares base most = (j : ℕ) → j < 32 → getD shares (base + j) 0 ≤ most
+
+abbrev pub Clear : List ℕ → ℕ → Type 0
+Clear shares from = (k : ℕ) → from ≤ k → getD shares k 0 ≡ 0
+
+abbrev pub ShareFits : Share → Type 0
+ShareFits Share.Nothing = Unit
+ShareFits Share.Whole = Unit
+ShareFits (Share.Unless p) = p < 32
+
+-- what an entry of n bytes adds to its slot's total, and to its numbers
+unfoldable pub shareLength : Share → ℕ → ℕ
+shareLength Share.Nothing n = 0
+shareLength Share.Whole n = n
+shareLength (Share.Unless p) n = n
+
+unfoldable pub sharesWith : List ℕ → ℕ → Share → ℕ → List ℕ
+sharesWith shares base Share.Nothing n = shares
+sharesWith shares base Share.Whole n = shares
+sharesWith shares base (Share.Unless p) n = set shares (base + p) (getD shares (base + p) 0 + n)
+
+-- A slot's numbers are what its total has more than is kept by the other victim; those of other slots stay.
+pub record Weighed (L : Layout) (area cells notes : List ℕ) (S i : ℕ) (shares shares′ : List ℕ) (total : ℕ) : Type 0 where
+  pub row : (j : ℕ) → j < 32 → getD shares′ (i * 32 + j) 0 + slotWeight L area cells notes S i j ≡ total
+  pub below : (k : ℕ) → k < i * 32 → getD shares′ k 0 ≡ getD shares k 0
+  pub above : (k : ℕ) → i * 32 + 32 ≤ k → getD shares′ k 0 ≡ getD shares k 0
+  pub same-length : length shares′ ≡ length shares
+  pub small : total ≤ 2048
+
+-- The numbers of the log slots below n, and the others not yet made.
+pub record Rows (L : Layout) (area cells notes : List ℕ) (split : Split) (n : ℕ) (totals shares : List ℕ) : Type 0 where
+  pub rows : (i : ℕ) → i < n → named (split .outside) i ≡ true → (j : ℕ) → j < 32 →
+      getD shares (i * 32 + j) 0 + slotWeight L area cells notes (split .size) i j ≡ getD totals i 0
+  pub clear : Clear shares (n * 32)
+  pub shares-long : length shares ≡ 1024
+  pub totals-long : length totals ≡ 32
+
+-- ---- the test of a pair
+
+-- by the numbers
+unfoldable pub numbersFit : List ℕ → List ℕ → Split → ℕ → ℕ → ℕ → Bool
+numbersFit totals shares split digest i j =
+    both (both (named (split .outside) i) (named (split .outside) j))
+    (leb (digest + getD totals i 0 + getD totals j 0) (split .size + getD shares (i * 32 + j) 0 + getD shares (j * 32 + i) 0))
+
+-- by what is kept of the two
+unfoldable pub weightsFit : Layout → List ℕ → List ℕ → List ℕ → Split → ℕ → ℕ → Bool
+weightsFit L area cells notes split i j =
+    both (both (named (split .outside) i) (named (split .outside) j))
+    (leb (digestSize L + (slotWeight L area cells notes (split .size) i j + slotWeight L area cells notes (split .size) j i)) (split .size))

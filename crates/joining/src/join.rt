@@ -1,0 +1,90 @@
+// The call: which two slots to join.
+use crate::Chosen;
+use crate::notes::note_all;
+use crate::pairs::lowest_pair;
+use crate::weights::weigh_all;
+use cleaning::Split;
+use record::JoinAnswer;
+use record::Joined;
+use record::Record;
+use record::Refusal;
+use record::range::fits_lent;
+use starting::Check;
+use starting::checks::check_idle;
+ghost use Prim.Native.Nat.{_≤_, _<_};
+ghost use mathlib.Core.Path.{_≡_};
+ghost use lib.ListN.{length, replicate};
+ghost use Rattle.segment.specs.Layout.{edition1};
+ghost use Rattle.model.specs.Causes.{firstCause};
+ghost use Rattle.model.specs.Joining.{lowestPair, joinEarly, JoinPromise};
+ghost use Rattle.starting.specs.Checks.{checked};
+ghost use Rattle.joining.specs.Notes.{noteAll, NotesFit};
+ghost use Rattle.joining.specs.Weights.{weightsFit};
+ghost use Rattle.joining.specs.PairLaws.{chosenIs};
+ghost use Rattle.joining.specs.JoinModel.{logSplit};
+
+// The slots of the log.
+fn split_of(rec: Record) -> Split
+    ensures { λ r. ⌜ r ≡ logSplit rec ⌝ }
+{
+    Split {
+        slots: rec.slots as usize,
+        size: rec.size as usize,
+        victims: rec.map,
+        outside: rec.map,
+    }
+}
+
+// 4 and 5.
+fn check(rec: Record, area: usize, index: usize) -> Check
+    ensures { λ r. ⌜ r ≡ checked (firstCause (joinEarly edition1 rec (record { area = area; index = index; work = 0 }))) ⌝ }
+{
+    if !fits_lent(rec, area, index) {
+        return Check::Refused(Refusal::BadRecord);
+    }
+    check_idle(rec, rec.size as usize)
+}
+
+// The lowest pair of the log.
+fn choose(area: &[u8], index: &[u32], split: Split) -> Chosen
+    requires { ⌜ NotesFit split (now area) (now index) (replicate 4096 0) ⌝ }
+    ensures { λ r.
+        ⌜
+        r ≡ chosenIs
+        (lowestPair
+        (weightsFit edition1 (now (area .entry)) (now (index .entry)) (noteAll edition1 (now (area .entry)) (now (index .entry)) split (replicate 4096 0)) split)
+        (split .slots))
+        ⌝ }
+{
+    let mut notes = [0u8; 4096];
+    note_all(area, index, &mut notes, split);
+    let mut totals = [0u32; 32];
+    let mut shares = [0u32; 1024];
+    weigh_all(area, index, &notes, split, &mut totals, &mut shares);
+    lowest_pair(&totals, &shares, split)
+}
+
+// Which two slots of the log one new head can take over.
+pub fn join(rec: Record, area: &[u8], index: &[u32]) -> Joined
+    ensures { λ r. ⌜ JoinPromise edition1 rec (now (area .entry)) (now (index .entry)) r ⌝ }
+{
+    match check(rec, area.len(), index.len()) {
+        Check::Refused(c) => Joined {
+            answer: JoinAnswer::Refused(c),
+            rec,
+        },
+        Check::Passed => match choose(area, index, split_of(rec)) {
+            Chosen::Pair(i, j) => Joined {
+                answer: JoinAnswer::Pair {
+                    first: i as u32,
+                    second: j as u32,
+                },
+                rec,
+            },
+            Chosen::Nothing => Joined {
+                answer: JoinAnswer::Refused(Refusal::NoPair),
+                rec,
+            },
+        },
+    }
+}

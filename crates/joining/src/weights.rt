@@ -1,0 +1,165 @@
+// The second walk: for each slot the bytes that are kept of it, and for each other slot how many of them go where that one is a
+// victim too.
+use crate::Share;
+use cleaning::Split;
+use index::Found;
+use index::search::search;
+use log::slots::is_named;
+use segment::Header;
+use segment::Next;
+use segment::area::cut;
+use segment::entries::next;
+use segment::layout::DIGEST_SIZE;
+ghost use Prim.Native.Nat.{_+_, _*_, _≤_, _<_};
+ghost use mathlib.Core.Path.{_≡_};
+ghost use lib.ListN.{length};
+ghost use Rattle.segment.specs.Layout.{edition1};
+ghost use Rattle.joining.specs.Notes.{NotesFit};
+ghost use Rattle.joining.specs.Weights.{noteShare, shareAt, Low, sharesWith, shareLength, ShareFits, Weighed, Clear, Rows};
+
+// What a note of the objects of its key leaves of a tombstone.
+fn note_share(note: u8) -> Share
+    ensures { λ r. ⌜ r ≡ noteShare note ⌝ }
+{
+    if note == 0 {
+        return Share::Nothing;
+    }
+    if 32 < note {
+        return Share::Whole;
+    }
+    Share::Unless(note as usize - 1)
+}
+
+// What is kept of the entry at a place.
+fn share_of(area: &[u8], cells: &[u32], notes: &[u8], header: Header, place: usize) -> Share
+    requires { ⌜ length (now cells) ≤ 4096 ⌝ }
+    requires { ⌜ length (now notes) ≡ 4096 ⌝ }
+    requires { ⌜ place < 65536 ⌝ }
+    ensures { λ r. ⌜ r ≡ shareAt edition1 (now (area .entry)) (now (cells .entry)) (now (notes .entry)) header place ⌝ }
+{
+    let key = header.key;
+    match search(area, cells, key) {
+        Found::At(i) => {
+            if cells[i] as usize != place + 1 {
+                return Share::Nothing;
+            }
+            if !header.tombstone {
+                return Share::Whole;
+            }
+            note_share(notes[i])
+        }
+        Found::Free(_) => Share::Nothing,
+        Found::Full => Share::Nothing,
+    }
+}
+
+// The share of an entry added to its slot's numbers, which start at `base`: it answers what the slot's total grows by.
+fn add_share(shares: &mut [u32], base: usize, share: Share, count: usize) -> usize
+    requires { ⌜ length (now shares) ≡ 1024 ⌝ }
+    requires { ⌜ base ≤ 992 ⌝ }
+    requires { ⌜ Low (now shares) base 65536 ⌝ }
+    requires { ⌜ ShareFits share ⌝ }
+    requires { ⌜ count ≤ 65536 ⌝ }
+    ensures { λ r. ⌜ (r ≡ shareLength share count) × (now (shares .exit) ≡ sharesWith (now (shares .entry)) base share count) ⌝ }
+{
+    match share {
+        Share::Nothing => 0,
+        Share::Whole => count,
+        Share::Unless(p) => {
+            let at = base + p;
+            shares[at] = shares[at] + count as u32;
+            count
+        }
+    }
+}
+
+// What is kept of a slot; its numbers hold what goes by the other victim. Damage ends a segment too.
+fn weigh_slot(
+    area: &[u8],
+    cells: &[u32],
+    notes: &[u8],
+    split: Split,
+    slot: usize,
+    shares: &mut [u32],
+) -> usize
+    requires { ⌜ NotesFit split (now area) (now cells) (now notes) ⌝ }
+    requires { ⌜ slot < split .slots ⌝ }
+    requires { ⌜ length (now shares) ≡ 1024 ⌝ }
+    requires { ⌜ Clear (now shares) (slot * 32) ⌝ }
+    ensures { λ r.
+        ⌜
+        Weighed edition1 (now (area .entry)) (now (cells .entry)) (now (notes .entry)) (split .size) slot (now (shares .entry))
+        (now (shares .exit)) r
+        ⌝ }
+{
+    let size = split.size;
+    let base = slot * 32;
+    let s = cut(size, area, slot);
+    let mut at = DIGEST_SIZE;
+    let mut total = 0;
+    loop {
+        match next(s, at) {
+            Next::Entry(header) => {
+                let share = share_of(area, cells, notes, header, slot * size + at);
+                total += add_share(shares, base, share, header.length);
+                at += header.length;
+            }
+            Next::End => {
+                return total;
+            }
+            Next::Damage => {
+                return total;
+            }
+        }
+    }
+}
+
+// The same with the slot's total; nothing where the slot is not of the log.
+fn weigh_part(
+    area: &[u8],
+    cells: &[u32],
+    notes: &[u8],
+    split: Split,
+    slot: usize,
+    totals: &mut [u32],
+    shares: &mut [u32],
+)
+    requires { ⌜ NotesFit split (now area) (now cells) (now notes) ⌝ }
+    requires { ⌜ slot < split .slots ⌝ }
+    requires { ⌜ Rows edition1 (now area) (now cells) (now notes) split slot (now totals) (now shares) ⌝ }
+    ensures { λ _.
+        ⌜
+        Rows edition1 (now (area .entry)) (now (cells .entry)) (now (notes .entry)) split (slot + 1) (now (totals .exit))
+        (now (shares .exit))
+        ⌝ }
+{
+    if !is_named(split.outside, slot) {
+        return;
+    }
+    let total = weigh_slot(area, cells, notes, split, slot, shares);
+    totals[slot] = total as u32;
+}
+
+// The numbers of all slots of the log.
+pub fn weigh_all(
+    area: &[u8],
+    cells: &[u32],
+    notes: &[u8],
+    split: Split,
+    totals: &mut [u32],
+    shares: &mut [u32],
+)
+    requires { ⌜ NotesFit split (now area) (now cells) (now notes) ⌝ }
+    requires { ⌜ Rows edition1 (now area) (now cells) (now notes) split 0 (now totals) (now shares) ⌝ }
+    ensures { λ _.
+        ⌜
+        Rows edition1 (now (area .entry)) (now (cells .entry)) (now (notes .entry)) split (split .slots) (now (totals .exit))
+        (now (shares .exit))
+        ⌝ }
+{
+    let mut i = 0;
+    while i < split.slots {
+        weigh_part(area, cells, notes, split, i, totals, shares);
+        i += 1;
+    }
+}
