@@ -52,6 +52,6 @@ answerSaid Converted = 0
 answerSaid (Refused r) = numberOfRefusal r
 
 -- What an exported call answers and leaves in the eight bytes that it is lent.
-pub record Crossed (made : Conversion) (after : List ℕ) (r : ℕ) : Type 0 where
+pub record ConversionCrossed (made : Conversion) (after : List ℕ) (r : ℕ) : Type 0 where
   pub says : r ≡ answerSaid (made .answer)
   pub bytes : after ≡ made .value

@@ -12,7 +12,7 @@ ghost use Prim.Native.Nat.{_≤_, _%_};
 ghost use lib.Dec.{eqb};
 ghost use lib.ListN.{length};
 ghost use Rattle.position.specs.Float.{unitsOf, unitsOfOne, isCount, countIn, isHeld, floatOf};
-ghost use Rattle.position.specs.Convert.{withPosition, outcome, fromFloat, toFloat, answerSaid, Crossed};
+ghost use Rattle.position.specs.Convert.{withPosition, outcome, fromFloat, toFloat, ConversionCrossed};
 
 const HIGHEST_COUNT: u32 = 67108864;
 
@@ -154,9 +154,9 @@ pub fn to_float(value: &[u8]) -> Conversion
     with_position(value, float_of(count))
 }
 
-// The number of a conversion's answer, 0 where it is accepted; its eight bytes go to what the caller lends.
-fn hand_over(made: Conversion, converted: &mut [u8; 8]) -> u32
-    ensures { λ r. ⌜ (r ≡ answerSaid (made .answer)) × (now (converted .exit) ≡ made .value) ⌝ }
+// A conversion handed to a caller in C or Rust: the number of its answer, 0 where it is accepted, and its eight bytes.
+pub fn hand_over(made: Conversion, converted: &mut [u8; 8]) -> u32
+    ensures { λ r. ⌜ ConversionCrossed made (now (converted .exit)) r ⌝ }
 {
     let bytes = made.value;
     *converted = bytes;
@@ -165,19 +165,4 @@ fn hand_over(made: Conversion, converted: &mut [u8; 8]) -> u32
         Answer::Converted => 0,
         Answer::Refused(cause) => number(cause),
     }
-}
-
-// For a firmware in C or Rust (include/kurdavel.h).
-#[no_mangle]
-pub extern "C" fn kurdavel_from_float(value: &[u8], converted: &mut [u8; 8]) -> u32
-    ensures { λ r. ⌜ Crossed (fromFloat (now (value .entry))) (now (converted .exit)) r ⌝ }
-{
-    hand_over(from_float(value), converted)
-}
-
-#[no_mangle]
-pub extern "C" fn kurdavel_to_float(value: &[u8], converted: &mut [u8; 8]) -> u32
-    ensures { λ r. ⌜ Crossed (toFloat (now (value .entry))) (now (converted .exit)) r ⌝ }
-{
-    hand_over(to_float(value), converted)
 }

@@ -16,11 +16,11 @@ number-requires c κs = search needs
 
 returns : tie.Need-returns
 unfolding answerSaid
-returns c = (rw (c .enum-told .given .1), refl)
+returns c = record { says = rw (c .enum-told .given .1); bytes = refl }
 
 returns-2 : tie.Need-returns-2
 unfolding answerSaid
-returns-2 c = (c .number .ensures ∙ rw (c .before .before .answer .given .1), refl)
+returns-2 c = record { says = c .number .ensures ∙ rw (c .before .before .answer .given .1); bytes = refl }
 
 pub hand-over-spec : {M : Type 1} → statement M
 hand-over-spec = tie.close (tie.spec enum-told enum-known-answer number-requires returns returns-2)
