@@ -2,4 +2,5 @@
 pub mod Letters
 pub mod List
 pub mod Listed
+pub mod Book
 pub mod Numbered

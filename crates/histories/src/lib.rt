@@ -10,6 +10,8 @@ ghost use Rattle.histories.specs.Letters.{letterOf, codeOf, allowed, aft
 ghost use Rattle.histories.specs.List.{legalOnes, historiesOf, histories, lineOf, linesOf};
 ghost use Rattle.histories.specs.Numbered.{word};
 
+pub mod book;
+
 // The longest word.
 pub const LONGEST: u32 = 6;
 
