@@ -3,6 +3,9 @@
 // required of the caller's values: words that are no record are refused with 4. The answer is 0 or the refusal's number.
 use firmware::step_held;
 use index::search::search;
+use position::from_float;
+use position::hand_over;
+use position::to_float;
 use record::Expected;
 use record::FewestAnswer;
 use record::FormatAnswer;
@@ -44,6 +47,7 @@ ghost use mathlib.Core.Bool.{true};
 ghost use lib.ListN.{length};
 ghost use Rattle.model.specs.Operations.{write, delete, clean};
 ghost use Rattle.model.specs.Refused.{freely, reaching};
+ghost use Rattle.position.specs.Convert.{fromFloat, toFloat, ConversionCrossed};
 ghost use Rattle.record.specs.declared.Expected.{Expected};
 ghost use Rattle.words.specs.Words.{recordWords};
 ghost use Rattle.kurdavel.specs.Crossing.{FormatCrossed, RecoverCrossed, ReadCrossed, ValueCrossed, StartCrossed, StepCrossed, SteppedOn, FewestCrossed, TellCrossed, keptWords, Handed};
@@ -464,4 +468,19 @@ pub extern "C" fn kurdavel_join(
             0
         }
     }
+}
+
+// The two conversions of a position (02, R-10) take no store: a value goes in, eight bytes and a number come out.
+#[no_mangle]
+pub extern "C" fn kurdavel_from_float(value: &[u8], converted: &mut [u8; 8]) -> u32
+    ensures { λ r. ⌜ ConversionCrossed (fromFloat (now (value .entry))) (now (converted .exit)) r ⌝ }
+{
+    hand_over(from_float(value), converted)
+}
+
+#[no_mangle]
+pub extern "C" fn kurdavel_to_float(value: &[u8], converted: &mut [u8; 8]) -> u32
+    ensures { λ r. ⌜ ConversionCrossed (toFloat (now (value .entry))) (now (converted .exit)) r ⌝ }
+{
+    hand_over(to_float(value), converted)
 }

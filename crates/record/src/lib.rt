@@ -93,6 +93,8 @@ pub enum Refusal {
     NoPair,
     BadMap,
     MapNoDigest,
+    NotWhole,
+    CountLost,
 }
 
 // The tables that a caller may reach (02, R-2), from the first to the last, both included; none where the first is above the
@@ -220,6 +222,8 @@ pub fn number(r: Refusal) -> u32
         Refusal::NoPair => 23,
         Refusal::BadMap => 24,
         Refusal::MapNoDigest => 25,
+        Refusal::NotWhole => 26,
+        Refusal::CountLost => 27,
     }
 }
 

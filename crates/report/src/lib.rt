@@ -12,7 +12,7 @@ ghost use Rattle.report.specs.Report.{areaText, dumpText, textRoom, text
 ghost use Rattle.report.specs.PutLaws.{PutWithin};
 
 mod ascending;
-mod gather;
+pub mod gather;
 mod lines;
 mod listing;
 mod ranks;

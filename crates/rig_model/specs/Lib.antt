@@ -1,0 +1,3 @@
+-- 02, R-14: which history recovers wrongly, and what the rig prints.
+pub mod Verdict
+pub mod RunLaws

@@ -1,0 +1,334 @@
+-- Laws of a run: what the promises of start and step give on a store that is idle and recovered, and on one whose operation is under way.
+use Prim.Native.Nat.{ℕ, zero, suc, _+_, _-_, _≤_, _<_}
+use mathlib.Core.Path.{_≡_, refl, sym, ap, _∙_, subst, subst⁻¹}
+use mathlib.Core.Bool.{Bool, true, false, not}
+use mathlib.Core.List.{List, [], _∷_}
+use mathlib.Core.Option.{Option, none, some}
+use native.Mathlib.Nat.{sub-zero}
+use native.Mathlib.Omega.{arith}
+use lib.Dec.{leb, eqb}
+use lib.ListN.{length, take}
+use lib.Seq.{sets, take-all}
+use borrow.Author.Tests.{ltb-false, le-ltb, le-leb, eq-eqb, not-false}
+use Rattle.word.specs.Number.{Bytes}
+use Rattle.word.specs.Laws.{taken-sets}
+use Rattle.segment.specs.Choice.{pick, both, both-left, both-right, both-true}
+use Rattle.segment.specs.Layout.{Layout, edition1, entrySize}
+use Rattle.segment.specs.Entry.{Entry}
+use Rattle.segment.specs.declared.Key.{Key}
+use Rattle.record.specs.Answers.{withPending}
+use Rattle.record.specs.Range.{between, leftGood, inRange, lengthsOwn, fitsLent}
+use Rattle.record.specs.declared.Pending.{Pending}
+use Rattle.record.specs.declared.Pending.the-variants.{Idle, Append, NewHead, Clean, Forget}
+use Rattle.record.specs.declared.Record.{Record}
+use Rattle.record.specs.declared.Refusal.{Refusal}
+use Rattle.record.specs.declared.Refusal.the-variants.{BadRecord, WorkShort, NonePending}
+use Rattle.record.specs.declared.Start.{Start}
+use Rattle.record.specs.declared.StartAnswer.{StartAnswer}
+use Rattle.record.specs.declared.Stepped.{Stepped}
+use Rattle.record.specs.declared.StepAnswer.{StepAnswer}
+use Rattle.model.specs.Log.{Placed}
+use Rattle.model.specs.Causes.{when, firstCause}
+use Rattle.model.specs.Recovery.{recovered, recordFrom}
+use Rattle.model.specs.Index.{IndexRule}
+use Rattle.model.specs.Operations.{Operation, write, delete, clean, Typed, logNow, Laid, laid, laidAppend, laidHead, laidEntry, laidForget, laidDelete, fitsHead, noRoom, writtenEntry, tombstoneEntry, planFor, storesFor, startedRecord, stored, finishedRecord}
+use Rattle.model.specs.Refused.{Lengths, freely, recordBad, isPending, startCauses, stepCauses}
+use Rattle.model.specs.Promises.{Genuine, Started, StartPromise, Begun, begun, lentLengths, StepPromise, StepExact, stepped, IndexStepped, leftAfter}
+use Rattle.laws.specs.Stores.{length-stored}
+use Rattle.laws.specs.Passed.{start-passed}
+use Rattle.laws.specs.Operated.{Accepted, OperationLaws, planAt}
+use Rattle.laws.specs.OperationsKept.{edition1-laws}
+use Rattle.history.proofs.Invariant.{recovered-is, idle-of, slots-of, size-of, cells-of, idle-same, own-geometry, with-geometry}
+use Rattle.rig_model.specs.Verdict.{lent, causeAt, recordAt}
+
+laws : OperationLaws edition1
+laws = edition1-laws
+
+-- ---- an idle store
+
+-- Nothing is pending, the record is recovery's, and the index keeps its rule.
+pub record Ready (area : List ℕ) (r : Record) (cells : List ℕ) : Type 0 where
+  pub bytes : Bytes area
+  pub long : length cells ≡ 16
+  pub recovers : recovered edition1 4 256 16 area ≡ some r
+  pub rule : IndexRule (r .size) (logNow edition1 area r) cells
+
+module _ (area : List ℕ) (r : Record) (cells : List ℕ) (y : Ready area r cells) where
+  pub ready-record : r ≡ recordAt area
+  ready-record = recovered-is edition1 4 256 16 area r (y .recovers)
+
+  own : recovered edition1 (r .slots) (r .size) (r .cells) area ≡ some r
+  own = own-geometry edition1 4 256 16 area r (y .recovers)
+
+  pub ready-idle : r .pending ≡ Idle
+  ready-idle = idle-of edition1 4 256 16 area r (y .recovers)
+
+  pub ready-genuine : Genuine edition1 area r cells
+  ready-genuine = record { recovers = own ∙ ap some (sym (idle-same r ready-idle)); rule = y .rule }
+
+-- ---- an operation under way: k of its stores are done, and some are left
+
+pub record Going (before : List ℕ) (idle : Record) (o : Operation) (k : ℕ) (area : List ℕ) (r : Record) (cells work : List ℕ) : Type 0 where
+  pub ready : Ready before idle cells
+  pub area-long : length before ≡ 1024
+  pub work-long : length work ≡ 256
+  pub accepted : Accepted edition1 before idle o
+  pub some-left : k < length (planAt edition1 before idle o)
+  pub record-now : r ≡ withPending idle (laid edition1 idle (logNow edition1 before idle) o .pending (length (planAt edition1 before idle o) - k))
+  pub area-now : area ≡ stored before (take k (planAt edition1 before idle o))
+  pub work-now : take (length (laid edition1 idle (logNow edition1 before idle) o .bytes)) work ≡ laid edition1 idle (logNow edition1 before idle) o .bytes
+
+-- a pending operation has so many stores left
+abbrev Left : ℕ → ℕ → Laid → Type 0
+Left s k l = (leftGood s (l .pending k) ≡ between 1 (s + 1) k) × (isPending (l .pending k) ≡ true)
+
+entry-left : (r : Record) (e : Entry) (s k : ℕ) → Left s k (laidEntry edition1 r e)
+unfolding leftGood isPending pick
+entry-left r e s k = go (fitsHead edition1 r e)
+  where
+    go : (t : Bool) → Left s k (pick t (laidAppend edition1 e) (laidHead edition1 r e))
+    go true = (refl, refl)
+    go false = (refl, refl)
+
+delete-left : (r : Record) (log : List Placed) (key : Key) (s k : ℕ) → Left s k (laidDelete edition1 r log key)
+unfolding leftGood isPending pick
+delete-left r log key s k = go (noRoom r (entrySize edition1 0))
+  where
+    go : (t : Bool) → Left s k (pick t (laidForget edition1 r log key) (laidEntry edition1 r (tombstoneEntry r key)))
+    go true = (refl, refl)
+    go false = entry-left r (tombstoneEntry r key) s k
+
+laid-left : (r : Record) (log : List Placed) (o : Operation) (s k : ℕ) → Left s k (laid edition1 r log o)
+unfolding laid leftGood isPending
+laid-left r log (write key value) s k = entry-left r (writtenEntry r key value) s k
+laid-left r log (delete key) s k = delete-left r log key s k
+laid-left r log (clean victims) s k = (refl, refl)
+
+fits-pending : (r : Record) (p : Pending) (a c : ℕ) → fitsLent edition1 r a c ≡ true → leftGood (r .size) p ≡ true → fitsLent edition1 (withPending r p) a c ≡ true
+unfolding fitsLent inRange lengthsOwn
+fits-pending r p a c e l =
+    let range = both-left _ _ e in
+    let x = both-right _ _ range in
+    both-true _ _ (both-true _ _ (both-left _ _ range) (both-true _ _ (both-left _ _ x) (both-true _ _ (both-left _ _ (both-right _ _ x)) l))) (both-right _ _ e)
+
+-- all stores are made, and the store is idle again
+pub record Ended (before : List ℕ) (idle : Record) (o : Operation) (area : List ℕ) (r : Record) (cells : List ℕ) : Type 0 where
+  pub stored-all : area ≡ stored before (planAt edition1 before idle o)
+  pub ready : Ready area r cells
+
+passes : (a b c : Bool) → a ≡ false → b ≡ false → c ≡ false → firstCause (when a BadRecord ∷ when b WorkShort ∷ when c NonePending ∷ []) ≡ none
+unfolding firstCause pick
+passes a b c p q r = rw (p, q, r)
+
+module _ (before : List ℕ) (idle : Record) (o : Operation) (k : ℕ) (area : List ℕ) (r : Record) (cells work : List ℕ) (g : Going before idle o k area r cells work) where
+  abbrev n : ℕ
+  n = length (planAt edition1 before idle o)
+
+  abbrev going-started : Started edition1 area r work
+  going-started =
+      record {
+        operation = o;
+        before = before;
+        idle = idle;
+        since = k;
+        lengths = g .accepted .lengths;
+        typed = g .accepted .typed;
+        area-bytes = g .accepted .area-bytes;
+        recovers = g .accepted .recovers;
+        accepted = g .accepted .no-cause;
+        some-left = g .some-left;
+        record-now = g .record-now;
+        area-now = g .area-now;
+        work-now = g .work-now;
+      }
+
+  size-256 : idle .size ≡ 256
+  size-256 = size-of edition1 4 256 16 before idle (g .ready .recovers)
+
+  same-log : logNow edition1 area idle ≡ logNow edition1 before idle
+  same-log = ap (λ (x : List ℕ). logNow edition1 x idle) (g .area-now) ∙ laws .prefix-log before idle o (g .accepted) k (g .some-left)
+
+  going-genuine : Genuine edition1 area r cells
+  going-genuine =
+      subst⁻¹ (λ (x : Record). Genuine edition1 area x cells) (g .record-now)
+      (record {
+        recovers =
+            ap (recovered edition1 (idle .slots) (idle .size) (idle .cells)) (g .area-now)
+            ∙ laws .prefix-recovers before idle o (g .accepted) k (g .some-left)
+            ∙ ap some (sym (idle-same idle (ready-idle before idle cells (g .ready))));
+        rule = subst (λ (x : List Placed). IndexRule (idle .size) x cells) (sym same-log) (g .ready .rule);
+      })
+
+  going-fits : fitsLent edition1 r (length area) (length cells) ≡ true
+  going-fits =
+      subst⁻¹ (λ (x : Record). fitsLent edition1 x (length area) (length cells) ≡ true) (g .record-now)
+      (fits-pending idle _ (length area) (length cells)
+      (subst⁻¹ (λ (x : ℕ). fitsLent edition1 idle x (length cells) ≡ true) (ap length (g .area-now) ∙ length-stored before (take k (planAt edition1 before idle o)))
+      (subst⁻¹ (λ (x : ℕ). fitsLent edition1 idle (length before) x ≡ true) (g .ready .long) (laws .own-lengths 4 256 16 before idle (g .ready .bytes) (g .ready .recovers))))
+      (laid-left idle (logNow edition1 before idle) o (idle .size) (n - k) .0 ∙ in-limits))
+    where
+      in-limits : between 1 (idle .size + 1) (n - k) ≡ true
+      in-limits =
+          unfold between in
+          both-true _ _ (le-leb 1 (n - k) (omega (arith, g .some-left))) (le-leb (n - k) (idle .size + 1) (omega (arith, laws .few-stores before idle o (g .accepted))))
+
+  going-passes : firstCause (stepCauses edition1 r (lentLengths area cells work)) ≡ none
+  going-passes =
+      passes _ _ _ (ap not going-fits)
+      (le-ltb (length work) (r .size) (omega (arith, g .work-long, size-256, ap (λ (x : Record). x .size) (g .record-now))))
+      (ap not (ap (λ (x : Record). isPending (x .pending)) (g .record-now) ∙ laid-left idle (logNow edition1 before idle) o 0 (n - k) .1))
+
+  -- ---- one step more
+
+  module _ (area′ cells′ : List ℕ) (a : Stepped) (p : StepPromise edition1 r area area′ cells cells′ work a) where
+    exactly : StepExact edition1 r area area′ cells cells′ work a going-started
+    exactly = p .exact going-passes going-genuine going-started
+
+    module _ (j : ℕ) (e : n - suc k ≡ suc j) where
+      answered : a ≡ stepped edition1 before idle o (suc j)
+      answered = exactly .answers ∙ ap (stepped edition1 before idle o) e
+
+      same-cells : cells′ ≡ cells
+      unfolding IndexStepped
+      same-cells = subst (λ (x : ℕ). IndexStepped edition1 area′ cells cells′ (a .rec) x) e (exactly .index)
+
+      goes-on : Going before idle o (suc k) area′ (a .rec) cells′ work
+      unfolding stepped
+      goes-on =
+          record {
+            ready = subst⁻¹ (λ (x : List ℕ). Ready before idle x) same-cells (g .ready);
+            area-long = g .area-long;
+            work-long = g .work-long;
+            accepted = g .accepted;
+            some-left = omega (arith, e);
+            record-now =
+                ap (λ (x : Stepped). x .rec) answered
+                ∙ ap (λ (x : ℕ). withPending idle (laid edition1 idle (logNow edition1 before idle) o .pending x)) (sym e);
+            area-now = exactly .stores;
+            work-now = g .work-now;
+          }
+
+    module _ (e : n - suc k ≡ 0) where
+      all-stored : area′ ≡ stored before (planAt edition1 before idle o)
+      all-stored = exactly .stores ∙ ap (stored before) (take-all (suc k) (planAt edition1 before idle o) (omega (arith, e, g .some-left)))
+
+      finished-rec : a .rec ≡ finishedRecord edition1 before idle o
+      unfolding stepped
+      finished-rec = ap (λ (x : Stepped). x .rec) (exactly .answers ∙ ap (stepped edition1 before idle o) e)
+
+      index-rule : IndexRule (a .rec .size) (logNow edition1 area′ (a .rec)) cells′
+      unfolding IndexStepped
+      index-rule = subst (λ (x : ℕ). IndexStepped edition1 area′ cells cells′ (a .rec) x) e (exactly .index)
+
+      recovers-now : recovered edition1 4 256 16 area′ ≡ some (a .rec)
+      recovers-now =
+          sym
+          (λ i.
+          recovered edition1 (slots-of edition1 4 256 16 before idle (g .ready .recovers) i) (size-of edition1 4 256 16 before idle (g .ready .recovers) i)
+          (cells-of edition1 4 256 16 before idle (g .ready .recovers) i) area′)
+          ∙ ap (recovered edition1 (idle .slots) (idle .size) (idle .cells)) all-stored
+          ∙ laws .finish-recovers before idle o (g .accepted)
+          ∙ ap some (sym finished-rec)
+
+      ends : Ended before idle o area′ (a .rec) cells′
+      ends =
+          record {
+            stored-all = all-stored;
+            ready =
+                record {
+                  bytes =
+                      subst⁻¹ Bytes (exactly .stores) (laws .plan-bytes before idle o (g .accepted) (suc k));
+                  long = p .same-length ∙ g .ready .long;
+                  recovers = recovers-now;
+                  rule = index-rule;
+                };
+          }
+
+-- ---- the loop over the stores
+
+pub record Under (before : List ℕ) (idle : Record) (o : Operation) (left : ℕ) (area : List ℕ) (r : Record) (cells work : List ℕ) : Type 0 where
+  pub most : left ≤ length (planAt edition1 before idle o)
+  pub going : 0 < left → Going before idle o (length (planAt edition1 before idle o) - left) area r cells work
+  pub ended : left ≡ 0 → Ended before idle o area r cells
+
+pub under-turn : (before : List ℕ) (idle : Record) (o : Operation) (left : ℕ) (area : List ℕ) (r : Record) (cells work area′ cells′ : List ℕ) (a : Stepped)
+    → 0 < left → Under before idle o left area r cells work → StepPromise edition1 r area area′ cells cells′ work a
+    → Under before idle o (left - 1) area′ (a .rec) cells′ work
+under-turn before idle o left area r cells work area′ cells′ a h u p =
+    record {
+      most = omega (arith, u .most);
+      going = λ some.
+          subst (λ (x : ℕ). Going before idle o x area′ (a .rec) cells′ work) (one-more (u .most))
+          (goes-on before idle o k area r cells work g area′ cells′ a p (left - 2) (two-less (u .most) some));
+      ended = λ none-left. ends before idle o k area r cells work g area′ cells′ a p (no-more (u .most) none-left);
+    }
+  where
+    k : ℕ
+    k = length (planAt edition1 before idle o) - left
+
+    g : Going before idle o k area r cells work
+    g = u .going h
+
+    one-more : left ≤ length (planAt edition1 before idle o) → suc k ≡ length (planAt edition1 before idle o) - (left - 1)
+    one-more m = omega arith
+
+    two-less : left ≤ length (planAt edition1 before idle o) → 0 < left - 1 → length (planAt edition1 before idle o) - suc k ≡ suc (left - 2)
+    two-less m s = omega arith
+
+    no-more : left ≤ length (planAt edition1 before idle o) → left - 1 ≡ 0 → length (planAt edition1 before idle o) - suc k ≡ 0
+    no-more m s = omega arith
+
+-- ---- a start
+
+module _ (o : Operation) (ty : Typed o) (area : List ℕ) (r : Record) (cells work work′ : List ℕ) (a : Start) (y : Ready area r cells) (al : length area ≡ 1024) (wl : length work ≡ 256)
+    (p : StartPromise edition1 freely o r area cells work work′ a) where
+  start-exactly : record { start = a; work = work′ } ≡ begun edition1 r (logNow edition1 area r) o work (causeAt area r o)
+  start-exactly = p .exact (ready-genuine area r cells y) ∙ ap (λ (l : Lengths). begun edition1 r (logNow edition1 area r) o work (firstCause (startCauses edition1 r (logNow edition1 area r) l freely o))) (λ i. record { area = al i; index = y .long i; work = wl i })
+
+  module _ (c : Refusal) (e : causeAt area r o ≡ some c) where
+    pub start-refused : a .answer ≡ StartAnswer.Refused c
+    unfolding begun
+    start-refused = ap (λ (x : Begun). x .start .answer) (start-exactly ∙ ap (begun edition1 r (logNow edition1 area r) o work) e)
+
+  module _ (e : causeAt area r o ≡ none) where
+    started-all : record { start = a; work = work′ } ≡ begun edition1 r (logNow edition1 area r) o work none
+    started-all = start-exactly ∙ ap (begun edition1 r (logNow edition1 area r) o work) e
+
+    pub start-stores : a .answer ≡ StartAnswer.Started (length (planAt edition1 area r o))
+    unfolding begun
+    start-stores = ap (λ (x : Begun). x .start .answer) started-all
+
+    accepts : Accepted edition1 area r o
+    accepts = record { lengths = lent; area-bytes = y .bytes; typed = ty; recovers = own-geometry edition1 4 256 16 area r (y .recovers); no-cause = e }
+
+    pub start-under : Under area r o (length (planAt edition1 area r o)) area (a .rec) cells work′
+    unfolding begun stored
+    start-under =
+        record {
+          most = omega arith;
+          going = λ h.
+              record {
+                ready = y;
+                area-long = al;
+                work-long = p .same-length ∙ wl;
+                accepted = accepts;
+                some-left = omega arith;
+                record-now =
+                    ap (λ (x : Begun). x .start .rec) started-all
+                    ∙ ap (λ (x : ℕ). withPending r (laid edition1 r (logNow edition1 area r) o .pending x)) (sym (all-left (length (planAt edition1 area r o))));
+                area-now = ap (λ (x : ℕ). stored area (take x (planAt edition1 area r o))) (sym (sub-self (length (planAt edition1 area r o))));
+                work-now =
+                    subst⁻¹ (λ (x : List ℕ). take (length bytes) x ≡ bytes) (ap (λ (x : Begun). x .work) started-all)
+                    (taken-sets work 0 bytes (length bytes) refl (omega (arith, laws .bytes-fit area r o accepts, wl, size-of edition1 4 256 16 area r (y .recovers))));
+              };
+          ended = λ z. absurd (omega (arith, z, laws .some-stores area r o accepts));
+        }
+      where
+        bytes : List ℕ
+        bytes = laid edition1 r (logNow edition1 area r) o .bytes
+
+        all-left : (n : ℕ) → n - (n - n) ≡ n
+        all-left n = omega arith
+
+        sub-self : (n : ℕ) → n - n ≡ 0
+        sub-self n = omega arith

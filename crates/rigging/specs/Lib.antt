@@ -1,0 +1,2 @@
+-- 02, R-14.
+pub mod Text
