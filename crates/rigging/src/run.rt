@@ -130,7 +130,14 @@ pub fn is_wrong(letters: u32, number: u32, from_log: bool) -> bool
         let l = letter_of(rest / unit);
         rest %= unit;
         let played = play(
-            l, place, rec, book, &mut area, &mut index, &mut work, from_log,
+            l,
+            place,
+            rec,
+            book,
+            &mut area,
+            &mut index,
+            &mut work,
+            from_log,
         );
         if played.wrong {
             return true;
