@@ -1,8 +1,8 @@
 //! The store record and when it is out of range (01, "Memory the caller lends" and
-//! "Refused calls").
+//! "Refused calls"; 02, R-5).
 
 use crate::counters::{DigestNumber, Version};
-use crate::layout::{geometry_holds, CELLS, SLOTS, SLOT_BYTES};
+use crate::layout::{geometry_holds, CELLS, MOST_SLOTS, SLOTS, SLOT_BYTES};
 use crate::refusal::Refusal;
 use crate::segment::{Key, DIGEST_BYTES};
 use crate::slot_map::SlotMap;
@@ -103,6 +103,9 @@ pub struct Record {
     pub keys: u32,
     /// The operation under way.
     pub pending: Pending,
+    /// For each slot the bytes of its present objects: whole entries that give present keys
+    /// their values. 0 outside the log.
+    pub present_bytes: [u32; MOST_SLOTS],
 }
 
 impl Record {
@@ -121,12 +124,22 @@ impl Record {
             && self.next.0 != 0
             && self.keys < self.cells
             && self.is_pending_in_range()
+            && self.are_present_bytes_in_range()
     }
 
     #[inline]
     fn is_pending_in_range(&self) -> bool {
         let left = self.pending.left();
         matches!(self.pending, Pending::None) || (left != 0 && left <= self.slot_bytes + 1)
+    }
+
+    /// No slot has room for more than S less a digest, and all 32 numbers are held to it.
+    #[inline]
+    fn are_present_bytes_in_range(&self) -> bool {
+        let most = self.slot_bytes - DIGEST_BYTES as u32;
+        self.present_bytes
+            .iter()
+            .fold(true, |all, &bytes| all & (bytes <= most))
     }
 
     /// Refuses with 4 unless the record is in range and the lent lengths are its own.

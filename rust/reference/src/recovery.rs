@@ -1,9 +1,10 @@
 //! Recovery (01, "Operations, store by store" and causes 1, 2 and 15 to 20).
 
 use crate::counters::{DigestNumber, Version};
-use crate::index::rebuild;
-use crate::layout::{geometry_holds, index_holds, segment};
+use crate::index::{rebuild, Entered};
+use crate::layout::{geometry_holds, index_holds, segment, MOST_SLOTS};
 use crate::log::walk_segment;
+use crate::present::Counts;
 use crate::record::{Pending, Record};
 use crate::refusal::Refusal;
 use crate::rules::{AsWritten, Rules};
@@ -49,7 +50,10 @@ pub fn recover_by<R: Rules>(
         .map(|&slot| u32::from(slot))
         .filter(|&slot| digest.map.has(slot));
     let survey = survey(slot_bytes, area, log.clone(), head)?;
-    let keys = rebuild(area, slot_bytes, log, index, Refusal::Entry)?;
+    let mut present_bytes = [0; MOST_SLOTS];
+    let mut present = Counts::new(slot_bytes, &mut present_bytes);
+    let count = |slot, place, entered| count_newest(&mut present, area, slot, place, entered);
+    let keys = rebuild(area, slot_bytes, log, index, Refusal::Entry, count)?;
     Ok(Record {
         slots,
         slot_bytes,
@@ -61,7 +65,22 @@ pub fn recover_by<R: Rules>(
         next: next_version::<R>(digest, survey.highest),
         keys,
         pending: Pending::None,
+        present_bytes,
     })
+}
+
+/// Counts an entry that is its key's newest so far, and no longer the one that it displaces.
+#[inline]
+fn count_newest(present: &mut Counts, area: &[u8], slot: u32, place: usize, entered: Entered) {
+    if entered == Entered::Older {
+        return;
+    }
+    if let Some(entry) = area[place..].first_chunk() {
+        present.add::<AsWritten>(slot, entry);
+    }
+    if let Entered::Displacing(older) = entered {
+        present.displace::<AsWritten>(area, older);
+    }
 }
 
 /// Whether the order names each slot below N once and nothing else.

@@ -20,6 +20,10 @@ pub trait Rules {
     const FORGOTTEN_VERSION_NOT_IN_DIGEST: bool = false;
     /// Such a delete leaves nothing of its key, whatever other slots hold.
     const NO_TOMBSTONE_OF_FORGOTTEN: bool = false;
+    /// An object that is overwritten or deleted still counts among the present bytes of its slot.
+    const OVERWRITTEN_STILL_COUNTED: bool = false;
+    /// Tombstones count among the present bytes of their slot.
+    const TOMBSTONES_COUNTED: bool = false;
 }
 
 /// The rules of 01 and 02.

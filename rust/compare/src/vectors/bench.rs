@@ -91,7 +91,7 @@ impl<S: Subject> Bench<S> {
         }
     }
 
-    /// The starts, and the events that no implementation has a call for yet.
+    /// The starts, the call on the record alone, and the events that no implementation has a call for yet.
     fn operation(&mut self, event: &Event, changes: &Changes) -> Checked {
         match event {
             Event::Write {
@@ -113,6 +113,7 @@ impl<S: Subject> Bench<S> {
                 self.start(start, owed, changes)
             }
             Event::Clean { victims, owed } => self.start(Start::Clean(*victims), owed, changes),
+            Event::Fewest(owed) => self.fewest(owed, changes),
             _ => Err(no_call("this event")),
         }
     }
@@ -364,6 +365,19 @@ impl<S: Subject> Bench<S> {
         let (record, memory) = (before.clone(), lent.clone());
         check_read::<S>(&record, &memory, asked, owed)?;
         untouched::<S>((&before, &lent), (&record, &memory))
+    }
+
+    /// The record alone answers: what else is lent does not matter.
+    fn fewest(&mut self, owed: &Owed<u32>, changes: &Changes) -> Checked {
+        let (before, _) = self.lend(changes)?;
+        let record = before.clone();
+        if let Some((owed, slot)) = settled(owed, S::fewest(&record))? {
+            same("slot", *owed, slot)?;
+        }
+        if record != before {
+            return Err(Difference::new("record", "as it was", "changed"));
+        }
+        Ok(())
     }
 
     /// Reads every key that the line names, every key that the history has named, and every key whose six bytes stand

@@ -4,8 +4,8 @@ use reference::{DigestNumber, Key, Pending, Refusal, SlotMap, Tables, Version};
 
 use super::event::{Field, Geometry, Record};
 use super::subject::{
-    narrow_expected, part_of, range_of, without_edition, Answer, Asked, Memory, No, Progress,
-    Start, Subject,
+    narrow_expected, part_of, present_of, range_of, without_edition, Answer, Asked, Memory, No,
+    Progress, Start, Subject,
 };
 
 /// The reference.
@@ -94,6 +94,10 @@ impl Subject for Second {
         Ok(part_of(&memory.area, value))
     }
 
+    fn fewest(record: &reference::Record) -> Answer<u32> {
+        reference::fewest(record).map_err(refused)
+    }
+
     fn says(record: &reference::Record) -> Option<Record> {
         Some(Record {
             slots: record.slots,
@@ -106,7 +110,7 @@ impl Subject for Second {
             next: record.next.0.into(),
             keys: record.keys,
             left: (record.pending != Pending::None).then_some(record.pending.left()),
-            present_bytes: None,
+            present_bytes: Some(present_of(record.slots, &record.present_bytes)),
             edition: None,
             switched: None,
         })
@@ -128,7 +132,10 @@ impl Subject for Second {
             Field::Keys => record.keys = number,
             Field::Left => record.pending = with_left(record.pending, number),
             Field::Edition => return Err(No::Missing("a record with an edition")),
-            Field::PresentBytes(_) => return Err(No::Missing("a record with present bytes")),
+            Field::PresentBytes(slot) => match record.present_bytes.get_mut(slot as usize) {
+                Some(bytes) => *bytes = number,
+                None => return Err(No::Missing("a slot above 31")),
+            },
         }
         Ok(record)
     }

@@ -95,11 +95,23 @@ pub trait Subject {
     /// Place and length of a key's value in the area.
     fn read_value(record: &Self::Record, memory: &Memory, asked: Asked) -> Answer<(usize, usize)>;
 
+    /// The slot of the log with the fewest present bytes.
+    fn fewest(_record: &Self::Record) -> Answer<u32> {
+        Err(No::Missing("the slot with the fewest present bytes"))
+    }
+
     /// What a record says; none if it is not one that any call gives.
     fn says(record: &Self::Record) -> Option<Record>;
 
     /// The record with another value in a field. Stores left given to a record without an operation make one pending.
     fn forged(record: &Self::Record, field: Field, value: u64) -> Answer<Self::Record>;
+}
+
+/// The present bytes of the slots below N, and of any above that are not 0, which no record owes.
+pub fn present_of(slots: u32, bytes: &[u32; 32]) -> Vec<u32> {
+    let above = bytes.iter().rposition(|&bytes| bytes != 0);
+    let count = above.map_or(0, |last| last + 1).max(slots as usize);
+    bytes[..count.min(bytes.len())].to_vec()
 }
 
 /// Place and length of a part of a buffer.

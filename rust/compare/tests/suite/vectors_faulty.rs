@@ -116,6 +116,10 @@ impl<const FAULT: u32> Subject for Faulty<FAULT> {
         }
     }
 
+    fn fewest(record: &reference::Record) -> Answer<u32> {
+        Second::fewest(record)
+    }
+
     fn says(record: &reference::Record) -> Option<Record> {
         Second::says(record)
     }

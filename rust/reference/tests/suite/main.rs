@@ -9,6 +9,7 @@ mod index_rule;
 mod naive;
 mod not_genuine;
 mod plausible_and_wrong;
+mod present_bytes;
 mod random_histories;
 mod refusals;
 mod rig;

@@ -1,4 +1,4 @@
-//! 01 once more, as directly as it can be put: everything is recomputed from the whole
+//! 01 and 02 once more, as directly as it can be put: everything is recomputed from the whole
 //! area into growing lists. The store under test must agree with it.
 
 use std::collections::{BTreeMap, BTreeSet};
@@ -170,8 +170,11 @@ pub fn view(
         next: Version(after.max(number(digest, 9, 4))),
         keys: keys.len() as u32,
         pending: Pending::None,
+        present_bytes: [0; 32],
     };
-    Ok(View { record, lines })
+    let mut view = View { record, lines };
+    view.record.present_bytes = view.present_bytes();
+    Ok(view)
 }
 
 impl View {
@@ -185,6 +188,25 @@ impl View {
             }
         }
         newest
+    }
+
+    /// For each slot the bytes of the objects that are their key's highest-version entry.
+    fn present_bytes(&self) -> [u32; 32] {
+        let mut bytes = [0; 32];
+        for line in self.newest().into_values().filter(|line| line.is_object()) {
+            bytes[line.slot as usize] += line.bytes.len() as u32;
+        }
+        bytes
+    }
+
+    /// The slot of the log with the fewest such bytes, the lowest of several.
+    pub fn fewest(&self) -> u32 {
+        let mut slots: Vec<(u32, u32)> = (0..self.record.slots)
+            .filter(|slot| self.record.map.0 >> slot & 1 == 1)
+            .map(|slot| (self.present_bytes()[slot as usize], slot))
+            .collect();
+        slots.sort_unstable();
+        slots[0].1
     }
 
     fn entry(&self, kind: u8, key: Key, value: &[u8]) -> Vec<u8> {

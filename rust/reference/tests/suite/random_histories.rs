@@ -6,7 +6,7 @@ use reference::rules::AsWritten;
 use reference::testing::calls::Given;
 use reference::testing::{calls, forged, full};
 use reference::{
-    clean, delete, format, read, step, write, write_expecting, Pending, Refusal, Version,
+    clean, delete, fewest, format, read, step, write, write_expecting, Pending, Refusal, Version,
 };
 
 use crate::rig::{same, Fault, Rig};
@@ -215,6 +215,8 @@ impl Player {
         same!("misused step", stepped, (record, Err(Refusal::Record)));
         let found = read(&record, &area, &index, tables, key);
         same!("misused read", found, Err(Refusal::Record));
+        let told = fewest(&record);
+        same!("fewest of misuse", told.is_err(), lent == 0);
         same!("work buffer of misuse", work, self.rig.work);
         same!("area of misuse", area, area_before);
         same!("index of misuse", index, index_before);

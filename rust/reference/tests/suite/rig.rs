@@ -14,7 +14,7 @@ use reference::step::step_by;
 use reference::testing::calls::Given;
 use reference::testing::full;
 use reference::{
-    format, read, read_value, Key, Pending, Progress, Record, Refusal, Started, Tables,
+    fewest, format, read, read_value, Key, Pending, Progress, Record, Refusal, Started, Tables,
 };
 
 use crate::naive::{view, Plan, View};
@@ -269,7 +269,9 @@ impl<R: Rules> Rig<R> {
         same!("byte stored", self.area[place], byte);
         match answer {
             Ok(Progress::Done { .. }) => {
-                same!("record of a last step", self.record(), self.view()?.record);
+                let view = self.view()?;
+                same!("record of a last step", self.record(), view.record);
+                same!("fewest", fewest(&self.record()), Ok(view.fewest()));
                 self.check_index()
             }
             _ => {
