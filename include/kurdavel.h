@@ -30,7 +30,7 @@
  *     the index is full, and answers 4. All that the record, its pending operation and the lengths tell is tested before
  *     the store.
  *   What a refused call does to the numbers that it would tell:
- *   - kurdavel_read sets *version and *kind to 0, and kurdavel_read_value *place and *bytes;
+ *   - kurdavel_read sets *version and *kind to 0, kurdavel_read_value *place and *bytes, and kurdavel_fewest *slot;
  *   - every other call leaves them as they were: *stores of a start, *left and *version of a step. Look at the answer
  *     first.
  *   Words that are no record are a refusal like any other (4) and treated so.
@@ -62,7 +62,7 @@
  *   show through the refusals 5, 6, 9 to 14, 20 and 21, the numbers of stores, the versions and the places.
  *
  * WHAT THE CALLS COST
- *   A step before the last does the same little work whatever the store holds. A read, the start of a write or delete
+ *   A step before the last and kurdavel_fewest do the same little work whatever the store holds. A read, the start of a write or delete
  *   and the last step of either search the index once, but for a delete that is done as a cleaning (kurdavel_delete).
  *   Recovery, the start of a cleaning of slots that hold tombstones, the start of such a delete and the last step of
  *   every cleaning and of every such delete look at each entry of the log (at most (N - 1) * ((S - 13) / 11) of them),
@@ -110,6 +110,10 @@
  *   11, and a slot holds S - 13 bytes of them. A delete needs no room: a store that is full of live objects can be
  *   emptied again, one key after another.
  *
+ *   An idle task that cleans ahead of need asks kurdavel_fewest for its victim: of that slot the fewest bytes of objects
+ *   are kept. The words KURDAVEL_WORD_PRESENT.. of the record say for each slot how many they are. Tombstones may be kept
+ *   besides, 11 bytes each.
+ *
  *   What helps after a refusal
  *    9  Only a format, which empties the store: no version is left. Reads and cleanings go on.
  *   10  Only a format, which empties the store: no digest number is left. Reads go on, and so do writes and deletes
@@ -138,8 +142,8 @@ extern "C" {
  * The version of this interface. MAJOR goes up when a program written for an earlier one may have to change, or an area
  * written by an earlier one may be refused; MINOR when something is added.
  */
-#define KURDAVEL_VERSION_MAJOR 2u
-#define KURDAVEL_VERSION_MINOR 2u
+#define KURDAVEL_VERSION_MAJOR 3u
+#define KURDAVEL_VERSION_MINOR 0u
 #define KURDAVEL_VERSION (KURDAVEL_VERSION_MAJOR * 1000u + KURDAVEL_VERSION_MINOR)
 
 /* Sizes. */
@@ -150,7 +154,7 @@ extern "C" {
 #define KURDAVEL_CELLS_MIN 16u      /* M */
 #define KURDAVEL_CELLS_MAX 4096u
 #define KURDAVEL_VALUE_MAX 120u     /* a value is 8, 24, 56 or 120 bytes */
-#define KURDAVEL_RECORD_WORDS 14u
+#define KURDAVEL_RECORD_WORDS 49u
 
 /*
  * The most bytes of stack that a call takes, with its return address, without arguments that are passed on the stack
@@ -165,6 +169,7 @@ extern "C" {
 #define KURDAVEL_STACK_DELETE 1152u
 #define KURDAVEL_STACK_CLEAN 1152u
 #define KURDAVEL_STACK_STEP 896u
+#define KURDAVEL_STACK_FEWEST 0u
 
 /* The words of a record. The store is the library's to change: read these, and write none. */
 enum kurdavel_word {
@@ -176,12 +181,17 @@ enum kurdavel_word {
     KURDAVEL_WORD_DIGEST = 5,     /* digest number of the head */
     KURDAVEL_WORD_MAP = 6,        /* slots of the log: bit i, from the lowest, is slot i */
     KURDAVEL_WORD_NEXT = 7,       /* next version */
-    KURDAVEL_WORD_KEYS = 8,       /* keys that have entries in the log, deleted ones too */
-    KURDAVEL_WORD_PENDING = 9,    /* see below */
-    KURDAVEL_WORD_SLOT = 10,      /* slot of the new head, or 0 */
-    KURDAVEL_WORD_VICTIMS = 11,   /* slots that are cleaned, or 0 */
-    KURDAVEL_WORD_LENGTH = 12,    /* bytes of the work buffer in use */
-    KURDAVEL_WORD_LEFT = 13       /* stores left; 0 where none is pending */
+    KURDAVEL_WORD_RESERVE_8 = 8,  /* in reserve, as are 10 and 11: 0, or the words are no record */
+    KURDAVEL_WORD_KEYS = 9,       /* keys that have entries in the log, deleted ones too */
+    KURDAVEL_WORD_RESERVE_10 = 10,
+    KURDAVEL_WORD_RESERVE_11 = 11,
+    KURDAVEL_WORD_PENDING = 12,   /* see below */
+    KURDAVEL_WORD_SLOT = 13,      /* slot of the new head, or 0 */
+    KURDAVEL_WORD_VICTIMS = 14,   /* slots that are cleaned, or 0 */
+    KURDAVEL_WORD_LENGTH = 15,    /* bytes of the work buffer in use */
+    KURDAVEL_WORD_LEFT = 16,      /* stores left; 0 where none is pending */
+    KURDAVEL_WORD_PRESENT = 17    /* the first of 32: KURDAVEL_WORD_PRESENT + i is slot i's. The bytes of its present
+                                     objects, whole entries that give present keys their values; 0 outside the log */
 };
 
 /* What word KURDAVEL_WORD_PENDING says of the operation under way. */
@@ -312,6 +322,14 @@ uint32_t kurdavel_step(uint32_t *record, size_t record_words, uint8_t *area, siz
                        size_t index_words, const uint8_t *work, size_t work_bytes, uint32_t *left, uint32_t *version);
 
 /*
+ * Tells the slot of the log that has the fewest bytes of present objects, as the words of the record count them, the
+ * lowest of several. It looks at the record alone, and may be asked during an operation: the words then count what stood
+ * before it. Where it is refused, *slot is 0.
+ * Refused: 4.
+ */
+uint32_t kurdavel_fewest(const uint32_t *record, size_t record_words, uint32_t *slot);
+
+/*
  * All that is lent, in one struct, and the calls over it. Each buffer has a type of its own, so that none is taken for
  * another. What the functions above say holds for these too.
  */
@@ -431,6 +449,10 @@ static inline uint32_t kurdavel_store_step(struct kurdavel_store *store, uint32_
     return kurdavel_step(store->record.words, KURDAVEL_RECORD_WORDS, store->area.bytes, store->area.length,
                          store->index.cells, store->index.length, store->work.bytes, store->work.length, left,
                          version);
+}
+
+static inline uint32_t kurdavel_store_fewest(const struct kurdavel_store *store, uint32_t *slot) {
+    return kurdavel_fewest(store->record.words, KURDAVEL_RECORD_WORDS, slot);
 }
 
 #ifdef __cplusplus

@@ -1,7 +1,7 @@
 /*
  * The edges of the interface: refusals and what they leave, an operation that is given up, an index that is too small
- * for the log, two passes that write over what they read, two owners with tables of their own, the longest value, and a
- * full store that is emptied.
+ * for the log, two passes that write over what they read, two owners with tables of their own, the longest value, a full
+ * store that is emptied, and an idle task that chooses what to clean.
  * Prints what is answered; `rules.stdout` beside this file is what it must print.
  */
 #include "kurdavel.h"
@@ -222,6 +222,32 @@ static void full_store(struct kurdavel_store *store) {
     printf("cleaned, and written again with version %u\n", (unsigned)finish(store, stores));
 }
 
+/*
+ * An idle task: while fewer than two slots are free, it cleans the one that has the fewest bytes of present objects. The
+ * record alone tells which; no slot is scanned.
+ */
+static void idle(struct kurdavel_store *store) {
+    static const uint8_t value[56] = {0x1d};
+    uint32_t stores = 0, slot = 77, i;
+    expect_accepted("format", kurdavel_store_format(&store->area));
+    expect_accepted("recover", kurdavel_store_recover(store, order, sizeof order));
+    for (i = 0; i < 9; i++) {
+        /* Of the objects in the second slot only one is not written again. */
+        uint32_t number = i < 6 ? i : i - 2;
+        expect_accepted("write", kurdavel_store_write(store, servo, key_of(number), value, sizeof value, &stores));
+        finish(store, stores);
+    }
+    printf("present bytes of the slots:");
+    for (i = 0; i < SLOTS; i++) printf(" %u", (unsigned)store->record.words[KURDAVEL_WORD_PRESENT + i]);
+    expect_accepted("fewest", kurdavel_store_fewest(store, &slot));
+    expect_accepted("clean", kurdavel_store_clean(store, (uint32_t)1 << slot, &stores));
+    printf("\nslot %u has the fewest and is cleaned in %u stores\n", (unsigned)slot, (unsigned)stores);
+    finish(store, stores);
+    memset(store->record.words, 0, sizeof store->record.words);
+    printf("fewest of no record: %u", (unsigned)kurdavel_store_fewest(store, &slot));
+    printf(", slot %u\n", (unsigned)slot);
+}
+
 int main(void) {
     struct kurdavel_store store;
     uint32_t number, stores = 0, version;
@@ -248,5 +274,6 @@ int main(void) {
     two_owners(&store);
     longest_value(&store);
     full_store(&store);
+    idle(&store);
     return 0;
 }

@@ -13,6 +13,7 @@ pub fn cases(report: &mut Report) {
     writes(report);
     cleanings(report);
     full_deletes(report);
+    fewest(report);
 }
 
 /// Reads of keys all over a full store.
@@ -118,4 +119,21 @@ fn full_deletes(report: &mut Report) {
         let whole = format!("delete with its steps in a full store, {case}");
         report.line(&whole, store.time_whole(delete));
     }
+}
+
+/// The slot with the fewest present bytes of a log of 31 slots, all of them as full.
+fn fewest(report: &mut Report) {
+    let mut store = Store::new(full(SLOTS, |at| at.object(at.count)), CELLS);
+    assert_eq!(store.proved.fewest(), Ok(0));
+    let timing = compare(
+        &mut store,
+        |store| {
+            let _ = black_box(black_box(&store.proved).fewest());
+        },
+        |store| {
+            let _ = black_box(reference::fewest(black_box(&store.reference)));
+        },
+    );
+    let case = "slot with the fewest present bytes of 31";
+    report.call(Call::Fewest, Keys::Plain, case, timing);
 }

@@ -25,10 +25,12 @@ pub enum Call {
     LastStepOfCleaning,
     /// A recovery.
     Recovery,
+    /// The slot with the fewest present bytes.
+    Fewest,
 }
 
 impl Call {
-    const ALL: [(Call, &'static str); 10] = [
+    const ALL: [(Call, &'static str); 11] = [
         (Call::Read, "read"),
         (Call::WriteStart, "start of a write"),
         (Call::ConditionalWriteStart, "start of a conditional write"),
@@ -39,6 +41,7 @@ impl Call {
         (Call::LastStepOfWrite, "last step of a write"),
         (Call::LastStepOfCleaning, "last step of a cleaning"),
         (Call::Recovery, "recovery"),
+        (Call::Fewest, "slot with the fewest present bytes"),
     ];
 }
 

@@ -230,6 +230,8 @@ impl Pair {
     fn same_record(&self) -> Result<(), Fault> {
         if let Some((proved, reference)) = self.records {
             same!("record", proved, translate::record(reference));
+            let fewest = translate::reference(reference::fewest(&reference));
+            same!("fewest", translate::proved(proved.fewest()), fewest);
         }
         Ok(())
     }

@@ -130,4 +130,6 @@ extern "C" {
         left: *mut u32,
         version: *mut u32,
     ) -> u32;
+
+    pub(crate) fn kurdavel_fewest(record: *const u32, record_words: usize, slot: *mut u32) -> u32;
 }

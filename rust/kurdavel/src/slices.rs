@@ -3,7 +3,8 @@
 //! Each answers 0 or the number of a refusal, as `include/kurdavel.h` says, and is safe with any arguments: the library
 //! is proved to stay within what it is lent, to change only what it is lent to change, and to end.
 //!
-//! A refused call leaves the numbers that it would tell as they were, but [`read`] and [`read_value`] make them 0.
+//! A refused call leaves the numbers that it would tell as they were, but [`read`], [`read_value`] and [`fewest`] make them
+//! 0.
 //!
 //! `first` and `last` are the tables that the caller may use, both included.
 //!
@@ -289,4 +290,11 @@ pub fn step(
             version,
         )
     }
+}
+
+/// Tells the slot of the log with the fewest bytes of present objects, the lowest of several; 0 where the call is refused.
+#[inline]
+pub fn fewest(record: &[u32], slot: &mut u32) -> u32 {
+    // SAFETY: the pointer and length are those of one slice; `slot` is exclusive.
+    unsafe { kurdavel_fewest(record.as_ptr(), record.len(), slot) }
 }

@@ -357,4 +357,33 @@ impl Record {
             left => Progress::More { left },
         })
     }
+
+    /// The slot of the log with the fewest bytes of present objects, the lowest of several: the one to clean first. The
+    /// record alone tells it, also during an operation, and then what stood before it.
+    ///
+    /// ```
+    /// # let mut area = [0; 1024];
+    /// # kurdavel::format(4, 256, &mut area)?;
+    /// # let (mut index, mut work) = ([0; 16], [0; 256]);
+    /// # let mut record = kurdavel::recover(4, 256, &[0, 1, 2, 3], &area, &mut index)?;
+    /// use kurdavel::{Key, Tables};
+    /// // Two values fill most of the first slot; the second of them is then written anew, into the next slot.
+    /// for (key, bytes) in [(1, 24), (2, 120), (2, 120)] {
+    ///     let key = Key { table: 1, key };
+    ///     record.write(&area, &index, &mut work, Tables::ALL, key, &[7; 120][..bytes])?;
+    ///     while record.left() > 0 {
+    ///         record.step(&mut area, &mut index, &work)?;
+    ///     }
+    /// }
+    /// let present = record.fields().expect("a record").present_bytes;
+    /// assert_eq!(present[..4], [11 + 24, 11 + 120, 0, 0]);
+    /// assert_eq!(record.fewest(), Ok(0));
+    /// # Ok::<(), kurdavel::Refusal>(())
+    /// ```
+    #[inline]
+    pub fn fewest(&self) -> Result<u32, Refusal> {
+        let mut slot = 0;
+        let answer = slices::fewest(&self.words, &mut slot);
+        Refusal::unless_accepted(answer).map(|()| slot)
+    }
 }

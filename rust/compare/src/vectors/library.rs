@@ -4,8 +4,8 @@ use kurdavel::{DigestNumber, Fields, Key, Pending, Refusal, SlotMap, Tables, Ver
 
 use super::event::{Field, Geometry, Record};
 use super::subject::{
-    narrow_expected, part_of, range_of, without_edition, Answer, Asked, Memory, No, Progress,
-    Start, Subject,
+    narrow_expected, part_of, present_of, range_of, without_edition, Answer, Asked, Memory, No,
+    Progress, Start, Subject,
 };
 
 /// The static library.
@@ -91,6 +91,10 @@ impl Subject for Library {
         Ok(part_of(&memory.area, value))
     }
 
+    fn fewest(record: &kurdavel::Record) -> Answer<u32> {
+        record.fewest().map_err(refused)
+    }
+
     fn says(record: &kurdavel::Record) -> Option<Record> {
         let fields = record.fields()?;
         Some(Record {
@@ -104,7 +108,7 @@ impl Subject for Library {
             next: fields.next.0.into(),
             keys: fields.keys,
             left: (fields.pending != Pending::Idle).then_some(fields.pending.left()),
-            present_bytes: None,
+            present_bytes: Some(present_of(fields.slots, &fields.present_bytes)),
             edition: None,
             switched: None,
         })
@@ -133,7 +137,10 @@ fn change(fields: &mut Fields, field: Field, value: u64) -> Answer<()> {
         Field::Keys => fields.keys = number,
         Field::Left => fields.pending = with_left(fields.pending, number),
         Field::Edition => return Err(No::Missing("a record with an edition")),
-        Field::PresentBytes(_) => return Err(No::Missing("a record with present bytes")),
+        Field::PresentBytes(slot) => match fields.present_bytes.get_mut(slot as usize) {
+            Some(bytes) => *bytes = number,
+            None => return Err(No::Missing("a slot above 31")),
+        },
     }
     Ok(())
 }

@@ -96,9 +96,7 @@ pub trait Subject {
     fn read_value(record: &Self::Record, memory: &Memory, asked: Asked) -> Answer<(usize, usize)>;
 
     /// The slot of the log with the fewest present bytes.
-    fn fewest(_record: &Self::Record) -> Answer<u32> {
-        Err(No::Missing("the slot with the fewest present bytes"))
-    }
+    fn fewest(record: &Self::Record) -> Answer<u32>;
 
     /// What a record says; none if it is not one that any call gives.
     fn says(record: &Self::Record) -> Option<Record>;

@@ -119,6 +119,18 @@ fn refuse_all(words: &[u32], area: &[u8], index: &[u32], work_bytes: usize) {
     assert!(lent_area.is_intact() && lent_index.is_intact());
 }
 
+/// The call on the record alone, on words that it must refuse with 4.
+fn refuse_fewest(words: &[u32]) {
+    let record = Guarded::new(words, 9);
+    let mut slot = 71;
+    assert_eq!(
+        (slices::fewest(&record, &mut slot), slot),
+        (4, 0),
+        "{words:?}"
+    );
+    assert!(record[..] == words[..] && record.is_intact());
+}
+
 /// Records out of range, lent lengths that are not the record's, and words that are no record.
 #[test]
 fn records_that_are_none() {
@@ -140,17 +152,21 @@ fn records_that_are_none() {
             _ => spoil(&mut rng, &mut words),
         }
         refuse_all(&words, &area, &index, pair.work_bytes());
+        if words != genuine {
+            refuse_fewest(&words);
+        }
     }
 }
 
-/// Makes the words of a pending operation none that encode one.
+/// Makes the words of a pending operation none that encode one, or a word in reserve other than 0.
 fn spoil(rng: &mut Rng, words: &mut [u32]) {
     let other = rng.bits() as u32 | 1;
-    match rng.below(4) {
-        0 => words[9] = 5 + rng.below(u32::MAX - 5),
-        1 => words[9..].copy_from_slice(&[0, 0, 0, 0, other]),
-        2 => words[9..].copy_from_slice(&[1, other, 0, 19, 20]),
-        _ => words[9..].copy_from_slice(&[2, 1, other, 32, 33]),
+    match rng.below(6) {
+        0 => words[12] = 5 + rng.below(u32::MAX - 5),
+        1 => words[12..17].copy_from_slice(&[0, 0, 0, 0, other]),
+        2 => words[12..17].copy_from_slice(&[1, other, 0, 19, 20]),
+        3 => words[12..17].copy_from_slice(&[2, 1, other, 32, 33]),
+        _ => words[*rng.pick(&[8, 10, 11])] = other,
     }
     assert_eq!(Record::from_words(words.try_into().unwrap()).fields(), None);
 }

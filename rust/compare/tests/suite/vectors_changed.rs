@@ -190,6 +190,10 @@ fn field_of(field: Field, record: &Record) -> Option<u32> {
         Field::Map => Some(record.map),
         Field::Keys => Some(record.keys),
         Field::Left => record.left,
+        Field::PresentBytes(slot) => {
+            let present = record.present_bytes.as_ref()?;
+            Some(present.get(slot as usize).copied().unwrap_or(0))
+        }
         _ => None,
     }
 }
@@ -314,9 +318,9 @@ fn named(text: &str) -> Vec<usize> {
 }
 
 /// What the changes must be about, at the least.
-const TRIED: [&str; 13] = [
+const TRIED: [&str; 14] = [
     "history", "format", "image", "patch", "recover", "present", "write", "delete", "clean",
-    "step,", "steps", "read", "end",
+    "step,", "steps", "read", "fewest", "end",
 ];
 
 /// The buffers and fields that a single `with` of the file changes before a call that is refused with 1, 3 or 4. The
