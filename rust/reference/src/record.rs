@@ -145,9 +145,17 @@ impl Record {
     /// Refuses with 4 unless the record is in range and the lent lengths are its own.
     #[inline]
     pub(crate) fn check(&self, area: &[u8], index: &[u32]) -> Result<(), Refusal> {
-        let fits = self.is_in_range()
-            && geometry_holds(self.slots, self.slot_bytes, area.len())
-            && index.len() == self.cells as usize;
+        self.check_area(area)?;
+        if index.len() != self.cells as usize {
+            return Err(Refusal::Record);
+        }
+        Ok(())
+    }
+
+    /// The same where no index is lent.
+    #[inline]
+    pub(crate) fn check_area(&self, area: &[u8]) -> Result<(), Refusal> {
+        let fits = self.is_in_range() && geometry_holds(self.slots, self.slot_bytes, area.len());
         if fits {
             Ok(())
         } else {

@@ -66,25 +66,16 @@ fn closing_stores<R: Rules>(record: &Record, end: u32) -> u32 {
     u32::from(end < record.slot_bytes && !R::OLD_BYTE_AFTER_ENTRY)
 }
 
-/// The store that the next step makes, with the refusals of that step.
-pub fn next_store(
-    record: &Record,
-    area: &[u8],
-    index: &[u32],
-    work: &[u8],
-) -> Result<Store, Refusal> {
-    next_store_by::<AsWritten>(record, area, index, work)
+/// The store that the next step makes, with the refusals of that step: 4, 3 and 6. No index is
+/// lent, so that its length plays no part.
+pub fn next_store(record: &Record, area: &[u8], work: &[u8]) -> Result<Store, Refusal> {
+    record.check_area(area)?;
+    coming_store::<AsWritten>(record, area, work)
 }
 
-/// [`next_store`] by chosen rules.
+/// The store of a record that has passed 4.
 #[inline(always)]
-pub fn next_store_by<R: Rules>(
-    record: &Record,
-    area: &[u8],
-    index: &[u32],
-    work: &[u8],
-) -> Result<Store, Refusal> {
-    record.check(area, index)?;
+fn coming_store<R: Rules>(record: &Record, area: &[u8], work: &[u8]) -> Result<Store, Refusal> {
     record.check_work(work)?;
     let store = match record.pending {
         Pending::None => return Err(Refusal::NonePending),
@@ -191,7 +182,8 @@ fn step_kept_by<R: Rules>(
     index: &mut [u32],
     work: &[u8],
 ) -> Result<Progress, Refusal> {
-    let store = next_store_by::<R>(record, area, index, work)?;
+    record.check(area, index)?;
+    let store = coming_store::<R>(record, area, work)?;
     area[store.place] = store.byte;
     let left = record.pending.left() - 1;
     if left > 0 {

@@ -302,6 +302,9 @@ impl<S: Subject> Bench<S> {
 
     fn step(&mut self, owed: &Owed<Step>, changes: &Changes) -> Checked {
         let (before, lent) = self.lend(changes)?;
+        if changes.lent(Buffer::Index).is_none() {
+            check_next_store::<S>(&before, &lent, owed)?;
+        }
         let (mut record, mut memory) = (before.clone(), lent.clone());
         let answer = S::step(&mut record, &mut memory);
         let Some((owed, progress)) = settled(owed, answer)? else {
@@ -346,6 +349,7 @@ impl<S: Subject> Bench<S> {
             (Ok(left), _) => check_more::<S>(&before, &record, left, progress)?,
             (Err(_), _) => return Err(Difference::new("left", left, said(progress))),
         }
+        check_told_store::<S>(&before, &lent, &memory)?;
         let changed = changed_places(&lent, &memory);
         if changed.len() > 1 {
             let expected = "one byte stored in a step";
@@ -599,6 +603,38 @@ fn after_store(lent: &Memory, found: &Memory, owed: &Step) -> Result<Memory, Dif
     let mut after = lent.clone();
     after.area[owed.place] = owed.byte;
     Ok(after)
+}
+
+/// The store is told before the step makes it, or the step's refusal. An index is not lent to that call, so that a
+/// refusal of its length is none.
+fn check_next_store<S: Subject>(record: &S::Record, lent: &Memory, owed: &Owed<Step>) -> Checked {
+    let told = match S::next_store(record, lent) {
+        Err(No::Missing(_)) => return Ok(()),
+        told => told,
+    };
+    if let Some((owed, (place, byte))) = settled(owed, told)? {
+        same("place told before", owed.place, place)?;
+        same("byte told before", owed.byte, byte)?;
+    }
+    Ok(())
+}
+
+/// The step that was made has stored what was told before.
+fn check_told_store<S: Subject>(record: &S::Record, lent: &Memory, after: &Memory) -> Checked {
+    let accepted: Owed<()> = Ok(());
+    let told = match S::next_store(record, lent) {
+        Err(No::Missing(_)) => return Ok(()),
+        told => told,
+    };
+    let Some((_, (place, byte))) = settled(&accepted, told)? else {
+        return Ok(());
+    };
+    let mut owed = lent.area.to_vec();
+    match owed.get_mut(place) {
+        Some(stored) => *stored = byte,
+        None => return Err(Difference::new("place told before", "in the area", place)),
+    }
+    same_buffer("area after the store told", &owed, &after.area)
 }
 
 /// A store of the byte that stands there already changes nothing. So the same step is made once more on a copy that

@@ -77,6 +77,11 @@ impl Subject for Second {
         }
     }
 
+    fn next_store(record: &reference::Record, memory: &Memory) -> Answer<(usize, u8)> {
+        let store = reference::next_store(record, &memory.area, &memory.work).map_err(refused)?;
+        Ok((store.place, store.byte))
+    }
+
     fn read(record: &reference::Record, memory: &Memory, asked: Asked) -> Answer<(u64, u32)> {
         let (tables, key) = of(asked);
         let found = reference::read(record, &memory.area, &memory.index, tables, key);

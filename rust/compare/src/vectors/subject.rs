@@ -89,6 +89,11 @@ pub trait Subject {
     /// Makes one store.
     fn step(record: &mut Self::Record, memory: &mut Memory) -> Answer<Progress>;
 
+    /// Place and byte of the store that the next step makes.
+    fn next_store(_record: &Self::Record, _memory: &Memory) -> Answer<(usize, u8)> {
+        Err(No::Missing("the next store"))
+    }
+
     /// Version and kind of a key.
     fn read(record: &Self::Record, memory: &Memory, asked: Asked) -> Answer<(u64, u32)>;
 

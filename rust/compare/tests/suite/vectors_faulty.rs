@@ -26,6 +26,8 @@ const RECOVERY_CHANGES_WORK: u32 = 13;
 const REFUSED_FORMAT_STORES: u32 = 14;
 const REFUSED_READ_GIVES_A_PART: u32 = 15;
 const ABSENT_KEYS_FOUND: u32 = 16;
+const NEXT_STORE_ONE_TOO_HIGH: u32 = 17;
+const NEXT_STORE_OF_AN_IDLE_RECORD: u32 = 18;
 
 /// The reference with one fault.
 #[derive(Clone, Copy, Debug)]
@@ -94,6 +96,14 @@ impl<const FAULT: u32> Subject for Faulty<FAULT> {
             _ => {}
         }
         answer
+    }
+
+    fn next_store(record: &reference::Record, memory: &Memory) -> Answer<(usize, u8)> {
+        match (FAULT, Second::next_store(record, memory)) {
+            (NEXT_STORE_ONE_TOO_HIGH, Ok((place, byte))) => Ok((place + 1, byte)),
+            (NEXT_STORE_OF_AN_IDLE_RECORD, Err(No::Refused(6))) => Ok((0, 0)),
+            (_, told) => told,
+        }
     }
 
     fn read(record: &reference::Record, memory: &Memory, asked: Asked) -> Answer<(u64, u32)> {
@@ -183,4 +193,6 @@ fn faulty_implementations() {
     caught::<REFUSED_FORMAT_STORES>("area at");
     caught::<REFUSED_READ_GIVES_A_PART>("place");
     caught::<ABSENT_KEYS_FOUND>("answer");
+    caught_as::<NEXT_STORE_ONE_TOO_HIGH>(&["place told before", "area after the store told"]);
+    caught::<NEXT_STORE_OF_AN_IDLE_RECORD>("answer");
 }

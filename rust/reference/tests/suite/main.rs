@@ -7,6 +7,7 @@ mod fnv;
 mod full_stores;
 mod index_rule;
 mod naive;
+mod next_store;
 mod not_genuine;
 mod plausible_and_wrong;
 mod present_bytes;

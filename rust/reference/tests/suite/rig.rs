@@ -14,7 +14,8 @@ use reference::step::step_by;
 use reference::testing::calls::Given;
 use reference::testing::full;
 use reference::{
-    fewest, format, read, read_value, Key, Pending, Progress, Record, Refusal, Started, Tables,
+    fewest, format, next_store, read, read_value, Key, Pending, Progress, Record, Refusal, Started,
+    Tables,
 };
 
 use crate::naive::{view, Plan, View};
@@ -244,6 +245,9 @@ impl<R: Rules> Rig<R> {
     /// Makes one step and holds its answer to the book.
     pub fn step(&mut self) -> Result<Result<Progress, Refusal>, Fault> {
         let before = self.record();
+        if self.strict {
+            self.check_next_store(before)?;
+        }
         let (record, answer) = step_by::<R>(before, &mut self.area, &mut self.index, &self.work);
         self.record = Some(record);
         let expected = self.feed(Event::Step(answer.is_ok()));
@@ -252,6 +256,18 @@ impl<R: Rules> Rig<R> {
             self.check_step(before, answer)?;
         }
         Ok(answer)
+    }
+
+    /// The next store is told as it was planned, and 6 where nothing is pending.
+    fn check_next_store(&self, record: Record) -> Result<(), Fault> {
+        let told = next_store(&record, &self.area, &self.work);
+        let told = told.map(|store| (store.place, store.byte));
+        let expected = match record.pending {
+            Pending::None => Err(Refusal::NonePending),
+            pending => Ok(self.planned[self.planned.len() - pending.left() as usize]),
+        };
+        same!("next store", told, expected);
+        Ok(())
     }
 
     fn check_step(
