@@ -30,7 +30,8 @@
  *     the index is full, and answers 4. All that the record, its pending operation and the lengths tell is tested before
  *     the store.
  *   What a refused call does to the numbers that it would tell:
- *   - kurdavel_read sets *version and *kind to 0, kurdavel_read_value *place and *bytes, and kurdavel_fewest *slot;
+ *   - kurdavel_read sets *version and *kind to 0, kurdavel_read_value *place and *bytes, kurdavel_fewest *slot, and
+ *     kurdavel_next_store *place and *byte;
  *   - every other call leaves them as they were: *stores of a start, *left and *version of a step. Look at the answer
  *     first.
  *   Words that are no record are a refusal like any other (4) and treated so.
@@ -62,7 +63,7 @@
  *   show through the refusals 5, 6, 9 to 14, 20 and 21, the numbers of stores, the versions and the places.
  *
  * WHAT THE CALLS COST
- *   A step before the last and kurdavel_fewest do the same little work whatever the store holds. A read, the start of a write or delete
+ *   A step before the last, kurdavel_next_store and kurdavel_fewest do the same little work whatever the store holds. A read, the start of a write or delete
  *   and the last step of either search the index once, but for a delete that is done as a cleaning (kurdavel_delete).
  *   Recovery, the start of a cleaning of slots that hold tombstones, the start of such a delete and the last step of
  *   every cleaning and of every such delete look at each entry of the log (at most (N - 1) * ((S - 13) / 11) of them),
@@ -94,6 +95,17 @@
  *   it comes before the operation is reported as done, and after kurdavel_format before anything else. Steps may not
  *   be merged: the archive is machine code, so link-time optimisation leaves each call as it is. If you build the
  *   library in another form, keep it so.
+ *
+ * MEDIA THAT ARE NOT MEMORY
+ *   Where the parameters lie in serial FRAM or EEPROM behind a driver, lend a copy in RAM as the area. At power on the copy
+ *   is read from the device and recovered. Before each step kurdavel_next_store tells the place and the byte that the step
+ *   will store, and the firmware puts the same byte at the same place of the device: right before the step or right after
+ *   it, but in every case before the next one, and after the last one before the operation is reported as done. The device
+ *   has then made the same stores in the same order as the copy, all of them or all but one, or one more. A cut loses the
+ *   copy, and the device decides: it is what a cut of the store one store earlier or later would leave, which the promise
+ *   covers. A driver that writes a byte twice after an error does no harm; one that merges or reorders bytes does.
+ *   kurdavel_format makes its stores in one call: put the whole area on the device after it. examples/c/device.c shows all
+ *   this.
  *
  * INTERRUPTS AND TASKS
  *   One call at a time for each store, but reads, which change nothing, may overlap one another. A read from an
@@ -143,7 +155,7 @@ extern "C" {
  * written by an earlier one may be refused; MINOR when something is added.
  */
 #define KURDAVEL_VERSION_MAJOR 3u
-#define KURDAVEL_VERSION_MINOR 0u
+#define KURDAVEL_VERSION_MINOR 1u
 #define KURDAVEL_VERSION (KURDAVEL_VERSION_MAJOR * 1000u + KURDAVEL_VERSION_MINOR)
 
 /* Sizes. */
@@ -170,6 +182,7 @@ extern "C" {
 #define KURDAVEL_STACK_CLEAN 1152u
 #define KURDAVEL_STACK_STEP 896u
 #define KURDAVEL_STACK_FEWEST 0u
+#define KURDAVEL_STACK_NEXT_STORE 0u
 
 /* The words of a record. The store is the library's to change: read these, and write none. */
 enum kurdavel_word {
@@ -322,6 +335,15 @@ uint32_t kurdavel_step(uint32_t *record, size_t record_words, uint8_t *area, siz
                        size_t index_words, const uint8_t *work, size_t work_bytes, uint32_t *left, uint32_t *version);
 
 /*
+ * Tells the store that the next kurdavel_step will make: *byte, at area + *place. It changes nothing, so that it may be
+ * asked as often as one likes. With the same record, area and work buffer the step stores exactly this byte there, or is
+ * refused. Where it is refused, both are 0.
+ * Refused: 4, 3, 6, in this order. No index is lent, so that of the lengths only the area's and the work buffer's count.
+ */
+uint32_t kurdavel_next_store(const uint32_t *record, size_t record_words, const uint8_t *area, size_t area_bytes,
+                             const uint8_t *work, size_t work_bytes, uint32_t *place, uint32_t *byte);
+
+/*
  * Tells the slot of the log that has the fewest bytes of present objects, as the words of the record count them, the
  * lowest of several. It looks at the record alone, and may be asked during an operation: the words then count what stood
  * before it. Where it is refused, *slot is 0.
@@ -449,6 +471,11 @@ static inline uint32_t kurdavel_store_step(struct kurdavel_store *store, uint32_
     return kurdavel_step(store->record.words, KURDAVEL_RECORD_WORDS, store->area.bytes, store->area.length,
                          store->index.cells, store->index.length, store->work.bytes, store->work.length, left,
                          version);
+}
+
+static inline uint32_t kurdavel_store_next_store(const struct kurdavel_store *store, uint32_t *place, uint32_t *byte) {
+    return kurdavel_next_store(store->record.words, KURDAVEL_RECORD_WORDS, store->area.bytes, store->area.length,
+                               store->work.bytes, store->work.length, place, byte);
 }
 
 static inline uint32_t kurdavel_store_fewest(const struct kurdavel_store *store, uint32_t *slot) {

@@ -14,6 +14,7 @@ pub fn cases(report: &mut Report) {
     cleanings(report);
     full_deletes(report);
     fewest(report);
+    next_store(report);
 }
 
 /// Reads of keys all over a full store.
@@ -136,4 +137,31 @@ fn fewest(report: &mut Report) {
     );
     let case = "slot with the fewest present bytes of 31";
     report.call(Call::Fewest, Keys::Plain, case, timing);
+}
+
+/// The next store of a write told, and of a cleaning.
+fn next_store(report: &mut Report) {
+    for (case, operation) in [
+        (
+            "the next store of a write told",
+            Operation::Write(5, &[9; 8]),
+        ),
+        ("the next store of a cleaning told", Operation::Clean(1)),
+    ] {
+        let mut store = two_slots(true);
+        let (proved, _) = store.start_proved(operation);
+        let (reference, stores) = store.start_reference(operation);
+        stores.expect("an accepted start");
+        let timing = compare(
+            &mut store,
+            |store| {
+                let _ = black_box(black_box(&proved).next_store(&store.area, &store.work));
+            },
+            |store| {
+                let record = black_box(&reference);
+                let _ = black_box(reference::next_store(record, &store.area, &store.work));
+            },
+        );
+        report.call(Call::NextStore, Keys::Plain, case, timing);
+    }
 }

@@ -27,10 +27,12 @@ pub enum Call {
     Recovery,
     /// The slot with the fewest present bytes.
     Fewest,
+    /// The next store told.
+    NextStore,
 }
 
 impl Call {
-    const ALL: [(Call, &'static str); 11] = [
+    const ALL: [(Call, &'static str); 12] = [
         (Call::Read, "read"),
         (Call::WriteStart, "start of a write"),
         (Call::ConditionalWriteStart, "start of a conditional write"),
@@ -42,6 +44,7 @@ impl Call {
         (Call::LastStepOfCleaning, "last step of a cleaning"),
         (Call::Recovery, "recovery"),
         (Call::Fewest, "slot with the fewest present bytes"),
+        (Call::NextStore, "the next store told"),
     ];
 }
 

@@ -340,11 +340,25 @@ impl Pair {
         found.map_or(Version::NONE, |found| found.version)
     }
 
-    /// Makes one step on both.
+    /// The store that the next step makes, as both tell it.
+    pub fn next_store(&self) -> Result<Result<(usize, u8), u32>, Fault> {
+        let (record, owed) = self.records.expect("an accepted recovery came before");
+        let told = record.next_store(&self.proved.area, &self.proved.work);
+        let told = translate::proved(told.map(|store| (store.place, store.byte)));
+        let owed = reference::next_store(&owed, &self.reference.area, &self.reference.work);
+        let owed = translate::reference(owed.map(|store| (store.place, store.byte)));
+        same!("next store", told, owed);
+        Ok(told)
+    }
+
+    /// Makes one step on both, which stores what was told before.
     pub fn step(&mut self) -> Result<Result<(u32, u32), u32>, Fault> {
+        let told = self.next_store()?;
         let (mut record, before) = self.records.expect("an accepted recovery came before");
         let Memory { area, index, work } = &mut self.proved;
         let answer = record.step(area, index, work);
+        let stored = told.is_ok_and(|(place, byte)| area[place] == byte);
+        same!("store made as told", answer.is_ok(), stored);
         let Memory { area, index, work } = &mut self.reference;
         let (after, owed) = reference::step(before, area, index, work);
         let answer = translate::proved(answer.map(translate::proved_progress));

@@ -131,5 +131,16 @@ extern "C" {
         version: *mut u32,
     ) -> u32;
 
+    pub(crate) fn kurdavel_next_store(
+        record: *const u32,
+        record_words: usize,
+        area: *const u8,
+        area_bytes: usize,
+        work: *const u8,
+        work_bytes: usize,
+        place: *mut u32,
+        byte: *mut u32,
+    ) -> u32;
+
     pub(crate) fn kurdavel_fewest(record: *const u32, record_words: usize, slot: *mut u32) -> u32;
 }

@@ -3,8 +3,8 @@
 //! Each answers 0 or the number of a refusal, as `include/kurdavel.h` says, and is safe with any arguments: the library
 //! is proved to stay within what it is lent, to change only what it is lent to change, and to end.
 //!
-//! A refused call leaves the numbers that it would tell as they were, but [`read`], [`read_value`] and [`fewest`] make them
-//! 0.
+//! A refused call leaves the numbers that it would tell as they were, but [`read`], [`read_value`], [`next_store`] and
+//! [`fewest`] make them 0.
 //!
 //! `first` and `last` are the tables that the caller may use, both included.
 //!
@@ -288,6 +288,30 @@ pub fn step(
             work.len(),
             left,
             version,
+        )
+    }
+}
+
+/// Tells place and byte of the store that the next step makes; both are 0 where the call is refused.
+#[inline]
+pub fn next_store(
+    record: &[u32],
+    area: &[u8],
+    work: &[u8],
+    place: &mut u32,
+    byte: &mut u32,
+) -> u32 {
+    // SAFETY: each pointer and length are those of one slice; `place` and `byte` are exclusive.
+    unsafe {
+        kurdavel_next_store(
+            record.as_ptr(),
+            record.len(),
+            area.as_ptr(),
+            area.len(),
+            work.as_ptr(),
+            work.len(),
+            place,
+            byte,
         )
     }
 }

@@ -29,6 +29,15 @@ pub enum Progress {
     },
 }
 
+/// A byte, and the place in the area that it goes to.
+#[derive(Clone, Copy, PartialEq, Eq, Debug)]
+pub struct Store {
+    /// The place in the area.
+    pub place: usize,
+    /// The byte.
+    pub byte: u8,
+}
+
 /// Makes an area of `slots` slots of `slot_bytes` bytes each an empty store.
 ///
 /// ```
@@ -355,6 +364,39 @@ impl Record {
                 version: Version(version),
             },
             left => Progress::More { left },
+        })
+    }
+
+    /// The store that the next [`step`](Record::step) makes, for a medium that is not memory: the area is then a copy, and
+    /// the medium gets each store before the next step is made. A step with the same record, area and work buffer stores
+    /// exactly this byte there, or is refused.
+    ///
+    /// ```
+    /// # let mut area = [0; 1024];
+    /// # kurdavel::format(4, 256, &mut area)?;
+    /// # let (mut index, mut work) = ([0; 16], [0; 256]);
+    /// # let mut record = kurdavel::recover(4, 256, &[0, 1, 2, 3], &area, &mut index)?;
+    /// use kurdavel::{Key, Refusal, Tables};
+    /// let mut device = area.to_vec();
+    /// let key = Key { table: 1, key: 2 };
+    /// record.write(&area, &index, &mut work, Tables::ALL, key, &[7; 8])?;
+    /// while record.left() > 0 {
+    ///     let store = record.next_store(&area, &work)?;
+    ///     record.step(&mut area, &mut index, &work)?;
+    ///     device[store.place] = store.byte;
+    /// }
+    /// assert_eq!(device, area);
+    /// assert_eq!(record.next_store(&area, &work), Err(Refusal::NonePending));
+    /// # Ok::<(), Refusal>(())
+    /// ```
+    #[inline]
+    pub fn next_store(&self, area: &[u8], work: &[u8]) -> Result<Store, Refusal> {
+        let (mut place, mut byte) = (0, 0);
+        let answer = slices::next_store(&self.words, area, work, &mut place, &mut byte);
+        Refusal::unless_accepted(answer)?;
+        Ok(Store {
+            place: place as usize,
+            byte: byte as u8,
         })
     }
 

@@ -608,11 +608,7 @@ fn after_store(lent: &Memory, found: &Memory, owed: &Step) -> Result<Memory, Dif
 /// The store is told before the step makes it, or the step's refusal. An index is not lent to that call, so that a
 /// refusal of its length is none.
 fn check_next_store<S: Subject>(record: &S::Record, lent: &Memory, owed: &Owed<Step>) -> Checked {
-    let told = match S::next_store(record, lent) {
-        Err(No::Missing(_)) => return Ok(()),
-        told => told,
-    };
-    if let Some((owed, (place, byte))) = settled(owed, told)? {
+    if let Some((owed, (place, byte))) = settled(owed, S::next_store(record, lent))? {
         same("place told before", owed.place, place)?;
         same("byte told before", owed.byte, byte)?;
     }
@@ -622,11 +618,7 @@ fn check_next_store<S: Subject>(record: &S::Record, lent: &Memory, owed: &Owed<S
 /// The step that was made has stored what was told before.
 fn check_told_store<S: Subject>(record: &S::Record, lent: &Memory, after: &Memory) -> Checked {
     let accepted: Owed<()> = Ok(());
-    let told = match S::next_store(record, lent) {
-        Err(No::Missing(_)) => return Ok(()),
-        told => told,
-    };
-    let Some((_, (place, byte))) = settled(&accepted, told)? else {
+    let Some((_, (place, byte))) = settled(&accepted, S::next_store(record, lent))? else {
         return Ok(());
     };
     let mut owed = lent.area.to_vec();

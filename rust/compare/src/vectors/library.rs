@@ -74,6 +74,13 @@ impl Subject for Library {
         }
     }
 
+    fn next_store(record: &kurdavel::Record, memory: &Memory) -> Answer<(usize, u8)> {
+        let store = record
+            .next_store(&memory.area, &memory.work)
+            .map_err(refused)?;
+        Ok((store.place, store.byte))
+    }
+
     fn read(record: &kurdavel::Record, memory: &Memory, asked: Asked) -> Answer<(u64, u32)> {
         let (tables, key) = of(asked);
         let found = record.read(&memory.area, &memory.index, tables, key);

@@ -90,9 +90,7 @@ pub trait Subject {
     fn step(record: &mut Self::Record, memory: &mut Memory) -> Answer<Progress>;
 
     /// Place and byte of the store that the next step makes.
-    fn next_store(_record: &Self::Record, _memory: &Memory) -> Answer<(usize, u8)> {
-        Err(No::Missing("the next store"))
-    }
+    fn next_store(record: &Self::Record, memory: &Memory) -> Answer<(usize, u8)>;
 
     /// Version and kind of a key.
     fn read(record: &Self::Record, memory: &Memory, asked: Asked) -> Answer<(u64, u32)>;

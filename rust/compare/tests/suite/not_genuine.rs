@@ -74,11 +74,34 @@ impl Lent {
         starts.iter().map(|start| u32::from(start.is_ok())).sum()
     }
 
+    /// The store told before a step is the one that it makes, or the step is refused; where nothing is told the step is
+    /// refused for the same cause, or because the index is not the record's.
+    fn check_told(
+        &self,
+        before: &[u8],
+        told: Result<kurdavel::Store, u32>,
+        answer: Result<(), u32>,
+    ) {
+        let own_index = self.index.len() == self.record.cells as usize;
+        match told {
+            Err(cause) if own_index => assert_eq!(answer, Err(cause)),
+            Err(_) => assert_eq!(answer, Err(4)),
+            Ok(kurdavel::Store { place, byte }) => {
+                let mut stored = before.to_vec();
+                stored[place] = byte;
+                let made = self.area[..] == stored[..];
+                assert!(made || answer.is_err() && self.area[..] == before[..]);
+            }
+        }
+    }
+
     /// A step. Gives whether it was accepted.
     fn step(&mut self) -> bool {
         let before = (self.area.to_vec(), self.index.to_vec(), self.work.to_vec());
         let mut record = translate::record(self.record);
+        let told = translate::proved(record.next_store(&self.area, &self.work));
         let answer = translate::proved(record.step(&mut self.area, &mut self.index, &self.work));
+        self.check_told(&before.0, told, answer.map(|_| ()));
         let changed = (self.area.iter().zip(&before.0)).filter(|(new, old)| new != old);
         assert!(changed.count() <= 1, "{:?}", self.record);
         assert_eq!(self.work[..], before.2[..]);
