@@ -191,6 +191,12 @@ impl Record {
     #[inline]
     pub(crate) fn check_idle(&self, work: &[u8]) -> Result<(), Refusal> {
         self.check_work(work)?;
+        self.check_none_pending()
+    }
+
+    /// Refuses with 5 while an operation is under way.
+    #[inline]
+    pub(crate) fn check_none_pending(&self) -> Result<(), Refusal> {
         if !matches!(self.pending, Pending::None) {
             return Err(Refusal::Pending);
         }

@@ -50,11 +50,13 @@ pub enum Refusal {
     OtherVersion = 21,
     /// The key's table is not one of those that the caller may use.
     OutsideTables = 22,
+    /// What is kept of no two slots of the log fits one new head.
+    NoPair = 23,
 }
 
 impl Refusal {
     /// All causes, by number.
-    pub const ALL: [Refusal; 22] = [
+    pub const ALL: [Refusal; 23] = [
         Refusal::Geometry,
         Refusal::IndexLength,
         Refusal::WorkLength,
@@ -77,6 +79,7 @@ impl Refusal {
         Refusal::TooManyKeys,
         Refusal::OtherVersion,
         Refusal::OutsideTables,
+        Refusal::NoPair,
     ];
 
     /// The number in 01's table.

@@ -91,7 +91,7 @@ impl<S: Subject> Bench<S> {
         }
     }
 
-    /// The starts, the call on the record alone, and the events that no implementation has a call for yet.
+    /// The starts, the calls that choose slots, and the events that no implementation has a call for yet.
     fn operation(&mut self, event: &Event, changes: &Changes) -> Checked {
         match event {
             Event::Write {
@@ -114,6 +114,7 @@ impl<S: Subject> Bench<S> {
             }
             Event::Clean { victims, owed } => self.start(Start::Clean(*victims), owed, changes),
             Event::Fewest(owed) => self.fewest(owed, changes),
+            Event::Join(owed) => self.join(owed, changes),
             _ => Err(no_call("this event")),
         }
     }
@@ -382,6 +383,16 @@ impl<S: Subject> Bench<S> {
             return Err(Difference::new("record", "as it was", "changed"));
         }
         Ok(())
+    }
+
+    fn join(&mut self, owed: &Owed<(u32, u32)>, changes: &Changes) -> Checked {
+        let (before, lent) = self.lend(changes)?;
+        let (record, memory) = (before.clone(), lent.clone());
+        if let Some((owed, (first, second))) = settled(owed, S::join(&record, &memory))? {
+            same("first slot", owed.0, first)?;
+            same("second slot", owed.1, second)?;
+        }
+        untouched::<S>((&before, &lent), (&record, &memory))
     }
 
     /// Reads every key that the line names, every key that the history has named, and every key whose six bytes stand

@@ -103,6 +103,10 @@ impl Subject for Second {
         reference::fewest(record).map_err(refused)
     }
 
+    fn join(record: &reference::Record, memory: &Memory) -> Answer<(u32, u32)> {
+        reference::join(record, &memory.area, &memory.index).map_err(refused)
+    }
+
     fn says(record: &reference::Record) -> Option<Record> {
         Some(Record {
             slots: record.slots,

@@ -101,6 +101,11 @@ pub trait Subject {
     /// The slot of the log with the fewest present bytes.
     fn fewest(record: &Self::Record) -> Answer<u32>;
 
+    /// The lowest two slots whose kept entries fit one new head.
+    fn join(_record: &Self::Record, _memory: &Memory) -> Answer<(u32, u32)> {
+        Err(No::Missing("the two slots to join"))
+    }
+
     /// What a record says; none if it is not one that any call gives.
     fn says(record: &Self::Record) -> Option<Record>;
 

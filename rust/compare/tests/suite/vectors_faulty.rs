@@ -130,6 +130,10 @@ impl<const FAULT: u32> Subject for Faulty<FAULT> {
         Second::fewest(record)
     }
 
+    fn join(record: &reference::Record, memory: &Memory) -> Answer<(u32, u32)> {
+        Second::join(record, memory)
+    }
+
     fn says(record: &reference::Record) -> Option<Record> {
         Second::says(record)
     }

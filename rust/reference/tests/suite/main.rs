@@ -6,6 +6,7 @@ mod dump;
 mod fnv;
 mod full_stores;
 mod index_rule;
+mod joining;
 mod naive;
 mod next_store;
 mod not_genuine;

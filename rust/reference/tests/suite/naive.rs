@@ -311,10 +311,18 @@ impl View {
         if victims == 0 || victims & !self.record.map.0 != 0 {
             return Err(13);
         }
+        let kept = self.kept(victims);
+        if 13 + kept.len() > self.record.slot_bytes as usize {
+            return Err(14);
+        }
+        self.plan_new_head(victims, kept)
+    }
+
+    /// The bytes that a cleaning keeps.
+    fn kept(&self, victims: u32) -> Vec<u8> {
         let is_victim = |line: &Line| victims >> line.slot & 1 == 1;
         let newest = self.newest();
-        let kept: Vec<u8> = self
-            .lines
+        self.lines
             .iter()
             .filter(|line| is_victim(line) && newest[&line.key] == *line)
             .filter(|line| {
@@ -324,11 +332,20 @@ impl View {
                     })
             })
             .flat_map(|line| line.bytes.clone())
-            .collect();
-        if 13 + kept.len() > self.record.slot_bytes as usize {
-            return Err(14);
-        }
-        self.plan_new_head(victims, kept)
+            .collect()
+    }
+
+    /// The two slots that the joining call must tell, or 23.
+    pub fn join(&self) -> Result<(u32, u32), u32> {
+        let log = |slot: &u32| self.record.map.0 >> slot & 1 == 1;
+        let slots: Vec<u32> = (0..self.record.slots).filter(log).collect();
+        let pairs = slots
+            .iter()
+            .flat_map(|&i| slots.iter().map(move |&j| (i, j)))
+            .filter(|(i, j)| i < j);
+        let room = self.record.slot_bytes as usize - 13;
+        let mut fitting = pairs.filter(|(i, j)| self.kept(1 << i | 1 << j).len() <= room);
+        fitting.next().ok_or(23)
     }
 
     fn plan_new_head(&self, victims: u32, entries: Vec<u8>) -> Result<Plan, u32> {

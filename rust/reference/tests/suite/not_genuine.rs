@@ -5,7 +5,7 @@ use reference::rng::Rng;
 use reference::testing::images::Shape;
 use reference::testing::{calls, forged};
 use reference::{
-    clean, delete, next_store, read, read_value, recover, step, write, write_expecting, Key,
+    clean, delete, join, next_store, read, read_value, recover, step, write, write_expecting, Key,
     Record, Refusal, SlotMap, Tables, Version,
 };
 
@@ -29,6 +29,7 @@ fn call_all(rng: &mut Rng, record: Record, area: &mut [u8], index: &mut [u32], w
         _ => SlotMap(rng.bits() as u32),
     };
     let _ = clean(record, area, index, work, victims);
+    let _ = join(&record, area, index);
     let before = area.to_vec();
     let store = next_store(&record, area, work);
     let (_, answer) = step(record, area, index, work);

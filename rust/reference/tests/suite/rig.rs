@@ -14,8 +14,8 @@ use reference::step::step_by;
 use reference::testing::calls::Given;
 use reference::testing::full;
 use reference::{
-    fewest, format, next_store, read, read_value, Key, Pending, Progress, Record, Refusal, Started,
-    Tables,
+    fewest, format, join, next_store, read, read_value, Key, Pending, Progress, Record, Refusal,
+    Started, Tables,
 };
 
 use crate::naive::{view, Plan, View};
@@ -240,6 +240,18 @@ impl<R: Rules> Rig<R> {
         same!("record of a start", self.record(), started);
         self.planned = plan.stores;
         Ok(())
+    }
+
+    /// The two slots to join, held to the naive reading.
+    pub fn join(&self) -> Result<Result<(u32, u32), Refusal>, Fault> {
+        let record = self.record();
+        let told = join(&record, &self.area, &self.index);
+        let expected = match record.pending {
+            Pending::None => self.view()?.join(),
+            _ => Err(5),
+        };
+        same!("join", told.map_err(Refusal::number), expected);
+        Ok(told)
     }
 
     /// Makes one step and holds its answer to the book.
