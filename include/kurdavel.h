@@ -30,8 +30,8 @@
  *     the index is full, and answers 4. All that the record, its pending operation and the lengths tell is tested before
  *     the store.
  *   What a refused call does to the numbers that it would tell:
- *   - kurdavel_read sets *version and *kind to 0, kurdavel_read_value *place and *bytes, kurdavel_fewest *slot, and
- *     kurdavel_next_store *place and *byte;
+ *   - kurdavel_read sets *version and *kind to 0, kurdavel_read_value *place and *bytes, kurdavel_fewest *slot,
+ *     kurdavel_next_store *place and *byte, and kurdavel_join *first and *second;
  *   - every other call leaves them as they were: *stores of a start, *left and *version of a step. Look at the answer
  *     first.
  *   Words that are no record are a refusal like any other (4) and treated so.
@@ -67,7 +67,8 @@
  *   and the last step of either search the index once, but for a delete that is done as a cleaning (kurdavel_delete).
  *   Recovery, the start of a cleaning of slots that hold tombstones, the start of such a delete and the last step of
  *   every cleaning and of every such delete look at each entry of the log (at most (N - 1) * ((S - 13) / 11) of them),
- *   with a search for each; recovery and these last steps also write all M words of the index. A search looks at few
+ *   with a search for each; recovery and these last steps also write all M words of the index. kurdavel_join takes no more
+ *   than one and a half times as long as the starts of a cleaning of each slot of the log, one after another. A search looks at few
  *   words while M is well above the number of keys, and never at more than the keys and one more. docs/PERFORMANCE.md
  *   has bounds and measured worst cases.
  *
@@ -132,13 +133,16 @@
  *       whose entry fits the head.
  *   11  Clean the slots that hold entries of deleted keys, objects and tombstone of a key together or the objects
  *       first; or recover with a larger index.
- *   12  Clean. A cleaning takes one free slot and frees its victims: several at once, of which little still counts,
- *       give slots back; a single one gives back the room of those of its entries that no longer count. It does not
- *       help a store full of live objects: delete some, which is never refused with 12, and clean where the room that
- *       they leave is not in the head.
+ *   12  Ask kurdavel_join, and clean the two slots that it tells: the same write is then accepted, with no other call
+ *       between, unless digest numbers run out (it was at most 4,294,967,293 before). In general a cleaning takes one
+ *       free slot and frees its victims: several at once, of which little still counts, give slots back; a single one
+ *       gives back the room of those of its entries that no longer count. It does not help a store full of live objects:
+ *       delete some, which is never refused with 12, and clean where the room that they leave is not in the head.
  *   14  Name fewer victims. What a single one holds always fits.
  *   21  Read the key again: another write or a delete came between. The value to be written may rest on an old one.
  *   22  Nothing: the key is another owner's.
+ *   23  No cleaning of two slots gives a slot back. Clean the one that kurdavel_fewest tells, which gives back the room
+ *       of its entries that no longer count; or delete.
  */
 #ifndef KURDAVEL_H
 #define KURDAVEL_H
@@ -155,7 +159,7 @@ extern "C" {
  * written by an earlier one may be refused; MINOR when something is added.
  */
 #define KURDAVEL_VERSION_MAJOR 3u
-#define KURDAVEL_VERSION_MINOR 1u
+#define KURDAVEL_VERSION_MINOR 2u
 #define KURDAVEL_VERSION (KURDAVEL_VERSION_MAJOR * 1000u + KURDAVEL_VERSION_MINOR)
 
 /* Sizes. */
@@ -183,6 +187,7 @@ extern "C" {
 #define KURDAVEL_STACK_STEP 896u
 #define KURDAVEL_STACK_FEWEST 0u
 #define KURDAVEL_STACK_NEXT_STORE 0u
+#define KURDAVEL_STACK_JOIN 0u
 
 /* The words of a record. The store is the library's to change: read these, and write none. */
 enum kurdavel_word {
@@ -242,7 +247,8 @@ enum kurdavel_answer {
     KURDAVEL_REFUSED_SHARED_VERSION = 19,  /* a version stands twice in the log */
     KURDAVEL_REFUSED_TOO_MANY_KEYS = 20,   /* more than M - 1 keys have entries in the log */
     KURDAVEL_REFUSED_OTHER_VERSION = 21,   /* the key has another version than the caller expects */
-    KURDAVEL_REFUSED_OUTSIDE_TABLES = 22   /* the key's table is not one that the caller may use */
+    KURDAVEL_REFUSED_OUTSIDE_TABLES = 22,  /* the key's table is not one that the caller may use */
+    KURDAVEL_REFUSED_NO_PAIR = 23          /* what is kept of no two slots of the log fits one slot */
 };
 
 /*
@@ -350,6 +356,15 @@ uint32_t kurdavel_next_store(const uint32_t *record, size_t record_words, const 
  * Refused: 4.
  */
 uint32_t kurdavel_fewest(const uint32_t *record, size_t record_words, uint32_t *slot);
+
+/*
+ * Tells two slots of the log, *first below *second, whose cleaning together is not refused with 14: what they hold that
+ * still counts fits one slot. Of all such pairs it is the one with the lowest first slot, and among these with the lowest
+ * second. The head may be one of them. Clean (1 << *first) | (1 << *second) to join them. Where it is refused, both are 0.
+ * Refused: 4, 5, 23, in this order. The digest number plays no part: 10 may refuse the cleaning.
+ */
+uint32_t kurdavel_join(const uint32_t *record, size_t record_words, const uint8_t *area, size_t area_bytes,
+                       const uint32_t *index, size_t index_words, uint32_t *first, uint32_t *second);
 
 /*
  * All that is lent, in one struct, and the calls over it. Each buffer has a type of its own, so that none is taken for
@@ -480,6 +495,11 @@ static inline uint32_t kurdavel_store_next_store(const struct kurdavel_store *st
 
 static inline uint32_t kurdavel_store_fewest(const struct kurdavel_store *store, uint32_t *slot) {
     return kurdavel_fewest(store->record.words, KURDAVEL_RECORD_WORDS, slot);
+}
+
+static inline uint32_t kurdavel_store_join(const struct kurdavel_store *store, uint32_t *first, uint32_t *second) {
+    return kurdavel_join(store->record.words, KURDAVEL_RECORD_WORDS, store->area.bytes, store->area.length,
+                         store->index.cells, store->index.length, first, second);
 }
 
 #ifdef __cplusplus

@@ -1,7 +1,7 @@
 /*
  * The edges of the interface: refusals and what they leave, an operation that is given up, an index that is too small
  * for the log, two passes that write over what they read, two owners with tables of their own, the longest value, a full
- * store that is emptied, and an idle task that chooses what to clean.
+ * store that is emptied, an idle task that chooses what to clean, and two slots that are joined.
  * Prints what is answered; `rules.stdout` beside this file is what it must print.
  */
 #include "kurdavel.h"
@@ -248,6 +248,32 @@ static void idle(struct kurdavel_store *store) {
     printf(", slot %u\n", (unsigned)slot);
 }
 
+/*
+ * A write that meets 12: two slots are joined, and the same write is accepted. Where no two slots fit one, nothing that
+ * joins helps.
+ */
+static void join(struct kurdavel_store *store) {
+    static const uint8_t value[56] = {0x70};
+    uint32_t stores = 0, first = 77, second = 77, number = 0, answer;
+    expect_accepted("format", kurdavel_store_format(&store->area));
+    expect_accepted("recover", kurdavel_store_recover(store, order, sizeof order));
+    printf("joining of one slot: %u", (unsigned)kurdavel_store_join(store, &first, &second));
+    printf(", slots %u and %u\n", (unsigned)first, (unsigned)second);
+    for (;;) {
+        answer = kurdavel_store_write(store, servo, key_of(number % 4), value, sizeof value, &stores);
+        if (answer != KURDAVEL_ACCEPTED) break;
+        finish(store, stores);
+        number++;
+    }
+    printf("write %u: %u", (unsigned)number, (unsigned)answer);
+    expect_accepted("join", kurdavel_store_join(store, &first, &second));
+    printf(", slots %u and %u can be joined", (unsigned)first, (unsigned)second);
+    expect_accepted("clean", kurdavel_store_clean(store, (uint32_t)1 << first | (uint32_t)1 << second, &stores));
+    finish(store, stores);
+    expect_accepted("write", kurdavel_store_write(store, servo, key_of(number % 4), value, sizeof value, &stores));
+    printf(", and it is accepted: version %u\n", (unsigned)finish(store, stores));
+}
+
 int main(void) {
     struct kurdavel_store store;
     uint32_t number, stores = 0, version;
@@ -275,5 +301,6 @@ int main(void) {
     longest_value(&store);
     full_store(&store);
     idle(&store);
+    join(&store);
     return 0;
 }

@@ -15,6 +15,7 @@ pub fn cases(report: &mut Report) {
     full_deletes(report);
     fewest(report);
     next_store(report);
+    joins(report);
 }
 
 /// Reads of keys all over a full store.
@@ -163,5 +164,60 @@ fn next_store(report: &mut Report) {
             },
         );
         report.call(Call::NextStore, Keys::Plain, case, timing);
+    }
+}
+
+/// The two slots to join of a full store that has none: of live objects, of tombstones with an object elsewhere, and of both.
+/// Beside each stands what starting a cleaning of every slot alone takes together.
+fn joins(report: &mut Report) {
+    let live = |at: At| at.object(at.count);
+    // Every tombstone of the last eleven slots stands for an object of the first twenty.
+    let deleted = |at: At| match at.slot < 20 {
+        true => at.object(at.count),
+        false => at.tombstone(at.count - (20 * OBJECTS) as u32),
+    };
+    let mixed = |at: At| match at.slot {
+        0..8 => at.object(at.count),
+        8..12 => at.tombstone(at.count - (8 * OBJECTS) as u32),
+        _ => at.object(at.count % 3000 + 3000),
+    };
+    let stores: [(&str, Vec<u8>); 3] = [
+        ("objects", full(SLOTS, live)),
+        ("tombstones with an object elsewhere", full(SLOTS, deleted)),
+        ("objects and tombstones", full(SLOTS, mixed)),
+    ];
+    for (case, area) in stores {
+        let mut store = Store::new(area, CELLS);
+        let told = reference::join(&store.reference, &store.area, &store.index);
+        let proved = store.proved.join(&store.area, &store.index);
+        assert_eq!(proved.ok(), told.ok());
+        let timing = compare(
+            &mut store,
+            |store| {
+                let record = black_box(&store.proved);
+                let _ = black_box(record.join(&store.area, &store.index));
+            },
+            |store| {
+                let record = black_box(&store.reference);
+                let _ = black_box(reference::join(record, &store.area, &store.index));
+            },
+        );
+        let name = format!("two slots to join, {case}");
+        report.call(Call::Join, Keys::Plain, &name, timing);
+        let timing = compare(
+            &mut store,
+            |store| {
+                for slot in 0..LOG {
+                    let _ = black_box(store.start_proved(Operation::Clean(1 << slot)));
+                }
+            },
+            |store| {
+                for slot in 0..LOG {
+                    let _ = black_box(store.start_reference(Operation::Clean(1 << slot)));
+                }
+            },
+        );
+        let name = format!("starts of cleaning each of 31 slots alone, {case}");
+        report.line(&name, timing);
     }
 }

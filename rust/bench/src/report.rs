@@ -29,10 +29,12 @@ pub enum Call {
     Fewest,
     /// The next store told.
     NextStore,
+    /// The two slots to join.
+    Join,
 }
 
 impl Call {
-    const ALL: [(Call, &'static str); 12] = [
+    const ALL: [(Call, &'static str); 13] = [
         (Call::Read, "read"),
         (Call::WriteStart, "start of a write"),
         (Call::ConditionalWriteStart, "start of a conditional write"),
@@ -45,6 +47,7 @@ impl Call {
         (Call::Recovery, "recovery"),
         (Call::Fewest, "slot with the fewest present bytes"),
         (Call::NextStore, "the next store told"),
+        (Call::Join, "two slots to join"),
     ];
 }
 

@@ -340,6 +340,16 @@ impl Pair {
         found.map_or(Version::NONE, |found| found.version)
     }
 
+    /// The two slots to join, as both tell them.
+    pub fn join(&self) -> Result<Result<(u32, u32), u32>, Fault> {
+        let (record, owed) = self.records.expect("an accepted recovery came before");
+        let told = translate::proved(record.join(&self.proved.area, &self.proved.index));
+        let owed = reference::join(&owed, &self.reference.area, &self.reference.index);
+        same!("join", told, translate::reference(owed));
+        self.same_memory()?;
+        Ok(told)
+    }
+
     /// The store that the next step makes, as both tell it.
     pub fn next_store(&self) -> Result<Result<(usize, u8), u32>, Fault> {
         let (record, owed) = self.records.expect("an accepted recovery came before");
@@ -392,6 +402,19 @@ impl Pair {
             self.finish()?;
             Ok(answer)
         })
+    }
+
+    /// Cleans the two slots that are told, which must be accepted, and gives them; or the number that refuses to tell any.
+    pub fn join_and_clean(&mut self) -> Result<Result<(u32, u32), u32>, Fault> {
+        let told = self.join()?;
+        if let Ok((first, second)) = told {
+            let clean = Operation::Clean(SlotMap(1 << first | 1 << second));
+            if let Err(refusal) = self.begin(&clean)? {
+                return Err(format!("cleaning of the two slots refused: {refusal}"));
+            }
+            self.finish()?;
+        }
+        Ok(told)
     }
 
     /// Reads a key from both, for a caller of all tables.

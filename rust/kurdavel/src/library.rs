@@ -143,4 +143,15 @@ extern "C" {
     ) -> u32;
 
     pub(crate) fn kurdavel_fewest(record: *const u32, record_words: usize, slot: *mut u32) -> u32;
+
+    pub(crate) fn kurdavel_join(
+        record: *const u32,
+        record_words: usize,
+        area: *const u8,
+        area_bytes: usize,
+        index: *const u32,
+        index_words: usize,
+        first: *mut u32,
+        second: *mut u32,
+    ) -> u32;
 }

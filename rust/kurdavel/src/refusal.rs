@@ -30,8 +30,9 @@ pub enum Refusal {
     /// A new key, and as many others have entries in the log as the index takes, deleted keys among them. Clean their
     /// slots, or recover with a larger index.
     KeysFull = 11,
-    /// There is no room in the head for what is to be written, and a new head would take the last free slot. Cleaning
-    /// gives back what no longer counts; in a store full of live objects a delete helps, which is never refused so.
+    /// There is no room in the head for what is to be written, and a new head would take the last free slot. Cleaning the
+    /// two slots that [`join`](crate::Record::join) tells makes room; in a store full of live objects a delete helps,
+    /// which is never refused so.
     NoRoom = 12,
     /// The victims are none, or not all in the log.
     BadVictims = 13,
@@ -54,11 +55,14 @@ pub enum Refusal {
     OtherVersion = 21,
     /// The key's table is not one that the caller may use.
     OutsideTables = 22,
+    /// What is kept of no two slots of the log fits one slot. Cleaning the slot with the fewest present bytes gives back
+    /// the room of those of its entries that no longer count; or delete.
+    NoPair = 23,
 }
 
 impl Refusal {
     /// All causes, by number.
-    pub const ALL: [Refusal; 22] = [
+    pub const ALL: [Refusal; 23] = [
         Refusal::Geometry,
         Refusal::Cells,
         Refusal::WorkShort,
@@ -81,6 +85,7 @@ impl Refusal {
         Refusal::TooManyKeys,
         Refusal::OtherVersion,
         Refusal::OutsideTables,
+        Refusal::NoPair,
     ];
 
     /// The number of the cause.

@@ -3,8 +3,8 @@
 //! Each answers 0 or the number of a refusal, as `include/kurdavel.h` says, and is safe with any arguments: the library
 //! is proved to stay within what it is lent, to change only what it is lent to change, and to end.
 //!
-//! A refused call leaves the numbers that it would tell as they were, but [`read`], [`read_value`], [`next_store`] and
-//! [`fewest`] make them 0.
+//! A refused call leaves the numbers that it would tell as they were, but [`read`], [`read_value`], [`next_store`],
+//! [`fewest`] and [`join`] make them 0.
 //!
 //! `first` and `last` are the tables that the caller may use, both included.
 //!
@@ -321,4 +321,22 @@ pub fn next_store(
 pub fn fewest(record: &[u32], slot: &mut u32) -> u32 {
     // SAFETY: the pointer and length are those of one slice; `slot` is exclusive.
     unsafe { kurdavel_fewest(record.as_ptr(), record.len(), slot) }
+}
+
+/// Tells the lowest two slots of the log whose kept entries fit one slot; both are 0 where the call is refused.
+#[inline]
+pub fn join(record: &[u32], area: &[u8], index: &[u32], first: &mut u32, second: &mut u32) -> u32 {
+    // SAFETY: each pointer and length are those of one slice; `first` and `second` are exclusive.
+    unsafe {
+        kurdavel_join(
+            record.as_ptr(),
+            record.len(),
+            area.as_ptr(),
+            area.len(),
+            index.as_ptr(),
+            index.len(),
+            first,
+            second,
+        )
+    }
 }

@@ -428,4 +428,43 @@ impl Record {
         let answer = slices::fewest(&self.words, &mut slot);
         Refusal::unless_accepted(answer).map(|()| slot)
     }
+
+    /// The lowest two slots of the log, the first of them deciding first, that can be cleaned together: what they hold that
+    /// still counts fits one slot. After a write was refused with [`NoRoom`](Refusal::NoRoom), cleaning them makes room
+    /// for it.
+    ///
+    /// ```
+    /// # let mut area = [0; 1024];
+    /// # kurdavel::format(4, 256, &mut area)?;
+    /// # let (mut index, mut work) = ([0; 16], [0; 256]);
+    /// # let mut record = kurdavel::recover(4, 256, &[0, 1, 2, 3], &area, &mut index)?;
+    /// use kurdavel::{Key, Refusal, SlotMap, Tables};
+    /// // One value after another, each of which is written twice: half of every slot no longer counts.
+    /// let key = |number: u32| Key { table: 1, key: number / 2 };
+    /// let mut number = 0;
+    /// let full = loop {
+    ///     let written = record.write(&area, &index, &mut work, Tables::ALL, key(number), &[7; 24]);
+    ///     let Ok(stores) = written else { break written };
+    ///     for _ in 0..stores {
+    ///         record.step(&mut area, &mut index, &work)?;
+    ///     }
+    ///     number += 1;
+    /// };
+    /// assert_eq!(full, Err(Refusal::NoRoom));
+    ///
+    /// let (first, second) = record.join(&area, &index)?;
+    /// assert_eq!((first, second), (0, 1));
+    /// let victims = SlotMap(1 << first | 1 << second);
+    /// for _ in 0..record.clean(&area, &index, &mut work, victims)? {
+    ///     record.step(&mut area, &mut index, &work)?;
+    /// }
+    /// record.write(&area, &index, &mut work, Tables::ALL, key(number), &[7; 24])?;
+    /// # Ok::<(), Refusal>(())
+    /// ```
+    #[inline]
+    pub fn join(&self, area: &[u8], index: &[u32]) -> Result<(u32, u32), Refusal> {
+        let (mut first, mut second) = (0, 0);
+        let answer = slices::join(&self.words, area, index, &mut first, &mut second);
+        Refusal::unless_accepted(answer).map(|()| (first, second))
+    }
 }

@@ -102,6 +102,10 @@ impl Subject for Library {
         record.fewest().map_err(refused)
     }
 
+    fn join(record: &kurdavel::Record, memory: &Memory) -> Answer<(u32, u32)> {
+        record.join(&memory.area, &memory.index).map_err(refused)
+    }
+
     fn says(record: &kurdavel::Record) -> Option<Record> {
         let fields = record.fields()?;
         Some(Record {

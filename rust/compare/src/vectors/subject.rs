@@ -102,9 +102,7 @@ pub trait Subject {
     fn fewest(record: &Self::Record) -> Answer<u32>;
 
     /// The lowest two slots whose kept entries fit one new head.
-    fn join(_record: &Self::Record, _memory: &Memory) -> Answer<(u32, u32)> {
-        Err(No::Missing("the two slots to join"))
-    }
+    fn join(record: &Self::Record, memory: &Memory) -> Answer<(u32, u32)>;
 
     /// What a record says; none if it is not one that any call gives.
     fn says(record: &Self::Record) -> Option<Record>;

@@ -49,6 +49,7 @@ impl Lent {
         let value = record.read_value(area, index, tables, key);
         assert!(value.len() <= 120);
         assert!(area.as_ptr_range().contains(&value.as_ptr()));
+        let joined = translate::proved(record.join(area, index));
         let mut records = [record; 4];
         let value = vec![3; *rng.pick(&[8, 24, 56, 120, 0, 130])];
         let victims = kurdavel::SlotMap(match rng.below(3) {
@@ -67,6 +68,11 @@ impl Lent {
         assert!(self.is_intact());
         if !self.passes() {
             assert_eq!(found, Err(4));
+            assert_eq!(joined, Err(4));
+        } else if self.record.pending != Pending::None {
+            assert_eq!(joined, Err(5));
+        }
+        if !self.passes() {
             assert_eq!(starts.map(translate::proved), [Err(4); 4]);
             assert_eq!(records, [record; 4]);
             assert_eq!(self.work[..], before.2[..]);

@@ -113,6 +113,9 @@ fn refuse_all(words: &[u32], area: &[u8], index: &[u32], work_bytes: usize) {
     );
     assert_eq!((value, first, second), (4, 0, 0));
     assert_eq!(record[..], words[..]);
+    (first, second) = (71, 72);
+    let told = slices::join(record, &lent_area, &lent_index, &mut first, &mut second);
+    assert_eq!((told, first, second), (4, 0, 0), "{words:?}");
     if index.len() == words.get(2).map_or(index.len(), |&cells| cells as usize) {
         (first, second) = (71, 72);
         let told = slices::next_store(record, &lent_area, &work, &mut first, &mut second);

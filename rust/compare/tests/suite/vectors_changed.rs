@@ -318,9 +318,9 @@ fn named(text: &str) -> Vec<usize> {
 }
 
 /// What the changes must be about, at the least.
-const TRIED: [&str; 14] = [
+const TRIED: [&str; 15] = [
     "history", "format", "image", "patch", "recover", "present", "write", "delete", "clean",
-    "step,", "steps", "read", "fewest", "end",
+    "step,", "steps", "read", "fewest", "join", "end",
 ];
 
 /// The buffers and fields that a single `with` of the file changes before a call that is refused with 1, 3 or 4. The

@@ -6,3 +6,4 @@ pub mod choices;
 pub mod forged;
 pub mod full;
 pub mod images;
+pub mod load;
