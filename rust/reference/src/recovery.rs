@@ -1,4 +1,4 @@
-//! Recovery (01, "Operations, store by store" and causes 1, 2 and 15 to 20).
+//! Recovery (01, "Operations, store by store" and causes 1, 2 and 15 to 20; 02, R-5 and R-8).
 
 use crate::counters::{DigestNumber, Version};
 use crate::index::{rebuild, Entered};
@@ -44,7 +44,7 @@ pub fn recover_by<R: Rules>(
         return Err(Refusal::Order);
     }
     let (head, digest) = find_head::<R>(slots, slot_bytes, area)?;
-    check_head(slots, slot_bytes, area, head, digest)?;
+    check_head::<R>(slots, slot_bytes, area, head, digest)?;
     let log = order
         .iter()
         .map(|&slot| u32::from(slot))
@@ -115,27 +115,53 @@ fn find_head<R: Rules>(slots: u32, slot_bytes: u32, area: &[u8]) -> Result<(u32,
     Ok((head, digest))
 }
 
-/// Refuses with 17 if the head's map or next version is not possible.
-fn check_head(
+/// Refuses what cannot be the head's digest: with 17 for its next version, 24 for its map and 25
+/// for a slot in the map that has no digest.
+fn check_head<R: Rules>(
     slots: u32,
     slot_bytes: u32,
     area: &[u8],
     head: u32,
     digest: Digest,
 ) -> Result<(), Refusal> {
+    let next = check_next(digest);
+    let map = check_map::<R>(slots, head, digest.map);
+    let in_log = check_log(slots, slot_bytes, area, digest.map);
+    if R::MAP_BEFORE_NEXT_VERSION {
+        return map.and(next).and(in_log);
+    }
+    if R::LOG_SLOTS_BEFORE_MAP {
+        return next.and(in_log).and(map);
+    }
+    next.and(map).and(in_log)
+}
+
+fn check_next(digest: Digest) -> Result<(), Refusal> {
+    if digest.next == Version(0) {
+        return Err(Refusal::HeadDigest);
+    }
+    Ok(())
+}
+
+fn check_map<R: Rules>(slots: u32, head: u32, map: SlotMap) -> Result<(), Refusal> {
     let all = SlotMap::below(slots);
-    let possible = digest.map.is_within(all)
-        && digest.map.has(head)
-        && digest.map != all
-        && digest.next != Version(0)
-        && digest
-            .map
-            .slots()
-            .all(|slot| segment(area, slot_bytes, slot).first() == Some(&DIGEST));
-    if possible {
+    if !map.is_within(all) || !map.has(head) {
+        return Err(Refusal::HeadMap);
+    }
+    match map == all {
+        true if R::FULL_MAP_IS_17 => Err(Refusal::HeadDigest),
+        true => Err(Refusal::HeadMap),
+        false => Ok(()),
+    }
+}
+
+/// Byte 0 of every slot in the map, of those that there are, is a digest's.
+fn check_log(slots: u32, slot_bytes: u32, area: &[u8], map: SlotMap) -> Result<(), Refusal> {
+    let has_digest = |slot| segment(area, slot_bytes, slot).first() == Some(&DIGEST);
+    if (0..slots).all(|slot| !map.has(slot) || has_digest(slot)) {
         Ok(())
     } else {
-        Err(Refusal::HeadDigest)
+        Err(Refusal::NotADigest)
     }
 }
 

@@ -80,7 +80,7 @@ fn lines_of(area: &[u8], slot_bytes: u32, slot: u32) -> Result<(Vec<Line>, u32),
     Ok((lines, at as u32))
 }
 
-/// The head's slot, or 16 or 17.
+/// The head's slot, or 16, 17, 24 or 25.
 fn head_of(slots: u32, slot_bytes: u32, area: &[u8]) -> Result<u32, u32> {
     let byte_0 = |slot: u32| area[(slot * slot_bytes) as usize];
     let mut numbers: Vec<(u32, u32)> = (0..slots)
@@ -95,11 +95,16 @@ fn head_of(slots: u32, slot_bytes: u32, area: &[u8]) -> Result<u32, u32> {
     let map = number(area, (head * slot_bytes) as usize + 5, 4);
     let next = number(area, (head * slot_bytes) as usize + 9, 4);
     let in_map = |slot: u32| map >> slot & 1 == 1;
+    if next == 0 {
+        return Err(17);
+    }
     let beyond = (slots..32).any(in_map);
     let full = (0..slots).all(in_map);
-    let blank = (0..slots).any(|slot| in_map(slot) && byte_0(slot) != 5);
-    if beyond || full || blank || !in_map(head) || next == 0 {
-        return Err(17);
+    if beyond || full || !in_map(head) {
+        return Err(24);
+    }
+    if (0..slots).any(|slot| in_map(slot) && byte_0(slot) != 5) {
+        return Err(25);
     }
     Ok(head)
 }
