@@ -158,8 +158,8 @@ extern "C" {
  * The version of this interface. MAJOR goes up when a program written for an earlier one may have to change, or an area
  * written by an earlier one may be refused; MINOR when something is added.
  */
-#define KURDAVEL_VERSION_MAJOR 3u
-#define KURDAVEL_VERSION_MINOR 2u
+#define KURDAVEL_VERSION_MAJOR 4u
+#define KURDAVEL_VERSION_MINOR 0u
 #define KURDAVEL_VERSION (KURDAVEL_VERSION_MAJOR * 1000u + KURDAVEL_VERSION_MINOR)
 
 /* Sizes. */
@@ -242,13 +242,17 @@ enum kurdavel_answer {
     KURDAVEL_REFUSED_KEPT_TOO_LONG = 14,   /* what is kept of the victims is too long for one slot */
     KURDAVEL_REFUSED_BAD_ORDER = 15,       /* the order is not each slot once */
     KURDAVEL_REFUSED_NO_DIGEST = 16,       /* no slot has a digest: not formatted */
-    KURDAVEL_REFUSED_BAD_DIGEST = 17,      /* the highest digest number is 0 or shared, or that digest is impossible */
+    KURDAVEL_REFUSED_BAD_DIGEST = 17,      /* the highest digest number is 0 or shared, or that digest's next version
+                                              is 0 */
     KURDAVEL_REFUSED_DAMAGED_LOG = 18,     /* an entry of unknown kind, past its slot, or with an impossible version */
     KURDAVEL_REFUSED_SHARED_VERSION = 19,  /* a version stands twice in the log */
     KURDAVEL_REFUSED_TOO_MANY_KEYS = 20,   /* more than M - 1 keys have entries in the log */
     KURDAVEL_REFUSED_OTHER_VERSION = 21,   /* the key has another version than the caller expects */
     KURDAVEL_REFUSED_OUTSIDE_TABLES = 22,  /* the key's table is not one that the caller may use */
-    KURDAVEL_REFUSED_NO_PAIR = 23          /* what is kept of no two slots of the log fits one slot */
+    KURDAVEL_REFUSED_NO_PAIR = 23,         /* what is kept of no two slots of the log fits one slot */
+    KURDAVEL_REFUSED_BAD_MAP = 24,         /* the head's map names a slot not below N, lacks the head or leaves no slot
+                                              free */
+    KURDAVEL_REFUSED_NOT_A_DIGEST = 25     /* the head's map names a slot that does not begin with a digest */
 };
 
 /*
@@ -260,9 +264,10 @@ uint32_t kurdavel_format(uint32_t slots, uint32_t slot_bytes, uint8_t *area, siz
 /*
  * Reads the log and makes the record and the index. `order` names each slot 0 to N - 1 once, in the order in which
  * they are to be read; every order gives the same store. M is index_words. A pending operation is dropped.
- * Refused: 4, 1, 2, 15, 16, 17, 18, 19, 20, in this order. Here 4 has one cause, a record shorter than
+ * Refused: 4, 1, 2, 15, 16, 17, 24, 25, 18, 19, 20, in this order. Here 4 has one cause, a record shorter than
  * KURDAVEL_RECORD_WORDS. It belongs to this interface and not to recovery itself, which takes no record; it is
- * tested first, so that it hides any other cause.
+ * tested first, so that it hides any other cause. 17, 24 and 25 tell apart what is wrong with the head's digest: its
+ * number or next version, its map, or a slot that the map names.
  * After 20 no call that takes a record may be made before a recovery is accepted (rules of use).
  */
 uint32_t kurdavel_recover(uint32_t slots, uint32_t slot_bytes, const uint8_t *order, size_t order_bytes,

@@ -1,7 +1,7 @@
 /*
  * The edges of the interface: refusals and what they leave, an operation that is given up, an index that is too small
  * for the log, two passes that write over what they read, two owners with tables of their own, the longest value, a full
- * store that is emptied, an idle task that chooses what to clean, and two slots that are joined.
+ * store that is emptied, an idle task that chooses what to clean, two slots that are joined, and a damaged digest.
  * Prints what is answered; `rules.stdout` beside this file is what it must print.
  */
 #include "kurdavel.h"
@@ -274,6 +274,24 @@ static void join(struct kurdavel_store *store) {
     printf(", and it is accepted: version %u\n", (unsigned)finish(store, stores));
 }
 
+/* What a recovery tells of a damaged digest: one byte of the head's digest is another each time. */
+static void damaged_digest(struct kurdavel_store *store) {
+    static const struct {
+        const char *what;
+        uint32_t place;
+        uint8_t byte;
+    } faults[4] = {{"next version 0", 9, 0},
+                   {"map with a slot that there is not", 5, 0x11},
+                   {"map without the head", 5, 0},
+                   {"map with a slot that has no digest", 5, 0x03}};
+    uint32_t i;
+    for (i = 0; i < 4; i++) {
+        expect_accepted("format", kurdavel_store_format(&store->area));
+        medium[faults[i].place] = faults[i].byte;
+        printf("%s: %u\n", faults[i].what, (unsigned)kurdavel_store_recover(store, order, sizeof order));
+    }
+}
+
 int main(void) {
     struct kurdavel_store store;
     uint32_t number, stores = 0, version;
@@ -302,5 +320,6 @@ int main(void) {
     full_store(&store);
     idle(&store);
     join(&store);
+    damaged_digest(&store);
     return 0;
 }

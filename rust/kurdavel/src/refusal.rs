@@ -42,7 +42,7 @@ pub enum Refusal {
     BadOrder = 15,
     /// No slot has a digest.
     NoDigest = 16,
-    /// The highest digest number is 0 or shared, or that digest cannot be.
+    /// The highest digest number is 0 or shared, or that digest's next version is 0.
     BadDigest = 17,
     /// An entry of the log cannot be.
     DamagedLog = 18,
@@ -58,11 +58,15 @@ pub enum Refusal {
     /// What is kept of no two slots of the log fits one slot. Cleaning the slot with the fewest present bytes gives back
     /// the room of those of its entries that no longer count; or delete.
     NoPair = 23,
+    /// The head's map names a slot not below N, lacks the head or leaves no slot free.
+    BadMap = 24,
+    /// The head's map names a slot that does not begin with a digest.
+    NotADigest = 25,
 }
 
 impl Refusal {
     /// All causes, by number.
-    pub const ALL: [Refusal; 23] = [
+    pub const ALL: [Refusal; 25] = [
         Refusal::Geometry,
         Refusal::Cells,
         Refusal::WorkShort,
@@ -86,6 +90,8 @@ impl Refusal {
         Refusal::OtherVersion,
         Refusal::OutsideTables,
         Refusal::NoPair,
+        Refusal::BadMap,
+        Refusal::NotADigest,
     ];
 
     /// The number of the cause.

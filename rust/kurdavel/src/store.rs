@@ -62,6 +62,20 @@ pub fn format(slots: u32, slot_bytes: u32, area: &mut [u8]) -> Result<(), Refusa
 /// use kurdavel::{recover, Refusal};
 /// let answer = recover(4, 256, &[0, 1, 2, 3], &[0; 1024], &mut [0; 16]);
 /// assert_eq!(answer, Err(Refusal::NoDigest));
+///
+/// // What is wrong with the head's digest is told apart: its number or next version, its map, or a slot in the map.
+/// let mut area = [0; 1024];
+/// kurdavel::format(4, 256, &mut area)?;
+/// for (place, byte, cause) in [
+///     (9, 0, Refusal::BadDigest),
+///     (5, 0b10001, Refusal::BadMap),
+///     (5, 0b11, Refusal::NotADigest),
+/// ] {
+///     let mut damaged = area;
+///     damaged[place] = byte;
+///     assert_eq!(recover(4, 256, &[0, 1, 2, 3], &damaged, &mut [0; 16]), Err(cause));
+/// }
+/// # Ok::<(), Refusal>(())
 /// ```
 #[inline]
 pub fn recover(

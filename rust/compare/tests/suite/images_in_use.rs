@@ -13,7 +13,7 @@ use reference::Key;
 struct Tally {
     recovered: u32,
     accepted: u32,
-    refused: [u32; 24],
+    refused: [u32; 26],
 }
 
 impl Tally {
@@ -89,7 +89,7 @@ fn valid_images_live_on() {
 fn damaged_images_go_on() {
     let tally = play_all(32, 12_000, 3);
     assert!(tally.recovered > 4000 && tally.accepted > 20_000);
-    for cause in 17..=20 {
+    for cause in (17..=20).chain([24, 25]) {
         assert!(tally.refused[cause] > 10, "{:?}", tally.refused);
     }
 }

@@ -185,7 +185,7 @@ fn faulty_implementations() {
     caught::<STEP_CHANGES_INDEX>("index at");
     caught_as::<STEP_STORES_TWICE>(&["place", "area"]);
     caught::<LAST_STEP_LEAVES_INDEX>("index");
-    caught_as::<ZERO_NOT_STORED>(&["place", "FNV of the area"]);
+    caught_as::<ZERO_NOT_STORED>(&["place", "area", "FNV of the area"]);
     caught::<START_STORES>("area at");
     caught::<START_CHANGES_INDEX>("index at");
     caught::<START_FILLS_MORE>("work buffer at");

@@ -478,8 +478,11 @@ fn causes_17_24_and_25_head_digest() {
     assert_eq!(with(&[(5, 0), (9, 0)]), 0, "other digests do not count");
 }
 
+/// Bytes to be changed, each by its place.
+type Bytes = &'static [(usize, u8)];
+
 /// Images with two faults, by the numbers of both; the first is told.
-const TWO_FAULTS: [(u32, u32, &[(usize, u8)]); 15] = [
+const TWO_FAULTS: [(u32, u32, Bytes); 15] = [
     (17, 24, &[(1, 2), (261, 0x13)]),
     (17, 24, &[(265, 0), (261, 1)]),
     (17, 24, &[(265, 0), (261, 15), (512, 5), (768, 5)]),
