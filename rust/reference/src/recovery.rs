@@ -8,7 +8,7 @@ use crate::present::Counts;
 use crate::record::{Pending, Record};
 use crate::refusal::Refusal;
 use crate::rules::{AsWritten, Rules};
-use crate::segment::{Digest, DIGEST, DIGEST_BYTES};
+use crate::segment::{Digest, Fields, DIGEST, DIGEST_BYTES};
 use crate::slot_map::SlotMap;
 use crate::versions::Filter;
 
@@ -43,13 +43,12 @@ pub fn recover_by<R: Rules>(
     if !is_order(slots, order) {
         return Err(Refusal::Order);
     }
-    let (head, digest) = find_head::<R>(slots, slot_bytes, area)?;
-    check_head::<R>(slots, slot_bytes, area, head, digest)?;
+    let (head, digest) = checked_head::<R>(slots, slot_bytes, area)?;
     let log = order
         .iter()
         .map(|&slot| u32::from(slot))
         .filter(|&slot| digest.map.has(slot));
-    let survey = survey(slot_bytes, area, log.clone(), head)?;
+    let survey = survey(slot_bytes, area, log.clone(), head, |_, _| {})?;
     let mut present_bytes = [0; MOST_SLOTS];
     let mut present = Counts::new(slot_bytes, &mut present_bytes);
     let count = |slot, place, entered| count_newest(&mut present, area, slot, place, entered);
@@ -89,6 +88,17 @@ fn is_order(slots: u32, order: &[u8]) -> bool {
         .iter()
         .fold(SlotMap::EMPTY, |named, &slot| named.with(u32::from(slot)));
     order.len() == slots as usize && named == SlotMap::below(slots)
+}
+
+/// The slot and digest of the head, or 16, 17, 24 or 25.
+pub(crate) fn checked_head<R: Rules>(
+    slots: u32,
+    slot_bytes: u32,
+    area: &[u8],
+) -> Result<(u32, Digest), Refusal> {
+    let (head, digest) = find_head::<R>(slots, slot_bytes, area)?;
+    check_head::<R>(slots, slot_bytes, area, head, digest)?;
+    Ok((head, digest))
 }
 
 /// The slot and digest of the head. All slots with a digest count, in the log or not.
@@ -166,28 +176,32 @@ fn check_log(slots: u32, slot_bytes: u32, area: &[u8], map: SlotMap) -> Result<(
 }
 
 /// What the first reading of the log gives.
-struct Survey {
+pub(crate) struct Survey {
     /// Where the head's entries end.
     end: u32,
     /// The highest version of an entry; 0 if there is none.
     highest: Version,
 }
 
-/// Reads the whole log once: refuses damage with 18 and then shared versions with 19.
-fn survey(
+/// Reads the whole log once and visits each entry with its place: refuses damage with 18 and then
+/// shared versions with 19.
+pub(crate) fn survey(
     slot_bytes: u32,
     area: &[u8],
     log: impl Iterator<Item = u32> + Clone,
     head: u32,
+    mut visit: impl FnMut(usize, Fields),
 ) -> Result<Survey, Refusal> {
     let mut end = DIGEST_BYTES;
     let mut highest = Version(0);
     let mut filter = Filter::new();
     for slot in log.clone() {
         let bytes = segment(area, slot_bytes, slot);
-        let stop = walk_segment(bytes, Refusal::Entry, |_, fields| {
+        let start = (slot * slot_bytes) as usize;
+        let stop = walk_segment(bytes, Refusal::Entry, |offset, fields| {
             highest = highest.max(fields.version);
             filter.note(fields.version);
+            visit(start + offset, fields);
             Ok(())
         })?;
         if slot == head {

@@ -115,6 +115,10 @@ impl<S: Subject> Bench<S> {
             Event::Clean { victims, owed } => self.start(Start::Clean(*victims), owed, changes),
             Event::Fewest(owed) => self.fewest(owed, changes),
             Event::Join(owed) => self.join(owed, changes),
+            Event::ScanRead { key, range, owed } => {
+                let asked = self.name(*key, Some(*range));
+                self.scan_read(asked, owed, changes)
+            }
             _ => Err(no_call("this event")),
         }
     }
@@ -395,6 +399,18 @@ impl<S: Subject> Bench<S> {
         untouched::<S>((&before, &lent), (&record, &memory))
     }
 
+    /// A read of the area as it stands, record or not.
+    fn scan_read(&mut self, asked: Asked, owed: &Owed<Found>, changes: &Changes) -> Checked {
+        let lent = lent_of(self.memory()?, changes).area;
+        let area = lent.clone();
+        let geometry = changes.geometry(self.geometry);
+        let answer = S::scan_read(geometry, &area, asked);
+        let part = S::scan_read_value(geometry, &area, asked).map_err(not_forged)?;
+        check_found(owed, answer, part)?;
+        intact("area", &area)?;
+        same_buffer("area", &lent, &area)
+    }
+
     /// Reads every key that the line names, every key that the history has named, and every key whose six bytes stand
     /// anywhere in the area. A key with an entry in the log is among the last.
     fn present(&mut self, owed: &Owed<Vec<PresentKey>>, changes: &Changes) -> Checked {
@@ -663,7 +679,16 @@ fn check_read<S: Subject>(
     owed: &Owed<Found>,
 ) -> Checked {
     let answer = S::read(record, memory, asked);
-    let (place, length) = S::read_value(record, memory, asked).map_err(not_forged)?;
+    let part = S::read_value(record, memory, asked).map_err(not_forged)?;
+    check_found(owed, answer, part)
+}
+
+/// What a read tells, and place and length of the part that it gives.
+fn check_found(
+    owed: &Owed<Found>,
+    answer: Answer<(u64, u32)>,
+    (place, length): (usize, usize),
+) -> Checked {
     let (owed_place, owed_length) = match settled(owed, answer)? {
         None => (0, 0),
         Some((owed, (version, kind))) => {

@@ -107,6 +107,29 @@ impl Subject for Second {
         reference::join(record, &memory.area, &memory.index).map_err(refused)
     }
 
+    fn scan_read(geometry: Geometry, area: &[u8], asked: Asked) -> Answer<(u64, u32)> {
+        let (
+            (tables, key),
+            Geometry {
+                slots, slot_bytes, ..
+            },
+        ) = (of(asked), geometry);
+        let found = reference::scan_read(slots, slot_bytes, area, tables, key);
+        let found = found.map_err(refused)?;
+        Ok((found.version.0.into(), found.kind.into()))
+    }
+
+    fn scan_read_value(geometry: Geometry, area: &[u8], asked: Asked) -> Answer<(usize, usize)> {
+        let (
+            (tables, key),
+            Geometry {
+                slots, slot_bytes, ..
+            },
+        ) = (of(asked), geometry);
+        let value = reference::scan_read_value(slots, slot_bytes, area, tables, key);
+        Ok(part_of(area, value))
+    }
+
     fn says(record: &reference::Record) -> Option<Record> {
         Some(Record {
             slots: record.slots,

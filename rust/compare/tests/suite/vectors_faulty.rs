@@ -134,6 +134,14 @@ impl<const FAULT: u32> Subject for Faulty<FAULT> {
         Second::join(record, memory)
     }
 
+    fn scan_read(geometry: Geometry, area: &[u8], asked: Asked) -> Answer<(u64, u32)> {
+        Second::scan_read(geometry, area, asked)
+    }
+
+    fn scan_read_value(geometry: Geometry, area: &[u8], asked: Asked) -> Answer<(usize, usize)> {
+        Second::scan_read_value(geometry, area, asked)
+    }
+
     fn says(record: &reference::Record) -> Option<Record> {
         Second::says(record)
     }

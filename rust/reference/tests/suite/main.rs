@@ -15,6 +15,7 @@ mod present_bytes;
 mod random_histories;
 mod refusals;
 mod rig;
+mod scanning;
 mod short_histories;
 mod stored_images;
 mod stored_output;

@@ -109,6 +109,46 @@ fn head_of(slots: u32, slot_bytes: u32, area: &[u8]) -> Result<u32, u32> {
     Ok(head)
 }
 
+/// What a scan for a key must tell of an image: version, kind, place and length of its value.
+pub fn scan(
+    slots: u32,
+    slot_bytes: u32,
+    area: &[u8],
+    tables: (u16, u16),
+    key: Key,
+) -> Result<(u32, u8, usize, usize), u32> {
+    check_geometry(slots, slot_bytes, area)?;
+    let head = head_of(slots, slot_bytes, area)?;
+    let map = number(area, (head * slot_bytes) as usize + 5, 4);
+    let mut lines = Vec::new();
+    for slot in (0..slots).filter(|slot| map >> slot & 1 == 1) {
+        lines.extend(lines_of(area, slot_bytes, slot)?.0);
+    }
+    let versions: BTreeSet<u32> = lines.iter().map(|line| line.version).collect();
+    if versions.len() != lines.len() {
+        return Err(19);
+    }
+    if key.table < tables.0 || key.table > tables.1 {
+        return Err(22);
+    }
+    lines.retain(|line| line.key == key);
+    lines.sort_by_key(|line| line.version);
+    let newest = lines.last().filter(|line| line.is_object()).ok_or(8u32)?;
+    let value = newest.bytes.len() - 11;
+    Ok((newest.version, newest.bytes[0], newest.place + 11, value))
+}
+
+/// Refuses N, S or an area of another length with 1.
+fn check_geometry(slots: u32, slot_bytes: u32, area: &[u8]) -> Result<(), u32> {
+    if !(4..=32).contains(&slots)
+        || !(256..=2048).contains(&slot_bytes)
+        || area.len() != (slots * slot_bytes) as usize
+    {
+        return Err(1);
+    }
+    Ok(())
+}
+
 /// Refuses what recovery does not even look at: 1, 2 and 15.
 fn check_lent(
     slots: u32,
@@ -117,12 +157,7 @@ fn check_lent(
     cells: usize,
     order: &[u8],
 ) -> Result<(), u32> {
-    if !(4..=32).contains(&slots)
-        || !(256..=2048).contains(&slot_bytes)
-        || area.len() != (slots * slot_bytes) as usize
-    {
-        return Err(1);
-    }
+    check_geometry(slots, slot_bytes, area)?;
     if !(16..=4096).contains(&cells) {
         return Err(2);
     }

@@ -14,8 +14,8 @@ use reference::step::step_by;
 use reference::testing::calls::Given;
 use reference::testing::full;
 use reference::{
-    fewest, format, join, next_store, read, read_value, Key, Pending, Progress, Record, Refusal,
-    Started, Tables,
+    fewest, format, join, next_store, read, read_value, scan_read, scan_read_value, Key, Pending,
+    Progress, Record, Refusal, Started, Tables,
 };
 
 use crate::naive::{view, Plan, View};
@@ -437,6 +437,15 @@ impl<R: Rules> Rig<R> {
         let record = self.record();
         let found = read(&record, &self.area, &self.index, tables, key);
         let value = read_value(&record, &self.area, &self.index, tables, key);
+        let (slots, slot_bytes) = (self.slots, self.slot_bytes);
+        let scanned = scan_read(slots, slot_bytes, &self.area, tables, key);
+        same!(format!("scan for {key:?}"), scanned, found);
+        let scanned = scan_read_value(slots, slot_bytes, &self.area, tables, key);
+        same!(
+            "part by a scan",
+            scanned.as_ptr_range(),
+            value.as_ptr_range()
+        );
         if !(tables.first..=tables.last).contains(&key.table) {
             same!(
                 format!("read of {key:?}"),
