@@ -30,8 +30,9 @@
  *     the index is full, and answers 4. All that the record, its pending operation and the lengths tell is tested before
  *     the store.
  *   What a refused call does to the numbers that it would tell:
- *   - kurdavel_read sets *version and *kind to 0, kurdavel_read_value *place and *bytes, kurdavel_fewest *slot,
- *     kurdavel_next_store *place and *byte, and kurdavel_join *first and *second;
+ *   - kurdavel_read and kurdavel_scan_read set *version and *kind to 0, kurdavel_read_value and kurdavel_scan_read_value
+ *     *place and *bytes, kurdavel_fewest *slot, kurdavel_next_store *place and *byte, and kurdavel_join *first and
+ *     *second;
  *   - every other call leaves them as they were: *stores of a start, *left and *version of a step. Look at the answer
  *     first.
  *   Words that are no record are a refusal like any other (4) and treated so.
@@ -47,6 +48,9 @@
  *   Every read, write and delete is given the tables that its caller may use: `first` to `last`, both included, none
  *   where first is above last. A key outside them is refused with 22, whatever the store holds. Cleaning, step and
  *   recovery take no tables: they serve all.
+ *
+ *   A boot loader that needs a value before the memory of the index is up asks kurdavel_scan_read: the area alone is
+ *   enough. It answers as a read after a recovery would, also in the middle of an operation.
  *
  *   An operation that is not to be finished is given up by kurdavel_recover, without a cut: it drops what is pending.
  *   The bytes stored so far stay in the area, where they do not count and the next operation overwrites what it needs.
@@ -68,7 +72,8 @@
  *   Recovery, the start of a cleaning of slots that hold tombstones, the start of such a delete and the last step of
  *   every cleaning and of every such delete look at each entry of the log (at most (N - 1) * ((S - 13) / 11) of them),
  *   with a search for each; recovery and these last steps also write all M words of the index. kurdavel_join takes no more
- *   than one and a half times as long as the starts of a cleaning of each slot of the log, one after another. A search looks at few
+ *   than one and a half times as long as the starts of a cleaning of each slot of the log, one after another.
+ *   kurdavel_scan_read looks at each entry of the log as recovery does, without the index, and takes no longer. A search looks at few
  *   words while M is well above the number of keys, and never at more than the keys and one more. docs/PERFORMANCE.md
  *   has bounds and measured worst cases.
  *
@@ -159,7 +164,7 @@ extern "C" {
  * written by an earlier one may be refused; MINOR when something is added.
  */
 #define KURDAVEL_VERSION_MAJOR 4u
-#define KURDAVEL_VERSION_MINOR 0u
+#define KURDAVEL_VERSION_MINOR 1u
 #define KURDAVEL_VERSION (KURDAVEL_VERSION_MAJOR * 1000u + KURDAVEL_VERSION_MINOR)
 
 /* Sizes. */
@@ -188,6 +193,8 @@ extern "C" {
 #define KURDAVEL_STACK_FEWEST 0u
 #define KURDAVEL_STACK_NEXT_STORE 0u
 #define KURDAVEL_STACK_JOIN 0u
+#define KURDAVEL_STACK_SCAN_READ 0u
+#define KURDAVEL_STACK_SCAN_READ_VALUE 0u
 
 /* The words of a record. The store is the library's to change: read these, and write none. */
 enum kurdavel_word {
@@ -372,6 +379,24 @@ uint32_t kurdavel_join(const uint32_t *record, size_t record_words, const uint8_
                        const uint32_t *index, size_t index_words, uint32_t *first, uint32_t *second);
 
 /*
+ * Tells the version and the kind of a key's object by a scan of the log: no record, no index and no work buffer are needed.
+ * For every area that a recovery accepts with some index it answers what kurdavel_read answers after it; there may be more
+ * keys than any index takes. Where it is refused, both are 0.
+ * Refused: 1, 16, 17, 24, 25, 18, 19, 22, 8, in this order.
+ */
+uint32_t kurdavel_scan_read(uint32_t slots, uint32_t slot_bytes, const uint8_t *area, size_t area_bytes, uint16_t first,
+                            uint16_t last, uint16_t table, uint32_t key, uint32_t *version, uint32_t *kind);
+
+/*
+ * Tells where the value of a key's object lies in the area, by the same scan: at area + *place, *bytes long, as
+ * kurdavel_read_value. Where it is refused, both are 0.
+ * Refused: 1, 16, 17, 24, 25, 18, 19, 22, 8, in this order.
+ */
+uint32_t kurdavel_scan_read_value(uint32_t slots, uint32_t slot_bytes, const uint8_t *area, size_t area_bytes,
+                                  uint16_t first, uint16_t last, uint16_t table, uint32_t key, uint32_t *place,
+                                  uint32_t *bytes);
+
+/*
  * All that is lent, in one struct, and the calls over it. Each buffer has a type of its own, so that none is taken for
  * another. What the functions above say holds for these too.
  */
@@ -505,6 +530,21 @@ static inline uint32_t kurdavel_store_fewest(const struct kurdavel_store *store,
 static inline uint32_t kurdavel_store_join(const struct kurdavel_store *store, uint32_t *first, uint32_t *second) {
     return kurdavel_join(store->record.words, KURDAVEL_RECORD_WORDS, store->area.bytes, store->area.length,
                          store->index.cells, store->index.length, first, second);
+}
+
+static inline uint32_t kurdavel_store_scan_read(const struct kurdavel_area *area, struct kurdavel_tables tables,
+                                                struct kurdavel_key key, uint32_t *version, uint32_t *kind) {
+    return kurdavel_scan_read(area->slots, area->slot_bytes, area->bytes, area->length, tables.first, tables.last,
+                              key.table, key.key, version, kind);
+}
+
+static inline uint32_t kurdavel_store_scan_read_value(const struct kurdavel_area *area, struct kurdavel_tables tables,
+                                                      struct kurdavel_key key, struct kurdavel_value *value) {
+    uint32_t place = 0;
+    uint32_t answer = kurdavel_scan_read_value(area->slots, area->slot_bytes, area->bytes, area->length, tables.first,
+                                               tables.last, key.table, key.key, &place, &value->length);
+    value->bytes = area->bytes + place;
+    return answer;
 }
 
 #ifdef __cplusplus

@@ -1,7 +1,8 @@
 /*
  * The edges of the interface: refusals and what they leave, an operation that is given up, an index that is too small
  * for the log, two passes that write over what they read, two owners with tables of their own, the longest value, a full
- * store that is emptied, an idle task that chooses what to clean, two slots that are joined, and a damaged digest.
+ * store that is emptied, an idle task that chooses what to clean, two slots that are joined, a damaged digest, and a boot
+ * loader that has no index yet.
  * Prints what is answered; `rules.stdout` beside this file is what it must print.
  */
 #include "kurdavel.h"
@@ -292,6 +293,32 @@ static void damaged_digest(struct kurdavel_store *store) {
     }
 }
 
+/* A boot loader reads one value from the area alone: no index, no record, no work buffer. */
+static void boot_loader(struct kurdavel_store *store) {
+    struct kurdavel_area area = store->area;
+    struct kurdavel_value value;
+    uint32_t stores = 0, version = 0, kind = 0;
+    expect_accepted("format", kurdavel_store_format(&area));
+    expect_accepted("recover", kurdavel_store_recover(store, order, sizeof order));
+    finish(store, start_write(store, 5));
+    expect_accepted("delete", kurdavel_store_delete(store, servo, key_of(5), &stores));
+
+    /* Power fails before the delete has made a store. The loader has nothing but the area. */
+    memset(store, 0, sizeof *store);
+    memset(cells, 0xa5, sizeof cells);
+    expect_accepted("scan", kurdavel_store_scan_read(&area, servo, key_of(5), &version, &kind));
+    expect_accepted("scan", kurdavel_store_scan_read_value(&area, servo, key_of(5), &value));
+    printf("boot loader: version %u, kind %u, %u bytes of %02x", (unsigned)version, (unsigned)kind,
+           (unsigned)value.length, value.bytes[0]);
+    printf("; another key: %u", (unsigned)kurdavel_store_scan_read(&area, servo, key_of(6), &version, &kind));
+    printf("; a table of another owner: %u\n",
+           (unsigned)kurdavel_store_scan_read(&area, media, key_of(5), &version, &kind));
+    medium[0] = 0;
+    printf("boot loader on an area without a digest: %u",
+           (unsigned)kurdavel_store_scan_read(&area, servo, key_of(5), &version, &kind));
+    printf(", version %u and kind %u\n", (unsigned)version, (unsigned)kind);
+}
+
 int main(void) {
     struct kurdavel_store store;
     uint32_t number, stores = 0, version;
@@ -321,5 +348,6 @@ int main(void) {
     idle(&store);
     join(&store);
     damaged_digest(&store);
+    boot_loader(&store);
     return 0;
 }

@@ -31,10 +31,12 @@ pub enum Call {
     NextStore,
     /// The two slots to join.
     Join,
+    /// A read by a scan of the log.
+    ScanRead,
 }
 
 impl Call {
-    const ALL: [(Call, &'static str); 13] = [
+    const ALL: [(Call, &'static str); 14] = [
         (Call::Read, "read"),
         (Call::WriteStart, "start of a write"),
         (Call::ConditionalWriteStart, "start of a conditional write"),
@@ -48,6 +50,7 @@ impl Call {
         (Call::Fewest, "slot with the fewest present bytes"),
         (Call::NextStore, "the next store told"),
         (Call::Join, "two slots to join"),
+        (Call::ScanRead, "read by a scan"),
     ];
 }
 

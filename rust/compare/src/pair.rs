@@ -422,6 +422,18 @@ impl Pair {
         self.read_in(Tables::ALL, key).map(|(found, _)| found)
     }
 
+    /// Reads a key by a scan of the area as it stands, record or not, and where there is a record also by it: all tell the
+    /// same.
+    pub fn scan_in(&self, tables: Tables, key: Key) -> Result<Told, Fault> {
+        let (told, part) = scan(self.slots, self.slot_bytes, self.area(), tables, key)?;
+        if self.is_recovered() {
+            let (found, value) = self.read_in(tables, key)?;
+            let place = value.as_ptr() as usize - self.area().as_ptr() as usize;
+            same!("scan and read", (told, part), (found, (place, value.len())));
+        }
+        Ok(told)
+    }
+
     /// Reads a key from both, for a caller with these tables. Version, kind, value and the value's place are the same.
     pub fn read_in(&self, tables: Tables, key: Key) -> Result<(Told, &[u8]), Fault> {
         let (record, owed) = self.records.expect("an accepted recovery came before");
@@ -445,6 +457,32 @@ impl Pair {
         same!(format!("place of {key:?}"), place, owed_place);
         Ok((found, value))
     }
+}
+
+/// What both tell of a key by a scan of an area: version, kind, and place and length of the value.
+pub fn scan(
+    slots: u32,
+    slot_bytes: u32,
+    area: &[u8],
+    tables: Tables,
+    key: Key,
+) -> Result<(Told, (usize, usize)), Fault> {
+    let lent = Guarded::new(area, 5);
+    let (proved_tables, proved_key) = (translate::tables(tables), translate::key(key));
+    let told = kurdavel::scan_read(slots, slot_bytes, &lent, proved_tables, proved_key);
+    let told = translate::proved(told.map(|found| (found.version.0, found.kind)));
+    let part = kurdavel::scan_read_value(slots, slot_bytes, &lent, proved_tables, proved_key);
+    let part = (part.as_ptr() as usize - lent.as_ptr() as usize, part.len());
+    let owed = reference::scan_read(slots, slot_bytes, area, tables, key);
+    let owed = translate::reference(owed.map(|found| (found.version.0, found.kind)));
+    same!(format!("scan for {key:?}"), told, owed);
+    let owed = reference::scan_read_value(slots, slot_bytes, area, tables, key);
+    let owed = (owed.as_ptr() as usize - area.as_ptr() as usize, owed.len());
+    same!(format!("part by a scan for {key:?}"), part, owed);
+    if lent[..] != area[..] || !lent.is_intact() {
+        return Err("a scan changes memory".into());
+    }
+    Ok((told, part))
 }
 
 fn named(operation: &Operation) -> String {

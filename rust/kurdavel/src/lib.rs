@@ -92,5 +92,5 @@ mod values;
 
 pub use record::{Fields, Pending, Record, WORDS};
 pub use refusal::Refusal;
-pub use store::{format, recover, Found, Progress, Store};
+pub use store::{format, recover, scan_read, scan_read_value, Found, Progress, Store};
 pub use values::{DigestNumber, Key, SlotMap, Tables, Version};

@@ -154,4 +154,30 @@ extern "C" {
         first: *mut u32,
         second: *mut u32,
     ) -> u32;
+
+    pub(crate) fn kurdavel_scan_read(
+        slots: u32,
+        slot_bytes: u32,
+        area: *const u8,
+        area_bytes: usize,
+        first: u16,
+        last: u16,
+        table: u16,
+        key: u32,
+        version: *mut u32,
+        kind: *mut u32,
+    ) -> u32;
+
+    pub(crate) fn kurdavel_scan_read_value(
+        slots: u32,
+        slot_bytes: u32,
+        area: *const u8,
+        area_bytes: usize,
+        first: u16,
+        last: u16,
+        table: u16,
+        key: u32,
+        place: *mut u32,
+        bytes: *mut u32,
+    ) -> u32;
 }

@@ -3,8 +3,8 @@
 //! Each answers 0 or the number of a refusal, as `include/kurdavel.h` says, and is safe with any arguments: the library
 //! is proved to stay within what it is lent, to change only what it is lent to change, and to end.
 //!
-//! A refused call leaves the numbers that it would tell as they were, but [`read`], [`read_value`], [`next_store`],
-//! [`fewest`] and [`join`] make them 0.
+//! A refused call leaves the numbers that it would tell as they were, but [`read`], [`read_value`], [`scan_read`],
+//! [`scan_read_value`], [`next_store`], [`fewest`] and [`join`] make them 0.
 //!
 //! `first` and `last` are the tables that the caller may use, both included.
 //!
@@ -337,6 +337,68 @@ pub fn join(record: &[u32], area: &[u8], index: &[u32], first: &mut u32, second:
             index.len(),
             first,
             second,
+        )
+    }
+}
+
+/// Tells version and kind of a key's object by a scan of the log; both are 0 where the call is refused.
+#[inline]
+#[allow(clippy::too_many_arguments)]
+pub fn scan_read(
+    slots: u32,
+    slot_bytes: u32,
+    area: &[u8],
+    first: u16,
+    last: u16,
+    table: u16,
+    key: u32,
+    version: &mut u32,
+    kind: &mut u32,
+) -> u32 {
+    // SAFETY: the pointer and length are those of one slice; `version` and `kind` are exclusive.
+    unsafe {
+        kurdavel_scan_read(
+            slots,
+            slot_bytes,
+            area.as_ptr(),
+            area.len(),
+            first,
+            last,
+            table,
+            key,
+            version,
+            kind,
+        )
+    }
+}
+
+/// Tells place and length of the value of a key's object by a scan of the log; both are 0 where the call is refused.
+#[inline]
+#[allow(clippy::too_many_arguments)]
+pub fn scan_read_value(
+    slots: u32,
+    slot_bytes: u32,
+    area: &[u8],
+    first: u16,
+    last: u16,
+    table: u16,
+    key: u32,
+    place: &mut u32,
+    bytes: &mut u32,
+) -> u32 {
+    // SAFETY: the pointer and length are those of one slice; `place` and `bytes` are exclusive.
+    unsafe {
+        kurdavel_scan_read_value(
+            slots,
+            slot_bytes,
+            area.as_ptr(),
+            area.len(),
+            first,
+            last,
+            table,
+            key,
+            place,
+            bytes,
         )
     }
 }

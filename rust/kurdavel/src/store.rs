@@ -91,6 +91,81 @@ pub fn recover(
     Ok(Record { words })
 }
 
+/// Tells version and kind of a key's object by a scan of the log: the area alone is enough, as for a boot loader. It answers
+/// as a [`read`](Record::read) after a recovery does.
+///
+/// ```
+/// # let mut area = [0; 1024];
+/// # kurdavel::format(4, 256, &mut area)?;
+/// use kurdavel::{scan_read, scan_read_value, Key, Refusal, Tables, Version};
+/// let key = Key { table: 1, key: 2 };
+/// assert_eq!(scan_read(4, 256, &area, Tables::ALL, key), Err(Refusal::Absent));
+/// # let (mut index, mut work) = ([0; 16], [0; 256]);
+/// # let mut record = kurdavel::recover(4, 256, &[0, 1, 2, 3], &area, &mut index)?;
+/// record.write(&area, &index, &mut work, Tables::ALL, key, &[7; 24])?;
+/// while record.left() > 0 {
+///     record.step(&mut area, &mut index, &work)?;
+/// }
+///
+/// // No record, no index.
+/// assert_eq!(scan_read(4, 256, &area, Tables::ALL, key)?.version, Version(1));
+/// assert_eq!(scan_read_value(4, 256, &area, Tables::ALL, key), &[7; 24]);
+/// # Ok::<(), Refusal>(())
+/// ```
+#[inline]
+pub fn scan_read(
+    slots: u32,
+    slot_bytes: u32,
+    area: &[u8],
+    tables: Tables,
+    key: Key,
+) -> Result<Found, Refusal> {
+    let (mut version, mut kind) = (0, 0);
+    let answer = slices::scan_read(
+        slots,
+        slot_bytes,
+        area,
+        tables.first,
+        tables.last,
+        key.table,
+        key.key,
+        &mut version,
+        &mut kind,
+    );
+    Refusal::unless_accepted(answer)?;
+    Ok(Found {
+        version: Version(version),
+        kind: kind as u8,
+    })
+}
+
+/// The value of a key's object, as a part of the area, by the same scan: an empty one, at the area's start, where
+/// [`scan_read`] is refused.
+#[inline]
+pub fn scan_read_value(
+    slots: u32,
+    slot_bytes: u32,
+    area: &[u8],
+    tables: Tables,
+    key: Key,
+) -> &[u8] {
+    let (mut place, mut bytes) = (0, 0);
+    slices::scan_read_value(
+        slots,
+        slot_bytes,
+        area,
+        tables.first,
+        tables.last,
+        key.table,
+        key.key,
+        &mut place,
+        &mut bytes,
+    );
+    let start = place as usize;
+    area.get(start..start + bytes as usize)
+        .unwrap_or(&area[..0])
+}
+
 impl Record {
     /// Tells version and kind of a key's object.
     ///

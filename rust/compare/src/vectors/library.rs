@@ -106,6 +106,21 @@ impl Subject for Library {
         record.join(&memory.area, &memory.index).map_err(refused)
     }
 
+    fn scan_read(geometry: Geometry, area: &[u8], asked: Asked) -> Answer<(u64, u32)> {
+        let (tables, key) = of(asked);
+        let (slots, slot_bytes) = (geometry.slots, geometry.slot_bytes);
+        let found = kurdavel::scan_read(slots, slot_bytes, area, tables, key);
+        let found = found.map_err(refused)?;
+        Ok((found.version.0.into(), found.kind.into()))
+    }
+
+    fn scan_read_value(geometry: Geometry, area: &[u8], asked: Asked) -> Answer<(usize, usize)> {
+        let (tables, key) = of(asked);
+        let (slots, slot_bytes) = (geometry.slots, geometry.slot_bytes);
+        let value = kurdavel::scan_read_value(slots, slot_bytes, area, tables, key);
+        Ok(part_of(area, value))
+    }
+
     fn says(record: &kurdavel::Record) -> Option<Record> {
         let fields = record.fields()?;
         Some(Record {

@@ -105,14 +105,10 @@ pub trait Subject {
     fn join(record: &Self::Record, memory: &Memory) -> Answer<(u32, u32)>;
 
     /// Version and kind of a key, by a scan of the area.
-    fn scan_read(_geometry: Geometry, _area: &[u8], _asked: Asked) -> Answer<(u64, u32)> {
-        Err(No::Missing("a read by a scan"))
-    }
+    fn scan_read(geometry: Geometry, area: &[u8], asked: Asked) -> Answer<(u64, u32)>;
 
     /// Place and length of a key's value, by a scan of the area.
-    fn scan_read_value(_geometry: Geometry, _area: &[u8], _asked: Asked) -> Answer<(usize, usize)> {
-        Err(No::Missing("a read by a scan"))
-    }
+    fn scan_read_value(geometry: Geometry, area: &[u8], asked: Asked) -> Answer<(usize, usize)>;
 
     /// What a record says; none if it is not one that any call gives.
     fn says(record: &Self::Record) -> Option<Record>;

@@ -3,6 +3,7 @@
 use compare::pair::Pair;
 use compare::Fault;
 use reference::rng::Rng;
+use reference::testing::calls;
 use reference::testing::images::{Image, Shape};
 
 /// Recovers an image with both. Gives 0 or the refusal.
@@ -13,12 +14,20 @@ fn recover(rng: &mut Rng, image: &Image, cells: usize) -> Result<u32, Fault> {
         order[place] = rng.bits() as u8;
     }
     let mut pair = Pair::unrecovered(image.slots, image.slot_bytes, cells, &image.area);
+    let key = image.some_key(rng);
+    let tables = calls::tables(rng, key.table);
+    let scanned = pair.scan_in(tables, key)?;
     match pair.recover(cells, &order)? {
+        // Whatever recovery tells of the area a scan tells as well; the order and the cells do not concern it.
+        Err(refusal) if ![15, 20].contains(&refusal) && scanned != Err(refusal) => {
+            Err(format!("recovery {refusal}, scan {scanned:?}"))
+        }
         Err(refusal) => Ok(refusal),
         Ok(()) => {
             for _ in 0..12 {
                 let _ = pair.read(image.some_key(rng))?;
             }
+            let _ = pair.scan_in(tables, key)?;
             Ok(0)
         }
     }

@@ -5,7 +5,7 @@ use compare::Fault;
 use reference::book::Operation;
 use reference::rng::Rng;
 use reference::testing::{calls, full};
-use reference::{Key, Pending};
+use reference::{Key, Pending, Tables};
 
 /// How many operations, cuts and refusals of each cause a run met.
 #[derive(Default)]
@@ -95,6 +95,7 @@ impl Player {
             }
         }
         self.cut();
+        let _ = self.pair.scan_in(Tables::ALL, self.keys[0])?;
         let order = self.rng.order(self.pair.slots());
         self.pair.must_recover(&order)?;
         for key in &self.keys {
@@ -126,7 +127,7 @@ impl Player {
             8..=11 => {
                 let key = *self.rng.pick(&self.keys);
                 let tables = calls::tables(&mut self.rng, key.table);
-                let (answer, _) = self.pair.read_in(tables, key)?;
+                let answer = self.pair.scan_in(tables, key)?;
                 self.tally.count(answer);
             }
             _ => {

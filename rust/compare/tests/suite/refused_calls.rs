@@ -1,7 +1,7 @@
 //! Calls that must be refused, each with the same number from both, and nothing changed.
 
 use compare::guarded::Guarded;
-use compare::pair::Pair;
+use compare::pair::{scan, Pair};
 use compare::translate;
 use kurdavel::{slices, Record, Refusal, WORDS};
 use reference::book::Operation;
@@ -259,6 +259,9 @@ fn geometries() {
                     Pair::unrecovered(slots.min(40), slot_bytes.min(4096), 16, &vec![5; length]);
                 let answer = pair.format(slots, slot_bytes).unwrap();
                 formats += u32::from(answer.is_ok());
+                let tables = reference::Tables::ALL;
+                let (told, part) = scan(slots, slot_bytes, pair.area(), tables, KEY).unwrap();
+                assert_eq!((told, part), (answer.and(Err(8)), (0, 0)));
                 for cells in [0, 15, 16, 4096, 4097] {
                     let order = pair.ascending();
                     let _ = pair.recover(cells, &order).unwrap();
