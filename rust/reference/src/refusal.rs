@@ -56,11 +56,15 @@ pub enum Refusal {
     HeadMap = 24,
     /// The head's map names a slot that has no digest.
     NotADigest = 25,
+    /// The float is not a whole count that a head position may have.
+    Float = 26,
+    /// The count is above the highest position, or no float holds it.
+    Count = 27,
 }
 
 impl Refusal {
     /// All causes, by number.
-    pub const ALL: [Refusal; 25] = [
+    pub const ALL: [Refusal; 27] = [
         Refusal::Geometry,
         Refusal::IndexLength,
         Refusal::WorkLength,
@@ -86,6 +90,8 @@ impl Refusal {
         Refusal::NoPair,
         Refusal::HeadMap,
         Refusal::NotADigest,
+        Refusal::Float,
+        Refusal::Count,
     ];
 
     /// The number in 01's table.

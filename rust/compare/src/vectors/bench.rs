@@ -115,6 +115,8 @@ impl<S: Subject> Bench<S> {
             Event::Clean { victims, owed } => self.start(Start::Clean(*victims), owed, changes),
             Event::Fewest(owed) => self.fewest(owed, changes),
             Event::Join(owed) => self.join(owed, changes),
+            Event::FromFloat { value, owed } => check_converted(owed, S::from_float(value)),
+            Event::ToFloat { value, owed } => check_converted(owed, S::to_float(value)),
             Event::ScanRead { key, range, owed } => {
                 let asked = self.name(*key, Some(*range));
                 self.scan_read(asked, owed, changes)
@@ -699,6 +701,14 @@ fn check_found(
     };
     same("place", owed_place, place)?;
     same("length", owed_length, length)
+}
+
+/// A conversion's eight bytes.
+fn check_converted(owed: &Owed<Vec<u8>>, answer: Answer<[u8; 8]>) -> Checked {
+    match settled(owed, answer)? {
+        Some((owed, converted)) => same_buffer("value", owed, &converted),
+        None => Ok(()),
+    }
 }
 
 /// What a read of a key owes beside a list of the present keys.

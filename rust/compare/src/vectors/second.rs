@@ -130,6 +130,14 @@ impl Subject for Second {
         Ok(part_of(area, value))
     }
 
+    fn from_float(value: &[u8]) -> Answer<[u8; 8]> {
+        reference::from_float(value).map_err(refused)
+    }
+
+    fn to_float(value: &[u8]) -> Answer<[u8; 8]> {
+        reference::to_float(value).map_err(refused)
+    }
+
     fn says(record: &reference::Record) -> Option<Record> {
         Some(Record {
             slots: record.slots,

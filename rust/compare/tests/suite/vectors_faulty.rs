@@ -142,6 +142,14 @@ impl<const FAULT: u32> Subject for Faulty<FAULT> {
         Second::scan_read_value(geometry, area, asked)
     }
 
+    fn from_float(value: &[u8]) -> Answer<[u8; 8]> {
+        Second::from_float(value)
+    }
+
+    fn to_float(value: &[u8]) -> Answer<[u8; 8]> {
+        Second::to_float(value)
+    }
+
     fn says(record: &reference::Record) -> Option<Record> {
         Second::says(record)
     }

@@ -11,6 +11,7 @@ mod naive;
 mod next_store;
 mod not_genuine;
 mod plausible_and_wrong;
+mod positions;
 mod present_bytes;
 mod random_histories;
 mod refusals;

@@ -16,7 +16,7 @@ use crate::rig::{same, Fault, Rig};
 /// Which refusals and how many operations a run met.
 #[derive(Default)]
 struct Tally {
-    refused: [u32; 26],
+    refused: [u32; 28],
     operations: u32,
     /// Deletes done as a cleaning.
     forgotten: u32,

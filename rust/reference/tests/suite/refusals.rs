@@ -192,7 +192,7 @@ fn numbers_and_causes_agree() {
         assert_eq!(Refusal::from_number(place as u32 + 1), Some(refusal));
     }
     assert_eq!(Refusal::from_number(0), None);
-    assert_eq!(Refusal::from_number(26), None);
+    assert_eq!(Refusal::from_number(28), None);
 }
 
 #[test]
