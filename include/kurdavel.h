@@ -30,7 +30,9 @@
  *     the index is full, and answers 4. All that the record, its pending operation and the lengths tell is tested before
  *     the store.
  *   What a refused call does to the numbers that it would tell:
- *   - kurdavel_read sets *version and *kind to 0, and kurdavel_read_value *place and *bytes;
+ *   - kurdavel_read and kurdavel_scan_read set *version and *kind to 0, kurdavel_read_value and kurdavel_scan_read_value
+ *     *place and *bytes, kurdavel_fewest *slot, kurdavel_next_store *place and *byte, kurdavel_join *first and
+ *     *second, and the conversions of positions all eight bytes;
  *   - every other call leaves them as they were: *stores of a start, *left and *version of a step. Look at the answer
  *     first.
  *   Words that are no record are a refusal like any other (4) and treated so.
@@ -47,6 +49,9 @@
  *   where first is above last. A key outside them is refused with 22, whatever the store holds. Cleaning, step and
  *   recovery take no tables: they serve all.
  *
+ *   A boot loader that needs a value before the memory of the index is up asks kurdavel_scan_read: the area alone is
+ *   enough. It answers as a read after a recovery would, also in the middle of an operation.
+ *
  *   An operation that is not to be finished is given up by kurdavel_recover, without a cut: it drops what is pending.
  *   The bytes stored so far stay in the area, where they do not count and the next operation overwrites what it needs.
  *   The rules of use leave no other way: a record kept from before the start is not the newest one.
@@ -62,11 +67,14 @@
  *   show through the refusals 5, 6, 9 to 14, 20 and 21, the numbers of stores, the versions and the places.
  *
  * WHAT THE CALLS COST
- *   A step before the last does the same little work whatever the store holds. A read, the start of a write or delete
+ *   A step before the last, kurdavel_next_store, kurdavel_fewest and the conversions of positions do the same little work
+ *   whatever the store holds. A read, the start of a write or delete
  *   and the last step of either search the index once, but for a delete that is done as a cleaning (kurdavel_delete).
  *   Recovery, the start of a cleaning of slots that hold tombstones, the start of such a delete and the last step of
  *   every cleaning and of every such delete look at each entry of the log (at most (N - 1) * ((S - 13) / 11) of them),
- *   with a search for each; recovery and these last steps also write all M words of the index. A search looks at few
+ *   with a search for each; recovery and these last steps also write all M words of the index. kurdavel_join takes no more
+ *   than one and a half times as long as the starts of a cleaning of each slot of the log, one after another.
+ *   kurdavel_scan_read looks at each entry of the log as recovery does, without the index, and takes no longer. A search looks at few
  *   words while M is well above the number of keys, and never at more than the keys and one more. docs/PERFORMANCE.md
  *   has bounds and measured worst cases.
  *
@@ -95,6 +103,24 @@
  *   be merged: the archive is machine code, so link-time optimisation leaves each call as it is. If you build the
  *   library in another form, keep it so.
  *
+ * HEAD POSITIONS AS FLOATS AND AS COUNTS
+ *   Values of 8 bytes in old head records begin with the position as a 32-bit float (IEEE 754, little-endian), the other four
+ *   bytes being free; new ones have the position there as a whole number. kurdavel_from_float and kurdavel_to_float convert
+ *   such a value and never round: where a float is no whole count, or a count is lost in a float (16,777,217 is the first), they
+ *   refuse. They know nothing of the store. examples/c/positions.c carries a record over, under a key of its own and cut
+ *   anywhere.
+ *
+ * MEDIA THAT ARE NOT MEMORY
+ *   Where the parameters lie in serial FRAM or EEPROM behind a driver, lend a copy in RAM as the area. At power on the copy
+ *   is read from the device and recovered. Before each step kurdavel_next_store tells the place and the byte that the step
+ *   will store, and the firmware puts the same byte at the same place of the device: right before the step or right after
+ *   it, but in every case before the next one, and after the last one before the operation is reported as done. The device
+ *   has then made the same stores in the same order as the copy, all of them or all but one, or one more. A cut loses the
+ *   copy, and the device decides: it is what a cut of the store one store earlier or later would leave, which the promise
+ *   covers. A driver that writes a byte twice after an error does no harm; one that merges or reorders bytes does.
+ *   kurdavel_format makes its stores in one call: put the whole area on the device after it. examples/c/device.c shows all
+ *   this.
+ *
  * INTERRUPTS AND TASKS
  *   One call at a time for each store, but reads, which change nothing, may overlap one another. A read from an
  *   interrupt or another task is allowed between two steps, not while a call that changes the record, the index or the
@@ -110,19 +136,28 @@
  *   11, and a slot holds S - 13 bytes of them. A delete needs no room: a store that is full of live objects can be
  *   emptied again, one key after another.
  *
+ *   An idle task that cleans ahead of need asks kurdavel_fewest for its victim: of that slot the fewest bytes of objects
+ *   are kept. The words KURDAVEL_WORD_PRESENT.. of the record say for each slot how many they are. Tombstones may be kept
+ *   besides, 11 bytes each.
+ *
  *   What helps after a refusal
  *    9  Only a format, which empties the store: no version is left. Reads and cleanings go on.
  *   10  Only a format, which empties the store: no digest number is left. Reads go on, and so do writes and deletes
  *       whose entry fits the head.
  *   11  Clean the slots that hold entries of deleted keys, objects and tombstone of a key together or the objects
  *       first; or recover with a larger index.
- *   12  Clean. A cleaning takes one free slot and frees its victims: several at once, of which little still counts,
- *       give slots back; a single one gives back the room of those of its entries that no longer count. It does not
- *       help a store full of live objects: delete some, which is never refused with 12, and clean where the room that
- *       they leave is not in the head.
+ *   12  Ask kurdavel_join, and clean the two slots that it tells: the same write is then accepted, with no other call
+ *       between, unless digest numbers run out (it was at most 4,294,967,293 before). In general a cleaning takes one
+ *       free slot and frees its victims: several at once, of which little still counts, give slots back; a single one
+ *       gives back the room of those of its entries that no longer count. It does not help a store full of live objects:
+ *       delete some, which is never refused with 12, and clean where the room that they leave is not in the head.
  *   14  Name fewer victims. What a single one holds always fits.
  *   21  Read the key again: another write or a delete came between. The value to be written may rest on an old one.
  *   22  Nothing: the key is another owner's.
+ *   23  No cleaning of two slots gives a slot back. Clean the one that kurdavel_fewest tells, which gives back the room
+ *       of its entries that no longer count; or delete.
+ *   26  The record is damaged, or its position has a fraction: measure the position anew.
+ *   27  Keep the count: no float holds it, or it is no position.
  */
 #ifndef KURDAVEL_H
 #define KURDAVEL_H
@@ -138,7 +173,7 @@ extern "C" {
  * The version of this interface. MAJOR goes up when a program written for an earlier one may have to change, or an area
  * written by an earlier one may be refused; MINOR when something is added.
  */
-#define KURDAVEL_VERSION_MAJOR 2u
+#define KURDAVEL_VERSION_MAJOR 4u
 #define KURDAVEL_VERSION_MINOR 2u
 #define KURDAVEL_VERSION (KURDAVEL_VERSION_MAJOR * 1000u + KURDAVEL_VERSION_MINOR)
 
@@ -150,7 +185,9 @@ extern "C" {
 #define KURDAVEL_CELLS_MIN 16u      /* M */
 #define KURDAVEL_CELLS_MAX 4096u
 #define KURDAVEL_VALUE_MAX 120u     /* a value is 8, 24, 56 or 120 bytes */
-#define KURDAVEL_RECORD_WORDS 14u
+#define KURDAVEL_POSITION_BYTES 8u  /* a value that begins with a head position */
+#define KURDAVEL_POSITION_MAX 67108864u /* the highest head position */
+#define KURDAVEL_RECORD_WORDS 49u
 
 /*
  * The most bytes of stack that a call takes, with its return address, without arguments that are passed on the stack
@@ -165,6 +202,13 @@ extern "C" {
 #define KURDAVEL_STACK_DELETE 1152u
 #define KURDAVEL_STACK_CLEAN 1152u
 #define KURDAVEL_STACK_STEP 896u
+#define KURDAVEL_STACK_FEWEST 0u
+#define KURDAVEL_STACK_NEXT_STORE 0u
+#define KURDAVEL_STACK_JOIN 0u
+#define KURDAVEL_STACK_SCAN_READ 0u
+#define KURDAVEL_STACK_SCAN_READ_VALUE 0u
+#define KURDAVEL_STACK_FROM_FLOAT 0u
+#define KURDAVEL_STACK_TO_FLOAT 0u
 
 /* The words of a record. The store is the library's to change: read these, and write none. */
 enum kurdavel_word {
@@ -176,12 +220,17 @@ enum kurdavel_word {
     KURDAVEL_WORD_DIGEST = 5,     /* digest number of the head */
     KURDAVEL_WORD_MAP = 6,        /* slots of the log: bit i, from the lowest, is slot i */
     KURDAVEL_WORD_NEXT = 7,       /* next version */
-    KURDAVEL_WORD_KEYS = 8,       /* keys that have entries in the log, deleted ones too */
-    KURDAVEL_WORD_PENDING = 9,    /* see below */
-    KURDAVEL_WORD_SLOT = 10,      /* slot of the new head, or 0 */
-    KURDAVEL_WORD_VICTIMS = 11,   /* slots that are cleaned, or 0 */
-    KURDAVEL_WORD_LENGTH = 12,    /* bytes of the work buffer in use */
-    KURDAVEL_WORD_LEFT = 13       /* stores left; 0 where none is pending */
+    KURDAVEL_WORD_RESERVE_8 = 8,  /* in reserve, as are 10 and 11: 0, or the words are no record */
+    KURDAVEL_WORD_KEYS = 9,       /* keys that have entries in the log, deleted ones too */
+    KURDAVEL_WORD_RESERVE_10 = 10,
+    KURDAVEL_WORD_RESERVE_11 = 11,
+    KURDAVEL_WORD_PENDING = 12,   /* see below */
+    KURDAVEL_WORD_SLOT = 13,      /* slot of the new head, or 0 */
+    KURDAVEL_WORD_VICTIMS = 14,   /* slots that are cleaned, or 0 */
+    KURDAVEL_WORD_LENGTH = 15,    /* bytes of the work buffer in use */
+    KURDAVEL_WORD_LEFT = 16,      /* stores left; 0 where none is pending */
+    KURDAVEL_WORD_PRESENT = 17    /* the first of 32: KURDAVEL_WORD_PRESENT + i is slot i's. The bytes of its present
+                                     objects, whole entries that give present keys their values; 0 outside the log */
 };
 
 /* What word KURDAVEL_WORD_PENDING says of the operation under way. */
@@ -214,12 +263,19 @@ enum kurdavel_answer {
     KURDAVEL_REFUSED_KEPT_TOO_LONG = 14,   /* what is kept of the victims is too long for one slot */
     KURDAVEL_REFUSED_BAD_ORDER = 15,       /* the order is not each slot once */
     KURDAVEL_REFUSED_NO_DIGEST = 16,       /* no slot has a digest: not formatted */
-    KURDAVEL_REFUSED_BAD_DIGEST = 17,      /* the highest digest number is 0 or shared, or that digest is impossible */
+    KURDAVEL_REFUSED_BAD_DIGEST = 17,      /* the highest digest number is 0 or shared, or that digest's next version
+                                              is 0 */
     KURDAVEL_REFUSED_DAMAGED_LOG = 18,     /* an entry of unknown kind, past its slot, or with an impossible version */
     KURDAVEL_REFUSED_SHARED_VERSION = 19,  /* a version stands twice in the log */
     KURDAVEL_REFUSED_TOO_MANY_KEYS = 20,   /* more than M - 1 keys have entries in the log */
     KURDAVEL_REFUSED_OTHER_VERSION = 21,   /* the key has another version than the caller expects */
-    KURDAVEL_REFUSED_OUTSIDE_TABLES = 22   /* the key's table is not one that the caller may use */
+    KURDAVEL_REFUSED_OUTSIDE_TABLES = 22,  /* the key's table is not one that the caller may use */
+    KURDAVEL_REFUSED_NO_PAIR = 23,         /* what is kept of no two slots of the log fits one slot */
+    KURDAVEL_REFUSED_BAD_MAP = 24,         /* the head's map names a slot not below N, lacks the head or leaves no slot
+                                              free */
+    KURDAVEL_REFUSED_NOT_A_DIGEST = 25,    /* the head's map names a slot that does not begin with a digest */
+    KURDAVEL_REFUSED_BAD_FLOAT = 26,       /* the float is no whole number from 0 to 67,108,864, or has its sign bit set */
+    KURDAVEL_REFUSED_BAD_COUNT = 27        /* the count is above 67,108,864, or no float holds it */
 };
 
 /*
@@ -231,9 +287,10 @@ uint32_t kurdavel_format(uint32_t slots, uint32_t slot_bytes, uint8_t *area, siz
 /*
  * Reads the log and makes the record and the index. `order` names each slot 0 to N - 1 once, in the order in which
  * they are to be read; every order gives the same store. M is index_words. A pending operation is dropped.
- * Refused: 4, 1, 2, 15, 16, 17, 18, 19, 20, in this order. Here 4 has one cause, a record shorter than
+ * Refused: 4, 1, 2, 15, 16, 17, 24, 25, 18, 19, 20, in this order. Here 4 has one cause, a record shorter than
  * KURDAVEL_RECORD_WORDS. It belongs to this interface and not to recovery itself, which takes no record; it is
- * tested first, so that it hides any other cause.
+ * tested first, so that it hides any other cause. 17, 24 and 25 tell apart what is wrong with the head's digest: its
+ * number or next version, its map, or a slot that the map names.
  * After 20 no call that takes a record may be made before a recovery is accepted (rules of use).
  */
 uint32_t kurdavel_recover(uint32_t slots, uint32_t slot_bytes, const uint8_t *order, size_t order_bytes,
@@ -310,6 +367,65 @@ uint32_t kurdavel_clean(uint32_t *record, size_t record_words, const uint8_t *ar
  */
 uint32_t kurdavel_step(uint32_t *record, size_t record_words, uint8_t *area, size_t area_bytes, uint32_t *index,
                        size_t index_words, const uint8_t *work, size_t work_bytes, uint32_t *left, uint32_t *version);
+
+/*
+ * Tells the store that the next kurdavel_step will make: *byte, at area + *place. It changes nothing, so that it may be
+ * asked as often as one likes. With the same record, area and work buffer the step stores exactly this byte there, or is
+ * refused. Where it is refused, both are 0.
+ * Refused: 4, 3, 6, in this order. No index is lent, so that of the lengths only the area's and the work buffer's count.
+ */
+uint32_t kurdavel_next_store(const uint32_t *record, size_t record_words, const uint8_t *area, size_t area_bytes,
+                             const uint8_t *work, size_t work_bytes, uint32_t *place, uint32_t *byte);
+
+/*
+ * Tells the slot of the log that has the fewest bytes of present objects, as the words of the record count them, the
+ * lowest of several. It looks at the record alone, and may be asked during an operation: the words then count what stood
+ * before it. Where it is refused, *slot is 0.
+ * Refused: 4.
+ */
+uint32_t kurdavel_fewest(const uint32_t *record, size_t record_words, uint32_t *slot);
+
+/*
+ * Tells two slots of the log, *first below *second, whose cleaning together is not refused with 14: what they hold that
+ * still counts fits one slot. Of all such pairs it is the one with the lowest first slot, and among these with the lowest
+ * second. The head may be one of them. Clean (1 << *first) | (1 << *second) to join them. Where it is refused, both are 0.
+ * Refused: 4, 5, 23, in this order. The digest number plays no part: 10 may refuse the cleaning.
+ */
+uint32_t kurdavel_join(const uint32_t *record, size_t record_words, const uint8_t *area, size_t area_bytes,
+                       const uint32_t *index, size_t index_words, uint32_t *first, uint32_t *second);
+
+/*
+ * Tells the version and the kind of a key's object by a scan of the log: no record, no index and no work buffer are needed.
+ * For every area that a recovery accepts with some index it answers what kurdavel_read answers after it; there may be more
+ * keys than any index takes. Where it is refused, both are 0.
+ * Refused: 1, 16, 17, 24, 25, 18, 19, 22, 8, in this order.
+ */
+uint32_t kurdavel_scan_read(uint32_t slots, uint32_t slot_bytes, const uint8_t *area, size_t area_bytes, uint16_t first,
+                            uint16_t last, uint16_t table, uint32_t key, uint32_t *version, uint32_t *kind);
+
+/*
+ * Tells where the value of a key's object lies in the area, by the same scan: at area + *place, *bytes long, as
+ * kurdavel_read_value. Where it is refused, both are 0.
+ * Refused: 1, 16, 17, 24, 25, 18, 19, 22, 8, in this order.
+ */
+uint32_t kurdavel_scan_read_value(uint32_t slots, uint32_t slot_bytes, const uint8_t *area, size_t area_bytes,
+                                  uint16_t first, uint16_t last, uint16_t table, uint32_t key, uint32_t *place,
+                                  uint32_t *bytes);
+
+/*
+ * Converts a value of 8 bytes whose first four are a head position as a float into one that has there the same position as
+ * a 32-bit whole number; the other four are kept. `converted` points to 8 bytes, which become the new value, or 0 where the
+ * call is refused. kurdavel_to_float gives back the same eight bytes.
+ * Refused: 7 (any length but 8), 26, in this order. Negative zero, infinities and NaNs are 26.
+ */
+uint32_t kurdavel_from_float(const uint8_t *value, size_t value_bytes, uint8_t *converted);
+
+/*
+ * The way back: the first four bytes are a count, and become the float that has the same position, where there is one.
+ * kurdavel_from_float gives back the same eight bytes.
+ * Refused: 7 (any length but 8), 27, in this order.
+ */
+uint32_t kurdavel_to_float(const uint8_t *value, size_t value_bytes, uint8_t *converted);
 
 /*
  * All that is lent, in one struct, and the calls over it. Each buffer has a type of its own, so that none is taken for
@@ -431,6 +547,35 @@ static inline uint32_t kurdavel_store_step(struct kurdavel_store *store, uint32_
     return kurdavel_step(store->record.words, KURDAVEL_RECORD_WORDS, store->area.bytes, store->area.length,
                          store->index.cells, store->index.length, store->work.bytes, store->work.length, left,
                          version);
+}
+
+static inline uint32_t kurdavel_store_next_store(const struct kurdavel_store *store, uint32_t *place, uint32_t *byte) {
+    return kurdavel_next_store(store->record.words, KURDAVEL_RECORD_WORDS, store->area.bytes, store->area.length,
+                               store->work.bytes, store->work.length, place, byte);
+}
+
+static inline uint32_t kurdavel_store_fewest(const struct kurdavel_store *store, uint32_t *slot) {
+    return kurdavel_fewest(store->record.words, KURDAVEL_RECORD_WORDS, slot);
+}
+
+static inline uint32_t kurdavel_store_join(const struct kurdavel_store *store, uint32_t *first, uint32_t *second) {
+    return kurdavel_join(store->record.words, KURDAVEL_RECORD_WORDS, store->area.bytes, store->area.length,
+                         store->index.cells, store->index.length, first, second);
+}
+
+static inline uint32_t kurdavel_store_scan_read(const struct kurdavel_area *area, struct kurdavel_tables tables,
+                                                struct kurdavel_key key, uint32_t *version, uint32_t *kind) {
+    return kurdavel_scan_read(area->slots, area->slot_bytes, area->bytes, area->length, tables.first, tables.last,
+                              key.table, key.key, version, kind);
+}
+
+static inline uint32_t kurdavel_store_scan_read_value(const struct kurdavel_area *area, struct kurdavel_tables tables,
+                                                      struct kurdavel_key key, struct kurdavel_value *value) {
+    uint32_t place = 0;
+    uint32_t answer = kurdavel_scan_read_value(area->slots, area->slot_bytes, area->bytes, area->length, tables.first,
+                                               tables.last, key.table, key.key, &place, &value->length);
+    value->bytes = area->bytes + place;
+    return answer;
 }
 
 #ifdef __cplusplus

@@ -1,7 +1,8 @@
 /*
  * The edges of the interface: refusals and what they leave, an operation that is given up, an index that is too small
- * for the log, two passes that write over what they read, two owners with tables of their own, the longest value, and a
- * full store that is emptied.
+ * for the log, two passes that write over what they read, two owners with tables of their own, the longest value, a full
+ * store that is emptied, an idle task that chooses what to clean, two slots that are joined, a damaged digest, and a boot
+ * loader that has no index yet.
  * Prints what is answered; `rules.stdout` beside this file is what it must print.
  */
 #include "kurdavel.h"
@@ -222,6 +223,102 @@ static void full_store(struct kurdavel_store *store) {
     printf("cleaned, and written again with version %u\n", (unsigned)finish(store, stores));
 }
 
+/*
+ * An idle task: while fewer than two slots are free, it cleans the one that has the fewest bytes of present objects. The
+ * record alone tells which; no slot is scanned.
+ */
+static void idle(struct kurdavel_store *store) {
+    static const uint8_t value[56] = {0x1d};
+    uint32_t stores = 0, slot = 77, i;
+    expect_accepted("format", kurdavel_store_format(&store->area));
+    expect_accepted("recover", kurdavel_store_recover(store, order, sizeof order));
+    for (i = 0; i < 9; i++) {
+        /* Of the objects in the second slot only one is not written again. */
+        uint32_t number = i < 6 ? i : i - 2;
+        expect_accepted("write", kurdavel_store_write(store, servo, key_of(number), value, sizeof value, &stores));
+        finish(store, stores);
+    }
+    printf("present bytes of the slots:");
+    for (i = 0; i < SLOTS; i++) printf(" %u", (unsigned)store->record.words[KURDAVEL_WORD_PRESENT + i]);
+    expect_accepted("fewest", kurdavel_store_fewest(store, &slot));
+    expect_accepted("clean", kurdavel_store_clean(store, (uint32_t)1 << slot, &stores));
+    printf("\nslot %u has the fewest and is cleaned in %u stores\n", (unsigned)slot, (unsigned)stores);
+    finish(store, stores);
+    memset(store->record.words, 0, sizeof store->record.words);
+    printf("fewest of no record: %u", (unsigned)kurdavel_store_fewest(store, &slot));
+    printf(", slot %u\n", (unsigned)slot);
+}
+
+/*
+ * A write that meets 12: two slots are joined, and the same write is accepted. Where no two slots fit one, nothing that
+ * joins helps.
+ */
+static void join(struct kurdavel_store *store) {
+    static const uint8_t value[56] = {0x70};
+    uint32_t stores = 0, first = 77, second = 77, number = 0, answer;
+    expect_accepted("format", kurdavel_store_format(&store->area));
+    expect_accepted("recover", kurdavel_store_recover(store, order, sizeof order));
+    printf("joining of one slot: %u", (unsigned)kurdavel_store_join(store, &first, &second));
+    printf(", slots %u and %u\n", (unsigned)first, (unsigned)second);
+    for (;;) {
+        answer = kurdavel_store_write(store, servo, key_of(number % 4), value, sizeof value, &stores);
+        if (answer != KURDAVEL_ACCEPTED) break;
+        finish(store, stores);
+        number++;
+    }
+    printf("write %u: %u", (unsigned)number, (unsigned)answer);
+    expect_accepted("join", kurdavel_store_join(store, &first, &second));
+    printf(", slots %u and %u can be joined", (unsigned)first, (unsigned)second);
+    expect_accepted("clean", kurdavel_store_clean(store, (uint32_t)1 << first | (uint32_t)1 << second, &stores));
+    finish(store, stores);
+    expect_accepted("write", kurdavel_store_write(store, servo, key_of(number % 4), value, sizeof value, &stores));
+    printf(", and it is accepted: version %u\n", (unsigned)finish(store, stores));
+}
+
+/* What a recovery tells of a damaged digest: one byte of the head's digest is another each time. */
+static void damaged_digest(struct kurdavel_store *store) {
+    static const struct {
+        const char *what;
+        uint32_t place;
+        uint8_t byte;
+    } faults[4] = {{"next version 0", 9, 0},
+                   {"map with a slot that there is not", 5, 0x11},
+                   {"map without the head", 5, 0},
+                   {"map with a slot that has no digest", 5, 0x03}};
+    uint32_t i;
+    for (i = 0; i < 4; i++) {
+        expect_accepted("format", kurdavel_store_format(&store->area));
+        medium[faults[i].place] = faults[i].byte;
+        printf("%s: %u\n", faults[i].what, (unsigned)kurdavel_store_recover(store, order, sizeof order));
+    }
+}
+
+/* A boot loader reads one value from the area alone: no index, no record, no work buffer. */
+static void boot_loader(struct kurdavel_store *store) {
+    struct kurdavel_area area = store->area;
+    struct kurdavel_value value;
+    uint32_t stores = 0, version = 0, kind = 0;
+    expect_accepted("format", kurdavel_store_format(&area));
+    expect_accepted("recover", kurdavel_store_recover(store, order, sizeof order));
+    finish(store, start_write(store, 5));
+    expect_accepted("delete", kurdavel_store_delete(store, servo, key_of(5), &stores));
+
+    /* Power fails before the delete has made a store. The loader has nothing but the area. */
+    memset(store, 0, sizeof *store);
+    memset(cells, 0xa5, sizeof cells);
+    expect_accepted("scan", kurdavel_store_scan_read(&area, servo, key_of(5), &version, &kind));
+    expect_accepted("scan", kurdavel_store_scan_read_value(&area, servo, key_of(5), &value));
+    printf("boot loader: version %u, kind %u, %u bytes of %02x", (unsigned)version, (unsigned)kind,
+           (unsigned)value.length, value.bytes[0]);
+    printf("; another key: %u", (unsigned)kurdavel_store_scan_read(&area, servo, key_of(6), &version, &kind));
+    printf("; a table of another owner: %u\n",
+           (unsigned)kurdavel_store_scan_read(&area, media, key_of(5), &version, &kind));
+    medium[0] = 0;
+    printf("boot loader on an area without a digest: %u",
+           (unsigned)kurdavel_store_scan_read(&area, servo, key_of(5), &version, &kind));
+    printf(", version %u and kind %u\n", (unsigned)version, (unsigned)kind);
+}
+
 int main(void) {
     struct kurdavel_store store;
     uint32_t number, stores = 0, version;
@@ -248,5 +345,9 @@ int main(void) {
     two_owners(&store);
     longest_value(&store);
     full_store(&store);
+    idle(&store);
+    join(&store);
+    damaged_digest(&store);
+    boot_loader(&store);
     return 0;
 }

@@ -13,6 +13,9 @@ pub fn cases(report: &mut Report) {
     writes(report);
     cleanings(report);
     full_deletes(report);
+    fewest(report);
+    next_store(report);
+    joins(report);
 }
 
 /// Reads of keys all over a full store.
@@ -117,5 +120,104 @@ fn full_deletes(report: &mut Report) {
         report.call(Call::FullDeleteStart, Keys::Plain, &start, timing);
         let whole = format!("delete with its steps in a full store, {case}");
         report.line(&whole, store.time_whole(delete));
+    }
+}
+
+/// The slot with the fewest present bytes of a log of 31 slots, all of them as full.
+fn fewest(report: &mut Report) {
+    let mut store = Store::new(full(SLOTS, |at| at.object(at.count)), CELLS);
+    assert_eq!(store.proved.fewest(), Ok(0));
+    let timing = compare(
+        &mut store,
+        |store| {
+            let _ = black_box(black_box(&store.proved).fewest());
+        },
+        |store| {
+            let _ = black_box(reference::fewest(black_box(&store.reference)));
+        },
+    );
+    let case = "slot with the fewest present bytes of 31";
+    report.call(Call::Fewest, Keys::Plain, case, timing);
+}
+
+/// The next store of a write told, and of a cleaning.
+fn next_store(report: &mut Report) {
+    for (case, operation) in [
+        (
+            "the next store of a write told",
+            Operation::Write(5, &[9; 8]),
+        ),
+        ("the next store of a cleaning told", Operation::Clean(1)),
+    ] {
+        let mut store = two_slots(true);
+        let (proved, _) = store.start_proved(operation);
+        let (reference, stores) = store.start_reference(operation);
+        stores.expect("an accepted start");
+        let timing = compare(
+            &mut store,
+            |store| {
+                let _ = black_box(black_box(&proved).next_store(&store.area, &store.work));
+            },
+            |store| {
+                let record = black_box(&reference);
+                let _ = black_box(reference::next_store(record, &store.area, &store.work));
+            },
+        );
+        report.call(Call::NextStore, Keys::Plain, case, timing);
+    }
+}
+
+/// The two slots to join of a full store that has none: of live objects, of tombstones with an object elsewhere, and of both.
+/// Beside each stands what starting a cleaning of every slot alone takes together.
+fn joins(report: &mut Report) {
+    let live = |at: At| at.object(at.count);
+    // Every tombstone of the last eleven slots stands for an object of the first twenty.
+    let deleted = |at: At| match at.slot < 20 {
+        true => at.object(at.count),
+        false => at.tombstone(at.count - (20 * OBJECTS) as u32),
+    };
+    let mixed = |at: At| match at.slot {
+        0..8 => at.object(at.count),
+        8..12 => at.tombstone(at.count - (8 * OBJECTS) as u32),
+        _ => at.object(at.count % 3000 + 3000),
+    };
+    let stores: [(&str, Vec<u8>); 3] = [
+        ("objects", full(SLOTS, live)),
+        ("tombstones with an object elsewhere", full(SLOTS, deleted)),
+        ("objects and tombstones", full(SLOTS, mixed)),
+    ];
+    for (case, area) in stores {
+        let mut store = Store::new(area, CELLS);
+        let told = reference::join(&store.reference, &store.area, &store.index);
+        let proved = store.proved.join(&store.area, &store.index);
+        assert_eq!(proved.ok(), told.ok());
+        let timing = compare(
+            &mut store,
+            |store| {
+                let record = black_box(&store.proved);
+                let _ = black_box(record.join(&store.area, &store.index));
+            },
+            |store| {
+                let record = black_box(&store.reference);
+                let _ = black_box(reference::join(record, &store.area, &store.index));
+            },
+        );
+        let name = format!("two slots to join, {case}");
+        report.call(Call::Join, Keys::Plain, &name, timing);
+        let timing = compare(
+            &mut store,
+            |store| {
+                for slot in 0..LOG {
+                    let _ = black_box(store.start_proved(Operation::Clean(1 << slot)));
+                }
+            },
+            |store| {
+                for slot in 0..LOG {
+                    let _ = black_box(store.start_reference(Operation::Clean(1 << slot)));
+                }
+            },
+        );
+        let name = format!("starts of cleaning each of 31 slots alone, {case}");
+        report.line(&name, timing);
     }
 }

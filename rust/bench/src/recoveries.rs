@@ -5,7 +5,7 @@ use std::hint::black_box;
 
 use crate::image::{full, At, Entry, SLOT_BYTES};
 use crate::report::{Call, Keys, Report};
-use crate::store::{CELLS, SLOTS};
+use crate::store::{proved_key, reference_key, ALL, CELLS, PROVED_ALL, SLOTS};
 use crate::timing::compare;
 use crate::versions::{in_steps, meeting};
 
@@ -42,6 +42,7 @@ pub fn cases(report: &mut Report) {
     }
     scattered(report);
     chosen(report);
+    scans(report);
 }
 
 /// Versions far apart, as cleanings leave them after a long history.
@@ -96,4 +97,44 @@ pub fn recovery(report: &mut Report, keys: Keys, case: &str, area: Vec<u8>) {
         },
     );
     report.call(Call::Recovery, keys, case, timing);
+}
+
+/// Reads by a scan of the images that recoveries are timed on: a key in the middle, which takes no longer than recovery.
+fn scans(report: &mut Report) {
+    let versions = meeting();
+    for (case, area) in [
+        (
+            "8-byte objects",
+            full(SLOTS, |at| at.object(at.count % 2000)),
+        ),
+        (
+            "tombstones",
+            full(SLOTS, |at| at.tombstone(at.count % 2000)),
+        ),
+        ("4,000 distinct keys", full(SLOTS, mixed)),
+        (
+            "tombstones, versions that meet",
+            full(SLOTS, |at| {
+                at.tombstone(at.count % 2000)
+                    .versioned(versions[at.count as usize])
+            }),
+        ),
+    ] {
+        let (n, s) = (SLOTS as u32, SLOT_BYTES as u32);
+        let timing = compare(
+            &mut (),
+            |()| {
+                let key = proved_key(black_box(1000));
+                let area = black_box(&area);
+                let _ = black_box(kurdavel::scan_read(n, s, area, PROVED_ALL, key));
+            },
+            |()| {
+                let key = reference_key(black_box(1000));
+                let area = black_box(&area);
+                let _ = black_box(reference::scan_read(n, s, area, ALL, key));
+            },
+        );
+        let name = format!("read by a scan, {case}");
+        report.call(Call::ScanRead, Keys::Plain, &name, timing);
+    }
 }

@@ -25,10 +25,20 @@ pub enum Call {
     LastStepOfCleaning,
     /// A recovery.
     Recovery,
+    /// The slot with the fewest present bytes.
+    Fewest,
+    /// The next store told.
+    NextStore,
+    /// The two slots to join.
+    Join,
+    /// A read by a scan of the log.
+    ScanRead,
+    /// The conversion of a position.
+    Position,
 }
 
 impl Call {
-    const ALL: [(Call, &'static str); 10] = [
+    const ALL: [(Call, &'static str); 15] = [
         (Call::Read, "read"),
         (Call::WriteStart, "start of a write"),
         (Call::ConditionalWriteStart, "start of a conditional write"),
@@ -39,6 +49,11 @@ impl Call {
         (Call::LastStepOfWrite, "last step of a write"),
         (Call::LastStepOfCleaning, "last step of a cleaning"),
         (Call::Recovery, "recovery"),
+        (Call::Fewest, "slot with the fewest present bytes"),
+        (Call::NextStore, "the next store told"),
+        (Call::Join, "two slots to join"),
+        (Call::ScanRead, "read by a scan"),
+        (Call::Position, "conversion of a position"),
     ];
 }
 

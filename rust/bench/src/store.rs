@@ -145,8 +145,7 @@ impl Store {
 
     #[inline(always)]
     fn step_reference(&mut self, record: &mut reference::Record) {
-        let (after, answer) = reference::step(*record, &mut self.area, &mut self.index, &self.work);
-        *record = after;
+        let answer = reference::step_kept(record, &mut self.area, &mut self.index, &self.work);
         black_box(answer).expect("a step of a started operation");
     }
 

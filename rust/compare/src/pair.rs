@@ -230,6 +230,8 @@ impl Pair {
     fn same_record(&self) -> Result<(), Fault> {
         if let Some((proved, reference)) = self.records {
             same!("record", proved, translate::record(reference));
+            let fewest = translate::reference(reference::fewest(&reference));
+            same!("fewest", translate::proved(proved.fewest()), fewest);
         }
         Ok(())
     }
@@ -338,11 +340,35 @@ impl Pair {
         found.map_or(Version::NONE, |found| found.version)
     }
 
-    /// Makes one step on both.
+    /// The two slots to join, as both tell them.
+    pub fn join(&self) -> Result<Result<(u32, u32), u32>, Fault> {
+        let (record, owed) = self.records.expect("an accepted recovery came before");
+        let told = translate::proved(record.join(&self.proved.area, &self.proved.index));
+        let owed = reference::join(&owed, &self.reference.area, &self.reference.index);
+        same!("join", told, translate::reference(owed));
+        self.same_memory()?;
+        Ok(told)
+    }
+
+    /// The store that the next step makes, as both tell it.
+    pub fn next_store(&self) -> Result<Result<(usize, u8), u32>, Fault> {
+        let (record, owed) = self.records.expect("an accepted recovery came before");
+        let told = record.next_store(&self.proved.area, &self.proved.work);
+        let told = translate::proved(told.map(|store| (store.place, store.byte)));
+        let owed = reference::next_store(&owed, &self.reference.area, &self.reference.work);
+        let owed = translate::reference(owed.map(|store| (store.place, store.byte)));
+        same!("next store", told, owed);
+        Ok(told)
+    }
+
+    /// Makes one step on both, which stores what was told before.
     pub fn step(&mut self) -> Result<Result<(u32, u32), u32>, Fault> {
+        let told = self.next_store()?;
         let (mut record, before) = self.records.expect("an accepted recovery came before");
         let Memory { area, index, work } = &mut self.proved;
         let answer = record.step(area, index, work);
+        let stored = told.is_ok_and(|(place, byte)| area[place] == byte);
+        same!("store made as told", answer.is_ok(), stored);
         let Memory { area, index, work } = &mut self.reference;
         let (after, owed) = reference::step(before, area, index, work);
         let answer = translate::proved(answer.map(translate::proved_progress));
@@ -378,9 +404,34 @@ impl Pair {
         })
     }
 
+    /// Cleans the two slots that are told, which must be accepted, and gives them; or the number that refuses to tell any.
+    pub fn join_and_clean(&mut self) -> Result<Result<(u32, u32), u32>, Fault> {
+        let told = self.join()?;
+        if let Ok((first, second)) = told {
+            let clean = Operation::Clean(SlotMap(1 << first | 1 << second));
+            if let Err(refusal) = self.begin(&clean)? {
+                return Err(format!("cleaning of the two slots refused: {refusal}"));
+            }
+            self.finish()?;
+        }
+        Ok(told)
+    }
+
     /// Reads a key from both, for a caller of all tables.
     pub fn read(&self, key: Key) -> Result<Told, Fault> {
         self.read_in(Tables::ALL, key).map(|(found, _)| found)
+    }
+
+    /// Reads a key by a scan of the area as it stands, record or not, and where there is a record also by it: all tell the
+    /// same.
+    pub fn scan_in(&self, tables: Tables, key: Key) -> Result<Told, Fault> {
+        let (told, part) = scan(self.slots, self.slot_bytes, self.area(), tables, key)?;
+        if self.is_recovered() {
+            let (found, value) = self.read_in(tables, key)?;
+            let place = value.as_ptr() as usize - self.area().as_ptr() as usize;
+            same!("scan and read", (told, part), (found, (place, value.len())));
+        }
+        Ok(told)
     }
 
     /// Reads a key from both, for a caller with these tables. Version, kind, value and the value's place are the same.
@@ -406,6 +457,32 @@ impl Pair {
         same!(format!("place of {key:?}"), place, owed_place);
         Ok((found, value))
     }
+}
+
+/// What both tell of a key by a scan of an area: version, kind, and place and length of the value.
+pub fn scan(
+    slots: u32,
+    slot_bytes: u32,
+    area: &[u8],
+    tables: Tables,
+    key: Key,
+) -> Result<(Told, (usize, usize)), Fault> {
+    let lent = Guarded::new(area, 5);
+    let (proved_tables, proved_key) = (translate::tables(tables), translate::key(key));
+    let told = kurdavel::scan_read(slots, slot_bytes, &lent, proved_tables, proved_key);
+    let told = translate::proved(told.map(|found| (found.version.0, found.kind)));
+    let part = kurdavel::scan_read_value(slots, slot_bytes, &lent, proved_tables, proved_key);
+    let part = (part.as_ptr() as usize - lent.as_ptr() as usize, part.len());
+    let owed = reference::scan_read(slots, slot_bytes, area, tables, key);
+    let owed = translate::reference(owed.map(|found| (found.version.0, found.kind)));
+    same!(format!("scan for {key:?}"), told, owed);
+    let owed = reference::scan_read_value(slots, slot_bytes, area, tables, key);
+    let owed = (owed.as_ptr() as usize - area.as_ptr() as usize, owed.len());
+    same!(format!("part by a scan for {key:?}"), part, owed);
+    if lent[..] != area[..] || !lent.is_intact() {
+        return Err("a scan changes memory".into());
+    }
+    Ok((told, part))
 }
 
 fn named(operation: &Operation) -> String {

@@ -31,6 +31,7 @@ pub fn record(record: reference::Record) -> Record {
         next: kurdavel::Version(record.next.0),
         keys: record.keys,
         pending: pending(record.pending),
+        present_bytes: record.present_bytes,
     })
 }
 

@@ -74,6 +74,9 @@
 //! one barrier after each is enough. The library is linked as machine code, so that no steps are merged by link-time
 //! optimisation. Reads, also from an interrupt, are allowed between steps and not during one.
 //!
+//! Where the medium is a device behind a driver, the area is a copy of it in memory, and
+//! [`next_store`](Record::next_store) tells each byte that the device has to get.
+//!
 //! `include/kurdavel.h` says besides how to choose the size of the index, what helps after a refusal, and how much stack
 //! each call takes.
 
@@ -81,13 +84,15 @@
 #![warn(missing_docs)]
 
 mod library;
+mod position;
 mod record;
 mod refusal;
 pub mod slices;
 mod store;
 mod values;
 
+pub use position::{from_float, to_float};
 pub use record::{Fields, Pending, Record, WORDS};
 pub use refusal::Refusal;
-pub use store::{format, recover, Found, Progress};
+pub use store::{format, recover, scan_read, scan_read_value, Found, Progress, Store};
 pub use values::{DigestNumber, Key, SlotMap, Tables, Version};

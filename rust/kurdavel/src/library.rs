@@ -130,4 +130,66 @@ extern "C" {
         left: *mut u32,
         version: *mut u32,
     ) -> u32;
+
+    pub(crate) fn kurdavel_next_store(
+        record: *const u32,
+        record_words: usize,
+        area: *const u8,
+        area_bytes: usize,
+        work: *const u8,
+        work_bytes: usize,
+        place: *mut u32,
+        byte: *mut u32,
+    ) -> u32;
+
+    pub(crate) fn kurdavel_fewest(record: *const u32, record_words: usize, slot: *mut u32) -> u32;
+
+    pub(crate) fn kurdavel_join(
+        record: *const u32,
+        record_words: usize,
+        area: *const u8,
+        area_bytes: usize,
+        index: *const u32,
+        index_words: usize,
+        first: *mut u32,
+        second: *mut u32,
+    ) -> u32;
+
+    pub(crate) fn kurdavel_scan_read(
+        slots: u32,
+        slot_bytes: u32,
+        area: *const u8,
+        area_bytes: usize,
+        first: u16,
+        last: u16,
+        table: u16,
+        key: u32,
+        version: *mut u32,
+        kind: *mut u32,
+    ) -> u32;
+
+    pub(crate) fn kurdavel_scan_read_value(
+        slots: u32,
+        slot_bytes: u32,
+        area: *const u8,
+        area_bytes: usize,
+        first: u16,
+        last: u16,
+        table: u16,
+        key: u32,
+        place: *mut u32,
+        bytes: *mut u32,
+    ) -> u32;
+
+    pub(crate) fn kurdavel_from_float(
+        value: *const u8,
+        value_bytes: usize,
+        converted: *mut u8,
+    ) -> u32;
+
+    pub(crate) fn kurdavel_to_float(
+        value: *const u8,
+        value_bytes: usize,
+        converted: *mut u8,
+    ) -> u32;
 }

@@ -3,7 +3,13 @@
 use crate::values::{DigestNumber, SlotMap, Version};
 
 /// How many words a record takes.
-pub const WORDS: usize = 14;
+pub const WORDS: usize = 49;
+
+/// The words of the pending operation: what it is, its slot, its victims, its length and the stores left.
+const PENDING: usize = 12;
+const LEFT: usize = 16;
+/// The first of the words that count present bytes, one for each slot that there may be.
+const PRESENT: usize = 17;
 
 /// An operation that was started and whose stores are not all made.
 #[derive(Clone, Copy, PartialEq, Eq, Hash, Debug)]
@@ -127,6 +133,9 @@ pub struct Fields {
     pub keys: u32,
     /// The operation under way.
     pub pending: Pending,
+    /// For each slot the bytes of its present objects: whole entries that give present keys their values. 0 outside the
+    /// log.
+    pub present_bytes: [u32; 32],
 }
 
 /// What the calls know of a store besides its area and index, as the words that cross to the library.
@@ -167,39 +176,39 @@ impl Record {
     ///     next: Version(1),
     ///     keys: 0,
     ///     pending: Pending::Append { length: 19, left: 20 },
+    ///     present_bytes: [0; 32],
     /// };
-    /// assert_eq!(Record::of(fields).words(), &[4, 256, 16, 0, 13, 1, 1, 1, 0, 1, 0, 0, 19, 20]);
-    /// assert_eq!(Record::of(fields).fields(), Some(fields));
+    /// let record = Record::of(fields);
+    /// assert_eq!(record.words()[..12], [4, 256, 16, 0, 13, 1, 1, 1, 0, 0, 0, 0]);
+    /// assert_eq!(record.words()[12..17], [1, 0, 0, 19, 20]);
+    /// assert_eq!(record.fields(), Some(fields));
     /// ```
-    pub const fn of(fields: Fields) -> Record {
-        let [tag, slot, victims, length, left] = fields.pending.words();
-        Record {
-            words: [
-                fields.slots,
-                fields.slot_bytes,
-                fields.cells,
-                fields.head,
-                fields.end,
-                fields.digest.0,
-                fields.map.0,
-                fields.next.0,
-                fields.keys,
-                tag,
-                slot,
-                victims,
-                length,
-                left,
-            ],
-        }
+    pub fn of(fields: Fields) -> Record {
+        let mut words = [0; WORDS];
+        words[..8].copy_from_slice(&[
+            fields.slots,
+            fields.slot_bytes,
+            fields.cells,
+            fields.head,
+            fields.end,
+            fields.digest.0,
+            fields.map.0,
+            fields.next.0,
+        ]);
+        words[9] = fields.keys;
+        words[PENDING..PRESENT].copy_from_slice(&fields.pending.words());
+        words[PRESENT..].copy_from_slice(&fields.present_bytes);
+        Record { words }
     }
 
     /// What the record says; nothing if its words are no record's.
-    pub const fn fields(&self) -> Option<Fields> {
-        let [slots, slot_bytes, cells, head, end, digest, map, next, keys, tag, slot, victims, length, left] =
-            self.words;
-        let Some(pending) = Pending::of_words([tag, slot, victims, length, left]) else {
+    pub fn fields(&self) -> Option<Fields> {
+        let [slots, slot_bytes, cells, head, end, digest, map, next, 0, keys, 0, 0, pending @ ..] =
+            self.words
+        else {
             return None;
         };
+        let (pending, present) = pending.split_at(PRESENT - PENDING);
         Some(Fields {
             slots,
             slot_bytes,
@@ -210,7 +219,8 @@ impl Record {
             map: SlotMap(map),
             next: Version(next),
             keys,
-            pending,
+            pending: Pending::of_words(pending.try_into().ok()?)?,
+            present_bytes: present.try_into().ok()?,
         })
     }
 
@@ -226,6 +236,6 @@ impl Record {
 
     /// Stores left of the operation under way; 0 if there is none.
     pub const fn left(&self) -> u32 {
-        self.words[13]
+        self.words[LEFT]
     }
 }

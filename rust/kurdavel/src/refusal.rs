@@ -30,8 +30,9 @@ pub enum Refusal {
     /// A new key, and as many others have entries in the log as the index takes, deleted keys among them. Clean their
     /// slots, or recover with a larger index.
     KeysFull = 11,
-    /// There is no room in the head for what is to be written, and a new head would take the last free slot. Cleaning
-    /// gives back what no longer counts; in a store full of live objects a delete helps, which is never refused so.
+    /// There is no room in the head for what is to be written, and a new head would take the last free slot. Cleaning the
+    /// two slots that [`join`](crate::Record::join) tells makes room; in a store full of live objects a delete helps,
+    /// which is never refused so.
     NoRoom = 12,
     /// The victims are none, or not all in the log.
     BadVictims = 13,
@@ -41,7 +42,7 @@ pub enum Refusal {
     BadOrder = 15,
     /// No slot has a digest.
     NoDigest = 16,
-    /// The highest digest number is 0 or shared, or that digest cannot be.
+    /// The highest digest number is 0 or shared, or that digest's next version is 0.
     BadDigest = 17,
     /// An entry of the log cannot be.
     DamagedLog = 18,
@@ -54,11 +55,22 @@ pub enum Refusal {
     OtherVersion = 21,
     /// The key's table is not one that the caller may use.
     OutsideTables = 22,
+    /// What is kept of no two slots of the log fits one slot. Cleaning the slot with the fewest present bytes gives back
+    /// the room of those of its entries that no longer count; or delete.
+    NoPair = 23,
+    /// The head's map names a slot not below N, lacks the head or leaves no slot free.
+    BadMap = 24,
+    /// The head's map names a slot that does not begin with a digest.
+    NotADigest = 25,
+    /// The float is no whole number from 0 to 67,108,864, or has its sign bit set.
+    BadFloat = 26,
+    /// The count is above 67,108,864, or no float holds it.
+    BadCount = 27,
 }
 
 impl Refusal {
     /// All causes, by number.
-    pub const ALL: [Refusal; 22] = [
+    pub const ALL: [Refusal; 27] = [
         Refusal::Geometry,
         Refusal::Cells,
         Refusal::WorkShort,
@@ -81,6 +93,11 @@ impl Refusal {
         Refusal::TooManyKeys,
         Refusal::OtherVersion,
         Refusal::OutsideTables,
+        Refusal::NoPair,
+        Refusal::BadMap,
+        Refusal::NotADigest,
+        Refusal::BadFloat,
+        Refusal::BadCount,
     ];
 
     /// The number of the cause.

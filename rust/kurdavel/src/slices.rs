@@ -3,7 +3,9 @@
 //! Each answers 0 or the number of a refusal, as `include/kurdavel.h` says, and is safe with any arguments: the library
 //! is proved to stay within what it is lent, to change only what it is lent to change, and to end.
 //!
-//! A refused call leaves the numbers that it would tell as they were, but [`read`] and [`read_value`] make them 0.
+//! A refused call leaves the numbers that it would tell as they were, but [`read`], [`read_value`], [`scan_read`],
+//! [`scan_read_value`], [`next_store`], [`fewest`] and [`join`] make them 0, and [`from_float`] and [`to_float`] all eight
+//! bytes.
 //!
 //! `first` and `last` are the tables that the caller may use, both included.
 //!
@@ -289,4 +291,130 @@ pub fn step(
             version,
         )
     }
+}
+
+/// Tells place and byte of the store that the next step makes; both are 0 where the call is refused.
+#[inline]
+pub fn next_store(
+    record: &[u32],
+    area: &[u8],
+    work: &[u8],
+    place: &mut u32,
+    byte: &mut u32,
+) -> u32 {
+    // SAFETY: each pointer and length are those of one slice; `place` and `byte` are exclusive.
+    unsafe {
+        kurdavel_next_store(
+            record.as_ptr(),
+            record.len(),
+            area.as_ptr(),
+            area.len(),
+            work.as_ptr(),
+            work.len(),
+            place,
+            byte,
+        )
+    }
+}
+
+/// Tells the slot of the log with the fewest bytes of present objects, the lowest of several; 0 where the call is refused.
+#[inline]
+pub fn fewest(record: &[u32], slot: &mut u32) -> u32 {
+    // SAFETY: the pointer and length are those of one slice; `slot` is exclusive.
+    unsafe { kurdavel_fewest(record.as_ptr(), record.len(), slot) }
+}
+
+/// Tells the lowest two slots of the log whose kept entries fit one slot; both are 0 where the call is refused.
+#[inline]
+pub fn join(record: &[u32], area: &[u8], index: &[u32], first: &mut u32, second: &mut u32) -> u32 {
+    // SAFETY: each pointer and length are those of one slice; `first` and `second` are exclusive.
+    unsafe {
+        kurdavel_join(
+            record.as_ptr(),
+            record.len(),
+            area.as_ptr(),
+            area.len(),
+            index.as_ptr(),
+            index.len(),
+            first,
+            second,
+        )
+    }
+}
+
+/// Tells version and kind of a key's object by a scan of the log; both are 0 where the call is refused.
+#[inline]
+#[allow(clippy::too_many_arguments)]
+pub fn scan_read(
+    slots: u32,
+    slot_bytes: u32,
+    area: &[u8],
+    first: u16,
+    last: u16,
+    table: u16,
+    key: u32,
+    version: &mut u32,
+    kind: &mut u32,
+) -> u32 {
+    // SAFETY: the pointer and length are those of one slice; `version` and `kind` are exclusive.
+    unsafe {
+        kurdavel_scan_read(
+            slots,
+            slot_bytes,
+            area.as_ptr(),
+            area.len(),
+            first,
+            last,
+            table,
+            key,
+            version,
+            kind,
+        )
+    }
+}
+
+/// Tells place and length of the value of a key's object by a scan of the log; both are 0 where the call is refused.
+#[inline]
+#[allow(clippy::too_many_arguments)]
+pub fn scan_read_value(
+    slots: u32,
+    slot_bytes: u32,
+    area: &[u8],
+    first: u16,
+    last: u16,
+    table: u16,
+    key: u32,
+    place: &mut u32,
+    bytes: &mut u32,
+) -> u32 {
+    // SAFETY: the pointer and length are those of one slice; `place` and `bytes` are exclusive.
+    unsafe {
+        kurdavel_scan_read_value(
+            slots,
+            slot_bytes,
+            area.as_ptr(),
+            area.len(),
+            first,
+            last,
+            table,
+            key,
+            place,
+            bytes,
+        )
+    }
+}
+
+/// Converts a value whose first four bytes are a position as a float into one that has it as a count; all 0 where the call
+/// is refused.
+#[inline]
+pub fn from_float(value: &[u8], converted: &mut [u8; 8]) -> u32 {
+    // SAFETY: the pointer and length are those of one slice; `converted` is exclusive and has eight bytes.
+    unsafe { kurdavel_from_float(value.as_ptr(), value.len(), converted.as_mut_ptr()) }
+}
+
+/// The way back; all 0 where the call is refused.
+#[inline]
+pub fn to_float(value: &[u8], converted: &mut [u8; 8]) -> u32 {
+    // SAFETY: the pointer and length are those of one slice; `converted` is exclusive and has eight bytes.
+    unsafe { kurdavel_to_float(value.as_ptr(), value.len(), converted.as_mut_ptr()) }
 }

@@ -29,6 +29,15 @@ pub enum Progress {
     },
 }
 
+/// A byte, and the place in the area that it goes to.
+#[derive(Clone, Copy, PartialEq, Eq, Debug)]
+pub struct Store {
+    /// The place in the area.
+    pub place: usize,
+    /// The byte.
+    pub byte: u8,
+}
+
 /// Makes an area of `slots` slots of `slot_bytes` bytes each an empty store.
 ///
 /// ```
@@ -53,6 +62,20 @@ pub fn format(slots: u32, slot_bytes: u32, area: &mut [u8]) -> Result<(), Refusa
 /// use kurdavel::{recover, Refusal};
 /// let answer = recover(4, 256, &[0, 1, 2, 3], &[0; 1024], &mut [0; 16]);
 /// assert_eq!(answer, Err(Refusal::NoDigest));
+///
+/// // What is wrong with the head's digest is told apart: its number or next version, its map, or a slot in the map.
+/// let mut area = [0; 1024];
+/// kurdavel::format(4, 256, &mut area)?;
+/// for (place, byte, cause) in [
+///     (9, 0, Refusal::BadDigest),
+///     (5, 0b10001, Refusal::BadMap),
+///     (5, 0b11, Refusal::NotADigest),
+/// ] {
+///     let mut damaged = area;
+///     damaged[place] = byte;
+///     assert_eq!(recover(4, 256, &[0, 1, 2, 3], &damaged, &mut [0; 16]), Err(cause));
+/// }
+/// # Ok::<(), Refusal>(())
 /// ```
 #[inline]
 pub fn recover(
@@ -66,6 +89,81 @@ pub fn recover(
     let answer = slices::recover(slots, slot_bytes, order, area, index, &mut words);
     Refusal::unless_accepted(answer)?;
     Ok(Record { words })
+}
+
+/// Tells version and kind of a key's object by a scan of the log: the area alone is enough, as for a boot loader. It answers
+/// as a [`read`](Record::read) after a recovery does.
+///
+/// ```
+/// # let mut area = [0; 1024];
+/// # kurdavel::format(4, 256, &mut area)?;
+/// use kurdavel::{scan_read, scan_read_value, Key, Refusal, Tables, Version};
+/// let key = Key { table: 1, key: 2 };
+/// assert_eq!(scan_read(4, 256, &area, Tables::ALL, key), Err(Refusal::Absent));
+/// # let (mut index, mut work) = ([0; 16], [0; 256]);
+/// # let mut record = kurdavel::recover(4, 256, &[0, 1, 2, 3], &area, &mut index)?;
+/// record.write(&area, &index, &mut work, Tables::ALL, key, &[7; 24])?;
+/// while record.left() > 0 {
+///     record.step(&mut area, &mut index, &work)?;
+/// }
+///
+/// // No record, no index.
+/// assert_eq!(scan_read(4, 256, &area, Tables::ALL, key)?.version, Version(1));
+/// assert_eq!(scan_read_value(4, 256, &area, Tables::ALL, key), &[7; 24]);
+/// # Ok::<(), Refusal>(())
+/// ```
+#[inline]
+pub fn scan_read(
+    slots: u32,
+    slot_bytes: u32,
+    area: &[u8],
+    tables: Tables,
+    key: Key,
+) -> Result<Found, Refusal> {
+    let (mut version, mut kind) = (0, 0);
+    let answer = slices::scan_read(
+        slots,
+        slot_bytes,
+        area,
+        tables.first,
+        tables.last,
+        key.table,
+        key.key,
+        &mut version,
+        &mut kind,
+    );
+    Refusal::unless_accepted(answer)?;
+    Ok(Found {
+        version: Version(version),
+        kind: kind as u8,
+    })
+}
+
+/// The value of a key's object, as a part of the area, by the same scan: an empty one, at the area's start, where
+/// [`scan_read`] is refused.
+#[inline]
+pub fn scan_read_value(
+    slots: u32,
+    slot_bytes: u32,
+    area: &[u8],
+    tables: Tables,
+    key: Key,
+) -> &[u8] {
+    let (mut place, mut bytes) = (0, 0);
+    slices::scan_read_value(
+        slots,
+        slot_bytes,
+        area,
+        tables.first,
+        tables.last,
+        key.table,
+        key.key,
+        &mut place,
+        &mut bytes,
+    );
+    let start = place as usize;
+    area.get(start..start + bytes as usize)
+        .unwrap_or(&area[..0])
 }
 
 impl Record {
@@ -356,5 +454,106 @@ impl Record {
             },
             left => Progress::More { left },
         })
+    }
+
+    /// The store that the next [`step`](Record::step) makes, for a medium that is not memory: the area is then a copy, and
+    /// the medium gets each store before the next step is made. A step with the same record, area and work buffer stores
+    /// exactly this byte there, or is refused.
+    ///
+    /// ```
+    /// # let mut area = [0; 1024];
+    /// # kurdavel::format(4, 256, &mut area)?;
+    /// # let (mut index, mut work) = ([0; 16], [0; 256]);
+    /// # let mut record = kurdavel::recover(4, 256, &[0, 1, 2, 3], &area, &mut index)?;
+    /// use kurdavel::{Key, Refusal, Tables};
+    /// let mut device = area.to_vec();
+    /// let key = Key { table: 1, key: 2 };
+    /// record.write(&area, &index, &mut work, Tables::ALL, key, &[7; 8])?;
+    /// while record.left() > 0 {
+    ///     let store = record.next_store(&area, &work)?;
+    ///     record.step(&mut area, &mut index, &work)?;
+    ///     device[store.place] = store.byte;
+    /// }
+    /// assert_eq!(device, area);
+    /// assert_eq!(record.next_store(&area, &work), Err(Refusal::NonePending));
+    /// # Ok::<(), Refusal>(())
+    /// ```
+    #[inline]
+    pub fn next_store(&self, area: &[u8], work: &[u8]) -> Result<Store, Refusal> {
+        let (mut place, mut byte) = (0, 0);
+        let answer = slices::next_store(&self.words, area, work, &mut place, &mut byte);
+        Refusal::unless_accepted(answer)?;
+        Ok(Store {
+            place: place as usize,
+            byte: byte as u8,
+        })
+    }
+
+    /// The slot of the log with the fewest bytes of present objects, the lowest of several: the one to clean first. The
+    /// record alone tells it, also during an operation, and then what stood before it.
+    ///
+    /// ```
+    /// # let mut area = [0; 1024];
+    /// # kurdavel::format(4, 256, &mut area)?;
+    /// # let (mut index, mut work) = ([0; 16], [0; 256]);
+    /// # let mut record = kurdavel::recover(4, 256, &[0, 1, 2, 3], &area, &mut index)?;
+    /// use kurdavel::{Key, Tables};
+    /// // Two values fill most of the first slot; the second of them is then written anew, into the next slot.
+    /// for (key, bytes) in [(1, 24), (2, 120), (2, 120)] {
+    ///     let key = Key { table: 1, key };
+    ///     record.write(&area, &index, &mut work, Tables::ALL, key, &[7; 120][..bytes])?;
+    ///     while record.left() > 0 {
+    ///         record.step(&mut area, &mut index, &work)?;
+    ///     }
+    /// }
+    /// let present = record.fields().expect("a record").present_bytes;
+    /// assert_eq!(present[..4], [11 + 24, 11 + 120, 0, 0]);
+    /// assert_eq!(record.fewest(), Ok(0));
+    /// # Ok::<(), kurdavel::Refusal>(())
+    /// ```
+    #[inline]
+    pub fn fewest(&self) -> Result<u32, Refusal> {
+        let mut slot = 0;
+        let answer = slices::fewest(&self.words, &mut slot);
+        Refusal::unless_accepted(answer).map(|()| slot)
+    }
+
+    /// The lowest two slots of the log, the first of them deciding first, that can be cleaned together: what they hold that
+    /// still counts fits one slot. After a write was refused with [`NoRoom`](Refusal::NoRoom), cleaning them makes room
+    /// for it.
+    ///
+    /// ```
+    /// # let mut area = [0; 1024];
+    /// # kurdavel::format(4, 256, &mut area)?;
+    /// # let (mut index, mut work) = ([0; 16], [0; 256]);
+    /// # let mut record = kurdavel::recover(4, 256, &[0, 1, 2, 3], &area, &mut index)?;
+    /// use kurdavel::{Key, Refusal, SlotMap, Tables};
+    /// // One value after another, each of which is written twice: half of every slot no longer counts.
+    /// let key = |number: u32| Key { table: 1, key: number / 2 };
+    /// let mut number = 0;
+    /// let full = loop {
+    ///     let written = record.write(&area, &index, &mut work, Tables::ALL, key(number), &[7; 24]);
+    ///     let Ok(stores) = written else { break written };
+    ///     for _ in 0..stores {
+    ///         record.step(&mut area, &mut index, &work)?;
+    ///     }
+    ///     number += 1;
+    /// };
+    /// assert_eq!(full, Err(Refusal::NoRoom));
+    ///
+    /// let (first, second) = record.join(&area, &index)?;
+    /// assert_eq!((first, second), (0, 1));
+    /// let victims = SlotMap(1 << first | 1 << second);
+    /// for _ in 0..record.clean(&area, &index, &mut work, victims)? {
+    ///     record.step(&mut area, &mut index, &work)?;
+    /// }
+    /// record.write(&area, &index, &mut work, Tables::ALL, key(number), &[7; 24])?;
+    /// # Ok::<(), Refusal>(())
+    /// ```
+    #[inline]
+    pub fn join(&self, area: &[u8], index: &[u32]) -> Result<(u32, u32), Refusal> {
+        let (mut first, mut second) = (0, 0);
+        let answer = slices::join(&self.words, area, index, &mut first, &mut second);
+        Refusal::unless_accepted(answer).map(|()| (first, second))
     }
 }

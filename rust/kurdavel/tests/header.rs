@@ -2,7 +2,7 @@
 
 use std::collections::BTreeMap;
 
-use kurdavel::{Record, Refusal, WORDS};
+use kurdavel::{DigestNumber, Fields, Pending, Record, Refusal, SlotMap, Version, WORDS};
 
 const HEADER: &str = include_str!("../../../include/kurdavel.h");
 
@@ -47,9 +47,70 @@ fn refusals() {
 #[test]
 fn words_of_a_record() {
     assert_eq!(numbers("KURDAVEL_RECORD_")["WORDS"] as usize, WORDS);
-    let mut words: Vec<u32> = numbers("KURDAVEL_WORD_").into_values().collect();
+    let named = numbers("KURDAVEL_WORD_");
+    let mut words: Vec<u32> = named.values().copied().collect();
     words.sort_unstable();
-    assert!(words.into_iter().eq(0..WORDS as u32));
+    assert!(words.into_iter().eq(0..=named["PRESENT"]));
+    assert_eq!(
+        named["PRESENT"] + numbers("KURDAVEL_SLOTS_")["MAX"],
+        WORDS as u32
+    );
+}
+
+/// The wrapper has each field in the word that the header names.
+#[test]
+fn fields_of_a_record() {
+    let named = numbers("KURDAVEL_WORD_");
+    let fields = Fields {
+        slots: 1,
+        slot_bytes: 2,
+        cells: 3,
+        head: 4,
+        end: 5,
+        digest: DigestNumber(6),
+        map: SlotMap(7),
+        next: Version(8),
+        keys: 9,
+        pending: Pending::Forget {
+            slot: 10,
+            victims: SlotMap(11),
+            length: 12,
+            left: 13,
+        },
+        present_bytes: std::array::from_fn(|slot| 100 + slot as u32),
+    };
+    let record = Record::of(fields);
+    let word = |name: &str| record.words()[named[name] as usize];
+    let order = [
+        "SLOTS",
+        "SLOT_BYTES",
+        "CELLS",
+        "HEAD",
+        "END",
+        "DIGEST",
+        "MAP",
+        "NEXT",
+        "KEYS",
+    ];
+    assert_eq!(order.map(word), [1, 2, 3, 4, 5, 6, 7, 8, 9]);
+    let pending = ["PENDING", "SLOT", "VICTIMS", "LENGTH", "LEFT"];
+    assert_eq!(pending.map(word), [4, 10, 11, 12, 13]);
+    let present = &record.words()[named["PRESENT"] as usize..];
+    assert_eq!(present, fields.present_bytes);
+    assert_eq!(record.fields(), Some(fields));
+}
+
+/// Words in reserve are 0, or the words are no record's.
+#[test]
+fn words_in_reserve() {
+    let reserve = numbers("KURDAVEL_WORD_RESERVE_");
+    assert_eq!(reserve.len(), 3);
+    for &word in reserve.values() {
+        let mut words = [0; WORDS];
+        assert!(Record::from_words(words).fields().is_some());
+        words[word as usize] = 1;
+        assert_eq!(Record::from_words(words).fields(), None);
+    }
 }
 
 /// The operations under way are those that the wrapper knows, and no more.
@@ -58,9 +119,10 @@ fn pending() {
     let mut stated: Vec<u32> = numbers("KURDAVEL_PENDING_").into_values().collect();
     stated.sort_unstable();
     assert!(stated.iter().copied().eq(0..stated.len() as u32));
+    let tag_word = numbers("KURDAVEL_WORD_")["PENDING"] as usize;
     let known = |tag: &u32| {
         let mut words = [0; WORDS];
-        words[9] = *tag;
+        words[tag_word] = *tag;
         let said = Record::from_words(words).fields();
         said.is_some_and(|fields| *Record::of(fields).words() == words)
     };

@@ -130,7 +130,7 @@ fn copy_kept(
 
 /// Walks slots of the log; damage is a byte that no log holds.
 #[inline]
-fn walk_slots(
+pub(crate) fn walk_slots(
     record: &Record,
     area: &[u8],
     slots: SlotMap,
@@ -142,7 +142,7 @@ fn walk_slots(
 
 /// The place of the newest entry of a key that has one.
 #[inline]
-fn newest(area: &[u8], index: &[u32], key: Key) -> Result<usize, Refusal> {
+pub(crate) fn newest(area: &[u8], index: &[u32], key: Key) -> Result<usize, Refusal> {
     match search(area, index, key) {
         Search::Found { place, .. } => Ok(place),
         Search::Free { .. } | Search::Broken => Err(Refusal::Record),

@@ -3,8 +3,8 @@
 use std::collections::{HashMap, HashSet};
 
 use crate::counters::Version;
-use crate::layout::{geometry_holds, index_holds};
-use crate::log::walk;
+use crate::layout::{geometry_holds, index_holds, segment};
+use crate::log::{walk, walk_segment};
 use crate::refusal::Refusal;
 use crate::segment::{read_entry, version_of_entry, Entry, Fields, Key, TOMBSTONE_BYTES};
 use crate::slot_map::SlotMap;
@@ -77,38 +77,59 @@ pub(crate) fn object_at(area: &[u8], found: Search) -> Result<Option<(usize, Fie
     }
 }
 
-/// Leads the key's cell to an entry that is newer than all others of the key. Says
-/// whether the key is new to the index; refuses with 4 if the index is broken.
+/// What an entry meets in the index.
+#[derive(Clone, Copy, PartialEq, Eq, Debug)]
+pub(crate) enum Entered {
+    /// Its key is new.
+    New,
+    /// It is newer than the one at this place, which its key's cell led to so far.
+    Displacing(usize),
+    /// The cell leads to a newer one, and stays.
+    Older,
+}
+
+/// Leads the key's cell to an entry that is newer than all others of the key. Refuses with 4 if
+/// the index is broken.
 #[inline]
 pub(crate) fn point_to(
     area: &[u8],
     index: &mut [u32],
     key: Key,
     place: usize,
-) -> Result<bool, Refusal> {
-    let (cell, new) = match search(area, index, key) {
-        Search::Found { cell, .. } => (cell, false),
-        Search::Free { cell } => (cell, true),
+) -> Result<Entered, Refusal> {
+    let (cell, entered) = match search(area, index, key) {
+        Search::Found { cell, place } => (cell, Entered::Displacing(place)),
+        Search::Free { cell } => (cell, Entered::New),
         Search::Broken => return Err(Refusal::Record),
     };
     index[cell] = place as u32 + 1;
-    Ok(new)
+    Ok(entered)
 }
 
-/// Fills the index from the entries of the given slots and counts the keys. Refuses
-/// with 20 if there are more than M - 1; the index is then all 0.
+/// Fills the index from the entries of the given slots and counts the keys; tells `entered` of
+/// each entry, by its slot and place. Refuses with 20 if there are more than M - 1 keys; the
+/// index is then all 0.
 pub(crate) fn rebuild(
     area: &[u8],
     slot_bytes: u32,
     slots: impl Iterator<Item = u32>,
     index: &mut [u32],
     damage: Refusal,
+    mut entered: impl FnMut(u32, usize, Entered),
 ) -> Result<u32, Refusal> {
     index.fill(0);
     let mut keys = 0;
-    let built = walk(area, slot_bytes, slots, damage, |place, fields| {
-        keys += u32::from(enter(area, index, place, fields, keys)?);
-        Ok(())
+    let mut slots = slots;
+    let built = slots.try_for_each(|slot| {
+        let start = (slot * slot_bytes) as usize;
+        walk_segment(segment(area, slot_bytes, slot), damage, |offset, fields| {
+            let place = start + offset;
+            let met = enter(area, index, place, fields, keys)?;
+            keys += u32::from(met == Entered::New);
+            entered(slot, place, met);
+            Ok(())
+        })
+        .map(|_| ())
     });
     if built.is_err() {
         index.fill(0);
@@ -116,7 +137,7 @@ pub(crate) fn rebuild(
     built.map(|()| keys)
 }
 
-/// Brings one entry into an index that holds `keys` keys; says whether its key is new.
+/// Brings one entry into an index that holds `keys` keys.
 #[inline]
 fn enter(
     area: &[u8],
@@ -124,19 +145,20 @@ fn enter(
     place: usize,
     fields: Fields,
     keys: u32,
-) -> Result<bool, Refusal> {
+) -> Result<Entered, Refusal> {
     match search(area, index, fields.key) {
         Search::Found { cell, place: known } => {
-            let known = area.get(known..).and_then(<[u8]>::first_chunk);
-            if known.map(version_of_entry) < Some(fields.version) {
-                index[cell] = place as u32 + 1;
+            let leading = area.get(known..).and_then(<[u8]>::first_chunk);
+            if leading.map(version_of_entry) >= Some(fields.version) {
+                return Ok(Entered::Older);
             }
-            Ok(false)
+            index[cell] = place as u32 + 1;
+            Ok(Entered::Displacing(known))
         }
         Search::Free { .. } if keys as usize + 1 == index.len() => Err(Refusal::TooManyKeys),
         Search::Free { cell } => {
             index[cell] = place as u32 + 1;
-            Ok(true)
+            Ok(Entered::New)
         }
         Search::Broken => Err(Refusal::Record),
     }

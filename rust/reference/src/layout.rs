@@ -5,6 +5,8 @@ use std::ops::RangeInclusive;
 
 /// How many slots an area may have (N).
 pub const SLOTS: RangeInclusive<u32> = 4..=32;
+/// The most slots: a record has a number for each of them.
+pub const MOST_SLOTS: usize = 32;
 /// How many bytes a slot may have (S).
 pub const SLOT_BYTES: RangeInclusive<u32> = 256..=2048;
 /// How many cells an index may have (M).

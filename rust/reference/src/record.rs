@@ -1,8 +1,8 @@
 //! The store record and when it is out of range (01, "Memory the caller lends" and
-//! "Refused calls").
+//! "Refused calls"; 02, R-5).
 
 use crate::counters::{DigestNumber, Version};
-use crate::layout::{geometry_holds, CELLS, SLOTS, SLOT_BYTES};
+use crate::layout::{geometry_holds, CELLS, MOST_SLOTS, SLOTS, SLOT_BYTES};
 use crate::refusal::Refusal;
 use crate::segment::{Key, DIGEST_BYTES};
 use crate::slot_map::SlotMap;
@@ -103,6 +103,9 @@ pub struct Record {
     pub keys: u32,
     /// The operation under way.
     pub pending: Pending,
+    /// For each slot the bytes of its present objects: whole entries that give present keys
+    /// their values. 0 outside the log.
+    pub present_bytes: [u32; MOST_SLOTS],
 }
 
 impl Record {
@@ -121,6 +124,7 @@ impl Record {
             && self.next.0 != 0
             && self.keys < self.cells
             && self.is_pending_in_range()
+            && self.are_present_bytes_in_range()
     }
 
     #[inline]
@@ -129,12 +133,29 @@ impl Record {
         matches!(self.pending, Pending::None) || (left != 0 && left <= self.slot_bytes + 1)
     }
 
+    /// No slot has room for more than S less a digest, and all 32 numbers are held to it.
+    #[inline]
+    fn are_present_bytes_in_range(&self) -> bool {
+        let most = self.slot_bytes - DIGEST_BYTES as u32;
+        self.present_bytes
+            .iter()
+            .fold(true, |all, &bytes| all & (bytes <= most))
+    }
+
     /// Refuses with 4 unless the record is in range and the lent lengths are its own.
     #[inline]
     pub(crate) fn check(&self, area: &[u8], index: &[u32]) -> Result<(), Refusal> {
-        let fits = self.is_in_range()
-            && geometry_holds(self.slots, self.slot_bytes, area.len())
-            && index.len() == self.cells as usize;
+        self.check_area(area)?;
+        if index.len() != self.cells as usize {
+            return Err(Refusal::Record);
+        }
+        Ok(())
+    }
+
+    /// The same where no index is lent.
+    #[inline]
+    pub(crate) fn check_area(&self, area: &[u8]) -> Result<(), Refusal> {
+        let fits = self.is_in_range() && geometry_holds(self.slots, self.slot_bytes, area.len());
         if fits {
             Ok(())
         } else {
@@ -170,6 +191,12 @@ impl Record {
     #[inline]
     pub(crate) fn check_idle(&self, work: &[u8]) -> Result<(), Refusal> {
         self.check_work(work)?;
+        self.check_none_pending()
+    }
+
+    /// Refuses with 5 while an operation is under way.
+    #[inline]
+    pub(crate) fn check_none_pending(&self) -> Result<(), Refusal> {
         if !matches!(self.pending, Pending::None) {
             return Err(Refusal::Pending);
         }

@@ -1,13 +1,14 @@
-//! Recovery (01, "Operations, store by store" and causes 1, 2 and 15 to 20).
+//! Recovery (01, "Operations, store by store" and causes 1, 2 and 15 to 20; 02, R-5 and R-8).
 
 use crate::counters::{DigestNumber, Version};
-use crate::index::rebuild;
-use crate::layout::{geometry_holds, index_holds, segment};
+use crate::index::{rebuild, Entered};
+use crate::layout::{geometry_holds, index_holds, segment, MOST_SLOTS};
 use crate::log::walk_segment;
+use crate::present::Counts;
 use crate::record::{Pending, Record};
 use crate::refusal::Refusal;
 use crate::rules::{AsWritten, Rules};
-use crate::segment::{Digest, DIGEST, DIGEST_BYTES};
+use crate::segment::{Digest, Fields, DIGEST, DIGEST_BYTES};
 use crate::slot_map::SlotMap;
 use crate::versions::Filter;
 
@@ -42,14 +43,16 @@ pub fn recover_by<R: Rules>(
     if !is_order(slots, order) {
         return Err(Refusal::Order);
     }
-    let (head, digest) = find_head::<R>(slots, slot_bytes, area)?;
-    check_head(slots, slot_bytes, area, head, digest)?;
+    let (head, digest) = checked_head::<R>(slots, slot_bytes, area)?;
     let log = order
         .iter()
         .map(|&slot| u32::from(slot))
         .filter(|&slot| digest.map.has(slot));
-    let survey = survey(slot_bytes, area, log.clone(), head)?;
-    let keys = rebuild(area, slot_bytes, log, index, Refusal::Entry)?;
+    let survey = survey(slot_bytes, area, log.clone(), head, |_, _| {})?;
+    let mut present_bytes = [0; MOST_SLOTS];
+    let mut present = Counts::new(slot_bytes, &mut present_bytes);
+    let count = |slot, place, entered| count_newest(&mut present, area, slot, place, entered);
+    let keys = rebuild(area, slot_bytes, log, index, Refusal::Entry, count)?;
     Ok(Record {
         slots,
         slot_bytes,
@@ -61,7 +64,22 @@ pub fn recover_by<R: Rules>(
         next: next_version::<R>(digest, survey.highest),
         keys,
         pending: Pending::None,
+        present_bytes,
     })
+}
+
+/// Counts an entry that is its key's newest so far, and no longer the one that it displaces.
+#[inline]
+fn count_newest(present: &mut Counts, area: &[u8], slot: u32, place: usize, entered: Entered) {
+    if entered == Entered::Older {
+        return;
+    }
+    if let Some(entry) = area[place..].first_chunk() {
+        present.add::<AsWritten>(slot, entry);
+    }
+    if let Entered::Displacing(older) = entered {
+        present.displace::<AsWritten>(area, older);
+    }
 }
 
 /// Whether the order names each slot below N once and nothing else.
@@ -70,6 +88,17 @@ fn is_order(slots: u32, order: &[u8]) -> bool {
         .iter()
         .fold(SlotMap::EMPTY, |named, &slot| named.with(u32::from(slot)));
     order.len() == slots as usize && named == SlotMap::below(slots)
+}
+
+/// The slot and digest of the head, or 16, 17, 24 or 25.
+pub(crate) fn checked_head<R: Rules>(
+    slots: u32,
+    slot_bytes: u32,
+    area: &[u8],
+) -> Result<(u32, Digest), Refusal> {
+    let (head, digest) = find_head::<R>(slots, slot_bytes, area)?;
+    check_head::<R>(slots, slot_bytes, area, head, digest)?;
+    Ok((head, digest))
 }
 
 /// The slot and digest of the head. All slots with a digest count, in the log or not.
@@ -96,53 +125,83 @@ fn find_head<R: Rules>(slots: u32, slot_bytes: u32, area: &[u8]) -> Result<(u32,
     Ok((head, digest))
 }
 
-/// Refuses with 17 if the head's map or next version is not possible.
-fn check_head(
+/// Refuses what cannot be the head's digest: with 17 for its next version, 24 for its map and 25
+/// for a slot in the map that has no digest.
+fn check_head<R: Rules>(
     slots: u32,
     slot_bytes: u32,
     area: &[u8],
     head: u32,
     digest: Digest,
 ) -> Result<(), Refusal> {
+    let next = check_next(digest);
+    let map = check_map::<R>(slots, head, digest.map);
+    let in_log = check_log(slots, slot_bytes, area, digest.map);
+    if R::MAP_BEFORE_NEXT_VERSION {
+        return map.and(next).and(in_log);
+    }
+    if R::LOG_SLOTS_BEFORE_MAP {
+        return next.and(in_log).and(map);
+    }
+    next.and(map).and(in_log)
+}
+
+fn check_next(digest: Digest) -> Result<(), Refusal> {
+    if digest.next == Version(0) {
+        return Err(Refusal::HeadDigest);
+    }
+    Ok(())
+}
+
+fn check_map<R: Rules>(slots: u32, head: u32, map: SlotMap) -> Result<(), Refusal> {
     let all = SlotMap::below(slots);
-    let possible = digest.map.is_within(all)
-        && digest.map.has(head)
-        && digest.map != all
-        && digest.next != Version(0)
-        && digest
-            .map
-            .slots()
-            .all(|slot| segment(area, slot_bytes, slot).first() == Some(&DIGEST));
-    if possible {
+    if !map.is_within(all) || !map.has(head) {
+        return Err(Refusal::HeadMap);
+    }
+    match map == all {
+        true if R::FULL_MAP_IS_17 => Err(Refusal::HeadDigest),
+        true => Err(Refusal::HeadMap),
+        false => Ok(()),
+    }
+}
+
+/// Byte 0 of every slot in the map, of those that there are, is a digest's.
+fn check_log(slots: u32, slot_bytes: u32, area: &[u8], map: SlotMap) -> Result<(), Refusal> {
+    let has_digest = |slot| segment(area, slot_bytes, slot).first() == Some(&DIGEST);
+    if (0..slots).all(|slot| !map.has(slot) || has_digest(slot)) {
         Ok(())
     } else {
-        Err(Refusal::HeadDigest)
+        Err(Refusal::NotADigest)
     }
 }
 
 /// What the first reading of the log gives.
-struct Survey {
+pub(crate) struct Survey {
     /// Where the head's entries end.
     end: u32,
     /// The highest version of an entry; 0 if there is none.
     highest: Version,
 }
 
-/// Reads the whole log once: refuses damage with 18 and then shared versions with 19.
-fn survey(
+/// Reads the whole log once and visits each entry with its place: refuses damage with 18 and then
+/// shared versions with 19.
+pub(crate) fn survey(
     slot_bytes: u32,
     area: &[u8],
     log: impl Iterator<Item = u32> + Clone,
     head: u32,
+    mut visit: impl FnMut(usize, Fields),
 ) -> Result<Survey, Refusal> {
     let mut end = DIGEST_BYTES;
     let mut highest = Version(0);
     let mut filter = Filter::new();
     for slot in log.clone() {
         let bytes = segment(area, slot_bytes, slot);
-        let stop = walk_segment(bytes, Refusal::Entry, |_, fields| {
+        let start = (slot * slot_bytes) as usize;
+        let stop = walk_segment(bytes, Refusal::Entry, |offset, fields| {
             highest = highest.max(fields.version);
             filter.note(fields.version);
+            visit(start + offset, fields);
             Ok(())
         })?;
         if slot == head {

@@ -37,7 +37,7 @@ pub enum Refusal {
     Order = 15,
     /// No slot has a digest.
     NoDigest = 16,
-    /// The highest digest number is 0 or shared, or the head's digest is not possible.
+    /// The highest digest number is 0 or shared, or that digest's next version is 0.
     HeadDigest = 17,
     /// An entry of the log has an unknown kind, passes its slot's end or has a
     /// version that no entry can have.
@@ -50,11 +50,21 @@ pub enum Refusal {
     OtherVersion = 21,
     /// The key's table is not one of those that the caller may use.
     OutsideTables = 22,
+    /// What is kept of no two slots of the log fits one new head.
+    NoPair = 23,
+    /// The head's map names a slot not below N, lacks the head or leaves no slot free.
+    HeadMap = 24,
+    /// The head's map names a slot that has no digest.
+    NotADigest = 25,
+    /// The float is not a whole count that a head position may have.
+    Float = 26,
+    /// The count is above the highest position, or no float holds it.
+    Count = 27,
 }
 
 impl Refusal {
     /// All causes, by number.
-    pub const ALL: [Refusal; 22] = [
+    pub const ALL: [Refusal; 27] = [
         Refusal::Geometry,
         Refusal::IndexLength,
         Refusal::WorkLength,
@@ -77,6 +87,11 @@ impl Refusal {
         Refusal::TooManyKeys,
         Refusal::OtherVersion,
         Refusal::OutsideTables,
+        Refusal::NoPair,
+        Refusal::HeadMap,
+        Refusal::NotADigest,
+        Refusal::Float,
+        Refusal::Count,
     ];
 
     /// The number in 01's table.

@@ -20,6 +20,16 @@ pub trait Rules {
     const FORGOTTEN_VERSION_NOT_IN_DIGEST: bool = false;
     /// Such a delete leaves nothing of its key, whatever other slots hold.
     const NO_TOMBSTONE_OF_FORGOTTEN: bool = false;
+    /// An object that is overwritten or deleted still counts among the present bytes of its slot.
+    const OVERWRITTEN_STILL_COUNTED: bool = false;
+    /// Tombstones count among the present bytes of their slot.
+    const TOMBSTONES_COUNTED: bool = false;
+    /// The map of the head is tested before its next version.
+    const MAP_BEFORE_NEXT_VERSION: bool = false;
+    /// The slots that the map names are tested before the map itself.
+    const LOG_SLOTS_BEFORE_MAP: bool = false;
+    /// A map that leaves no slot free counts as a bad digest.
+    const FULL_MAP_IS_17: bool = false;
 }
 
 /// The rules of 01 and 02.

@@ -85,6 +85,15 @@ pub fn entry_bytes(kind: u8) -> Option<usize> {
     }
 }
 
+/// The total length of an object, from its leading bytes; 0 if they are not an object's.
+#[inline]
+pub(crate) fn object_bytes(entry: &[u8; TOMBSTONE_BYTES]) -> u32 {
+    match entry[0] {
+        TOMBSTONE => 0,
+        kind => entry_bytes(kind).unwrap_or(0) as u32,
+    }
+}
+
 /// The fields of an object or tombstone, and its total length.
 #[derive(Clone, Copy, PartialEq, Eq, Debug)]
 pub struct Fields {

@@ -1,7 +1,8 @@
 //! One store of a pending operation (01, "Operations, store by store").
 
 use crate::counters::{DigestNumber, Version};
-use crate::index::{point_to, rebuild};
+use crate::index::{point_to, rebuild, Entered};
+use crate::present::Counts;
 use crate::record::{Pending, Record};
 use crate::refusal::Refusal;
 use crate::rules::{AsWritten, Rules};
@@ -65,25 +66,16 @@ fn closing_stores<R: Rules>(record: &Record, end: u32) -> u32 {
     u32::from(end < record.slot_bytes && !R::OLD_BYTE_AFTER_ENTRY)
 }
 
-/// The store that the next step makes, with the refusals of that step.
-pub fn next_store(
-    record: &Record,
-    area: &[u8],
-    index: &[u32],
-    work: &[u8],
-) -> Result<Store, Refusal> {
-    next_store_by::<AsWritten>(record, area, index, work)
+/// The store that the next step makes, with the refusals of that step: 4, 3 and 6. No index is
+/// lent, so that its length plays no part.
+pub fn next_store(record: &Record, area: &[u8], work: &[u8]) -> Result<Store, Refusal> {
+    record.check_area(area)?;
+    coming_store::<AsWritten>(record, area, work)
 }
 
-/// [`next_store`] by chosen rules.
+/// The store of a record that has passed 4.
 #[inline(always)]
-pub fn next_store_by<R: Rules>(
-    record: &Record,
-    area: &[u8],
-    index: &[u32],
-    work: &[u8],
-) -> Result<Store, Refusal> {
-    record.check(area, index)?;
+fn coming_store<R: Rules>(record: &Record, area: &[u8], work: &[u8]) -> Result<Store, Refusal> {
     record.check_work(work)?;
     let store = match record.pending {
         Pending::None => return Err(Refusal::NonePending),
@@ -190,21 +182,22 @@ fn step_kept_by<R: Rules>(
     index: &mut [u32],
     work: &[u8],
 ) -> Result<Progress, Refusal> {
-    let store = next_store_by::<R>(record, area, index, work)?;
+    record.check(area, index)?;
+    let store = coming_store::<R>(record, area, work)?;
     area[store.place] = store.byte;
     let left = record.pending.left() - 1;
     if left > 0 {
         record.pending.set_left(left);
         return Ok(Progress::More { left });
     }
-    let (after, version) = finish(record, area, index, work)?;
+    let (after, version) = finish::<R>(record, area, index, work)?;
     *record = after;
     Ok(Progress::Done { version })
 }
 
 /// Record, index and version after the last store. Refuses with 4 only if record, index
 /// or work buffer are not what a start and its steps left.
-fn finish(
+fn finish<R: Rules>(
     record: &Record,
     area: &[u8],
     index: &mut [u32],
@@ -218,12 +211,12 @@ fn finish(
                 end: record.end + length,
                 ..*record
             };
-            finish_entry(grown, area, index, work, place as usize)
+            finish_entry::<R>(grown, area, index, work, place as usize)
         }
         Pending::NewHead { slot, length, .. } => {
             let headed = new_head(record, slot, length, SlotMap::EMPTY)?;
             let place = (slot * record.slot_bytes) as usize + DIGEST_BYTES;
-            finish_entry(headed, area, index, &work[DIGEST_BYTES..], place)
+            finish_entry::<R>(headed, area, index, &work[DIGEST_BYTES..], place)
         }
         Pending::Clean {
             slot,
@@ -258,15 +251,24 @@ fn finish_cleaning(
     victims: SlotMap,
 ) -> Result<Record, Refusal> {
     let mut after = new_head(record, slot, length, victims)?;
-    let log = after.map.slots();
-    after.keys = rebuild(area, after.slot_bytes, log, index, Refusal::Record)
-        .map_err(|_| Refusal::Record)?;
+    let (log, uncounted) = (after.map.slots(), |_, _, _| {});
+    after.keys = rebuild(
+        area,
+        after.slot_bytes,
+        log,
+        index,
+        Refusal::Record,
+        uncounted,
+    )
+    .map_err(|_| Refusal::Record)?;
+    Counts::of(&mut after).clean(area, victims, slot)?;
     Ok(after)
 }
 
-/// Leads the index to the entry just stored and counts its key and version.
+/// Leads the index to the entry just stored and counts its key, its version and, for an object,
+/// its bytes in the head.
 #[inline]
-fn finish_entry(
+fn finish_entry<R: Rules>(
     record: Record,
     area: &[u8],
     index: &mut [u32],
@@ -275,13 +277,18 @@ fn finish_entry(
 ) -> Result<(Record, Version), Refusal> {
     let leading = entry.first_chunk().ok_or(Refusal::Record)?;
     let next = record.next.0.checked_add(1).ok_or(Refusal::Record)?;
-    let new = point_to(area, index, Key::of_entry(leading), place)?;
-    let after = Record {
+    let entered = point_to(area, index, Key::of_entry(leading), place)?;
+    let mut after = Record {
         next: Version(next),
-        keys: record.keys + u32::from(new),
+        keys: record.keys + u32::from(entered == Entered::New),
         pending: Pending::None,
         ..record
     };
+    let mut present = Counts::of(&mut after);
+    present.add::<R>(record.head, leading);
+    if let Entered::Displacing(older) = entered {
+        present.displace::<R>(area, older);
+    }
     Ok((after, record.next))
 }
 

@@ -91,7 +91,7 @@ impl<S: Subject> Bench<S> {
         }
     }
 
-    /// The starts, and the events that no implementation has a call for yet.
+    /// The starts, the calls that choose slots, and the events that no implementation has a call for yet.
     fn operation(&mut self, event: &Event, changes: &Changes) -> Checked {
         match event {
             Event::Write {
@@ -113,6 +113,14 @@ impl<S: Subject> Bench<S> {
                 self.start(start, owed, changes)
             }
             Event::Clean { victims, owed } => self.start(Start::Clean(*victims), owed, changes),
+            Event::Fewest(owed) => self.fewest(owed, changes),
+            Event::Join(owed) => self.join(owed, changes),
+            Event::FromFloat { value, owed } => check_converted(owed, S::from_float(value)),
+            Event::ToFloat { value, owed } => check_converted(owed, S::to_float(value)),
+            Event::ScanRead { key, range, owed } => {
+                let asked = self.name(*key, Some(*range));
+                self.scan_read(asked, owed, changes)
+            }
             _ => Err(no_call("this event")),
         }
     }
@@ -301,6 +309,9 @@ impl<S: Subject> Bench<S> {
 
     fn step(&mut self, owed: &Owed<Step>, changes: &Changes) -> Checked {
         let (before, lent) = self.lend(changes)?;
+        if changes.lent(Buffer::Index).is_none() {
+            check_next_store::<S>(&before, &lent, owed)?;
+        }
         let (mut record, mut memory) = (before.clone(), lent.clone());
         let answer = S::step(&mut record, &mut memory);
         let Some((owed, progress)) = settled(owed, answer)? else {
@@ -345,6 +356,7 @@ impl<S: Subject> Bench<S> {
             (Ok(left), _) => check_more::<S>(&before, &record, left, progress)?,
             (Err(_), _) => return Err(Difference::new("left", left, said(progress))),
         }
+        check_told_store::<S>(&before, &lent, &memory)?;
         let changed = changed_places(&lent, &memory);
         if changed.len() > 1 {
             let expected = "one byte stored in a step";
@@ -364,6 +376,41 @@ impl<S: Subject> Bench<S> {
         let (record, memory) = (before.clone(), lent.clone());
         check_read::<S>(&record, &memory, asked, owed)?;
         untouched::<S>((&before, &lent), (&record, &memory))
+    }
+
+    /// The record alone answers: what else is lent does not matter.
+    fn fewest(&mut self, owed: &Owed<u32>, changes: &Changes) -> Checked {
+        let (before, _) = self.lend(changes)?;
+        let record = before.clone();
+        if let Some((owed, slot)) = settled(owed, S::fewest(&record))? {
+            same("slot", *owed, slot)?;
+        }
+        if record != before {
+            return Err(Difference::new("record", "as it was", "changed"));
+        }
+        Ok(())
+    }
+
+    fn join(&mut self, owed: &Owed<(u32, u32)>, changes: &Changes) -> Checked {
+        let (before, lent) = self.lend(changes)?;
+        let (record, memory) = (before.clone(), lent.clone());
+        if let Some((owed, (first, second))) = settled(owed, S::join(&record, &memory))? {
+            same("first slot", owed.0, first)?;
+            same("second slot", owed.1, second)?;
+        }
+        untouched::<S>((&before, &lent), (&record, &memory))
+    }
+
+    /// A read of the area as it stands, record or not.
+    fn scan_read(&mut self, asked: Asked, owed: &Owed<Found>, changes: &Changes) -> Checked {
+        let lent = lent_of(self.memory()?, changes).area;
+        let area = lent.clone();
+        let geometry = changes.geometry(self.geometry);
+        let answer = S::scan_read(geometry, &area, asked);
+        let part = S::scan_read_value(geometry, &area, asked).map_err(not_forged)?;
+        check_found(owed, answer, part)?;
+        intact("area", &area)?;
+        same_buffer("area", &lent, &area)
     }
 
     /// Reads every key that the line names, every key that the history has named, and every key whose six bytes stand
@@ -587,6 +634,30 @@ fn after_store(lent: &Memory, found: &Memory, owed: &Step) -> Result<Memory, Dif
     Ok(after)
 }
 
+/// The store is told before the step makes it, or the step's refusal. An index is not lent to that call, so that a
+/// refusal of its length is none.
+fn check_next_store<S: Subject>(record: &S::Record, lent: &Memory, owed: &Owed<Step>) -> Checked {
+    if let Some((owed, (place, byte))) = settled(owed, S::next_store(record, lent))? {
+        same("place told before", owed.place, place)?;
+        same("byte told before", owed.byte, byte)?;
+    }
+    Ok(())
+}
+
+/// The step that was made has stored what was told before.
+fn check_told_store<S: Subject>(record: &S::Record, lent: &Memory, after: &Memory) -> Checked {
+    let accepted: Owed<()> = Ok(());
+    let Some((_, (place, byte))) = settled(&accepted, S::next_store(record, lent))? else {
+        return Ok(());
+    };
+    let mut owed = lent.area.to_vec();
+    match owed.get_mut(place) {
+        Some(stored) => *stored = byte,
+        None => return Err(Difference::new("place told before", "in the area", place)),
+    }
+    same_buffer("area after the store told", &owed, &after.area)
+}
+
 /// A store of the byte that stands there already changes nothing. So the same step is made once more on a copy that
 /// has another byte at the place. That copy is as genuine a store: the place is no part of its log, since the last
 /// store of an operation, the only one into the log, always changes its byte.
@@ -610,7 +681,16 @@ fn check_read<S: Subject>(
     owed: &Owed<Found>,
 ) -> Checked {
     let answer = S::read(record, memory, asked);
-    let (place, length) = S::read_value(record, memory, asked).map_err(not_forged)?;
+    let part = S::read_value(record, memory, asked).map_err(not_forged)?;
+    check_found(owed, answer, part)
+}
+
+/// What a read tells, and place and length of the part that it gives.
+fn check_found(
+    owed: &Owed<Found>,
+    answer: Answer<(u64, u32)>,
+    (place, length): (usize, usize),
+) -> Checked {
     let (owed_place, owed_length) = match settled(owed, answer)? {
         None => (0, 0),
         Some((owed, (version, kind))) => {
@@ -621,6 +701,14 @@ fn check_read<S: Subject>(
     };
     same("place", owed_place, place)?;
     same("length", owed_length, length)
+}
+
+/// A conversion's eight bytes.
+fn check_converted(owed: &Owed<Vec<u8>>, answer: Answer<[u8; 8]>) -> Checked {
+    match settled(owed, answer)? {
+        Some((owed, converted)) => same_buffer("value", owed, &converted),
+        None => Ok(()),
+    }
 }
 
 /// What a read of a key owes beside a list of the present keys.

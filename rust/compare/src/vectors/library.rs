@@ -4,8 +4,8 @@ use kurdavel::{DigestNumber, Fields, Key, Pending, Refusal, SlotMap, Tables, Ver
 
 use super::event::{Field, Geometry, Record};
 use super::subject::{
-    narrow_expected, part_of, range_of, without_edition, Answer, Asked, Memory, No, Progress,
-    Start, Subject,
+    narrow_expected, part_of, present_of, range_of, without_edition, Answer, Asked, Memory, No,
+    Progress, Start, Subject,
 };
 
 /// The static library.
@@ -74,6 +74,13 @@ impl Subject for Library {
         }
     }
 
+    fn next_store(record: &kurdavel::Record, memory: &Memory) -> Answer<(usize, u8)> {
+        let store = record
+            .next_store(&memory.area, &memory.work)
+            .map_err(refused)?;
+        Ok((store.place, store.byte))
+    }
+
     fn read(record: &kurdavel::Record, memory: &Memory, asked: Asked) -> Answer<(u64, u32)> {
         let (tables, key) = of(asked);
         let found = record.read(&memory.area, &memory.index, tables, key);
@@ -91,6 +98,37 @@ impl Subject for Library {
         Ok(part_of(&memory.area, value))
     }
 
+    fn fewest(record: &kurdavel::Record) -> Answer<u32> {
+        record.fewest().map_err(refused)
+    }
+
+    fn join(record: &kurdavel::Record, memory: &Memory) -> Answer<(u32, u32)> {
+        record.join(&memory.area, &memory.index).map_err(refused)
+    }
+
+    fn scan_read(geometry: Geometry, area: &[u8], asked: Asked) -> Answer<(u64, u32)> {
+        let (tables, key) = of(asked);
+        let (slots, slot_bytes) = (geometry.slots, geometry.slot_bytes);
+        let found = kurdavel::scan_read(slots, slot_bytes, area, tables, key);
+        let found = found.map_err(refused)?;
+        Ok((found.version.0.into(), found.kind.into()))
+    }
+
+    fn scan_read_value(geometry: Geometry, area: &[u8], asked: Asked) -> Answer<(usize, usize)> {
+        let (tables, key) = of(asked);
+        let (slots, slot_bytes) = (geometry.slots, geometry.slot_bytes);
+        let value = kurdavel::scan_read_value(slots, slot_bytes, area, tables, key);
+        Ok(part_of(area, value))
+    }
+
+    fn from_float(value: &[u8]) -> Answer<[u8; 8]> {
+        kurdavel::from_float(value).map_err(refused)
+    }
+
+    fn to_float(value: &[u8]) -> Answer<[u8; 8]> {
+        kurdavel::to_float(value).map_err(refused)
+    }
+
     fn says(record: &kurdavel::Record) -> Option<Record> {
         let fields = record.fields()?;
         Some(Record {
@@ -104,7 +142,7 @@ impl Subject for Library {
             next: fields.next.0.into(),
             keys: fields.keys,
             left: (fields.pending != Pending::Idle).then_some(fields.pending.left()),
-            present_bytes: None,
+            present_bytes: Some(present_of(fields.slots, &fields.present_bytes)),
             edition: None,
             switched: None,
         })
@@ -133,7 +171,10 @@ fn change(fields: &mut Fields, field: Field, value: u64) -> Answer<()> {
         Field::Keys => fields.keys = number,
         Field::Left => fields.pending = with_left(fields.pending, number),
         Field::Edition => return Err(No::Missing("a record with an edition")),
-        Field::PresentBytes(_) => return Err(No::Missing("a record with present bytes")),
+        Field::PresentBytes(slot) => match fields.present_bytes.get_mut(slot as usize) {
+            Some(bytes) => *bytes = number,
+            None => return Err(No::Missing("a slot above 31")),
+        },
     }
     Ok(())
 }

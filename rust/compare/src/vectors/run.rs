@@ -1,4 +1,4 @@
-//! A whole file, line by line, through both implementations.
+//! A whole file, line by line, through both implementations or through one of them.
 
 use std::fmt;
 use std::io::{self, BufRead};
@@ -14,6 +14,17 @@ use super::subject::Subject;
 
 /// How many failures of one kind a report keeps.
 const KEPT: usize = 5;
+
+/// Which implementations a replay leads through a file.
+#[derive(Clone, Copy, PartialEq, Eq, Debug)]
+pub enum Through {
+    /// Both.
+    Both,
+    /// The static library alone.
+    Library,
+    /// The reference alone.
+    Reference,
+}
 
 /// Something that is not as the file has it, or a line that does not keep to the format.
 #[derive(Clone, PartialEq, Eq, Debug)]
@@ -68,6 +79,8 @@ impl Tally {
 pub struct Report {
     /// The file.
     pub file: String,
+    /// What was led through it.
+    pub through: Through,
     /// The events in it: every line but blank ones and comments.
     pub events: u64,
     /// Lines that do not keep to the format.
@@ -79,26 +92,26 @@ pub struct Report {
 }
 
 impl Report {
-    /// Whether every event was replayed through both implementations, and every answer was the file's.
+    /// Whether every event was replayed, and every answer was the file's.
     pub fn is_clean(&self) -> bool {
         self.tallies()
-            .iter()
             .all(|(_, tally)| tally.failures == 0 && tally.skipped == 0)
     }
 
     /// The first failures of every kind.
     pub fn failures(&self) -> impl Iterator<Item = &Failure> {
-        self.tallies()
-            .into_iter()
-            .flat_map(|(_, tally)| tally.first.iter())
+        self.tallies().flat_map(|(_, tally)| tally.first.iter())
     }
 
-    fn tallies(&self) -> [(&'static str, &Tally); 3] {
-        [
-            ("lines at fault", &self.lines),
-            ("mismatches of the library", &self.library),
-            ("mismatches of the reference", &self.reference),
-        ]
+    /// The lines at fault, and the mismatches of what was led through the file.
+    fn tallies(&self) -> impl Iterator<Item = (&'static str, &Tally)> {
+        let library = (self.through != Through::Reference)
+            .then_some(("mismatches of the library", &self.library));
+        let reference = (self.through != Through::Library)
+            .then_some(("mismatches of the reference", &self.reference));
+        std::iter::once(("lines at fault", &self.lines))
+            .chain(library)
+            .chain(reference)
     }
 }
 
@@ -121,7 +134,17 @@ impl fmt::Display for Report {
 /// After a failure the implementation is not led further through that history; the next one begins anew. After a line
 /// at fault neither is. Fails only if the text cannot be read.
 pub fn replay(file: &str, level: Level, text: impl BufRead) -> io::Result<Report> {
-    let mut run = Run::new(file, level);
+    replay_through(Through::Both, file, level, text)
+}
+
+/// [`replay`] through both implementations or through one of them.
+pub fn replay_through(
+    through: Through,
+    file: &str,
+    level: Level,
+    text: impl BufRead,
+) -> io::Result<Report> {
+    let mut run = Run::new(through, file, level);
     for line in text.split(b'\n') {
         run.line(&line?);
     }
@@ -172,11 +195,12 @@ struct Run {
 }
 
 impl Run {
-    fn new(file: &str, level: Level) -> Run {
+    fn new(through: Through, file: &str, level: Level) -> Run {
         Run {
             level,
             report: Report {
                 file: file.into(),
+                through,
                 events: 0,
                 lines: Tally::default(),
                 library: Tally::default(),
@@ -220,13 +244,18 @@ impl Run {
             return;
         }
         let changes = std::mem::take(&mut self.changes);
-        if let Err(difference) = self.library.replay(self.level, event, &changes) {
-            let failure = self.failure(text, Library::NAME, difference);
-            self.library.tally.add(failure);
+        let through = self.report.through;
+        if through != Through::Reference {
+            if let Err(difference) = self.library.replay(self.level, event, &changes) {
+                let failure = self.failure(text, Library::NAME, difference);
+                self.library.tally.add(failure);
+            }
         }
-        if let Err(difference) = self.reference.replay(self.level, event, &changes) {
-            let failure = self.failure(text, Second::NAME, difference);
-            self.reference.tally.add(failure);
+        if through != Through::Library {
+            if let Err(difference) = self.reference.replay(self.level, event, &changes) {
+                let failure = self.failure(text, Second::NAME, difference);
+                self.reference.tally.add(failure);
+            }
         }
     }
 

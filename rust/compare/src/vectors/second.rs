@@ -4,8 +4,8 @@ use reference::{DigestNumber, Key, Pending, Refusal, SlotMap, Tables, Version};
 
 use super::event::{Field, Geometry, Record};
 use super::subject::{
-    narrow_expected, part_of, range_of, without_edition, Answer, Asked, Memory, No, Progress,
-    Start, Subject,
+    narrow_expected, part_of, present_of, range_of, without_edition, Answer, Asked, Memory, No,
+    Progress, Start, Subject,
 };
 
 /// The reference.
@@ -77,6 +77,11 @@ impl Subject for Second {
         }
     }
 
+    fn next_store(record: &reference::Record, memory: &Memory) -> Answer<(usize, u8)> {
+        let store = reference::next_store(record, &memory.area, &memory.work).map_err(refused)?;
+        Ok((store.place, store.byte))
+    }
+
     fn read(record: &reference::Record, memory: &Memory, asked: Asked) -> Answer<(u64, u32)> {
         let (tables, key) = of(asked);
         let found = reference::read(record, &memory.area, &memory.index, tables, key);
@@ -94,6 +99,45 @@ impl Subject for Second {
         Ok(part_of(&memory.area, value))
     }
 
+    fn fewest(record: &reference::Record) -> Answer<u32> {
+        reference::fewest(record).map_err(refused)
+    }
+
+    fn join(record: &reference::Record, memory: &Memory) -> Answer<(u32, u32)> {
+        reference::join(record, &memory.area, &memory.index).map_err(refused)
+    }
+
+    fn scan_read(geometry: Geometry, area: &[u8], asked: Asked) -> Answer<(u64, u32)> {
+        let (
+            (tables, key),
+            Geometry {
+                slots, slot_bytes, ..
+            },
+        ) = (of(asked), geometry);
+        let found = reference::scan_read(slots, slot_bytes, area, tables, key);
+        let found = found.map_err(refused)?;
+        Ok((found.version.0.into(), found.kind.into()))
+    }
+
+    fn scan_read_value(geometry: Geometry, area: &[u8], asked: Asked) -> Answer<(usize, usize)> {
+        let (
+            (tables, key),
+            Geometry {
+                slots, slot_bytes, ..
+            },
+        ) = (of(asked), geometry);
+        let value = reference::scan_read_value(slots, slot_bytes, area, tables, key);
+        Ok(part_of(area, value))
+    }
+
+    fn from_float(value: &[u8]) -> Answer<[u8; 8]> {
+        reference::from_float(value).map_err(refused)
+    }
+
+    fn to_float(value: &[u8]) -> Answer<[u8; 8]> {
+        reference::to_float(value).map_err(refused)
+    }
+
     fn says(record: &reference::Record) -> Option<Record> {
         Some(Record {
             slots: record.slots,
@@ -106,7 +150,7 @@ impl Subject for Second {
             next: record.next.0.into(),
             keys: record.keys,
             left: (record.pending != Pending::None).then_some(record.pending.left()),
-            present_bytes: None,
+            present_bytes: Some(present_of(record.slots, &record.present_bytes)),
             edition: None,
             switched: None,
         })
@@ -128,7 +172,10 @@ impl Subject for Second {
             Field::Keys => record.keys = number,
             Field::Left => record.pending = with_left(record.pending, number),
             Field::Edition => return Err(No::Missing("a record with an edition")),
-            Field::PresentBytes(_) => return Err(No::Missing("a record with present bytes")),
+            Field::PresentBytes(slot) => match record.present_bytes.get_mut(slot as usize) {
+                Some(bytes) => *bytes = number,
+                None => return Err(No::Missing("a slot above 31")),
+            },
         }
         Ok(record)
     }

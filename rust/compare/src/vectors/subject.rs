@@ -89,17 +89,45 @@ pub trait Subject {
     /// Makes one store.
     fn step(record: &mut Self::Record, memory: &mut Memory) -> Answer<Progress>;
 
+    /// Place and byte of the store that the next step makes.
+    fn next_store(record: &Self::Record, memory: &Memory) -> Answer<(usize, u8)>;
+
     /// Version and kind of a key.
     fn read(record: &Self::Record, memory: &Memory, asked: Asked) -> Answer<(u64, u32)>;
 
     /// Place and length of a key's value in the area.
     fn read_value(record: &Self::Record, memory: &Memory, asked: Asked) -> Answer<(usize, usize)>;
 
+    /// The slot of the log with the fewest present bytes.
+    fn fewest(record: &Self::Record) -> Answer<u32>;
+
+    /// The lowest two slots whose kept entries fit one new head.
+    fn join(record: &Self::Record, memory: &Memory) -> Answer<(u32, u32)>;
+
+    /// Version and kind of a key, by a scan of the area.
+    fn scan_read(geometry: Geometry, area: &[u8], asked: Asked) -> Answer<(u64, u32)>;
+
+    /// Place and length of a key's value, by a scan of the area.
+    fn scan_read_value(geometry: Geometry, area: &[u8], asked: Asked) -> Answer<(usize, usize)>;
+
+    /// The value with its position as a count.
+    fn from_float(value: &[u8]) -> Answer<[u8; 8]>;
+
+    /// The value with its position as a float.
+    fn to_float(value: &[u8]) -> Answer<[u8; 8]>;
+
     /// What a record says; none if it is not one that any call gives.
     fn says(record: &Self::Record) -> Option<Record>;
 
     /// The record with another value in a field. Stores left given to a record without an operation make one pending.
     fn forged(record: &Self::Record, field: Field, value: u64) -> Answer<Self::Record>;
+}
+
+/// The present bytes of the slots below N, and of any above that are not 0, which no record owes.
+pub fn present_of(slots: u32, bytes: &[u32; 32]) -> Vec<u32> {
+    let above = bytes.iter().rposition(|&bytes| bytes != 0);
+    let count = above.map_or(0, |last| last + 1).max(slots as usize);
+    bytes[..count.min(bytes.len())].to_vec()
 }
 
 /// Place and length of a part of a buffer.

@@ -3,6 +3,7 @@
 use compare::pair::Pair;
 use compare::Fault;
 use reference::rng::Rng;
+use reference::testing::calls;
 use reference::testing::images::{Image, Shape};
 
 /// Recovers an image with both. Gives 0 or the refusal.
@@ -13,18 +14,26 @@ fn recover(rng: &mut Rng, image: &Image, cells: usize) -> Result<u32, Fault> {
         order[place] = rng.bits() as u8;
     }
     let mut pair = Pair::unrecovered(image.slots, image.slot_bytes, cells, &image.area);
+    let key = image.some_key(rng);
+    let tables = calls::tables(rng, key.table);
+    let scanned = pair.scan_in(tables, key)?;
     match pair.recover(cells, &order)? {
+        // Whatever recovery tells of the area a scan tells as well; the order and the cells do not concern it.
+        Err(refusal) if ![15, 20].contains(&refusal) && scanned != Err(refusal) => {
+            Err(format!("recovery {refusal}, scan {scanned:?}"))
+        }
         Err(refusal) => Ok(refusal),
         Ok(()) => {
             for _ in 0..12 {
                 let _ = pair.read(image.some_key(rng))?;
             }
+            let _ = pair.scan_in(tables, key)?;
             Ok(0)
         }
     }
 }
 
-fn must_recover(rng: &mut Rng, image: &Image, cells: usize, met: &mut [u32; 21]) {
+fn must_recover(rng: &mut Rng, image: &Image, cells: usize, met: &mut [u32; 26]) {
     let cause = recover(rng, image, cells)
         .unwrap_or_else(|fault| panic!("{fault}\nN {} S {}", image.slots, image.slot_bytes));
     met[cause as usize] += 1;
@@ -33,7 +42,7 @@ fn must_recover(rng: &mut Rng, image: &Image, cells: usize, met: &mut [u32; 21])
 #[test]
 fn whole_images() {
     let mut rng = Rng::new(1);
-    let mut met = [0; 21];
+    let mut met = [0; 26];
     for _ in 0..8000 {
         let image = Shape::random(&mut rng).make(&mut rng);
         let cells = *rng.pick(&[16, 17, 500, 4095, 4096]);
@@ -46,7 +55,7 @@ fn whole_images() {
 /// Images, each damaged a few bytes at a time, in twelve ways one after the other and apart.
 fn damage_all(seed: u64) {
     let mut rng = Rng::new(seed);
-    let mut met = [0; 21];
+    let mut met = [0; 26];
     for _ in 0..8000 {
         let mut image = Shape::random(&mut rng).make(&mut rng);
         let whole = image.area.clone();
@@ -63,7 +72,8 @@ fn damage_all(seed: u64) {
     }
     println!("{met:?}");
     assert!(met[0] > 10_000, "{met:?}");
-    assert!(met[15..].iter().all(|&count| count > 500), "{met:?}");
+    let told = [&met[15..=20], &met[24..]].concat();
+    assert!(told.iter().all(|&count| count > 500), "{met:?}");
 }
 
 // Two halves, so that they run side by side.
@@ -81,7 +91,7 @@ fn more_damaged_images() {
 #[test]
 fn random_bytes() {
     let mut rng = Rng::new(3);
-    let mut met = [0; 21];
+    let mut met = [0; 26];
     for _ in 0..4000 {
         let (slots, slot_bytes) = (rng.within(4, 32), rng.within(256, 600));
         let mut area = vec![0; (slots * slot_bytes) as usize];
@@ -98,14 +108,14 @@ fn random_bytes() {
         must_recover(&mut rng, &image, 64, &mut met);
     }
     println!("{met:?}");
-    assert!(met[16] > 100 && met[17] > 1000, "{met:?}");
+    assert!(met[16] > 100 && met[24] > 1000, "{met:?}");
 }
 
 /// Full areas whose versions collide in any filter by their low bits, with and without one that is shared.
 #[test]
 fn shared_versions_in_full_areas() {
     let mut rng = Rng::new(4);
-    let mut met = [0; 21];
+    let mut met = [0; 26];
     for round in 0..300 {
         let mut image = Image::with_many_keys(&mut rng);
         if round % 2 == 0 {

@@ -13,7 +13,7 @@ use reference::Key;
 struct Tally {
     recovered: u32,
     accepted: u32,
-    refused: [u32; 23],
+    refused: [u32; 28],
 }
 
 impl Tally {
@@ -47,6 +47,9 @@ fn go_on(rng: &mut Rng, image: &Image, cells: usize, tally: &mut Tally) -> Resul
             pair.finish()?;
         }
         let _ = pair.read(*rng.pick(&keys))?;
+        if let Err(refusal) = pair.join()? {
+            tally.refused[refusal as usize] += 1;
+        }
     }
     Ok(())
 }
@@ -77,7 +80,7 @@ fn play_all(seed: u64, rounds: u32, damages: u32) -> Tally {
 fn valid_images_live_on() {
     let tally = play_all(31, 4000, 0);
     assert!(tally.recovered > 2000 && tally.accepted > 10_000);
-    for cause in [7, 8, 11, 12, 13, 14, 21, 22] {
+    for cause in [7, 8, 11, 12, 13, 14, 21, 22, 23] {
         assert!(tally.refused[cause] > 10, "{:?}", tally.refused);
     }
 }
@@ -86,7 +89,7 @@ fn valid_images_live_on() {
 fn damaged_images_go_on() {
     let tally = play_all(32, 12_000, 3);
     assert!(tally.recovered > 4000 && tally.accepted > 20_000);
-    for cause in 17..=20 {
+    for cause in (17..=20).chain([24, 25]) {
         assert!(tally.refused[cause] > 10, "{:?}", tally.refused);
     }
 }

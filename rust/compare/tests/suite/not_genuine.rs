@@ -1,6 +1,7 @@
 //! Records, indexes, areas and work buffers that no start or recovery gave: no call leaves what it is lent, a start
 //! changes no byte of the area, and a step at most one. Where the range and length tests refuse the record, both
-//! answer 4; where a step is refused with 3 or 6, both do.
+//! answer 4; where a step is refused with 3 or 6, both do. The slot with the fewest present bytes is the same for both,
+//! whatever the record says.
 
 use compare::guarded::Guarded;
 use compare::translate;
@@ -43,9 +44,12 @@ impl Lent {
             area, index, work, ..
         } = self;
         let found = translate::proved(record.read(area, index, tables, key).map(|_| 0));
+        let fewest = translate::reference(reference::fewest(&self.record));
+        assert_eq!(translate::proved(record.fewest()), fewest);
         let value = record.read_value(area, index, tables, key);
         assert!(value.len() <= 120);
         assert!(area.as_ptr_range().contains(&value.as_ptr()));
+        let joined = translate::proved(record.join(area, index));
         let mut records = [record; 4];
         let value = vec![3; *rng.pick(&[8, 24, 56, 120, 0, 130])];
         let victims = kurdavel::SlotMap(match rng.below(3) {
@@ -64,6 +68,11 @@ impl Lent {
         assert!(self.is_intact());
         if !self.passes() {
             assert_eq!(found, Err(4));
+            assert_eq!(joined, Err(4));
+        } else if self.record.pending != Pending::None {
+            assert_eq!(joined, Err(5));
+        }
+        if !self.passes() {
             assert_eq!(starts.map(translate::proved), [Err(4); 4]);
             assert_eq!(records, [record; 4]);
             assert_eq!(self.work[..], before.2[..]);
@@ -71,11 +80,34 @@ impl Lent {
         starts.iter().map(|start| u32::from(start.is_ok())).sum()
     }
 
+    /// The store told before a step is the one that it makes, or the step is refused; where nothing is told the step is
+    /// refused for the same cause, or because the index is not the record's.
+    fn check_told(
+        &self,
+        before: &[u8],
+        told: Result<kurdavel::Store, u32>,
+        answer: Result<(), u32>,
+    ) {
+        let own_index = self.index.len() == self.record.cells as usize;
+        match told {
+            Err(cause) if own_index => assert_eq!(answer, Err(cause)),
+            Err(_) => assert_eq!(answer, Err(4)),
+            Ok(kurdavel::Store { place, byte }) => {
+                let mut stored = before.to_vec();
+                stored[place] = byte;
+                let made = self.area[..] == stored[..];
+                assert!(made || answer.is_err() && self.area[..] == before[..]);
+            }
+        }
+    }
+
     /// A step. Gives whether it was accepted.
     fn step(&mut self) -> bool {
         let before = (self.area.to_vec(), self.index.to_vec(), self.work.to_vec());
         let mut record = translate::record(self.record);
+        let told = translate::proved(record.next_store(&self.area, &self.work));
         let answer = translate::proved(record.step(&mut self.area, &mut self.index, &self.work));
+        self.check_told(&before.0, told, answer.map(|_| ()));
         let changed = (self.area.iter().zip(&before.0)).filter(|(new, old)| new != old);
         assert!(changed.count() <= 1, "{:?}", self.record);
         assert_eq!(self.work[..], before.2[..]);

@@ -5,7 +5,7 @@ use compare::Fault;
 use reference::book::Operation;
 use reference::rng::Rng;
 use reference::testing::{calls, full};
-use reference::{Key, Pending};
+use reference::{Key, Pending, Tables};
 
 /// How many operations, cuts and refusals of each cause a run met.
 #[derive(Default)]
@@ -13,8 +13,10 @@ struct Tally {
     operations: u32,
     /// Deletes done as a cleaning.
     forgotten: u32,
+    /// Writes that met 12 and were accepted after a join.
+    joined: u32,
     cuts: u32,
-    refused: [u32; 23],
+    refused: [u32; 28],
 }
 
 impl Tally {
@@ -93,6 +95,7 @@ impl Player {
             }
         }
         self.cut();
+        let _ = self.pair.scan_in(Tables::ALL, self.keys[0])?;
         let order = self.rng.order(self.pair.slots());
         self.pair.must_recover(&order)?;
         for key in &self.keys {
@@ -115,12 +118,16 @@ impl Player {
         match self.rng.below(40) {
             0 | 1 => self.cut(),
             2 | 3 => self.recover()?,
+            4 if self.rng.one_in(2) => {
+                let answer = self.pair.join()?;
+                self.tally.count(answer);
+            }
             4 | 5 => self.start()?,
             6 | 7 => self.few_steps()?,
             8..=11 => {
                 let key = *self.rng.pick(&self.keys);
                 let tables = calls::tables(&mut self.rng, key.table);
-                let (answer, _) = self.pair.read_in(tables, key)?;
+                let answer = self.pair.scan_in(tables, key)?;
                 self.tally.count(answer);
             }
             _ => {
@@ -144,6 +151,20 @@ impl Player {
         self.tally.count(answer);
         let forget = matches!(self.pair.record().pending, Pending::Forget { .. });
         self.tally.forgotten += u32::from(answer.is_ok() && forget);
+        if answer == Err(12) && record.digest.0 <= u32::MAX - 2 && self.rng.one_in(6) {
+            self.join_and_write(&operation)?;
+        }
+        Ok(())
+    }
+
+    /// A write that met 12 is accepted once two slots are joined, if there are such.
+    fn join_and_write(&mut self, write: &Operation) -> Result<(), Fault> {
+        if self.pair.join_and_clean()?.is_ok() {
+            if let Err(refusal) = self.pair.begin(write)? {
+                return Err(format!("write after a join refused: {refusal}"));
+            }
+            self.tally.joined += 1;
+        }
         Ok(())
     }
 
@@ -206,16 +227,18 @@ fn play_all(seeds: std::ops::Range<u64>, actions: u32) -> Tally {
         }
         total.operations += player.tally.operations;
         total.forgotten += player.tally.forgotten;
+        total.joined += player.tally.joined;
         total.cuts += player.tally.cuts;
         for (sum, count) in total.refused.iter_mut().zip(player.tally.refused) {
             *sum += count;
         }
     }
     println!(
-        "{} accepted calls, {} of them deletes on a full store, {} cuts, refused {:?}",
-        total.operations, total.forgotten, total.cuts, total.refused
+        "{} accepted calls, {} of them deletes on a full store, {} joins, {} cuts, refused {:?}",
+        total.operations, total.forgotten, total.joined, total.cuts, total.refused
     );
-    assert!(total.forgotten > 500, "{}", total.forgotten);
+    assert!(total.forgotten > 300, "{}", total.forgotten);
+    assert!(total.joined > 100, "{}", total.joined);
     total
 }
 
@@ -223,7 +246,7 @@ fn play_all(seeds: std::ops::Range<u64>, actions: u32) -> Tally {
 #[test]
 fn many_histories() {
     let total = play_all(0..20_000, 40);
-    for cause in (2..=3).chain(5..=15).chain(20..=22) {
+    for cause in (2..=3).chain(5..=15).chain(20..=23) {
         assert!(total.refused[cause] > 0, "{:?}", total.refused);
     }
 }

@@ -1,7 +1,7 @@
 //! Calls that must be refused, each with the same number from both, and nothing changed.
 
 use compare::guarded::Guarded;
-use compare::pair::Pair;
+use compare::pair::{scan, Pair};
 use compare::translate;
 use kurdavel::{slices, Record, Refusal, WORDS};
 use reference::book::Operation;
@@ -113,10 +113,30 @@ fn refuse_all(words: &[u32], area: &[u8], index: &[u32], work_bytes: usize) {
     );
     assert_eq!((value, first, second), (4, 0, 0));
     assert_eq!(record[..], words[..]);
+    (first, second) = (71, 72);
+    let told = slices::join(record, &lent_area, &lent_index, &mut first, &mut second);
+    assert_eq!((told, first, second), (4, 0, 0), "{words:?}");
+    if index.len() == words.get(2).map_or(index.len(), |&cells| cells as usize) {
+        (first, second) = (71, 72);
+        let told = slices::next_store(record, &lent_area, &work, &mut first, &mut second);
+        assert_eq!((told, first, second), (4, 0, 0), "{words:?}");
+    }
     assert_eq!((&lent_area[..], &lent_index[..]), (area, index));
     assert!(work.iter().all(|&byte| byte == 0x77));
     assert!(record.is_intact() && work.is_intact());
     assert!(lent_area.is_intact() && lent_index.is_intact());
+}
+
+/// The call on the record alone, on words that it must refuse with 4.
+fn refuse_fewest(words: &[u32]) {
+    let record = Guarded::new(words, 9);
+    let mut slot = 71;
+    assert_eq!(
+        (slices::fewest(&record, &mut slot), slot),
+        (4, 0),
+        "{words:?}"
+    );
+    assert!(record[..] == words[..] && record.is_intact());
 }
 
 /// Records out of range, lent lengths that are not the record's, and words that are no record.
@@ -140,17 +160,21 @@ fn records_that_are_none() {
             _ => spoil(&mut rng, &mut words),
         }
         refuse_all(&words, &area, &index, pair.work_bytes());
+        if words != genuine {
+            refuse_fewest(&words);
+        }
     }
 }
 
-/// Makes the words of a pending operation none that encode one.
+/// Makes the words of a pending operation none that encode one, or a word in reserve other than 0.
 fn spoil(rng: &mut Rng, words: &mut [u32]) {
     let other = rng.bits() as u32 | 1;
-    match rng.below(4) {
-        0 => words[9] = 5 + rng.below(u32::MAX - 5),
-        1 => words[9..].copy_from_slice(&[0, 0, 0, 0, other]),
-        2 => words[9..].copy_from_slice(&[1, other, 0, 19, 20]),
-        _ => words[9..].copy_from_slice(&[2, 1, other, 32, 33]),
+    match rng.below(6) {
+        0 => words[12] = 5 + rng.below(u32::MAX - 5),
+        1 => words[12..17].copy_from_slice(&[0, 0, 0, 0, other]),
+        2 => words[12..17].copy_from_slice(&[1, other, 0, 19, 20]),
+        3 => words[12..17].copy_from_slice(&[2, 1, other, 32, 33]),
+        _ => words[*rng.pick(&[8, 10, 11])] = other,
     }
     assert_eq!(Record::from_words(words.try_into().unwrap()).fields(), None);
 }
@@ -235,6 +259,9 @@ fn geometries() {
                     Pair::unrecovered(slots.min(40), slot_bytes.min(4096), 16, &vec![5; length]);
                 let answer = pair.format(slots, slot_bytes).unwrap();
                 formats += u32::from(answer.is_ok());
+                let tables = reference::Tables::ALL;
+                let (told, part) = scan(slots, slot_bytes, pair.area(), tables, KEY).unwrap();
+                assert_eq!((told, part), (answer.and(Err(8)), (0, 0)));
                 for cells in [0, 15, 16, 4096, 4097] {
                     let order = pair.ascending();
                     let _ = pair.recover(cells, &order).unwrap();

@@ -58,6 +58,17 @@ fn wrong_files() {
     );
 }
 
+/// One implementation alone: nothing is said of the other.
+#[test]
+fn only_one() {
+    for (only, other) in [("library", "reference"), ("reference", "library")] {
+        let (status, printed) = run(&["--only", only, NEWEST]);
+        assert_eq!(status, Some(0));
+        assert!(printed.contains(&format!("0 mismatches of the {only}")));
+        assert!(!printed.contains(other), "{printed}");
+    }
+}
+
 #[test]
 fn levels() {
     let named = file("vectors.txt", "history h 4 256 2\ncut\n");
@@ -74,6 +85,9 @@ fn wrong_use() {
         &["--level", "0"],
         &["--level", "14", NEWEST],
         &["--level", "x", NEWEST],
+        &["--only"],
+        &["--only", "both", NEWEST],
+        &["--only", "reference"],
         &["--frobnicate", NEWEST],
         &["no/such/level-00.txt"],
         &["vectors.txt"],

@@ -121,9 +121,9 @@ fn inputs_of(event: &Event, words: &[&str]) -> Vec<(usize, String)> {
             None => [others(&[1, 2, 3]), other_tables(words, 5)].concat(),
             Some(_) => [others(&[1, 2, 3, 4]), other_tables(words, 5)].concat(),
         },
-        Event::Delete { owed: Ok(_), .. } | Event::Read { owed: Ok(_), .. } => {
-            [others(&[1, 2]), other_tables(words, 3)].concat()
-        }
+        Event::Delete { owed: Ok(_), .. }
+        | Event::Read { owed: Ok(_), .. }
+        | Event::ScanRead { owed: Ok(_), .. } => [others(&[1, 2]), other_tables(words, 3)].concat(),
         Event::Clean { owed: Ok(_), .. } => vec![(1, "0".into())],
         Event::Steps(_) => others(&[1]),
         _ => Vec::new(),
@@ -190,6 +190,10 @@ fn field_of(field: Field, record: &Record) -> Option<u32> {
         Field::Map => Some(record.map),
         Field::Keys => Some(record.keys),
         Field::Left => record.left,
+        Field::PresentBytes(slot) => {
+            let present = record.present_bytes.as_ref()?;
+            Some(present.get(slot as usize).copied().unwrap_or(0))
+        }
         _ => None,
     }
 }
@@ -314,9 +318,25 @@ fn named(text: &str) -> Vec<usize> {
 }
 
 /// What the changes must be about, at the least.
-const TRIED: [&str; 13] = [
-    "history", "format", "image", "patch", "recover", "present", "write", "delete", "clean",
-    "step,", "steps", "read", "end",
+const TRIED: [&str; 18] = [
+    "history",
+    "format",
+    "image",
+    "patch",
+    "recover",
+    "present",
+    "write",
+    "delete",
+    "clean",
+    "step,",
+    "steps",
+    "read",
+    "fewest",
+    "join",
+    "scan_read",
+    "from_float",
+    "to_float",
+    "end",
 ];
 
 /// The buffers and fields that a single `with` of the file changes before a call that is refused with 1, 3 or 4. The

@@ -26,6 +26,8 @@ const RECOVERY_CHANGES_WORK: u32 = 13;
 const REFUSED_FORMAT_STORES: u32 = 14;
 const REFUSED_READ_GIVES_A_PART: u32 = 15;
 const ABSENT_KEYS_FOUND: u32 = 16;
+const NEXT_STORE_ONE_TOO_HIGH: u32 = 17;
+const NEXT_STORE_OF_AN_IDLE_RECORD: u32 = 18;
 
 /// The reference with one fault.
 #[derive(Clone, Copy, Debug)]
@@ -96,6 +98,14 @@ impl<const FAULT: u32> Subject for Faulty<FAULT> {
         answer
     }
 
+    fn next_store(record: &reference::Record, memory: &Memory) -> Answer<(usize, u8)> {
+        match (FAULT, Second::next_store(record, memory)) {
+            (NEXT_STORE_ONE_TOO_HIGH, Ok((place, byte))) => Ok((place + 1, byte)),
+            (NEXT_STORE_OF_AN_IDLE_RECORD, Err(No::Refused(6))) => Ok((0, 0)),
+            (_, told) => told,
+        }
+    }
+
     fn read(record: &reference::Record, memory: &Memory, asked: Asked) -> Answer<(u64, u32)> {
         match Second::read(record, memory, asked) {
             Err(No::Refused(8)) if FAULT == ABSENT_KEYS_FOUND && asked.key.key % 64 == 1 => {
@@ -114,6 +124,30 @@ impl<const FAULT: u32> Subject for Faulty<FAULT> {
             Ok((0, 0)) if FAULT == REFUSED_READ_GIVES_A_PART => Ok((5, 0)),
             answer => answer,
         }
+    }
+
+    fn fewest(record: &reference::Record) -> Answer<u32> {
+        Second::fewest(record)
+    }
+
+    fn join(record: &reference::Record, memory: &Memory) -> Answer<(u32, u32)> {
+        Second::join(record, memory)
+    }
+
+    fn scan_read(geometry: Geometry, area: &[u8], asked: Asked) -> Answer<(u64, u32)> {
+        Second::scan_read(geometry, area, asked)
+    }
+
+    fn scan_read_value(geometry: Geometry, area: &[u8], asked: Asked) -> Answer<(usize, usize)> {
+        Second::scan_read_value(geometry, area, asked)
+    }
+
+    fn from_float(value: &[u8]) -> Answer<[u8; 8]> {
+        Second::from_float(value)
+    }
+
+    fn to_float(value: &[u8]) -> Answer<[u8; 8]> {
+        Second::to_float(value)
     }
 
     fn says(record: &reference::Record) -> Option<Record> {
@@ -167,7 +201,7 @@ fn faulty_implementations() {
     caught::<STEP_CHANGES_INDEX>("index at");
     caught_as::<STEP_STORES_TWICE>(&["place", "area"]);
     caught::<LAST_STEP_LEAVES_INDEX>("index");
-    caught_as::<ZERO_NOT_STORED>(&["place", "FNV of the area"]);
+    caught_as::<ZERO_NOT_STORED>(&["place", "area", "FNV of the area"]);
     caught::<START_STORES>("area at");
     caught::<START_CHANGES_INDEX>("index at");
     caught::<START_FILLS_MORE>("work buffer at");
@@ -179,4 +213,6 @@ fn faulty_implementations() {
     caught::<REFUSED_FORMAT_STORES>("area at");
     caught::<REFUSED_READ_GIVES_A_PART>("place");
     caught::<ABSENT_KEYS_FOUND>("answer");
+    caught_as::<NEXT_STORE_ONE_TOO_HIGH>(&["place told before", "area after the store told"]);
+    caught::<NEXT_STORE_OF_AN_IDLE_RECORD>("answer");
 }

@@ -53,7 +53,7 @@ fn pending(rng: &mut Rng, slots: u32) -> Pending {
 pub fn record(rng: &mut Rng, genuine: Record) -> Record {
     let mut record = genuine;
     for _ in 0..rng.below(4) {
-        match rng.below(9) {
+        match rng.below(10) {
             0 => record.head = number(rng, record.slots),
             1 => record.end = number(rng, record.slot_bytes),
             2 => record.digest = DigestNumber(number(rng, u32::MAX)),
@@ -62,6 +62,7 @@ pub fn record(rng: &mut Rng, genuine: Record) -> Record {
             5 => record.keys = number(rng, record.cells),
             6 => record.slots = number(rng, 33),
             7 => record.slot_bytes = number(rng, 2049),
+            8 => record.present_bytes[rng.below(32) as usize] = number(rng, record.slot_bytes),
             _ => record.cells = number(rng, 4097),
         }
     }
@@ -73,7 +74,7 @@ pub fn record(rng: &mut Rng, genuine: Record) -> Record {
 pub fn out_of_range(rng: &mut Rng, genuine: Record) -> Record {
     let mut record = genuine;
     let over = genuine.slot_bytes + 2;
-    match rng.below(14) {
+    match rng.below(15) {
         0 => record.slots = *rng.pick(&[0, 3, 33, u32::MAX]),
         1 => record.slot_bytes = *rng.pick(&[0, 255, 2049, u32::MAX]),
         2 => record.cells = *rng.pick(&[0, 15, 4097, u32::MAX]),
@@ -84,6 +85,10 @@ pub fn out_of_range(rng: &mut Rng, genuine: Record) -> Record {
         7 => record.digest = DigestNumber(0),
         8 => record.next = Version(0),
         9 => record.keys = *rng.pick(&[genuine.cells, u32::MAX]),
+        14 => {
+            let above = *rng.pick(&[genuine.slot_bytes - 12, u32::MAX]);
+            record.present_bytes[rng.below(32) as usize] = above;
+        }
         kind => record.pending = spent_or_over(rng, kind, over),
     }
     record

@@ -3,6 +3,8 @@
 
 pub mod calls;
 pub mod choices;
+pub mod floats;
 pub mod forged;
 pub mod full;
 pub mod images;
+pub mod load;

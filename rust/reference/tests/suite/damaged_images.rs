@@ -71,7 +71,7 @@ fn whole_images() {
 #[test]
 fn damaged_images() {
     let mut rng = Rng::new(2);
-    let mut met = [0; 21];
+    let mut met = [0; 26];
     for _ in 0..20_000 {
         let mut image = Shape::random(&mut rng).make(&mut rng);
         for _ in 0..rng.within(1, 6) {
@@ -80,7 +80,7 @@ fn damaged_images() {
         let cells = *rng.pick(&[16, 100, 4096]);
         met[recover_as_naive(&mut rng, &image, cells) as usize] += 1;
     }
-    for cause in [0, 15, 17, 18, 19, 20] {
+    for cause in [0, 15, 17, 18, 19, 20, 24, 25] {
         assert!(met[cause] > 10, "{met:?}");
     }
 }

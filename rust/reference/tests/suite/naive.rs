@@ -1,4 +1,4 @@
-//! 01 once more, as directly as it can be put: everything is recomputed from the whole
+//! 01 and 02 once more, as directly as it can be put: everything is recomputed from the whole
 //! area into growing lists. The store under test must agree with it.
 
 use std::collections::{BTreeMap, BTreeSet};
@@ -80,7 +80,7 @@ fn lines_of(area: &[u8], slot_bytes: u32, slot: u32) -> Result<(Vec<Line>, u32),
     Ok((lines, at as u32))
 }
 
-/// The head's slot, or 16 or 17.
+/// The head's slot, or 16, 17, 24 or 25.
 fn head_of(slots: u32, slot_bytes: u32, area: &[u8]) -> Result<u32, u32> {
     let byte_0 = |slot: u32| area[(slot * slot_bytes) as usize];
     let mut numbers: Vec<(u32, u32)> = (0..slots)
@@ -95,13 +95,58 @@ fn head_of(slots: u32, slot_bytes: u32, area: &[u8]) -> Result<u32, u32> {
     let map = number(area, (head * slot_bytes) as usize + 5, 4);
     let next = number(area, (head * slot_bytes) as usize + 9, 4);
     let in_map = |slot: u32| map >> slot & 1 == 1;
-    let beyond = (slots..32).any(in_map);
-    let full = (0..slots).all(in_map);
-    let blank = (0..slots).any(|slot| in_map(slot) && byte_0(slot) != 5);
-    if beyond || full || blank || !in_map(head) || next == 0 {
+    if next == 0 {
         return Err(17);
     }
+    let beyond = (slots..32).any(in_map);
+    let full = (0..slots).all(in_map);
+    if beyond || full || !in_map(head) {
+        return Err(24);
+    }
+    if (0..slots).any(|slot| in_map(slot) && byte_0(slot) != 5) {
+        return Err(25);
+    }
     Ok(head)
+}
+
+/// What a scan for a key must tell of an image: version, kind, place and length of its value.
+pub fn scan(
+    slots: u32,
+    slot_bytes: u32,
+    area: &[u8],
+    tables: (u16, u16),
+    key: Key,
+) -> Result<(u32, u8, usize, usize), u32> {
+    check_geometry(slots, slot_bytes, area)?;
+    let head = head_of(slots, slot_bytes, area)?;
+    let map = number(area, (head * slot_bytes) as usize + 5, 4);
+    let mut lines = Vec::new();
+    for slot in (0..slots).filter(|slot| map >> slot & 1 == 1) {
+        lines.extend(lines_of(area, slot_bytes, slot)?.0);
+    }
+    let versions: BTreeSet<u32> = lines.iter().map(|line| line.version).collect();
+    if versions.len() != lines.len() {
+        return Err(19);
+    }
+    if key.table < tables.0 || key.table > tables.1 {
+        return Err(22);
+    }
+    lines.retain(|line| line.key == key);
+    lines.sort_by_key(|line| line.version);
+    let newest = lines.last().filter(|line| line.is_object()).ok_or(8u32)?;
+    let value = newest.bytes.len() - 11;
+    Ok((newest.version, newest.bytes[0], newest.place + 11, value))
+}
+
+/// Refuses N, S or an area of another length with 1.
+fn check_geometry(slots: u32, slot_bytes: u32, area: &[u8]) -> Result<(), u32> {
+    if !(4..=32).contains(&slots)
+        || !(256..=2048).contains(&slot_bytes)
+        || area.len() != (slots * slot_bytes) as usize
+    {
+        return Err(1);
+    }
+    Ok(())
 }
 
 /// Refuses what recovery does not even look at: 1, 2 and 15.
@@ -112,12 +157,7 @@ fn check_lent(
     cells: usize,
     order: &[u8],
 ) -> Result<(), u32> {
-    if !(4..=32).contains(&slots)
-        || !(256..=2048).contains(&slot_bytes)
-        || area.len() != (slots * slot_bytes) as usize
-    {
-        return Err(1);
-    }
+    check_geometry(slots, slot_bytes, area)?;
     if !(16..=4096).contains(&cells) {
         return Err(2);
     }
@@ -170,8 +210,11 @@ pub fn view(
         next: Version(after.max(number(digest, 9, 4))),
         keys: keys.len() as u32,
         pending: Pending::None,
+        present_bytes: [0; 32],
     };
-    Ok(View { record, lines })
+    let mut view = View { record, lines };
+    view.record.present_bytes = view.present_bytes();
+    Ok(view)
 }
 
 impl View {
@@ -185,6 +228,25 @@ impl View {
             }
         }
         newest
+    }
+
+    /// For each slot the bytes of the objects that are their key's highest-version entry.
+    fn present_bytes(&self) -> [u32; 32] {
+        let mut bytes = [0; 32];
+        for line in self.newest().into_values().filter(|line| line.is_object()) {
+            bytes[line.slot as usize] += line.bytes.len() as u32;
+        }
+        bytes
+    }
+
+    /// The slot of the log with the fewest such bytes, the lowest of several.
+    pub fn fewest(&self) -> u32 {
+        let mut slots: Vec<(u32, u32)> = (0..self.record.slots)
+            .filter(|slot| self.record.map.0 >> slot & 1 == 1)
+            .map(|slot| (self.present_bytes()[slot as usize], slot))
+            .collect();
+        slots.sort_unstable();
+        slots[0].1
     }
 
     fn entry(&self, kind: u8, key: Key, value: &[u8]) -> Vec<u8> {
@@ -289,10 +351,18 @@ impl View {
         if victims == 0 || victims & !self.record.map.0 != 0 {
             return Err(13);
         }
+        let kept = self.kept(victims);
+        if 13 + kept.len() > self.record.slot_bytes as usize {
+            return Err(14);
+        }
+        self.plan_new_head(victims, kept)
+    }
+
+    /// The bytes that a cleaning keeps.
+    fn kept(&self, victims: u32) -> Vec<u8> {
         let is_victim = |line: &Line| victims >> line.slot & 1 == 1;
         let newest = self.newest();
-        let kept: Vec<u8> = self
-            .lines
+        self.lines
             .iter()
             .filter(|line| is_victim(line) && newest[&line.key] == *line)
             .filter(|line| {
@@ -302,11 +372,20 @@ impl View {
                     })
             })
             .flat_map(|line| line.bytes.clone())
-            .collect();
-        if 13 + kept.len() > self.record.slot_bytes as usize {
-            return Err(14);
-        }
-        self.plan_new_head(victims, kept)
+            .collect()
+    }
+
+    /// The two slots that the joining call must tell, or 23.
+    pub fn join(&self) -> Result<(u32, u32), u32> {
+        let log = |slot: &u32| self.record.map.0 >> slot & 1 == 1;
+        let slots: Vec<u32> = (0..self.record.slots).filter(log).collect();
+        let pairs = slots
+            .iter()
+            .flat_map(|&i| slots.iter().map(move |&j| (i, j)))
+            .filter(|(i, j)| i < j);
+        let room = self.record.slot_bytes as usize - 13;
+        let mut fitting = pairs.filter(|(i, j)| self.kept(1 << i | 1 << j).len() <= room);
+        fitting.next().ok_or(23)
     }
 
     fn plan_new_head(&self, victims: u32, entries: Vec<u8>) -> Result<Plan, u32> {

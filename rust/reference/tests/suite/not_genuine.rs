@@ -5,8 +5,8 @@ use reference::rng::Rng;
 use reference::testing::images::Shape;
 use reference::testing::{calls, forged};
 use reference::{
-    clean, delete, next_store, read, read_value, recover, step, write, write_expecting, Key,
-    Record, SlotMap, Tables, Version,
+    clean, delete, join, next_store, read, read_value, recover, step, write, write_expecting, Key,
+    Record, Refusal, SlotMap, Tables, Version,
 };
 
 /// Every call once on what was forged.
@@ -29,16 +29,27 @@ fn call_all(rng: &mut Rng, record: Record, area: &mut [u8], index: &mut [u32], w
         _ => SlotMap(rng.bits() as u32),
     };
     let _ = clean(record, area, index, work, victims);
+    let _ = join(&record, area, index);
     let before = area.to_vec();
-    let store = next_store(&record, area, index, work);
+    let store = next_store(&record, area, work);
     let (_, answer) = step(record, area, index, work);
     let altered: Vec<usize> = (0..area.len())
         .filter(|&place| area[place] != before[place])
         .collect();
     assert!(altered.len() <= 1, "{record:?}");
-    if let (Err(refusal), Err(other)) = (store, answer) {
-        assert_eq!(refusal, other);
-        assert!(altered.is_empty());
+    // What is told is stored there, or the step is refused.
+    match (store, answer) {
+        (Ok(store), Ok(_)) => {
+            assert_eq!(area[store.place], store.byte);
+            assert!(altered.iter().all(|&place| place == store.place));
+        }
+        (Ok(store), Err(_)) => assert!(altered.iter().all(|&place| place == store.place)),
+        (Err(refusal), answer) => {
+            let own = index.len() == record.cells as usize;
+            let cause = if own { refusal } else { Refusal::Record };
+            assert_eq!(answer, Err(cause));
+            assert!(altered.is_empty());
+        }
     }
     if let Err(refusal) = answer {
         assert!([3, 4, 6].contains(&refusal.number()));

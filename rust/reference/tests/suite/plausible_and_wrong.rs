@@ -1,5 +1,5 @@
-//! Each reading that 01 lists under "Plausible and wrong", and such of a delete on a full store (02, R-4), is caught
-//! by a history, and the right rules pass the same search.
+//! Each reading that 01 lists under "Plausible and wrong", and such of a delete on a full store and of present bytes
+//! (02, R-4 and R-5), is caught by a history, and the right rules pass the same search.
 
 use reference::rules::{AsWritten, Rules};
 use reference::testing::choices::{Choice, A, B, ORDERS};
@@ -51,6 +51,14 @@ fn first_failure_when_full<R: Rules>(depth: u32) -> Option<(String, Fault)> {
         rig.fill(&TIGHT).expect("the writes are right");
         (1..=depth).find_map(|depth| search(&rig, depth).err())
     })
+}
+
+/// The first failing history where every record is held to the whole log.
+fn first_wrong_record<R: Rules>(depth: u32) -> Option<(String, Fault)> {
+    let mut rig = Rig::<R>::new(4, 256, 16, vec![1; 1024]);
+    rig.keys = vec![A, B];
+    rig.strict = true;
+    (1..=depth).find_map(|depth| search(&rig, depth).err())
 }
 
 fn is_caught<R: Rules>(what: &str, operations: u32) {
@@ -128,8 +136,29 @@ fn full_delete_without_the_tombstone() {
 }
 
 #[test]
+fn overwritten_object_still_counted() {
+    struct Wrong;
+    impl Rules for Wrong {
+        const OVERWRITTEN_STILL_COUNTED: bool = true;
+    }
+    let what = "overwritten object still counted";
+    told(what, first_wrong_record::<Wrong>(2));
+}
+
+#[test]
+fn tombstones_counted() {
+    struct Wrong;
+    impl Rules for Wrong {
+        const TOMBSTONES_COUNTED: bool = true;
+    }
+    told("tombstones counted", first_wrong_record::<Wrong>(2));
+}
+
+#[test]
 fn the_right_rules_pass_the_same_search() {
-    let failure = first_failure::<AsWritten>(5).or_else(|| first_failure_when_full::<AsWritten>(2));
+    let failure = first_failure::<AsWritten>(5)
+        .or_else(|| first_failure_when_full::<AsWritten>(2))
+        .or_else(|| first_wrong_record::<AsWritten>(3));
     if let Some((history, fault)) = failure {
         panic!("{fault} after\n{history}");
     }

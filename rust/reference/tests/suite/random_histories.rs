@@ -1,12 +1,14 @@
 //! Random histories with cuts, refused calls and recoveries at any time, over many
 //! geometries. Every call is held to the book and to the naive reading of 01.
 
+use reference::book::Operation;
 use reference::rng::Rng;
 use reference::rules::AsWritten;
 use reference::testing::calls::Given;
 use reference::testing::{calls, forged, full};
 use reference::{
-    clean, delete, format, read, step, write, write_expecting, Pending, Refusal, Version,
+    clean, delete, fewest, format, join, read, step, write, write_expecting, Pending, Refusal,
+    SlotMap, Version,
 };
 
 use crate::rig::{same, Fault, Rig};
@@ -14,10 +16,12 @@ use crate::rig::{same, Fault, Rig};
 /// Which refusals and how many operations a run met.
 #[derive(Default)]
 struct Tally {
-    refused: [u32; 23],
+    refused: [u32; 28],
     operations: u32,
     /// Deletes done as a cleaning.
     forgotten: u32,
+    /// Writes that met 12 and were accepted after a join.
+    joined: u32,
     cuts: u32,
 }
 
@@ -104,6 +108,7 @@ impl Player {
         match self.rng.below(40) {
             0 | 1 => self.cut(),
             2 | 3 => self.recover()?,
+            4 if self.rng.one_in(2) => self.join().map(|_| ())?,
             4 => self.misuse()?,
             5 => self.start()?,
             6 | 7 => self.few_steps()?,
@@ -135,6 +140,35 @@ impl Player {
         self.tally.count(answer);
         let forget = matches!(self.rig.record().pending, Pending::Forget { .. });
         self.tally.forgotten += u32::from(answer.is_ok() && forget);
+        if answer == Err(Refusal::SlotsFull) && self.rng.one_in(6) {
+            self.join_and_write(&operation, given)?;
+        }
+        Ok(())
+    }
+
+    fn join(&mut self) -> Result<Option<(u32, u32)>, Fault> {
+        let answer = self.rig.join()?;
+        if let Err(refusal) = answer {
+            self.tally.refused[refusal.number() as usize] += 1;
+        }
+        Ok(answer.ok())
+    }
+
+    /// A write that met 12 is accepted after the two slots are cleaned that the joining call tells, as long as there are
+    /// digest numbers for both.
+    fn join_and_write(&mut self, write: &Operation, given: Given) -> Result<(), Fault> {
+        let Some((first, second)) = self.join()? else {
+            return Ok(());
+        };
+        if self.rig.record().digest.0 > u32::MAX - 2 {
+            return Ok(());
+        }
+        let clean = Operation::Clean(SlotMap(1 << first | 1 << second));
+        let cleaned = self.rig.run(&clean)?;
+        same!("cleaning of the two slots", cleaned.is_ok(), true);
+        let answer = self.rig.start_with(write, given)?;
+        same!("write after a join", answer.is_ok(), true);
+        self.tally.joined += 1;
         Ok(())
     }
 
@@ -215,6 +249,10 @@ impl Player {
         same!("misused step", stepped, (record, Err(Refusal::Record)));
         let found = read(&record, &area, &index, tables, key);
         same!("misused read", found, Err(Refusal::Record));
+        let told = fewest(&record);
+        same!("fewest of misuse", told.is_err(), lent == 0);
+        let joined = join(&record, &area, &index);
+        same!("misused join", joined, Err(Refusal::Record));
         same!("work buffer of misuse", work, self.rig.work);
         same!("area of misuse", area, area_before);
         same!("index of misuse", index, index_before);
@@ -245,17 +283,19 @@ fn play_all(seeds: std::ops::Range<u64>, actions: u32) {
         }
         total.operations += player.tally.operations;
         total.forgotten += player.tally.forgotten;
+        total.joined += player.tally.joined;
         total.cuts += player.tally.cuts;
         for (sum, count) in total.refused.iter_mut().zip(player.tally.refused) {
             *sum += count;
         }
     }
     println!(
-        "{} operations, {} of them deletes on a full store, {} cuts, refused {:?}",
-        total.operations, total.forgotten, total.cuts, total.refused
+        "{} operations, {} of them deletes on a full store, {} joins, {} cuts, refused {:?}",
+        total.operations, total.forgotten, total.joined, total.cuts, total.refused
     );
-    assert!(total.forgotten > 1000, "{}", total.forgotten);
-    for cause in (2..=15).chain(20..=22) {
+    assert!(total.forgotten > 500, "{}", total.forgotten);
+    assert!(total.joined > 100, "{}", total.joined);
+    for cause in (2..=15).chain(20..=23) {
         assert!(total.refused[cause] > 0, "{:?}", total.refused);
     }
 }

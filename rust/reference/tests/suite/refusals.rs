@@ -2,7 +2,8 @@
 //! changed but what the table names; and the order of the checks.
 
 use reference::book::Operation;
-use reference::rules::AsWritten;
+use reference::recovery::recover_by;
+use reference::rules::{AsWritten, Rules};
 use reference::{
     clean, delete, format, read, read_value, recover, step, write, write_expecting, Key, Pending,
     Record, Refusal, SlotMap, Started, Tables, Version,
@@ -191,7 +192,7 @@ fn numbers_and_causes_agree() {
         assert_eq!(Refusal::from_number(place as u32 + 1), Some(refusal));
     }
     assert_eq!(Refusal::from_number(0), None);
-    assert_eq!(Refusal::from_number(23), None);
+    assert_eq!(Refusal::from_number(28), None);
 }
 
 #[test]
@@ -445,33 +446,94 @@ fn cause_16_no_digest() {
     assert_eq!(refused_image(&[4; 1024]), 16);
 }
 
+/// Two slots in the log, slot 1 the head, with some bytes changed.
+fn with_bytes(changes: &[(usize, u8)]) -> Vec<u8> {
+    let mut area = two_slots(&[], &[]);
+    for &(place, byte) in changes {
+        area[place] = byte;
+    }
+    area
+}
+
 #[test]
-fn cause_17_head_digest() {
-    let whole = two_slots(&[], &[]);
-    assert_eq!(refused_image(&whole), 0);
-    let with = |changes: &[(usize, u8)]| {
-        let mut area = whole.clone();
-        for &(place, byte) in changes {
-            area[place] = byte;
-        }
-        refused_image(&area)
-    };
+fn causes_17_24_and_25_head_digest() {
+    let with = |changes: &[(usize, u8)]| refused_image(&with_bytes(changes));
+    assert_eq!(with(&[]), 0);
     assert_eq!(with(&[(1, 0), (257, 0)]), 17, "highest number 0");
     assert_eq!(with(&[(1, 2)]), 17, "shared in the log");
     assert_eq!(with(&[(512, 5), (513, 2)]), 17, "shared outside the log");
     assert_eq!(with(&[(512, 5), (513, 1)]), 0, "a lower number shared");
-    assert_eq!(with(&[(261, 0x13)]), 17, "slot not below N");
-    assert_eq!(with(&[(264, 0x80)]), 17, "slot not below N");
-    assert_eq!(with(&[(261, 1)]), 17, "lacks the head");
+    assert_eq!(with(&[(265, 0)]), 17, "next version 0");
+    assert_eq!(with(&[(261, 0x13)]), 24, "slot not below N");
+    assert_eq!(with(&[(264, 0x80)]), 24, "slot not below N");
+    assert_eq!(with(&[(261, 1)]), 24, "lacks the head");
+    assert_eq!(with(&[(261, 0)]), 24, "empty");
     assert_eq!(
         with(&[(261, 15), (512, 5), (768, 5)]),
-        17,
+        24,
         "leaves none free"
     );
-    assert_eq!(with(&[(261, 7)]), 17, "names a slot without a digest");
-    assert_eq!(with(&[(0, 4)]), 17, "names a slot without a digest");
-    assert_eq!(with(&[(265, 0)]), 17, "next version 0");
+    assert_eq!(with(&[(261, 7)]), 25, "names a slot without a digest");
+    assert_eq!(with(&[(0, 4)]), 25, "names a slot without a digest");
     assert_eq!(with(&[(5, 0), (9, 0)]), 0, "other digests do not count");
+}
+
+/// Bytes to be changed, each by its place.
+type Bytes = &'static [(usize, u8)];
+
+/// Images with two faults, by the numbers of both; the first is told.
+const TWO_FAULTS: [(u32, u32, Bytes); 15] = [
+    (17, 24, &[(1, 2), (261, 0x13)]),
+    (17, 24, &[(265, 0), (261, 1)]),
+    (17, 24, &[(265, 0), (261, 15), (512, 5), (768, 5)]),
+    (17, 24, &[(512, 5), (513, 2), (261, 1)]),
+    (17, 25, &[(265, 0), (0, 4)]),
+    (17, 25, &[(265, 0), (261, 7)]),
+    (17, 25, &[(512, 5), (513, 2), (0, 0)]),
+    (24, 25, &[(261, 15)]),
+    (24, 25, &[(264, 0x80), (0, 4)]),
+    (24, 25, &[(261, 1), (0, 4)]),
+    (17, 18, &[(265, 0), (269, 9)]),
+    (24, 18, &[(261, 0x13), (269, 9)]),
+    (24, 18, &[(261, 15), (512, 5), (768, 5), (13, 9)]),
+    (25, 18, &[(261, 7), (269, 9)]),
+    (25, 18, &[(0, 4), (13, 255)]),
+];
+
+#[test]
+fn causes_17_24_25_and_18_in_order() {
+    for (first, second, changes) in TWO_FAULTS {
+        let told = refused_image(&with_bytes(changes));
+        assert_eq!(told, first, "{first} and {second}: {changes:?}");
+    }
+}
+
+/// Wrong orders of these causes tell another number of some of these images.
+#[test]
+fn wrong_orders_of_17_24_and_25() {
+    fn is_caught<R: Rules>() -> bool {
+        TWO_FAULTS.into_iter().any(|(first, _, changes)| {
+            let area = with_bytes(changes);
+            let answer = recover_by::<R>(4, 256, &area, &mut [0; 16], &ORDER);
+            answer.map_err(Refusal::number) != Err(first)
+        })
+    }
+    struct MapFirst;
+    impl Rules for MapFirst {
+        const MAP_BEFORE_NEXT_VERSION: bool = true;
+    }
+    struct SlotsFirst;
+    impl Rules for SlotsFirst {
+        const LOG_SLOTS_BEFORE_MAP: bool = true;
+    }
+    struct FullMap;
+    impl Rules for FullMap {
+        const FULL_MAP_IS_17: bool = true;
+    }
+    assert!(is_caught::<MapFirst>());
+    assert!(is_caught::<SlotsFirst>());
+    assert!(is_caught::<FullMap>());
+    assert!(!is_caught::<AsWritten>());
 }
 
 #[test]

@@ -14,7 +14,8 @@ use reference::step::step_by;
 use reference::testing::calls::Given;
 use reference::testing::full;
 use reference::{
-    format, read, read_value, Key, Pending, Progress, Record, Refusal, Started, Tables,
+    fewest, format, join, next_store, read, read_value, scan_read, scan_read_value, Key, Pending,
+    Progress, Record, Refusal, Started, Tables,
 };
 
 use crate::naive::{view, Plan, View};
@@ -241,9 +242,24 @@ impl<R: Rules> Rig<R> {
         Ok(())
     }
 
+    /// The two slots to join, held to the naive reading.
+    pub fn join(&self) -> Result<Result<(u32, u32), Refusal>, Fault> {
+        let record = self.record();
+        let told = join(&record, &self.area, &self.index);
+        let expected = match record.pending {
+            Pending::None => self.view()?.join(),
+            _ => Err(5),
+        };
+        same!("join", told.map_err(Refusal::number), expected);
+        Ok(told)
+    }
+
     /// Makes one step and holds its answer to the book.
     pub fn step(&mut self) -> Result<Result<Progress, Refusal>, Fault> {
         let before = self.record();
+        if self.strict {
+            self.check_next_store(before)?;
+        }
         let (record, answer) = step_by::<R>(before, &mut self.area, &mut self.index, &self.work);
         self.record = Some(record);
         let expected = self.feed(Event::Step(answer.is_ok()));
@@ -252,6 +268,18 @@ impl<R: Rules> Rig<R> {
             self.check_step(before, answer)?;
         }
         Ok(answer)
+    }
+
+    /// The next store is told as it was planned, and 6 where nothing is pending.
+    fn check_next_store(&self, record: Record) -> Result<(), Fault> {
+        let told = next_store(&record, &self.area, &self.work);
+        let told = told.map(|store| (store.place, store.byte));
+        let expected = match record.pending {
+            Pending::None => Err(Refusal::NonePending),
+            pending => Ok(self.planned[self.planned.len() - pending.left() as usize]),
+        };
+        same!("next store", told, expected);
+        Ok(())
     }
 
     fn check_step(
@@ -269,7 +297,9 @@ impl<R: Rules> Rig<R> {
         same!("byte stored", self.area[place], byte);
         match answer {
             Ok(Progress::Done { .. }) => {
-                same!("record of a last step", self.record(), self.view()?.record);
+                let view = self.view()?;
+                same!("record of a last step", self.record(), view.record);
+                same!("fewest", fewest(&self.record()), Ok(view.fewest()));
                 self.check_index()
             }
             _ => {
@@ -407,6 +437,15 @@ impl<R: Rules> Rig<R> {
         let record = self.record();
         let found = read(&record, &self.area, &self.index, tables, key);
         let value = read_value(&record, &self.area, &self.index, tables, key);
+        let (slots, slot_bytes) = (self.slots, self.slot_bytes);
+        let scanned = scan_read(slots, slot_bytes, &self.area, tables, key);
+        same!(format!("scan for {key:?}"), scanned, found);
+        let scanned = scan_read_value(slots, slot_bytes, &self.area, tables, key);
+        same!(
+            "part by a scan",
+            scanned.as_ptr_range(),
+            value.as_ptr_range()
+        );
         if !(tables.first..=tables.last).contains(&key.table) {
             same!(
                 format!("read of {key:?}"),

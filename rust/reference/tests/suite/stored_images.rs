@@ -38,7 +38,7 @@ fn stored_output() {
 #[test]
 fn refusals_met() {
     let stored = fs::read_to_string(EXPECTED).unwrap();
-    for cause in [1, 2, 15, 16, 17, 18, 19, 20] {
+    for cause in [1, 2, 15, 16, 17, 18, 19, 20, 24, 25] {
         let left = if cause == 20 { "zeros" } else { "kept" };
         let told = format!(": refused {cause} ");
         let mut met = stored

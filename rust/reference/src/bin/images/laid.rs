@@ -1,4 +1,4 @@
-//! Images laid by hand: what a log may hold, and each fault of 16 to 20.
+//! Images laid by hand: what a log may hold, and each fault of 16 to 20, 24 and 25.
 
 use reference::Key;
 
@@ -27,6 +27,7 @@ pub fn items() -> Vec<Item> {
         searches(),
         latest_entries(),
         outermost_keys(),
+        first_digest_faults(),
         first_faults(),
         vec![largest()],
     ]
@@ -364,7 +365,46 @@ fn outermost_keys() -> Vec<Item> {
     ]
 }
 
-/// Images with two faults or more: the lowest number is told.
+/// Two faults of which 17, 24 or 25 is the first.
+fn first_digest_faults() -> Vec<Item> {
+    let head = |next, map| {
+        let digest = Digest {
+            number: 2,
+            map,
+            next,
+        };
+        Image::junk(4, 256)
+            .slot(
+                0,
+                Digest {
+                    number: 1,
+                    ..digest
+                },
+                &[object(KEY, 1)],
+            )
+            .slot(2, digest, &[object(OTHER, 2)])
+    };
+    let shared = |map| head(1, map).slot(1, digest(2, 0b10), &[]);
+    let all = |next| head(next, 0b1111).slot(3, digest(1, 1), &[]);
+    let damaged = |image: Image| image.bytes(2, 13, &[9]);
+    vec![
+        Item::new("17, number shared, before 24", &shared(0b10101)),
+        Item::new("17, number shared, before 25", &shared(0b1101)),
+        Item::new("17, next version 0, before 24", &head(0, 0b0001)),
+        Item::new(
+            "17, next version 0, before 24, none free",
+            &all(0).slot(1, digest(1, 1), &[]),
+        ),
+        Item::new("17, next version 0, before 25", &head(0, 0b0111)),
+        Item::new("24, slot 4, before 25", &head(1, 0b10111)),
+        Item::new("24, none free, before 25", &all(1)),
+        Item::new("24, without the head, before 25", &head(1, 0b0011)),
+        Item::new("24 before 18", &damaged(head(1, 0b10101))),
+        Item::new("25 before 18", &damaged(head(1, 0b0111))),
+    ]
+}
+
+/// Images with two faults or more: the first in the order of the causes is told.
 fn first_faults() -> Vec<Item> {
     let many: Vec<Vec<u8>> = (1..=18).map(|i| tombstone(key(i), i)).collect();
     let shared = [many.clone(), vec![tombstone(key(1), 9)]].concat();
@@ -375,7 +415,8 @@ fn first_faults() -> Vec<Item> {
             "17 before 18",
             &two_slots(&[vec![9]], &[]).bytes(2, 9, &[0; 4]),
         ),
-        Item::new("17 before 19", &image.clone().bytes(2, 5, &[1])),
+        Item::new("24 before 19", &image.clone().bytes(2, 5, &[1])),
+        Item::new("25 before 19", &image.clone().bytes(0, 0, &[4])),
         Item::new("18 in a later slot before 19 and 20", &image),
         Item::new("18 in a later slot, read first", &image).order(&[2, 0, 1, 3]),
         Item::new("19 before 20", &two_slots(&shared, &[])),

@@ -1,0 +1,71 @@
+//! A read that scans the log and uses no index (02, R-9).
+
+use crate::layout::geometry_holds;
+use crate::read::Found;
+use crate::recovery::{checked_head, survey};
+use crate::refusal::Refusal;
+use crate::rules::AsWritten;
+use crate::segment::{Fields, Key, TOMBSTONE, TOMBSTONE_BYTES};
+use crate::tables::Tables;
+
+/// Tells version and kind of a key's object by the area alone. Refuses with 1, 16, 17, 24, 25, 18
+/// and 19 as recovery does, then with 22 and 8.
+pub fn scan_read(
+    slots: u32,
+    slot_bytes: u32,
+    area: &[u8],
+    tables: Tables,
+    key: Key,
+) -> Result<Found, Refusal> {
+    let (_, fields) = scan(slots, slot_bytes, area, tables, key)?;
+    Ok(Found {
+        version: fields.version,
+        kind: fields.kind,
+    })
+}
+
+/// The value of a key's object as a part of the area: an empty one, at the area's start, where
+/// [`scan_read`] is refused.
+pub fn scan_read_value(
+    slots: u32,
+    slot_bytes: u32,
+    area: &[u8],
+    tables: Tables,
+    key: Key,
+) -> &[u8] {
+    match scan(slots, slot_bytes, area, tables, key) {
+        Ok((place, fields)) => &area[place + TOMBSTONE_BYTES..place + fields.length],
+        Err(_) => &area[..0],
+    }
+}
+
+/// Place and fields of the key's newest entry, which is an object.
+fn scan(
+    slots: u32,
+    slot_bytes: u32,
+    area: &[u8],
+    tables: Tables,
+    key: Key,
+) -> Result<(usize, Fields), Refusal> {
+    if !geometry_holds(slots, slot_bytes, area.len()) {
+        return Err(Refusal::Geometry);
+    }
+    let (head, digest) = checked_head::<AsWritten>(slots, slot_bytes, area)?;
+    let mut newest: Option<(usize, Fields)> = None;
+    survey(
+        slot_bytes,
+        area,
+        digest.map.slots(),
+        head,
+        |place, fields| {
+            let newer = newest.is_none_or(|(_, known)| known.version < fields.version);
+            if fields.key == key && newer {
+                newest = Some((place, fields));
+            }
+        },
+    )?;
+    tables.check(key)?;
+    newest
+        .filter(|(_, fields)| fields.kind != TOMBSTONE)
+        .ok_or(Refusal::Absent)
+}
