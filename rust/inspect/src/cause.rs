@@ -36,11 +36,11 @@ pub struct Cause {
 }
 
 /// Offset of the digest number.
-const NUMBER: usize = 1;
+pub const NUMBER: usize = 1;
 /// Offset of the slot map.
-const MAP: usize = 5;
+pub const MAP: usize = 5;
 /// Offset of the next version.
-const NEXT: usize = 9;
+pub const NEXT: usize = 9;
 
 /// The cause of the refusal of an image.
 pub fn find(image: &Image) -> Cause {

@@ -3,14 +3,15 @@
 //! A store is ruled out by a byte that is not there. It is proved by a number that was never stored at its place before:
 //! digest numbers and versions only rise, so a field that holds the next one was stored by an operation that has not
 //! finished. Of such a field the bytes that some lower number or erased memory shares may be older; the others are new,
-//! and so are all stores before them.
+//! and so are all stores before them. Digests have a place of their own, so that nothing else is mistaken for one; where
+//! entries stand, any older bytes may read as a version by chance.
 
-use reference::segment::{Digest, DIGEST_BYTES, TOMBSTONE_BYTES};
+use reference::segment::{Digest, TOMBSTONE_BYTES};
 use reference::{Record, Store};
 
-use crate::entries::chain;
+use crate::cause::{NEXT, NUMBER};
 use crate::image::Image;
-use crate::plans::{Operation, Plan, Site};
+use crate::plans::{Plan, Site};
 
 /// How many of a plan's stores are done: at least so many, and at most so many.
 #[derive(Clone, Copy, PartialEq, Eq, Debug)]
@@ -32,11 +33,10 @@ impl Range {
 #[derive(Clone, Copy, Debug)]
 pub struct Known {
     record: Record,
-    /// The next version in the head's digest. No older digest has a higher one, and no segment that was closed before
-    /// the head was made has an entry above it.
+    /// The next version in the head's digest; no older digest has a higher one.
     head_next: u32,
-    /// Whether the slot of the next head was in the log before.
-    is_reused: bool,
+    /// Whether the slot of the next head was in the log since the format.
+    pub is_reused: bool,
 }
 
 impl Known {
@@ -139,21 +139,11 @@ fn tail_fields(plan: &Plan, known: Known) -> Vec<Field> {
     field(&plan.bytes, VERSION, bound).into_iter().collect()
 }
 
-/// A new head has the next digest number. Its next version, and the versions of entries that it takes from the head
-/// or adds, may be above all that this slot can have held.
+/// A new head has the next digest number, and its next version may be above that of every older digest.
 fn new_head_fields(plan: &Plan, known: Known) -> Vec<Field> {
-    let mut fields: Vec<Field> = field(&plan.bytes, 1, known.record.digest.0)
-        .into_iter()
-        .collect();
-    if plan.operation == Operation::NewHead {
-        return fields;
-    }
-    fields.extend(field(&plan.bytes, 9, known.head_next));
-    let entries = chain(&plan.bytes).entries;
-    let versions = entries.iter().map(|(offset, _)| offset + VERSION);
-    fields.extend(versions.filter_map(|offset| field(&plan.bytes, offset, known.head_next)));
-    debug_assert!(plan.bytes.len() >= DIGEST_BYTES);
-    fields
+    let number = field(&plan.bytes, NUMBER, known.record.digest.0);
+    let next = field(&plan.bytes, NEXT, known.head_next);
+    number.into_iter().chain(next).collect()
 }
 
 /// What four bytes of erased memory read as.

@@ -249,12 +249,16 @@ fn finding(recovered: &Recovered, finding: &Finding) -> Json {
         Site::Tail => "tail",
         Site::NewHead => "new head",
     };
+    let condition = match finding.doubts.as_slice() {
+        [] => Json::Null,
+        _ => text_of(text::condition(recovered, finding)),
+    };
     let mut members = vec![("site", text_of(site))];
     members.extend(place(finding.place));
     members.extend([
         ("certainly_done", number(finding.range.least)),
         ("at_most_done", number(finding.range.most)),
-        ("premise", text_of(text::premise(recovered, finding.site))),
+        ("condition", condition),
         ("operations", list(&finding.candidates, candidate)),
     ]);
     Json::Object(members)

@@ -24,6 +24,18 @@ pub struct Candidate {
     pub range: Range,
 }
 
+/// What would leave the bytes that are taken for certain, although the operation did not store them.
+#[derive(Clone, Copy, PartialEq, Eq, Debug)]
+pub enum Doubt {
+    /// Another operation at the same place was cut short: a write or delete since the version became the next, or a new
+    /// head since the head was made.
+    CutShort,
+    /// Older bytes read as the next version.
+    ByChance,
+    /// The slot was not in the log since the format, and may have held such a digest before.
+    BeforeFormat,
+}
+
 /// One of the two places at which an operation can have been under way.
 #[derive(Clone, PartialEq, Eq, Debug)]
 pub struct Finding {
@@ -35,6 +47,8 @@ pub struct Finding {
     pub range: Range,
     /// The operations that it can be.
     pub candidates: Vec<Candidate>,
+    /// On what condition the least is certain: that none of these is the case.
+    pub doubts: Vec<Doubt>,
 }
 
 /// What was under way.
@@ -43,8 +57,8 @@ pub struct UnderWay {
     /// What stands behind the head's end, and in the slot of the next head. A place where nothing can be under way is
     /// left out.
     pub findings: Vec<Finding>,
-    /// Whether stores are proved at both places, so that one of the operations was given up before the other began. Nothing
-    /// is certain of either then.
+    /// Whether stores are proved at both places. An operation stores at one of them, so one of the doubts is the case, and
+    /// nothing is certain at either.
     pub is_doubtful: bool,
     /// Free slots that begin like the next head, a 0 and the next digest number, where no new head goes.
     pub strays: Vec<u32>,
@@ -75,7 +89,7 @@ pub fn under_way(image: &Image, recovered: &Recovered) -> UnderWay {
         .zip(proved)
         .filter_map(|((site, place), proved)| {
             let proved = if is_doubtful { 0 } else { proved };
-            finding(&ranges, site, place?, proved)
+            finding(&ranges, known, site, place?, proved)
         });
     UnderWay {
         findings: findings.collect(),
@@ -103,7 +117,13 @@ fn proved(ranges: &[(&Plan, Range)], site: Site) -> usize {
 }
 
 /// What one place shows of the plans for it. So many stores are proved: a plan that does not come so far is not the one.
-fn finding(ranges: &[(&Plan, Range)], site: Site, place: Place, proved: usize) -> Option<Finding> {
+fn finding(
+    ranges: &[(&Plan, Range)],
+    known: Known,
+    site: Site,
+    place: Place,
+    proved: usize,
+) -> Option<Finding> {
     let here = || ranges.iter().filter(|(plan, _)| plan.site == site);
     let most = here().map(|(_, range)| range.most).max()?;
     let mut candidates: Vec<Candidate> = Vec::new();
@@ -115,15 +135,24 @@ fn finding(ranges: &[(&Plan, Range)], site: Site, place: Place, proved: usize) -
         add(&mut candidates, candidate(plan, range));
     }
     let least = candidates.iter().map(|one| one.range.least).min();
+    let least = least.unwrap_or(0);
     Some(Finding {
         site,
         place,
-        range: Range {
-            least: least.unwrap_or(0),
-            most,
-        },
+        range: Range { least, most },
         candidates,
+        doubts: doubts(site, least, known),
     })
+}
+
+/// The doubts about what is certain at a place.
+fn doubts(site: Site, least: usize, known: Known) -> Vec<Doubt> {
+    match site {
+        _ if least == 0 => vec![],
+        Site::Tail => vec![Doubt::CutShort, Doubt::ByChance],
+        Site::NewHead if known.is_reused => vec![Doubt::CutShort],
+        Site::NewHead => vec![Doubt::CutShort, Doubt::BeforeFormat],
+    }
 }
 
 /// A plan as a candidate. Its key is told where the entry's key and version stand whole.

@@ -2,6 +2,7 @@
 
 use inspect::image::{Geometry, Image};
 use inspect::plans::{stores, Site};
+use inspect::under_way::{Doubt, Finding};
 use inspect::verdict::{verdict, Recovered};
 use reference::book::Operation;
 use reference::rng::Rng;
@@ -37,6 +38,10 @@ pub struct Player {
     index: Vec<u32>,
     record: Record,
     clean_rarity: u32,
+    /// The area before its format.
+    original: Vec<u8>,
+    /// Whether values are small numbers, which read as versions and keys.
+    is_small: bool,
     /// Whether a write or delete was cut short since the next version became it.
     pub cut_since_version: bool,
     /// Whether a new head was cut short since the head was made.
@@ -44,7 +49,8 @@ pub struct Player {
 }
 
 impl Player {
-    pub fn new(seed: u64) -> Player {
+    /// A store over erased, zero or random bytes; a hard one often has small numbers for keys and values, or a second format.
+    pub fn new(seed: u64, is_hard: bool) -> Player {
         let mut rng = Rng::new(seed);
         let slots = *rng.pick(&[4, 4, 5, 9, 32]);
         let slot_bytes = match rng.below(3) {
@@ -56,12 +62,30 @@ impl Player {
         if rng.one_in(2) {
             rng.fill(&mut area);
         }
-        format(slots, slot_bytes, &mut area).unwrap();
-        age(&mut rng, &mut area);
-        let image = Image::new(Geometry { slots, slot_bytes }, area).unwrap();
-        let keys = (0..rng.within(2, 16))
-            .map(|_| calls::any_key(&mut rng))
-            .collect();
+        let is_small = is_hard && rng.one_in(2);
+        let is_formatted_again = is_hard && rng.one_in(3);
+        let player = Player::over(rng, Geometry { slots, slot_bytes }, area, is_small);
+        if is_formatted_again {
+            player.formatted_again()
+        } else {
+            player
+        }
+    }
+
+    /// A store formatted over an area.
+    fn over(mut rng: Rng, geometry: Geometry, area: Vec<u8>, is_small: bool) -> Player {
+        let original = area.clone();
+        let mut image = Image::new(geometry, area).unwrap();
+        format(geometry.slots, geometry.slot_bytes, &mut image.area).unwrap();
+        age(&mut rng, &mut image.area);
+        let keys = (0..rng.within(2, 16)).map(|number| match is_small {
+            true => Key {
+                table: number as u16 % 2,
+                key: number,
+            },
+            false => calls::any_key(&mut rng),
+        });
+        let keys = keys.collect();
         let (record, index) = recovered(&image);
         let clean_rarity = *rng.pick(&[3, 6, 20]);
         Player {
@@ -71,8 +95,41 @@ impl Player {
             index,
             record,
             clean_rarity,
+            original,
+            is_small,
             cut_since_version: false,
             cut_since_head: false,
+        }
+    }
+
+    /// The store after some use and a second format, over digests and entries.
+    fn formatted_again(mut self) -> Player {
+        for _ in 0..20 {
+            if let Some(under) = self.any_operation() {
+                self.finish(&under);
+            }
+        }
+        let geometry = self.image.geometry();
+        Player::over(self.rng, geometry, self.image.area, self.is_small)
+    }
+
+    /// Whether what a finding has doubts about is the case, just before or during an operation.
+    pub fn is_case(&self, doubt: Doubt, finding: &Finding, under: &Under) -> bool {
+        let at = self.image.at(finding.place);
+        match (doubt, finding.site) {
+            (Doubt::CutShort, Site::Tail) => self.cut_since_version,
+            (Doubt::CutShort, Site::NewHead) => self.cut_since_head,
+            (Doubt::ByChance, _) => {
+                let version = self.record.next.0.to_le_bytes();
+                under.before.area[at + 7..at + 11] == version
+            }
+            (Doubt::BeforeFormat, _) => {
+                let held = |offset: usize, number: u32| {
+                    self.original[at + offset..at + offset + 4] == number.to_le_bytes()
+                };
+                let next = self.record.next.0;
+                held(1, self.record.digest.0 + 1) || held(9, next) || held(9, next.wrapping_add(1))
+            }
         }
     }
 
@@ -96,7 +153,12 @@ impl Player {
     /// A random operation that the store accepts.
     pub fn any_operation(&mut self) -> Option<Under> {
         let record = self.record;
-        let operation = calls::operation(&mut self.rng, &self.keys, record, self.clean_rarity);
+        let mut operation = calls::operation(&mut self.rng, &self.keys, record, self.clean_rarity);
+        if let (Operation::Write(_, value), true) = (&mut operation, self.is_small) {
+            for (number, byte) in value.iter_mut().enumerate() {
+                *byte = if number % 4 == 0 { *byte % 32 } else { 0 };
+            }
+        }
         self.start(operation)
     }
 

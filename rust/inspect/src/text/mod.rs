@@ -1,26 +1,22 @@
 //! Reports as plain text.
 
+mod between;
+mod under_way;
+
 use std::fmt::Write;
 
 use reference::Key;
 
-use crate::between::Run;
 use crate::entries::{Entry, Newer, Reason};
-use crate::evidence::Range;
 use crate::history::{History, Remains};
-use crate::image::Place;
 use crate::lost::Lost;
-use crate::plans::{Operation, Site};
 use crate::report::Report;
 use crate::slots::{Role, Row};
-use crate::under_way::{Candidate, Finding, UnderWay};
 use crate::verdict::{Recovered, Refused};
-use crate::words::{alternatives, count, hex, key, kind, slots, spaced_hex};
+use crate::words::{count, hex, key, kind, slots, spaced_hex};
 
-/// Candidates that are told at most for one place.
-const MOST_CANDIDATES: usize = 12;
-/// Bytes of a difference in one line.
-const BYTES_IN_LINE: usize = 16;
+pub use between::comparison;
+pub use under_way::{condition, finding_line, under_way};
 
 /// The whole report.
 pub fn report(report: &Report) -> String {
@@ -173,144 +169,6 @@ fn entry_table(entries: &[Entry]) -> String {
     table(&heads, &cells.collect::<Vec<_>>())
 }
 
-/// An operation in words. A write is of one of these lengths.
-fn operation(operation: Operation, lengths: &[String]) -> String {
-    let named = |name: Option<_>| name.map_or("a key not yet told".into(), key);
-    match operation {
-        Operation::Write(_, name) => {
-            format!(
-                "write of {} bytes under {}",
-                alternatives(lengths),
-                named(name)
-            )
-        }
-        Operation::Delete(name) => format!("delete of {}", named(name)),
-        Operation::FullDelete(name, slot) => {
-            format!(
-                "delete of {}, done as a cleaning of slot {slot}",
-                named(name)
-            )
-        }
-        Operation::Clean(victims) if victims.count() == 1 => {
-            format!("cleaning of slot {}", slots(victims))
-        }
-        Operation::Clean(victims) => format!("cleaning of slots {}", slots(victims)),
-        Operation::NewHead => "new head whose slots are not yet told".into(),
-    }
-}
-
-/// How many stores are done, of so many.
-fn progress(range: Range, totals: &[String]) -> String {
-    let Range { least, most } = range;
-    let done = if least == most {
-        most.to_string()
-    } else {
-        format!("{least} to {most}")
-    };
-    match totals {
-        [] => format!("{done} stores"),
-        [total] if *total == done => format!("all {total} stores, finished"),
-        totals => format!("{done} of {} stores", alternatives(totals)),
-    }
-}
-
-/// Candidates that differ in nothing but the length of a write, told as one.
-fn told(alike: &[Candidate]) -> Option<String> {
-    let first = alike.first()?;
-    let lengths: Vec<String> = alike
-        .iter()
-        .filter_map(|one| match one.operation {
-            Operation::Write(bytes, _) => Some(bytes.to_string()),
-            _ => None,
-        })
-        .collect();
-    let totals: Vec<String> = alike
-        .iter()
-        .filter_map(|one| Some(one.total?.to_string()))
-        .collect();
-    let name = operation(first.operation, &lengths);
-    Some(format!("{name}: {}", progress(first.range, &totals)))
-}
-
-/// Whether two candidates are told as one.
-fn are_alike(one: &Candidate, other: &Candidate) -> bool {
-    match (one.operation, other.operation) {
-        (Operation::Write(_, key), Operation::Write(_, other_key)) => {
-            key == other_key && one.range == other.range
-        }
-        _ => false,
-    }
-}
-
-/// What one place shows, in one line.
-pub fn finding_line(finding: &Finding) -> String {
-    let place = match finding.site {
-        Site::Tail => format!("behind the head's end, {}", finding.place),
-        Site::NewHead => format!("next head, slot {}", finding.place.slot),
-    };
-    let range = finding.range;
-    let told = match (range.least, range.most) {
-        (_, 0) => "no store is done".into(),
-        (0, most) => format!("no store is certain, at most {most} done"),
-        (least, most) if least == most => format!("exactly {} done", count(least, "store")),
-        (least, most) => format!("at least {least} and at most {most} stores done"),
-    };
-    format!("{place}: {told}")
-}
-
-/// What would have to be otherwise for the certain stores of a place not to be.
-pub fn premise(recovered: &Recovered, site: Site) -> String {
-    let record = recovered.record;
-    match site {
-        Site::Tail => format!(
-            "certain unless another write or delete was cut short since version {} became the next",
-            record.next.0
-        ),
-        Site::NewHead => format!(
-            "certain unless another new head was cut short since digest {} was made",
-            record.digest.0
-        ),
-    }
-}
-
-/// What was under way.
-pub fn under_way(recovered: &Recovered, under_way: &UnderWay) -> String {
-    let mut text = String::new();
-    for finding in &under_way.findings {
-        let _ = writeln!(text, "  {}", finding_line(finding));
-        text.push_str(&candidates(&finding.candidates, "    "));
-        if finding.range.least > 0 {
-            let _ = writeln!(text, "    {}", premise(recovered, finding.site));
-        }
-    }
-    if under_way.is_doubtful {
-        let _ = writeln!(text, "  {DOUBTFUL}");
-    }
-    for slot in &under_way.strays {
-        let _ = writeln!(text, "  slot {slot} begins like the next head: {STRAY}");
-    }
-    text
-}
-
-/// Said of a slot that no new head goes to.
-const STRAY: &str = "no operation of this store puts that there";
-
-/// Said where both places have stores that only an unfinished operation makes.
-const DOUBTFUL: &str =
-    "both places show an unfinished operation: one was cut short before the other began, and the bytes do not tell which";
-
-fn candidates(candidates: &[Candidate], indent: &str) -> String {
-    let lines: Vec<String> = candidates.chunk_by(are_alike).filter_map(told).collect();
-    let mut text = String::new();
-    for line in lines.iter().take(MOST_CANDIDATES) {
-        let _ = writeln!(text, "{indent}{line}");
-    }
-    if lines.len() > MOST_CANDIDATES {
-        let _ = writeln!(text, "{indent}and {} more", lines.len() - MOST_CANDIDATES);
-    }
-    text
-}
-
 /// The history of one key.
 pub fn history(history: &History) -> String {
     let mut text = format!("key {} in the log\n", key(history.key));
@@ -344,42 +202,4 @@ fn remains_table(remains: &[Remains]) -> String {
         ]
     });
     table(&heads, &cells.collect::<Vec<_>>())
-}
-
-/// The bytes of a run, some to a line.
-fn difference(run: &Run) -> String {
-    let lines = run
-        .before
-        .chunks(BYTES_IN_LINE)
-        .zip(run.after.chunks(BYTES_IN_LINE));
-    let mut text = String::new();
-    for (number, (before, after)) in lines.enumerate() {
-        let place = Place {
-            offset: run.place.offset + number * BYTES_IN_LINE,
-            ..run.place
-        };
-        let (before, after) = (spaced_hex(before), spaced_hex(after));
-        let _ = writeln!(text, "  {place}: {before} -> {after}");
-    }
-    text
-}
-
-/// What differs between two images and what explains it; no explanations are given where the first is refused.
-pub fn comparison(runs: &[Run], explanations: Option<&[Candidate]>) -> String {
-    let bytes = runs.iter().map(|run| run.before.len()).sum();
-    let verb = if bytes == 1 { "differs" } else { "differ" };
-    let mut text = format!("{} {verb}\n", count(bytes, "byte"));
-    for run in runs {
-        text.push_str(&difference(run));
-    }
-    match explanations {
-        None => text.push_str("nothing explains them: the first image is refused\n"),
-        Some(_) if bytes == 0 => text.push_str("no store was made, or none that shows\n"),
-        Some([]) => text.push_str("no single operation explains them\n"),
-        Some(found) => {
-            text.push_str("a single operation explains them\n");
-            text.push_str(&candidates(found, "  "));
-        }
-    }
-    text
 }
