@@ -358,3 +358,20 @@ pub fn comparison(
     ]);
     Json::Object(members)
 }
+
+#[cfg(test)]
+mod tests {
+    use super::Json;
+
+    #[test]
+    fn values_are_written_as_json() {
+        let list = vec![Json::Number(7), Json::Bool(true), Json::Null];
+        let value = Json::Object(vec![
+            ("text", Json::Text("a \"b\" \\ \n".into())),
+            ("list", Json::List(list)),
+            ("none", Json::List(vec![])),
+        ]);
+        let expected = r#"{"text":"a \"b\" \\ \u000a","list":[7,true,null],"none":[]}"#;
+        assert_eq!(value.to_string(), expected);
+    }
+}

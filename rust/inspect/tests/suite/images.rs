@@ -1,6 +1,7 @@
 //! Whole, damaged and random images: the verdict is recovery's, its cause is where it is told to be, the present entries
 //! are those that `dump` prints, and nothing panics.
 
+use inspect::between::{differences, explanations};
 use inspect::entries::Reason;
 use inspect::history::history;
 use inspect::image::{Geometry, Image};
@@ -55,6 +56,24 @@ fn look(image: &Image, rng: &mut Rng) -> u32 {
     ];
     assert!(views.iter().all(|view| !view.is_empty()));
     answer.map_or_else(Refusal::number, |_| 0)
+}
+
+/// Compares two images: the differences make the one into the other.
+fn look_at_both(before: &Image, after: &Image) {
+    let runs = differences(before, after);
+    let mut area = before.area.clone();
+    for run in &runs {
+        let at = before.at(run.place);
+        assert_eq!(area[at..at + run.before.len()], run.before);
+        area[at..at + run.after.len()].copy_from_slice(&run.after);
+    }
+    assert_eq!(area, after.area);
+    let (old, new) = (Report::of(before), Report::of(after));
+    let recovered = old.verdict.as_ref().ok();
+    let found = recovered.map(|recovered| explanations(before, recovered, after));
+    let told = json::comparison(before.geometry(), &old, &new, &runs, found.as_deref());
+    let views = [told.to_string(), text::comparison(&runs, found.as_deref())];
+    assert!(views.iter().all(|view| !view.is_empty()));
 }
 
 /// The bytes that are told stand where they are told to.
@@ -127,10 +146,15 @@ fn damaged_images() {
     let mut met = [0; 64];
     for _ in 0..300 {
         let mut made = Shape::random(&mut rng).make(&mut rng);
+        let whole = made.area.clone();
         for _ in 0..rng.within(1, 6) {
             made.damage(&mut rng);
         }
-        met[look(&image(made), &mut rng) as usize] += 1;
+        let damaged = image(made);
+        met[look(&damaged, &mut rng) as usize] += 1;
+        let whole = Image::new(damaged.geometry(), whole).unwrap();
+        look_at_both(&whole, &damaged);
+        look_at_both(&damaged, &whole);
     }
     println!("{met:?}");
     for number in [0, 17, 18, 19] {
