@@ -42,7 +42,10 @@ pub fn comparison(runs: &[Run], explanations: Option<&[Candidate]>) -> String {
         Some(_) if bytes == 0 => text.push_str("no store was made, or none that shows\n"),
         Some([]) => text.push_str("no single operation explains them\n"),
         Some(found) => {
-            text.push_str("a single operation explains them\n");
+            text.push_str(match found {
+                [_] => "one operation explains them\n",
+                _ => "any one of these operations explains them\n",
+            });
             text.push_str(&candidates(found, "  "));
         }
     }

@@ -144,7 +144,7 @@ const STRAY: &str = "it stood there before the format, or the rules were broken"
 const DOUBTFUL: &str =
     "both places show the next number, and an operation stores at one: the other is from one cut short before, or older";
 
-/// The operations that may have been under way, some to a line.
+/// The operations that may have been under way, some to a line, and what the bytes leave open.
 pub(super) fn candidates(candidates: &[Candidate], indent: &str) -> String {
     let lines: Vec<String> = candidates.chunk_by(are_alike).filter_map(told).collect();
     let mut text = String::new();
@@ -154,5 +154,33 @@ pub(super) fn candidates(candidates: &[Candidate], indent: &str) -> String {
     if lines.len() > MOST_CANDIDATES {
         let _ = writeln!(text, "{indent}and {} more", lines.len() - MOST_CANDIDATES);
     }
+    let unknown = unknown(candidates);
+    if !unknown.is_empty() {
+        let _ = writeln!(text, "{indent}not known: {}", unknown.join(", "));
+    }
     text
+}
+
+/// What stays open of unfinished operations whose keys are told.
+fn unknown(candidates: &[Candidate]) -> Vec<&'static str> {
+    let open = || {
+        let is_open = |one: &&Candidate| Some(one.range.least) != one.total;
+        candidates.iter().filter(is_open)
+    };
+    let writes = open()
+        .filter(|one| matches!(one.operation, Operation::Write(_, Some(_))))
+        .count();
+    let deletes = open()
+        .filter(|one| matches!(one.operation, Operation::Delete(Some(_))))
+        .count();
+    let cases = [
+        (
+            writes > 0 && deletes > 0,
+            "whether it is a write or a delete",
+        ),
+        (writes > 1, "the length of a value"),
+        (writes > 0, "the value beyond the bytes that are stored"),
+    ];
+    let open = cases.into_iter().filter(|(is_open, _)| *is_open);
+    open.map(|(_, what)| what).collect()
 }
