@@ -92,7 +92,7 @@ pub fn range_between(plan: &Plan, before: &[u8], after: &[u8], differing: usize)
 /// The stores of a plan that can have been made while it was under way; no two are at one place.
 fn unfinished(plan: &Plan) -> &[Store] {
     let last = usize::from(plan.is_whole);
-    &plan.stores[..plan.stores.len() - last]
+    &plan.stores[..plan.stores.len().saturating_sub(last)]
 }
 
 /// How many stores, from the first one on, stand in an area.

@@ -58,35 +58,45 @@ fn is_refused(area: Vec<u8>, slot: u32, offset: usize, words: &str) {
     assert!(refused.refusal.meaning().ends_with('.'));
 }
 
+/// A store of two slots with some bytes changed.
+fn with(at: usize, bytes: &[u8]) -> Vec<u8> {
+    let mut area = store(0b0011);
+    put(&mut area, at, bytes);
+    area
+}
+
 #[test]
-fn causes_of_refusal() {
-    let with = |at: usize, bytes: &[u8]| {
-        let mut area = store(0b0011);
-        put(&mut area, at, bytes);
-        area
-    };
+fn faults_of_digests() {
+    let head = 256;
     is_refused(vec![0; 1024], 0, 0, "byte 0 of no slot is 5");
     is_refused(
-        with(257, &[1]),
+        with(head + 1, &[1]),
         0,
         1,
         "2 slots have the highest digest number, 1",
     );
     is_refused(
-        with(256 + 9, &[0]),
+        with(head + 9, &[0]),
         1,
         9,
         "next version in the head's digest is 0",
     );
-    is_refused(with(256 + 5, &[0x13]), 1, 5, "not below 4: 4");
-    is_refused(with(256 + 5, &[0x01]), 1, 5, "lacks the head, slot 1");
-    is_refused(with(256 + 5, &[0x0F]), 1, 5, "leaves no slot free");
+    is_refused(with(head + 5, &[0x13]), 1, 5, "not below 4: 4");
+    is_refused(with(head + 5, &[0x01]), 1, 5, "lacks the head, slot 1");
+    is_refused(with(head + 5, &[0x0F]), 1, 5, "leaves no slot free");
     is_refused(
-        with(256 + 5, &[0x07]),
+        with(head + 5, &[0x07]),
         2,
         0,
         "names slot 2, whose byte 0 is not 5",
     );
+    let mut zero = vec![0; 1024];
+    zero[0] = 5;
+    is_refused(zero, 0, 1, "highest digest number is 0");
+}
+
+#[test]
+fn faults_of_entries() {
     is_refused(with(13, &[6]), 0, 13, "no entry has kind 6");
     is_refused(with(13, &entry(1, 0)), 0, 13, "no entry has this version");
     let mut area = with(13, &entry(7, 1));
@@ -102,9 +112,6 @@ fn causes_of_refusal() {
     let mut area = with(13, &entry(1, 3));
     put(&mut area, 256 + 13, &entry(1, 3));
     is_refused(area, 0, 13, "two entries have version 3");
-    let mut zero = vec![0; 1024];
-    zero[0] = 5;
-    is_refused(zero, 0, 1, "highest digest number is 0");
 }
 
 /// Version 1 of a key in one slot, version 2 and tombstone 3 in another, then version 4 behind them.
