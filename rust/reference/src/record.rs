@@ -69,7 +69,7 @@ impl Pending {
 
     /// Changes the stores left of an operation.
     #[inline]
-    pub(crate) fn set_left(&mut self, stores: u32) {
+    pub fn set_left(&mut self, stores: u32) {
         match self {
             Pending::None => {}
             Pending::Append { left, .. }

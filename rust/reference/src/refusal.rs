@@ -1,5 +1,30 @@
 //! The causes of refusal and their numbers (01, "Refused calls", and 02).
 
+/// Declares the causes once: what is said of each is its documentation and its meaning as text.
+macro_rules! causes {
+    (
+        $(#[$about:meta])*
+        pub enum $name:ident {
+            $($(#[doc = $line:literal])+ $cause:ident = $number:literal,)+
+        }
+    ) => {
+        $(#[$about])*
+        pub enum $name {
+            $($(#[doc = $line])+ $cause = $number,)+
+        }
+
+        impl $name {
+            /// What the cause means, as a sentence.
+            pub fn meaning(self) -> &'static str {
+                match self {
+                    $($name::$cause => concat!($($line),+).trim_ascii_start(),)+
+                }
+            }
+        }
+    };
+}
+
+causes! {
 /// Why a call was refused. The discriminant is the number in 01's table, which 02's requests go on with.
 #[derive(Clone, Copy, PartialEq, Eq, PartialOrd, Ord, Hash, Debug)]
 #[repr(u8)]
@@ -60,6 +85,7 @@ pub enum Refusal {
     Float = 26,
     /// The count is above the highest position, or no float holds it.
     Count = 27,
+}
 }
 
 impl Refusal {

@@ -4,6 +4,7 @@ mod damaged_images;
 mod expected_versions;
 mod full_stores;
 mod images_in_use;
+mod inspected;
 mod joining;
 mod not_genuine;
 mod positions;

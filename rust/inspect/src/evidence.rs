@@ -1,0 +1,190 @@
+//! Which stores of a plan the bytes of an image prove, and which they rule out.
+//!
+//! A store is ruled out by a byte that is not there. It is proved by a number that was never stored at its place before:
+//! digest numbers and versions only rise, so a field that holds the next one was stored by an operation that has not
+//! finished. Of such a field the bytes that some lower number or erased memory shares may be older; the others are new,
+//! and so are all stores before them. Digests have a place of their own, so that nothing else is mistaken for one; where
+//! entries stand, any older bytes may read as a version by chance.
+
+use reference::segment::{Digest, TOMBSTONE_BYTES};
+use reference::{Record, Store};
+
+use crate::cause::{NEXT, NUMBER};
+use crate::image::Image;
+use crate::plans::{Plan, Site};
+
+/// How many of a plan's stores are done: at least so many, and at most so many.
+#[derive(Clone, Copy, PartialEq, Eq, Debug)]
+pub struct Range {
+    /// The stores that are certainly done.
+    pub least: usize,
+    /// The stores that are done at most.
+    pub most: usize,
+}
+
+impl Range {
+    /// Whether so many stores may be done.
+    pub fn has(self, stores: usize) -> bool {
+        self.least <= stores && stores <= self.most
+    }
+}
+
+/// What is known of a store besides its area, to tell old numbers from new ones.
+#[derive(Clone, Copy, Debug)]
+pub struct Known {
+    record: Record,
+    /// The next version in the head's digest; no older digest has a higher one.
+    head_next: u32,
+    /// Whether the slot of the next head was in the log since the format.
+    pub is_reused: bool,
+}
+
+impl Known {
+    /// What an image shows.
+    pub fn of(image: &Image, record: Record) -> Known {
+        let digests = || (0..image.slots).filter_map(|slot| Digest::read(image.segment(slot)));
+        let next_head = record.map.first_free_after(record.head, record.slots);
+        Known {
+            record,
+            head_next: Digest::read(image.segment(record.head)).map_or(0, |head| head.next.0),
+            is_reused: next_head.is_some_and(|slot| digests().any(|digest| digest.map.has(slot))),
+        }
+    }
+}
+
+/// The range that one image gives for a plan that is not finished.
+pub fn range(plan: &Plan, known: Known, area: &[u8]) -> Range {
+    let most = standing(unfinished(plan), area);
+    let fields = match plan.site {
+        Site::Tail => tail_fields(plan, known),
+        Site::NewHead => new_head_fields(plan, known),
+    };
+    let shift = usize::from(plan.site == Site::NewHead);
+    let proved = fields
+        .iter()
+        .filter(|field| field.offset + 3 + shift <= most)
+        .filter_map(|field| Some(field.offset + new_bytes(field.number, field.bound)? - 1 + shift));
+    // A slot that was in the log has a digest until a new head is begun in it.
+    let begun = usize::from(plan.site == Site::NewHead && known.is_reused && most > 0);
+    Range {
+        least: proved.max().unwrap_or(0).max(begun),
+        most,
+    }
+}
+
+/// The range that two images give: the plan was started on the first, and the second shows it that many stores later.
+/// None if no number of stores makes the one into the other. A finished operation has all stores done.
+pub fn range_between(plan: &Plan, before: &[u8], after: &[u8], differing: usize) -> Option<Range> {
+    let changed = |store: &Store| before[store.place] != after[store.place];
+    let places = unfinished(plan);
+    let covered = places.iter().filter(|store| changed(store)).count();
+    let least = places.iter().rposition(changed).map_or(0, |last| last + 1);
+    let most = standing(places, after);
+    if covered == differing && least <= most {
+        return Some(Range { least, most });
+    }
+    is_finished(plan, before, after, differing).then_some(Range {
+        least: plan.stores.len(),
+        most: plan.stores.len(),
+    })
+}
+
+/// The stores of a plan that can have been made while it was under way; no two are at one place.
+fn unfinished(plan: &Plan) -> &[Store] {
+    let last = usize::from(plan.is_whole);
+    &plan.stores[..plan.stores.len().saturating_sub(last)]
+}
+
+/// How many stores, from the first one on, stand in an area.
+fn standing(stores: &[Store], area: &[u8]) -> usize {
+    let stands = |store: &&Store| area[store.place] == store.byte;
+    stores.iter().take_while(stands).count()
+}
+
+/// Whether all stores of a plan make the one area into the other.
+fn is_finished(plan: &Plan, before: &[u8], after: &[u8], differing: usize) -> bool {
+    let Some((last, others)) = plan.stores.split_last() else {
+        return false;
+    };
+    let others = || others.iter().filter(|store| store.place != last.place);
+    let changed = |store: &&Store| before[store.place] != after[store.place];
+    plan.is_whole
+        && after[last.place] == last.byte
+        && others().all(|store| after[store.place] == store.byte)
+        && others().filter(changed).count() + usize::from(changed(&last)) == differing
+}
+
+/// A field of four bytes and a bound on what can have stood there before.
+struct Field {
+    offset: usize,
+    number: u32,
+    bound: u32,
+}
+
+fn field(bytes: &[u8], offset: usize, bound: u32) -> Option<Field> {
+    let number = u32::from_le_bytes(*bytes.get(offset..)?.first_chunk()?);
+    Some(Field {
+        offset,
+        number,
+        bound,
+    })
+}
+
+/// Offset of the version in an entry.
+const VERSION: usize = TOMBSTONE_BYTES - 4;
+
+/// An entry behind the head's end has the next version; all others are lower.
+fn tail_fields(plan: &Plan, known: Known) -> Vec<Field> {
+    let bound = known.record.next.0 - 1;
+    field(&plan.bytes, VERSION, bound).into_iter().collect()
+}
+
+/// A new head has the next digest number, and its next version may be above that of every older digest.
+fn new_head_fields(plan: &Plan, known: Known) -> Vec<Field> {
+    let number = field(&plan.bytes, NUMBER, known.record.digest.0);
+    let next = field(&plan.bytes, NEXT, known.head_next);
+    number.into_iter().chain(next).collect()
+}
+
+/// What four bytes of erased memory read as.
+const ERASED: u32 = u32::MAX;
+
+/// How many low bytes of a number must have been stored, if what stood there before was no higher than the bound, or
+/// erased memory: the fewest over all such numbers. None if the number can have stood there itself.
+fn new_bytes(number: u32, bound: u32) -> Option<usize> {
+    let above = |count: u32| {
+        number
+            .checked_shr(8 * count)
+            .map_or(0, |high| high << (8 * count))
+    };
+    let over_numbers = (0..=4).find(|&count| above(count) <= bound)?;
+    let over_erased = 4 - (number ^ ERASED).leading_zeros() / 8;
+    let fewest = over_numbers.min(over_erased);
+    (fewest > 0).then_some(fewest as usize)
+}
+
+#[cfg(test)]
+mod tests {
+    use super::{new_bytes, ERASED};
+
+    /// The same by trying all numbers.
+    fn tried(number: u32, bound: u32) -> Option<usize> {
+        let differing = |old: u32| (4 - (old ^ number).leading_zeros() / 8) as usize;
+        let fewest = (0..=bound).chain([ERASED]).map(differing).min();
+        fewest.filter(|&count| count > 0)
+    }
+
+    #[test]
+    fn new_bytes_are_the_fewest_that_any_old_number_leaves() {
+        let numbers = [1, 5, 255, 256, 257, 512, 65_535, 65_536, 65_537, 70_000];
+        let bounds = [0, 1, 4, 254, 255, 256, 511, 65_535, 65_536, 69_999, 80_000];
+        for number in numbers.into_iter().chain([ERASED, ERASED - 1, 0xFFFF_FF00]) {
+            for bound in bounds {
+                let expected = tried(number, bound);
+                assert_eq!(new_bytes(number, bound), expected, "{number} {bound}");
+            }
+        }
+        assert_eq!(new_bytes(0x0100_0000, 0x00FF_FFFF), Some(4));
+        assert_eq!(new_bytes(0xFFFF_FF00, 0xFFFF_FEFF), Some(1));
+    }
+}

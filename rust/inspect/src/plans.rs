@@ -1,0 +1,279 @@
+//! The operations that may have been under way, with their stores in order (01, "Operations, store by store").
+//!
+//! The second implementation plans them. What the image cannot tell, such as the value of a write, is taken as it stands
+//! where the operation would store it.
+
+use reference::segment::read_entry;
+use reference::segment::{Digest, Entry as Read, Key as StoreKey, DIGEST_BYTES, TOMBSTONE_BYTES};
+use reference::{
+    clean, delete, next_store, write, DigestNumber, Pending, Record, SlotMap, Started, Store,
+    Tables, Version,
+};
+
+use crate::image::Image;
+use crate::verdict::Recovered;
+
+/// The lengths that a value can have.
+const LENGTHS: [usize; 4] = [8, 24, 56, 120];
+
+/// An operation, as far as the bytes name it.
+#[derive(Clone, Copy, PartialEq, Eq, Debug)]
+pub enum Operation {
+    /// A write of so many bytes; its key, if it stands there.
+    Write(usize, Option<StoreKey>),
+    /// A delete; its key, if it stands there.
+    Delete(Option<StoreKey>),
+    /// A delete that finds no room and cleans the slot of the live object; its key, if it is told.
+    FullDelete(Option<StoreKey>, u32),
+    /// A cleaning of these slots.
+    Clean(SlotMap),
+    /// A new head whose map does not stand there whole.
+    NewHead,
+}
+
+/// Where an operation stores its bytes.
+#[derive(Clone, Copy, PartialEq, Eq, Debug)]
+pub enum Site {
+    /// Behind the head's end.
+    Tail,
+    /// In the slot that a new head takes.
+    NewHead,
+}
+
+/// An operation and its stores.
+#[derive(Clone, PartialEq, Eq, Debug)]
+pub struct Plan {
+    /// The operation.
+    pub operation: Operation,
+    /// Where it stores.
+    pub site: Site,
+    /// Its stores in order, as far as they are known.
+    pub stores: Vec<Store>,
+    /// Whether these are all of them.
+    pub is_whole: bool,
+    /// The bytes that it lays down, from the first one on.
+    pub bytes: Vec<u8>,
+}
+
+/// Plans operations on a store, the bytes of which `standing` shows, perhaps some stores later.
+pub struct Planner<'a> {
+    image: &'a Image,
+    index: &'a [u32],
+    record: Record,
+    standing: &'a [u8],
+}
+
+impl<'a> Planner<'a> {
+    /// A planner for the store in an image.
+    pub fn new(image: &'a Image, recovered: &'a Recovered, standing: &'a [u8]) -> Planner<'a> {
+        // How large the drive's index is, is not known: no write is left out for want of a cell.
+        let record = Record {
+            keys: 0,
+            ..recovered.record
+        };
+        Planner {
+            image,
+            index: &recovered.index,
+            record,
+            standing,
+        }
+    }
+
+    /// The plans of every operation that the standing bytes may be a part of.
+    pub fn all(&self) -> Vec<Plan> {
+        let mut plans: Vec<Plan> = LENGTHS
+            .into_iter()
+            .filter_map(|bytes| self.write(bytes))
+            .collect();
+        plans.extend(self.deletes());
+        plans.extend(self.new_head());
+        plans
+    }
+
+    /// The slot that a new head takes, if there can be one.
+    pub fn new_head_slot(&self) -> Option<u32> {
+        let Record {
+            map, head, slots, ..
+        } = self.record;
+        (self.record.digest != DigestNumber::LAST)
+            .then(|| map.first_free_after(head, slots))
+            .flatten()
+    }
+
+    /// Where an entry of this length would start.
+    fn room(&self, length: usize) -> Option<usize> {
+        let slot_bytes = self.record.slot_bytes as usize;
+        let end = self.record.end as usize;
+        if end + length <= slot_bytes {
+            return Some(self.record.head as usize * slot_bytes + end);
+        }
+        Some(self.new_head_slot()? as usize * slot_bytes + DIGEST_BYTES)
+    }
+
+    fn start(&self, start: impl FnOnce(Record, &mut [u8]) -> Started) -> Option<(Record, Vec<u8>)> {
+        let mut work = vec![0; self.record.slot_bytes as usize];
+        let (record, answer) = start(self.record, &mut work);
+        answer.ok().map(|_| (record, work))
+    }
+
+    fn write(&self, bytes: usize) -> Option<Plan> {
+        let at = self.room(TOMBSTONE_BYTES + bytes)?;
+        let entry = self.standing.get(at..at + TOMBSTONE_BYTES + bytes)?;
+        let (key, value) = (standing_key(entry), &entry[TOMBSTONE_BYTES..]);
+        let (area, index) = (&self.image.area, self.index);
+        let (record, work) =
+            self.start(|record, work| write(record, area, index, work, Tables::ALL, key, value))?;
+        Some(self.plan(Operation::Write(bytes, Some(key)), record, work))
+    }
+
+    /// A delete of every present key.
+    fn deletes(&self) -> Vec<Plan> {
+        let (area, index) = (&self.image.area, self.index);
+        self.live()
+            .filter_map(|(slot, key)| {
+                let (record, work) =
+                    self.start(|record, work| delete(record, area, index, work, Tables::ALL, key))?;
+                let operation = match record.pending {
+                    Pending::Append { .. } | Pending::NewHead { .. } => {
+                        Operation::Delete(Some(key))
+                    }
+                    _ => Operation::FullDelete(Some(key), slot),
+                };
+                Some(self.plan(operation, record, work))
+            })
+            .collect()
+    }
+
+    /// Slot and key of each live object: an index cell leads to it.
+    fn live(&self) -> impl Iterator<Item = (u32, StoreKey)> + '_ {
+        self.index.iter().filter_map(|&mark| {
+            let at = mark.checked_sub(1)? as usize;
+            let place = self.image.place(at);
+            match read_entry(self.image.segment(place.slot), place.offset) {
+                Read::Object(fields) => Some((place.slot, fields.key)),
+                _ => None,
+            }
+        })
+    }
+
+    /// The cleaning whose map stands in the new head's slot, and any new head as far as that map allows it.
+    fn new_head(&self) -> Vec<Plan> {
+        let Some(slot) = self.new_head_slot() else {
+            return Vec::new();
+        };
+        let start = (slot * self.record.slot_bytes) as usize;
+        let map_bytes = &self.standing[start + 5..start + 9];
+        let map = self.record.map.with(slot);
+        let stood = SlotMap(u32::from_le_bytes([
+            map_bytes[0],
+            map_bytes[1],
+            map_bytes[2],
+            map_bytes[3],
+        ]));
+        let mut plans = Vec::new();
+        let victims = map.without(stood);
+        if stood.is_within(map) && stood.has(slot) {
+            plans.extend(self.clean(victims));
+        }
+        plans.push(self.any_new_head(slot, map, stood));
+        plans
+    }
+
+    fn clean(&self, victims: SlotMap) -> Option<Plan> {
+        let (area, index) = (&self.image.area, self.index);
+        let (record, work) =
+            self.start(|record, work| clean(record, area, index, work, victims))?;
+        Some(self.plan(Operation::Clean(victims), record, work))
+    }
+
+    /// The stores that a new head begins with whatever its victims are: those of the number, and as many bytes of the
+    /// map as some choice of victims can have put there, but not the last.
+    fn any_new_head(&self, slot: u32, map: SlotMap, stood: SlotMap) -> Plan {
+        let own = SlotMap::EMPTY.with(slot);
+        let possible = (0..4)
+            .take_while(|byte| {
+                let low = SlotMap::below(8 * byte + 8);
+                let (stood, own) = (SlotMap(stood.0 & low.0), SlotMap(own.0 & low.0));
+                stood.is_within(map) && own.is_within(stood)
+            })
+            .count();
+        let digest = Digest {
+            number: DigestNumber(self.record.digest.0 + 1),
+            map: stood,
+            next: Version::NONE,
+        };
+        let known = 5 + possible.min(3);
+        let mut bytes = digest.stored()[..known].to_vec();
+        bytes[0] = 0;
+        let start = (slot * self.record.slot_bytes) as usize;
+        let stores = bytes.iter().enumerate().map(|(offset, &byte)| Store {
+            place: start + offset,
+            byte,
+        });
+        Plan {
+            operation: Operation::NewHead,
+            site: Site::NewHead,
+            stores: stores.collect(),
+            is_whole: false,
+            bytes,
+        }
+    }
+
+    /// The plan of an operation that was started.
+    fn plan(&self, operation: Operation, started: Record, mut work: Vec<u8>) -> Plan {
+        let (site, length) = match started.pending {
+            Pending::Append { length, .. } => (Site::Tail, length),
+            Pending::NewHead { length, .. }
+            | Pending::Clean { length, .. }
+            | Pending::Forget { length, .. } => (Site::NewHead, length),
+            Pending::None => (Site::Tail, 0),
+        };
+        let stores = stores(started, &self.image.area, &work);
+        work.truncate(length as usize);
+        Plan {
+            operation,
+            site,
+            stores,
+            is_whole: true,
+            bytes: work,
+        }
+    }
+}
+
+/// The stores of an operation that was started, in order.
+pub fn stores(started: Record, area: &[u8], work: &[u8]) -> Vec<Store> {
+    let lefts = (1..=started.pending.left()).rev();
+    lefts
+        .filter_map(|left| {
+            let mut record = started;
+            record.pending.set_left(left);
+            next_store(&record, area, work).ok()
+        })
+        .collect()
+}
+
+/// The key that stands in the bytes of an entry.
+fn standing_key(entry: &[u8]) -> StoreKey {
+    StoreKey {
+        table: u16::from_le_bytes([entry[1], entry[2]]),
+        key: u32::from_le_bytes([entry[3], entry[4], entry[5], entry[6]]),
+    }
+}
+
+/// The kinds of value are those that an entry can have.
+#[cfg(test)]
+mod tests {
+    use super::{LENGTHS, TOMBSTONE_BYTES};
+    use reference::segment::{entry_bytes, object_kind};
+
+    #[test]
+    fn every_length_has_its_kind() {
+        for bytes in 0..2048 {
+            let kind = object_kind(bytes);
+            assert_eq!(kind.is_some(), LENGTHS.contains(&bytes), "{bytes}");
+            if let Some(kind) = kind {
+                assert_eq!(entry_bytes(kind), Some(TOMBSTONE_BYTES + bytes));
+            }
+        }
+    }
+}
