@@ -181,7 +181,7 @@ impl Player {
             Operation::Clean(victims) => clean(self.record, area, index, &mut work, *victims),
         };
         answer.ok()?;
-        let stores = stores(started, area, index, &work);
+        let stores = stores(started, area, &work);
         assert_eq!(Ok(stores.len() as u32), answer);
         Some(Under {
             operation,
