@@ -31,8 +31,8 @@
  *     the store.
  *   What a refused call does to the numbers that it would tell:
  *   - kurdavel_read and kurdavel_scan_read set *version and *kind to 0, kurdavel_read_value and kurdavel_scan_read_value
- *     *place and *bytes, kurdavel_fewest *slot, kurdavel_next_store *place and *byte, and kurdavel_join *first and
- *     *second;
+ *     *place and *bytes, kurdavel_fewest *slot, kurdavel_next_store *place and *byte, kurdavel_join *first and
+ *     *second, and the conversions of positions all eight bytes;
  *   - every other call leaves them as they were: *stores of a start, *left and *version of a step. Look at the answer
  *     first.
  *   Words that are no record are a refusal like any other (4) and treated so.
@@ -67,7 +67,8 @@
  *   show through the refusals 5, 6, 9 to 14, 20 and 21, the numbers of stores, the versions and the places.
  *
  * WHAT THE CALLS COST
- *   A step before the last, kurdavel_next_store and kurdavel_fewest do the same little work whatever the store holds. A read, the start of a write or delete
+ *   A step before the last, kurdavel_next_store, kurdavel_fewest and the conversions of positions do the same little work
+ *   whatever the store holds. A read, the start of a write or delete
  *   and the last step of either search the index once, but for a delete that is done as a cleaning (kurdavel_delete).
  *   Recovery, the start of a cleaning of slots that hold tombstones, the start of such a delete and the last step of
  *   every cleaning and of every such delete look at each entry of the log (at most (N - 1) * ((S - 13) / 11) of them),
@@ -101,6 +102,13 @@
  *   it comes before the operation is reported as done, and after kurdavel_format before anything else. Steps may not
  *   be merged: the archive is machine code, so link-time optimisation leaves each call as it is. If you build the
  *   library in another form, keep it so.
+ *
+ * HEAD POSITIONS AS FLOATS AND AS COUNTS
+ *   Values of 8 bytes in old head records begin with the position as a 32-bit float (IEEE 754, little-endian), the other four
+ *   bytes being free; new ones have the position there as a whole number. kurdavel_from_float and kurdavel_to_float convert
+ *   such a value and never round: where a float is no whole count, or a count is lost in a float (16,777,217 is the first), they
+ *   refuse. They know nothing of the store. examples/c/positions.c carries a record over, under a key of its own and cut
+ *   anywhere.
  *
  * MEDIA THAT ARE NOT MEMORY
  *   Where the parameters lie in serial FRAM or EEPROM behind a driver, lend a copy in RAM as the area. At power on the copy
@@ -148,6 +156,8 @@
  *   22  Nothing: the key is another owner's.
  *   23  No cleaning of two slots gives a slot back. Clean the one that kurdavel_fewest tells, which gives back the room
  *       of its entries that no longer count; or delete.
+ *   26  The record is damaged, or its position has a fraction: measure the position anew.
+ *   27  Keep the count: no float holds it, or it is no position.
  */
 #ifndef KURDAVEL_H
 #define KURDAVEL_H
@@ -164,7 +174,7 @@ extern "C" {
  * written by an earlier one may be refused; MINOR when something is added.
  */
 #define KURDAVEL_VERSION_MAJOR 4u
-#define KURDAVEL_VERSION_MINOR 1u
+#define KURDAVEL_VERSION_MINOR 2u
 #define KURDAVEL_VERSION (KURDAVEL_VERSION_MAJOR * 1000u + KURDAVEL_VERSION_MINOR)
 
 /* Sizes. */
@@ -175,6 +185,8 @@ extern "C" {
 #define KURDAVEL_CELLS_MIN 16u      /* M */
 #define KURDAVEL_CELLS_MAX 4096u
 #define KURDAVEL_VALUE_MAX 120u     /* a value is 8, 24, 56 or 120 bytes */
+#define KURDAVEL_POSITION_BYTES 8u  /* a value that begins with a head position */
+#define KURDAVEL_POSITION_MAX 67108864u /* the highest head position */
 #define KURDAVEL_RECORD_WORDS 49u
 
 /*
@@ -195,6 +207,8 @@ extern "C" {
 #define KURDAVEL_STACK_JOIN 0u
 #define KURDAVEL_STACK_SCAN_READ 0u
 #define KURDAVEL_STACK_SCAN_READ_VALUE 0u
+#define KURDAVEL_STACK_FROM_FLOAT 0u
+#define KURDAVEL_STACK_TO_FLOAT 0u
 
 /* The words of a record. The store is the library's to change: read these, and write none. */
 enum kurdavel_word {
@@ -259,7 +273,9 @@ enum kurdavel_answer {
     KURDAVEL_REFUSED_NO_PAIR = 23,         /* what is kept of no two slots of the log fits one slot */
     KURDAVEL_REFUSED_BAD_MAP = 24,         /* the head's map names a slot not below N, lacks the head or leaves no slot
                                               free */
-    KURDAVEL_REFUSED_NOT_A_DIGEST = 25     /* the head's map names a slot that does not begin with a digest */
+    KURDAVEL_REFUSED_NOT_A_DIGEST = 25,    /* the head's map names a slot that does not begin with a digest */
+    KURDAVEL_REFUSED_BAD_FLOAT = 26,       /* the float is no whole number from 0 to 67,108,864, or has its sign bit set */
+    KURDAVEL_REFUSED_BAD_COUNT = 27        /* the count is above 67,108,864, or no float holds it */
 };
 
 /*
@@ -395,6 +411,21 @@ uint32_t kurdavel_scan_read(uint32_t slots, uint32_t slot_bytes, const uint8_t *
 uint32_t kurdavel_scan_read_value(uint32_t slots, uint32_t slot_bytes, const uint8_t *area, size_t area_bytes,
                                   uint16_t first, uint16_t last, uint16_t table, uint32_t key, uint32_t *place,
                                   uint32_t *bytes);
+
+/*
+ * Converts a value of 8 bytes whose first four are a head position as a float into one that has there the same position as
+ * a 32-bit whole number; the other four are kept. `converted` points to 8 bytes, which become the new value, or 0 where the
+ * call is refused. kurdavel_to_float gives back the same eight bytes.
+ * Refused: 7 (any length but 8), 26, in this order. Negative zero, infinities and NaNs are 26.
+ */
+uint32_t kurdavel_from_float(const uint8_t *value, size_t value_bytes, uint8_t *converted);
+
+/*
+ * The way back: the first four bytes are a count, and become the float that has the same position, where there is one.
+ * kurdavel_from_float gives back the same eight bytes.
+ * Refused: 7 (any length but 8), 27, in this order.
+ */
+uint32_t kurdavel_to_float(const uint8_t *value, size_t value_bytes, uint8_t *converted);
 
 /*
  * All that is lent, in one struct, and the calls over it. Each buffer has a type of its own, so that none is taken for

@@ -1,13 +1,15 @@
 //! Times of the proved store as ratios to the reference's, in one run, on the same bytes.
 //!
-//! `cargo run --release -p bench` prints the tables of docs/PERFORMANCE.md; with the word `joins` behind `--` it prints the
-//! last one alone, which counts and does not time.
+//! `cargo run --release -p bench` prints the tables of docs/PERFORMANCE.md. With the word `joins` behind `--` it prints the
+//! last one alone, which counts and does not time; with the word `floats` it tries the conversions of positions on all
+//! patterns of 32 bits, and does nothing else.
 
 mod calls;
 mod history;
 mod image;
 mod joins;
 mod operations;
+mod positions;
 mod recoveries;
 mod report;
 mod store;
@@ -18,11 +20,14 @@ mod versions;
 use report::Report;
 
 fn main() {
-    let only = std::env::args().nth(1);
-    if only.as_deref() != Some("joins") {
-        times();
+    match std::env::args().nth(1).as_deref() {
+        Some("joins") => joins::table(),
+        Some("floats") => positions::all_patterns(),
+        _ => {
+            times();
+            joins::table();
+        }
     }
-    joins::table();
 }
 
 fn times() {
@@ -32,5 +37,6 @@ fn times() {
     tombstones::cases(&mut report);
     history::cases(&mut report);
     calls::cases(&mut report);
+    positions::cases(&mut report);
     report.worst_calls();
 }

@@ -33,10 +33,12 @@ pub enum Call {
     Join,
     /// A read by a scan of the log.
     ScanRead,
+    /// The conversion of a position.
+    Position,
 }
 
 impl Call {
-    const ALL: [(Call, &'static str); 14] = [
+    const ALL: [(Call, &'static str); 15] = [
         (Call::Read, "read"),
         (Call::WriteStart, "start of a write"),
         (Call::ConditionalWriteStart, "start of a conditional write"),
@@ -51,6 +53,7 @@ impl Call {
         (Call::NextStore, "the next store told"),
         (Call::Join, "two slots to join"),
         (Call::ScanRead, "read by a scan"),
+        (Call::Position, "conversion of a position"),
     ];
 }
 

@@ -84,12 +84,14 @@
 #![warn(missing_docs)]
 
 mod library;
+mod position;
 mod record;
 mod refusal;
 pub mod slices;
 mod store;
 mod values;
 
+pub use position::{from_float, to_float};
 pub use record::{Fields, Pending, Record, WORDS};
 pub use refusal::Refusal;
 pub use store::{format, recover, scan_read, scan_read_value, Found, Progress, Store};

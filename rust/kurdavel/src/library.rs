@@ -180,4 +180,16 @@ extern "C" {
         place: *mut u32,
         bytes: *mut u32,
     ) -> u32;
+
+    pub(crate) fn kurdavel_from_float(
+        value: *const u8,
+        value_bytes: usize,
+        converted: *mut u8,
+    ) -> u32;
+
+    pub(crate) fn kurdavel_to_float(
+        value: *const u8,
+        value_bytes: usize,
+        converted: *mut u8,
+    ) -> u32;
 }

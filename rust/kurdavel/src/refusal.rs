@@ -62,11 +62,15 @@ pub enum Refusal {
     BadMap = 24,
     /// The head's map names a slot that does not begin with a digest.
     NotADigest = 25,
+    /// The float is no whole number from 0 to 67,108,864, or has its sign bit set.
+    BadFloat = 26,
+    /// The count is above 67,108,864, or no float holds it.
+    BadCount = 27,
 }
 
 impl Refusal {
     /// All causes, by number.
-    pub const ALL: [Refusal; 25] = [
+    pub const ALL: [Refusal; 27] = [
         Refusal::Geometry,
         Refusal::Cells,
         Refusal::WorkShort,
@@ -92,6 +96,8 @@ impl Refusal {
         Refusal::NoPair,
         Refusal::BadMap,
         Refusal::NotADigest,
+        Refusal::BadFloat,
+        Refusal::BadCount,
     ];
 
     /// The number of the cause.

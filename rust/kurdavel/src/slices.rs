@@ -4,7 +4,8 @@
 //! is proved to stay within what it is lent, to change only what it is lent to change, and to end.
 //!
 //! A refused call leaves the numbers that it would tell as they were, but [`read`], [`read_value`], [`scan_read`],
-//! [`scan_read_value`], [`next_store`], [`fewest`] and [`join`] make them 0.
+//! [`scan_read_value`], [`next_store`], [`fewest`] and [`join`] make them 0, and [`from_float`] and [`to_float`] all eight
+//! bytes.
 //!
 //! `first` and `last` are the tables that the caller may use, both included.
 //!
@@ -401,4 +402,19 @@ pub fn scan_read_value(
             bytes,
         )
     }
+}
+
+/// Converts a value whose first four bytes are a position as a float into one that has it as a count; all 0 where the call
+/// is refused.
+#[inline]
+pub fn from_float(value: &[u8], converted: &mut [u8; 8]) -> u32 {
+    // SAFETY: the pointer and length are those of one slice; `converted` is exclusive and has eight bytes.
+    unsafe { kurdavel_from_float(value.as_ptr(), value.len(), converted.as_mut_ptr()) }
+}
+
+/// The way back; all 0 where the call is refused.
+#[inline]
+pub fn to_float(value: &[u8], converted: &mut [u8; 8]) -> u32 {
+    // SAFETY: the pointer and length are those of one slice; `converted` is exclusive and has eight bytes.
+    unsafe { kurdavel_to_float(value.as_ptr(), value.len(), converted.as_mut_ptr()) }
 }

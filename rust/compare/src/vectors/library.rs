@@ -121,6 +121,14 @@ impl Subject for Library {
         Ok(part_of(area, value))
     }
 
+    fn from_float(value: &[u8]) -> Answer<[u8; 8]> {
+        kurdavel::from_float(value).map_err(refused)
+    }
+
+    fn to_float(value: &[u8]) -> Answer<[u8; 8]> {
+        kurdavel::to_float(value).map_err(refused)
+    }
+
     fn says(record: &kurdavel::Record) -> Option<Record> {
         let fields = record.fields()?;
         Some(Record {

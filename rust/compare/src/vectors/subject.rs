@@ -111,14 +111,10 @@ pub trait Subject {
     fn scan_read_value(geometry: Geometry, area: &[u8], asked: Asked) -> Answer<(usize, usize)>;
 
     /// The value with its position as a count.
-    fn from_float(_value: &[u8]) -> Answer<[u8; 8]> {
-        Err(No::Missing("a conversion from float"))
-    }
+    fn from_float(value: &[u8]) -> Answer<[u8; 8]>;
 
     /// The value with its position as a float.
-    fn to_float(_value: &[u8]) -> Answer<[u8; 8]> {
-        Err(No::Missing("a conversion to float"))
-    }
+    fn to_float(value: &[u8]) -> Answer<[u8; 8]>;
 
     /// What a record says; none if it is not one that any call gives.
     fn says(record: &Self::Record) -> Option<Record>;

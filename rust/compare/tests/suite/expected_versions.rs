@@ -23,7 +23,7 @@ const CHOICES: [Choice; 4] = [
 #[derive(Default)]
 struct Tally {
     accepted: u32,
-    refused: [u32; 26],
+    refused: [u32; 28],
 }
 
 /// Tries every number up to the next version and beyond it, with a value of each length and one of none. Where the write

@@ -13,7 +13,7 @@ use reference::Key;
 struct Tally {
     recovered: u32,
     accepted: u32,
-    refused: [u32; 26],
+    refused: [u32; 28],
 }
 
 impl Tally {

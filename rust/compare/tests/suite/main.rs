@@ -6,6 +6,7 @@ mod full_stores;
 mod images_in_use;
 mod joining;
 mod not_genuine;
+mod positions;
 mod random_histories;
 mod refused_calls;
 mod replay_program;

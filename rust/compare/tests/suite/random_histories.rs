@@ -16,7 +16,7 @@ struct Tally {
     /// Writes that met 12 and were accepted after a join.
     joined: u32,
     cuts: u32,
-    refused: [u32; 26],
+    refused: [u32; 28],
 }
 
 impl Tally {

@@ -87,7 +87,7 @@ struct Tally {
     /// Values that servo read, and values that media read which differ between the runs.
     servo: u32,
     differing: u32,
-    refused: [u32; 26],
+    refused: [u32; 28],
 }
 
 struct Owners {

@@ -318,7 +318,7 @@ fn named(text: &str) -> Vec<usize> {
 }
 
 /// What the changes must be about, at the least.
-const TRIED: [&str; 16] = [
+const TRIED: [&str; 18] = [
     "history",
     "format",
     "image",
@@ -334,6 +334,8 @@ const TRIED: [&str; 16] = [
     "fewest",
     "join",
     "scan_read",
+    "from_float",
+    "to_float",
     "end",
 ];
 

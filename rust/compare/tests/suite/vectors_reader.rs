@@ -225,7 +225,8 @@ fn events_without_a_store() {
 /// An event that needs a later request is a mismatch that says so.
 #[test]
 fn calls_that_are_not_there_yet() {
-    let text = "history h 4 256 1\nto_float 00 -> refused 7\nhistory h 4 256 1\nconvert_area -> refused 16\n";
+    let text =
+        "history h 4 256 1\nswitch -> refused 4\nhistory h 4 256 1\nconvert_area -> refused 16\n";
     let report = replay("text", at(Level::LAST), text.as_bytes()).unwrap();
     assert_eq!((report.library.failures, report.reference.failures), (2, 2));
     for failure in report.failures() {

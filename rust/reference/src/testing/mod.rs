@@ -3,6 +3,7 @@
 
 pub mod calls;
 pub mod choices;
+pub mod floats;
 pub mod forged;
 pub mod full;
 pub mod images;

@@ -1,5 +1,6 @@
 //! Float positions and whole counts (02, R-10), held to the meaning of the 32-bit float's bits.
 
+use reference::testing::floats::walk;
 use reference::{from_float, to_float, Refusal};
 
 const FREE: [u8; 4] = [0xDE, 0xAD, 0x00, 0xFF];
@@ -95,6 +96,20 @@ fn worked_values() {
     ] {
         assert_eq!(converted(to_float(&value(count))), Err(27), "{count}");
     }
+}
+
+/// Beside the machine's float, written once more.
+#[test]
+fn beside_the_machine() {
+    let tally = walk(
+        127,
+        |value| from_float(value).map_err(Refusal::number),
+        |value| to_float(value).map_err(Refusal::number),
+    );
+    assert!(
+        tally.floats > 200_000 && tally.counts > 200_000,
+        "{tally:?}"
+    );
 }
 
 /// The length is tested before the number: any but 8 is 7, also that of another kind.
