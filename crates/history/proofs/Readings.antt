@@ -80,7 +80,7 @@ laid-left L r log o k = go o
     go (clean victims) = refl
 
 -- and is then pending
-laid-pending : (L : Layout) (r : Record) (log : List Placed) (o : Operation) (k : ℕ) → isPending (laid L r log o .pending k) ≡ true
+pub laid-pending : (L : Layout) (r : Record) (log : List Placed) (o : Operation) (k : ℕ) → isPending (laid L r log o .pending k) ≡ true
 unfolding laid pick isPending
 laid-pending L r log o k = go o
   where
@@ -122,7 +122,7 @@ module _ (L : Layout) (laws : OperationLaws L) (n s : ℕ) where
       most : stores ≤ st .idle .size + 1
       most = laws .few-stores (st .before) (st .idle) (st .operation) (started-accepted L area (h .rec) (h .work) st)
 
-  held-fits :
+  pub held-fits :
       (area : List ℕ) (m : Option ℕ) (b : Book) (h : Held) → Bytes area → Holding L n s area m b h →
       fitsLent L (h .rec) (length area) (length (h .cells)) ≡ true
   held-fits area m b h ab good =

@@ -21,10 +21,12 @@ enum-known-answer-2 : tie.Need-enum-known-answer-2
 enum-known-answer-2 c = search needs
 
 returns : tie.Need-returns
-returns c = ?
+returns c =
+    join-crossed (c .before .before .before .before .before .before .decode .ensures) (c .before .before .before .before .join .ensures) (c .before .before .answer .given .1) (c .number .ensures) refl refl
 
 returns-2 : tie.Need-returns-2
-returns-2 c = ?
+returns-2 c =
+    join-crossed (c .before .before .before .before .before .decode .ensures) (c .before .before .before .join .ensures) (c .before .answer2 .given .1) refl refl refl
 
 pub kurdavel-join-spec : {M : Type 1} → statement M
 kurdavel-join-spec =
