@@ -27,15 +27,17 @@ use Rattle.record.specs.declared.Tables.{Tables}
 use Rattle.model.specs.Refused.{Terms, isPending}
 use Rattle.laws.specs.Starts.{early-bad}
 use Rattle.model.specs.Promises.{Begun, begun, readLengths, lentLengths}
+use Rattle.record.specs.Pairs.{PairSaid, joinSaid}
 use Rattle.laws.specs.CauseLaws.{cause-first, refusal-number}
 use Rattle.words.specs.Words.{recordWords, isRecord, decoded}
 use Rattle.words.specs.WordLaws.{record-long, decoded-record, decoded-none, decode-encode}
 use Rattle.words.specs.declared.Decoded.{Decoded}
-use Rattle.history.specs.Book.{reads, readsValue, starts, steps, asks, recovers, saying, giving, Event, called}
+use Rattle.history.specs.Book.{reads, readsValue, joins, starts, steps, asks, recovers, saying, giving, pairing, Event, called}
 use Rattle.history.specs.Runs as Store
 use Rattle.history.specs.Runs.{World, recoveredWorld, Run}
 use Rattle.kurdavel.specs.Crossing.{keptWords, wordsAfter, RecoverCrossed, ReadCrossed, ValueCrossed, storesAfter, StartCrossed, leftTold, toldAfter, StepCrossed}
-use Rattle.exported.specs.Runs.{HeldWords, Memory, heldBy, worldOf, KeyArgument, Arguments, numberSaid, stepTold, readTold, recoveredMemory, Exports, start, step, read, readValue, recover, short, cuts, ExportedRun, stop, go}
+use Rattle.kurdavel.specs.Joining.{JoinCrossed}
+use Rattle.exported.specs.Runs.{HeldWords, Memory, heldBy, worldOf, KeyArgument, Arguments, numberSaid, stepTold, readTold, recoveredMemory, Exports, start, step, read, readValue, join, recover, short, cuts, ExportedRun, stop, go}
 
 -- ---- arguments: whatever has its C type is typed
 
@@ -203,6 +205,21 @@ module _ (n s : ℕ) where
       Store.go (Store.ask (Store.read {h = heldBy h} typed (c .promised)))
       (Store.go (Store.ask (Store.readValue {h = heldBy h} typed (c .value))) Store.stop)
 
+  join-runs :
+      (area : List ℕ) (h : HeldWords) (m : Option ℕ) (first second number : ℕ) → JoinCrossed (h .words) area (h .cells) first second number →
+      Runs (worldOf (record { area = area; held = some h; cells = m }))
+      (called (asks joins) (readLengths area (h .cells)) (pairing (record { refused = number; first = first; second = second })) ∷ [])
+      (worldOf (record { area = area; held = some h; cells = m }))
+  join-runs area h m first second number c =
+      subst
+      (λ (p : PairSaid).
+      Runs (worldOf (record { area = area; held = some h; cells = m })) (called (asks joins) (readLengths area (h .cells)) (pairing p) ∷ [])
+      (worldOf (record { area = area; held = some h; cells = m })))
+      said (Store.go (Store.ask (Store.join {h = heldBy h} (c .promised))) Store.stop)
+    where
+      said : joinSaid (c .joined .answer) ≡ record { refused = number; first = first; second = second }
+      said = λ i. record { refused = sym (c .numbered) i; first = sym (c .first-told) i; second = sym (c .second-told) i }
+
   -- ---- recovery
 
   module _ (m : Memory) (cells′ words words′ : List ℕ) (rec : Record) (number : ℕ) (long : recordWords ≤ length words) where
@@ -252,6 +269,7 @@ module _ (n s : ℕ) where
   exports-run (read {area} {h} {m} {v} {k} {version} {kind} {number} p c) =
       read-runs area h m v k version kind number p c
   exports-run (readValue {area} {h} {m} {v} {k} {place} {bytes} {number} p c) = value-runs area h m v k place bytes number p c
+  exports-run (join {area} {h} {m} {first} {second} {number} c) = join-runs area h m first second number c
   exports-run (recover {m} {order} {cells} {cells′} {words} {words′} {number} long c) =
       recover-runs m order cells cells′ words words′ number long c
   exports-run (short less c) = Store.stop

@@ -17,9 +17,10 @@ use Rattle.record.specs.declared.Tables.{Tables}
 use Rattle.model.specs.Refused.{Terms, isPending}
 use Rattle.model.specs.Promises.{readLengths, lentLengths}
 use Rattle.words.specs.Words.{recordWords, decoded}
-use Rattle.history.specs.Book.{reads, readsValue, starts, steps, asks, recovers, saying, giving, Event, called, cut}
+use Rattle.history.specs.Book.{reads, readsValue, joins, starts, steps, asks, recovers, saying, giving, pairing, Event, called, cut}
 use Rattle.history.specs.Runs.{Held, World}
 use Rattle.kurdavel.specs.Crossing.{RecoverCrossed, ReadCrossed, ValueCrossed, StartCrossed, StepCrossed}
+use Rattle.kurdavel.specs.Joining.{JoinCrossed}
 
 -- ---- what is held
 
@@ -113,6 +114,12 @@ pub data Exports (n s : ℕ) : Memory → List Event → Memory → Type 0 where
       (called (asks (reads v k)) (readLengths area (h .cells)) (saying (readSaid (c .reading .answer)))
       ∷ called (asks (readsValue v k)) (readLengths area (h .cells)) (giving (take bytes (drop place area)))
       ∷ [])
+      (record { area = area; held = some h; cells = m })
+  -- kurdavel_join, which tells its slots through pointers whether it is refused or not
+  join :
+      {area : List ℕ} {h : HeldWords} {m : Option ℕ} {first second number : ℕ} → JoinCrossed (h .words) area (h .cells) first second number →
+      Exports n s (record { area = area; held = some h; cells = m })
+      (called (asks joins) (readLengths area (h .cells)) (pairing (record { refused = number; first = first; second = second })) ∷ [])
       (record { area = area; held = some h; cells = m })
   -- kurdavel_recover with the N and S of the format, any order list, any index and room for the words
   recover :

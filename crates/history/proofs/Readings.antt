@@ -13,28 +13,32 @@ use Rattle.segment.specs.Layout.{Layout, entrySize}
 use Rattle.segment.specs.Entry.{Entry, kindOf, bytesIn}
 use Rattle.segment.specs.declared.Key.{Key}
 use Rattle.record.specs.Answers.{readSaid, refusal, withPending, storesLeft}
+use Rattle.record.specs.Pairs.{PairSaid, joinSaid}
 use Rattle.record.specs.Reach.{holdsTable}
 use Rattle.record.specs.Range.{fitsLent}
 use Rattle.record.specs.RangeLaws.{Lent, lent, fits-lent, lent-pending}
 use Rattle.record.specs.declared.Pending.{Pending}
 use Rattle.record.specs.declared.Pending.the-variants.{Idle}
+use Rattle.record.specs.declared.Joined.{Joined}
+use Rattle.record.specs.declared.JoinAnswer.{JoinAnswer}
 use Rattle.record.specs.declared.Reading.{Reading}
 use Rattle.record.specs.declared.ReadAnswer.{ReadAnswer}
 use Rattle.record.specs.declared.Record.{Record}
 use Rattle.record.specs.declared.Refusal.{Refusal}
-use Rattle.record.specs.declared.Refusal.the-variants.{BadRecord, Absent, OutsideTables}
+use Rattle.record.specs.declared.Refusal.the-variants.{BadRecord, Busy, Absent, OutsideTables}
 use Rattle.record.specs.declared.Tables.{Tables}
 use Rattle.model.specs.Log.{Placed, present}
 use Rattle.model.specs.Causes.{when, firstCause}
 use Rattle.model.specs.Recovery.{recovered}
 use Rattle.model.specs.Operations.{Operation, write, delete, clean, logNow, writtenEntry, tombstoneEntry, fitsHead, noRoom, laidAppend, laidHead, laidEntry, laidForget, laid, storesFor}
-use Rattle.model.specs.Refused.{Lengths, recordBad, keyAbsent, outsideTables, readCauses}
+use Rattle.model.specs.Refused.{Lengths, recordBad, isPending, keyAbsent, outsideTables, readCauses}
 use Rattle.model.specs.Promises.{ReadPromise, ValuePromise, readAnswer, presentAnswer, readLengths, Part, partOf, valueAnswer, valuePart}
+use Rattle.model.specs.Joining.{joinEarly, JoinPromise}
 use Rattle.laws.specs.CauseLaws.{cause-skip, cause-first}
 use Rattle.laws.specs.MapLaws.{valueAt, unplaced}
 use Rattle.laws.specs.Operated.{OperationLaws}
-use Rattle.history.specs.Book.{Question, reads, readsValue, asks, Answer, saying, giving, called, accepted, Kept, Book, feed, feedCall, versionTold}
-use Rattle.history.specs.Runs.{Held, World, Asked, read, readValue}
+use Rattle.history.specs.Book.{Question, reads, readsValue, joins, asks, Answer, saying, giving, pairing, called, accepted, Kept, Awaited, Book, feed, feedCall, versionTold}
+use Rattle.history.specs.Runs.{Held, World, Asked, read, readValue, join}
 use Rattle.history.specs.Demand3.{bookAnswer, bookValue, QuestionAgrees, EventAgrees}
 use Rattle.history.proofs.Invariant.{Inv, Holding, HeldGood, Phase, idle, pending, bookEntry, started-accepted, next-of, log-of, with-geometry}
 
@@ -71,6 +75,24 @@ laid-left L r log o k = go o
     go (delete j) = gone (noRoom r (entrySize L 0)) j
     go (clean victims) = refl
 
+-- and is then pending
+pub laid-pending : (L : Layout) (r : Record) (log : List Placed) (o : Operation) (k : ℕ) → isPending (laid L r log o .pending k) ≡ true
+unfolding laid pick isPending
+laid-pending L r log o k = go o
+  where
+    entry : (t : Bool) (e : Entry) → isPending (pick t (laidAppend L e) (laidHead L r e) .pending k) ≡ true
+    entry true e = refl
+    entry false e = refl
+
+    gone : (t : Bool) (j : Key) → isPending (pick t (laidForget L r log j) (laidEntry L r (tombstoneEntry r j)) .pending k) ≡ true
+    gone true j = refl
+    gone false j = entry (fitsHead L r (tombstoneEntry r j)) (tombstoneEntry r j)
+
+    go : (o : Operation) → isPending (laid L r log o .pending k) ≡ true
+    go (write j value) = entry (fitsHead L r (writtenEntry r j value)) (writtenEntry r j value)
+    go (delete j) = gone (noRoom r (entrySize L 0)) j
+    go (clean victims) = refl
+
 module _ (L : Layout) (laws : OperationLaws L) (n s : ℕ) where
   -- 1 to S + 1 stores are left of what is pending
   pending-left :
@@ -96,7 +118,7 @@ module _ (L : Layout) (laws : OperationLaws L) (n s : ℕ) where
       most : stores ≤ st .idle .size + 1
       most = laws .few-stores (st .before) (st .idle) (st .operation) (started-accepted L area (h .rec) (h .work) st)
 
-  held-fits :
+  pub held-fits :
       (area : List ℕ) (m : Option ℕ) (b : Book) (h : Held) → Bytes area → Holding L n s area m b h →
       fitsLent L (h .rec) (length area) (length (h .cells)) ≡ true
   held-fits area m b h ab good =
@@ -241,6 +263,31 @@ module _ (L : Layout) (laws : OperationLaws L) (n s : ℕ) where
             (ap (partOf area) (promise .exact (good .genuine)) ∙ value-given area (h .cells) (h .rec) (inv .bytes) (good .genuine .recovers) fits v k (b .keys k) map-now),
       )
 
+  -- While an operation is pending no slots are named to join.
+  join-busy :
+      (area : List ℕ) (h : Held) (m : Option ℕ) (b : Book) → Bytes area → Holding L n s area m b h → (a : Joined) →
+      JoinPromise L (h .rec) area (h .cells) a → (x : Awaited) → b .pending ≡ some x → a .answer ≡ JoinAnswer.Refused Busy
+  join-busy area h m b ab good a p x e = by-phase (good .phase)
+    where
+      by-phase : Phase L area b h → a .answer ≡ JoinAnswer.Refused Busy
+      by-phase (idle _ q) = let z : _≡_ {A = ℕ} 0 1 = cc in absurd (omega arith)
+      by-phase (pending st _) =
+          p .early Busy
+          (cause-skip (when (recordBad L (h .rec) (readLengths area (h .cells))) BadRecord) _ (ap not (held-fits area m b h ab good)) ∙
+          cause-first (when (isPending (h .rec .pending)) Busy) []
+          (ap (λ (r : Record). isPending (r .pending)) (st .record-now) ∙ laid-pending L (st .idle) (logNow L (st .before) (st .idle)) (st .operation) _))
+
+  join-keeps :
+      (area : List ℕ) (h : Held) (m : Option ℕ) (b : Book) (t : ℕ) (l : Lengths) (a : Joined) → Inv L n s (record { area = area; held = some h; cells = m }) b t →
+      Holding L n s area m b h → JoinPromise L (h .rec) area (h .cells) a →
+      Inv L n s (record { area = area; held = some h; cells = m }) (feed b (called (asks joins) l (pairing (joinSaid (a .answer)))))
+      (max t (versionTold (called (asks joins) l (pairing (joinSaid (a .answer)))))) × EventAgrees L b (called (asks joins) l (pairing (joinSaid (a .answer))))
+  unfolding feed feedCall versionTold EventAgrees QuestionAgrees
+  join-keeps area h m b t l a inv good p = (
+    rw (pick-same (accepted (pairing (joinSaid (a .answer)))) b, max-zero t) inv,
+    λ x e. ap (λ (y : JoinAnswer). pairing (joinSaid y)) (join-busy area h m b (inv .bytes) good a p x e),
+  )
+
   -- A question keeps the invariant, and answers what the book says.
   pub ask-keeps :
       {w : World} {q : Question} {l : Lengths} {a : Answer} (b : Book) (t : ℕ) → Asked L w q l a → Inv L n s w b t →
@@ -249,3 +296,4 @@ module _ (L : Layout) (laws : OperationLaws L) (n s : ℕ) where
   ask-keeps b t (read {area} {h} {m} {v} {k} {a} ty p) inv = read-keeps area h m b t inv (inv .held) k v (readLengths area (h .cells)) a p
   ask-keeps b t (readValue {area} {h} {m} {v} {k} {p} ty promise) inv =
       value-keeps area h m b t inv (inv .held) k v (readLengths area (h .cells)) p promise
+  ask-keeps b t (join {area} {h} {m} {a} p) inv = join-keeps area h m b t (readLengths area (h .cells)) a inv (inv .held) p

@@ -54,7 +54,7 @@ module _ (L : Layout) (laws : OperationLaws L) (n s : ℕ) where
 
   -- ---- a list of events
 
-  run-keeps :
+  pub run-keeps :
       {w x : World} {es : List Event} (b : Book) (t : ℕ) → Run L n s w es x → Inv L n s w b t →
       Inv L n s x (bookAfter b es) (max t (highestTold es)) × EventsAgree L b es
   unfolding bookAfter highestTold EventsAgree

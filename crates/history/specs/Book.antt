@@ -6,16 +6,18 @@ use mathlib.Core.Option.{Option, none, some}
 use lib.Dec.{eqb}
 use Rattle.segment.specs.Choice.{pick}
 use Rattle.segment.specs.declared.Key.{Key}
-use Rattle.record.specs.Answers.{Said, taken}
+use Rattle.record.specs.Answers.{Said, taken, refusal}
+use Rattle.record.specs.Pairs.{PairSaid}
 use Rattle.record.specs.declared.Tables.{Tables}
 use Rattle.model.specs.Log.{sameKeys}
 use Rattle.model.specs.Operations.{Operation, write, delete, clean}
 use Rattle.model.specs.Refused.{Lengths, Terms}
 
--- A call that changes nothing: a read within some tables, and a read of the value.
+-- A call that changes nothing: a read within some tables, a read of the value, and which two slots to join (02, R-7).
 pub data Question : Type 0 where
   reads : Tables → Key → Question
   readsValue : Tables → Key → Question
+  joins : Question
 
 -- A call on the store with its arguments: a start (write, delete or clean) on some terms, a step, a question, a recovery with N, S
 -- and the order list.
@@ -36,6 +38,10 @@ saying a = record { said = a; value = [] }
 
 abbrev pub giving : List ℕ → Answer
 giving v = record { said = taken; value = v }
+
+-- two slots, where a value has its bytes
+abbrev pub pairing : PairSaid → Answer
+pairing p = record { said = refusal (p .refused); value = p .first ∷ p .second ∷ [] }
 
 -- A call with the lengths of what it was lent and with what it answered, or a cut. Of a call's input only what the lent memory
 -- holds is not in its event.

@@ -11,6 +11,7 @@ use Rattle.segment.specs.Layout.{Layout, edition1}
 use Rattle.segment.specs.declared.Key.{Key}
 use Rattle.segment.specs.Entry.{kindFor}
 use Rattle.record.specs.Answers.{Said, readSaid, refusal}
+use Rattle.record.specs.Pairs.{noneSaid}
 use Rattle.record.specs.Reach.{holdsTable}
 use Rattle.record.specs.Range.{cellsGood}
 use Rattle.record.specs.declared.Expected.{Expected}
@@ -26,7 +27,7 @@ use Rattle.model.specs.Operations.{Operation, write, delete, clean, TypedKey}
 use Rattle.model.specs.Recovery.{orderBad}
 use Rattle.model.specs.Refused.{Terms}
 use Rattle.model.specs.Promises.{FormatPromise, RecoverPromise, ReadPromise, Part, partOf, ValuePromise}
-use Rattle.history.specs.Book.{Question, reads, readsValue, starts, steps, asks, recovers, Answer, saying, giving, Event, called, cut, accepted, Kept, Awaited, Book, bookVersion, freshBook, feed, bookOf, versionFor, highestTold}
+use Rattle.history.specs.Book.{Question, reads, readsValue, joins, starts, steps, asks, recovers, Answer, saying, giving, pairing, Event, called, cut, accepted, Kept, Awaited, Book, bookVersion, freshBook, feed, bookOf, versionFor, highestTold}
 use Rattle.history.specs.Runs.{World, freshWorld, Run}
 
 -- "its index as large as at the last accepted one": within the limits, and no smaller; before the first, any within the limits
@@ -65,10 +66,12 @@ StepAgrees b a none = ⊥
 StepAgrees b a (some p) = (a .stores ≡ p .left - 1) × (p .left ≡ 1 → a .version ≡ versionFor b (p .operation))
 
 -- A read answers version and kind of what the book holds of its key, or 8, and a read of the value that value; also while an
--- operation is pending. A key whose table the caller may not reach is answered with 22 and no value, whatever the book holds (02, R-2).
+-- operation is pending. A key whose table the caller may not reach is answered with 22 and no value, whatever the book holds (02, R-2). Of slots
+-- the book knows nothing; while an operation is pending in it, none are named (02, R-7).
 unfoldable pub QuestionAgrees : Layout → Book → Question → Answer → Type 0
 QuestionAgrees L b (reads t k) a = a ≡ saying (pick (holdsTable t (k .table)) (readSaid (bookAnswer L (b .keys k))) (refusal 22))
 QuestionAgrees L b (readsValue t k) a = a ≡ giving (pick (holdsTable t (k .table)) (bookValue (b .keys k)) [])
+QuestionAgrees L b joins a = (x : Awaited) → b .pending ≡ some x → a ≡ pairing (noneSaid 5)
 
 -- 02, R-1: what a write expected of its key, where it was accepted, is the version that the book has of it.
 unfoldable pub Expects : Expected → ℕ → Type 0

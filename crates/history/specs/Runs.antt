@@ -11,8 +11,10 @@ use Rattle.segment.specs.Choice.{pick}
 use Rattle.segment.specs.Layout.{Layout}
 use Rattle.segment.specs.declared.Key.{Key}
 use Rattle.record.specs.Answers.{recoverSaid, readSaid, startSaid, stepSaid}
+use Rattle.record.specs.Pairs.{joinSaid}
 use Rattle.record.specs.declared.Record.{Record}
 use Rattle.record.specs.declared.Recovery.{Recovery}
+use Rattle.record.specs.declared.Joined.{Joined}
 use Rattle.record.specs.declared.Reading.{Reading}
 use Rattle.record.specs.declared.Start.{Start}
 use Rattle.record.specs.declared.Stepped.{Stepped}
@@ -20,7 +22,8 @@ use Rattle.record.specs.declared.Tables.{Tables}
 use Rattle.model.specs.Operations.{Operation, Typed, TypedKey}
 use Rattle.model.specs.Refused.{Lengths, Terms, isPending}
 use Rattle.model.specs.Promises.{RecoverPromise, readLengths, ReadPromise, Part, partOf, ValuePromise, lentLengths, StartPromise, StepPromise}
-use Rattle.history.specs.Book.{Question, reads, readsValue, starts, steps, asks, recovers, Answer, saying, giving, Event, called, cut, accepted}
+use Rattle.model.specs.Joining.{JoinPromise}
+use Rattle.history.specs.Book.{Question, reads, readsValue, joins, starts, steps, asks, recovers, Answer, saying, giving, pairing, Event, called, cut, accepted}
 
 -- What the firmware holds from an accepted recovery to the next cut: the newest record, the index of that recovery, and the work
 -- buffer that the last accepted start filled.
@@ -59,6 +62,9 @@ pub data Asked (L : Layout) : World → Question → Lengths → Answer → Type
   readValue :
       {area : List ℕ} {h : Held} {m : Option ℕ} {v : Tables} {k : Key} {p : Part} → TypedKey k → ValuePromise L (h .rec) area (h .cells) v k p →
       Asked L (record { area = area; held = some h; cells = m }) (readsValue v k) (readLengths area (h .cells)) (giving (partOf area p))
+  join :
+      {area : List ℕ} {h : Held} {m : Option ℕ} {a : Joined} → JoinPromise L (h .rec) area (h .cells) a →
+      Asked L (record { area = area; held = some h; cells = m }) joins (readLengths area (h .cells)) (pairing (joinSaid (a .answer)))
 
 -- One event. A cut takes what is held and leaves the area with the stores made so far. The stores of an operation are made one by
 -- one, each by a step, and no other call stores anything; so a cut during a call is one before it, or one after it once its store

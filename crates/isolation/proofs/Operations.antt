@@ -62,7 +62,7 @@ module _ (of any : ℕ → Bool) where
   facts-hidden : (log : List Placed) (k : Key) → keyFacts (hiddenLog of log) k ≡ keyFacts log k
   facts-hidden log k = rw (has-hidden of log k, absent-hidden log k, ap versionIn (present-hidden of log k) ∙ one-version of (present log k))
 
-  kept-long-hidden : (L : Layout) (log : List Placed) (victims : ℕ) → keptLength L (hiddenLog of log) victims ≡ keptLength L log victims
+  pub kept-long-hidden : (L : Layout) (log : List Placed) (victims : ℕ) → keptLength L (hiddenLog of log) victims ≡ keptLength L log victims
   kept-long-hidden L log victims = ap (λ (es : List Entry). length (allEncoded L es)) (kept-hidden of victims log) ∙ encoded-hidden of L (kept victims log)
 
   causes-hidden :

@@ -1,17 +1,21 @@
 -- Questions in two worlds that differ in hidden values alone: a read answers the same, and so does a read of a value that is not
 -- hidden.
-use Prim.Native.Nat.{ℕ}
+use Prim.Native.Nat.{ℕ, _+_}
 use native.Mathlib.Omega.{arith}
 use mathlib.Core.Path.{_≡_, refl, sym, ap, _∙_, subst}
-use mathlib.Core.Bool.{Bool, true, false}
+use mathlib.Core.Bool.{Bool, true, false, not}
 use mathlib.Core.List.{List, []}
 use mathlib.Core.Option.{Option, none, some}
 use Rattle.word.specs.Number.{Bytes}
-use Rattle.segment.specs.Choice.{pick, isNone}
-use Rattle.segment.specs.Layout.{Layout}
+use lib.Dec.{ltb}
+use Rattle.segment.specs.Choice.{pick, both, isNone}
+use Rattle.segment.specs.Layout.{Layout, digestSize}
 use Rattle.segment.specs.Entry.{bytesIn, isTombstone, keyOf}
 use Rattle.segment.specs.declared.Key.{Key}
 use Rattle.record.specs.Answers.{readSaid, withPending}
+use Rattle.slot_map.specs.Bit.{named}
+use Rattle.record.specs.Pairs.{joinSaid}
+use Rattle.record.specs.declared.Joined.{Joined}
 use Rattle.record.specs.declared.Pending.the-variants.{Idle}
 use Rattle.record.specs.declared.Reading.{Reading}
 use Rattle.record.specs.declared.ReadAnswer.{ReadAnswer}
@@ -21,13 +25,14 @@ use Rattle.record.specs.declared.Tables.{Tables}
 use Rattle.model.specs.Log.{Placed, latest, objectOnly, present}
 use Rattle.model.specs.Causes.{Cause, firstCause}
 use Rattle.model.specs.Operations.{logNow}
-use Rattle.model.specs.Refused.{Lengths, readCauses}
+use Rattle.model.specs.Refused.{Lengths, keptLength, readCauses}
+use Rattle.model.specs.Joining.{SlotPair, pairOf, joinFits, lowestPair, joinPair, joinCauses, joinAnswer, JoinPromise}
 use Rattle.model.specs.Promises.{Genuine, readLengths, readAnswer, presentAnswer, ReadPromise, Part, partOf, valuePart, valueAnswer, ValuePromise}
 use Rattle.laws.specs.Latest.{same-key, latest-some}
 use Rattle.laws.specs.Operated.{OperationLaws}
 use Rattle.isolation.proofs.Hidden.{hiddenValue, hiddenLog, hiddenOne, value-kind, value-told, present-hidden}
 use Rattle.isolation.proofs.Alike.{Alike, logs-same}
-use Rattle.isolation.proofs.Operations.{absent-hidden}
+use Rattle.isolation.proofs.Operations.{absent-hidden, kept-long-hidden}
 
 -- ---- the object of a key
 
@@ -149,3 +154,29 @@ module _ (of : ℕ → Bool) (L : Layout) (laws : OperationLaws L) (area area′
         go none e =
             value-at area cells ab g (present log k) refl ∙ ap valueIn (objects-same of log log′ k logs (told e)) ∙
             sym (value-at area′ cells′ ab′ g′ (present log′ k) refl)
+
+-- ---- which two slots to join: what a cleaning keeps is of one length in both
+
+module _ (of : ℕ → Bool) (L : Layout) (area area′ cells cells′ : List ℕ) (r : Record)
+    (alike : Alike of L (r .slots) (r .size) (r .map) area area′) (g : Genuine L area r cells) (g′ : Genuine L area′ r cells′)
+    (lent : readLengths area cells ≡ readLengths area′ cells′)
+  where
+    kept-long : (victims : ℕ) → keptLength L (logNow L area r) victims ≡ keptLength L (logNow L area′ r) victims
+    kept-long victims =
+        sym (kept-long-hidden of of L (logNow L area r) victims) ∙
+        ap (λ (l : List Placed). keptLength L l victims) (logs-same of L r area area′ alike) ∙
+        kept-long-hidden of of L (logNow L area′ r) victims
+
+    pairs-same : joinPair L r (logNow L area r) ≡ joinPair L r (logNow L area′ r)
+    unfolding joinFits
+    pairs-same =
+        λ t.
+        lowestPair
+        (λ i j. both (both (named (r .map) i) (named (r .map) j)) (not (ltb (r .size) (digestSize L + kept-long (pairOf i j) t))))
+        (r .slots)
+
+    pub join-both : (a a′ : Joined) → JoinPromise L r area cells a → JoinPromise L r area′ cells′ a′ → joinSaid (a .answer) ≡ joinSaid (a′ .answer)
+    join-both a a′ p p′ =
+        ap joinSaid
+        (p .exact g ∙
+        (λ t. joinAnswer (firstCause (joinCauses L r (lent t) (pairs-same t))) (pairs-same t)) ∙ sym (p′ .exact g′))

@@ -24,8 +24,9 @@ use Rattle.laws.specs.Starts.{StartInside, start-inside}
 use Rattle.laws.specs.Entering.{Roomy}
 use Rattle.laws.specs.Operated.{OperationLaws}
 use Rattle.laws.specs.OperationsKept.{operation-laws, edition1-roomy}
-use Rattle.history.specs.Book.{Question, reads, readsValue, Call, starts, steps, asks, recovers, Answer, saying, giving, Event, called, cut, Book, freshBook, feed, versionTold}
-use Rattle.history.specs.Runs.{World, freshWorld, Asked, read, readValue, Moves, start, step, ask, recover, cuts, Run, stop, go}
+use Rattle.model.specs.Joining.{JoinPromise}
+use Rattle.history.specs.Book.{Question, reads, readsValue, joins, Call, starts, steps, asks, recovers, Answer, saying, giving, pairing, Event, called, cut, Book, freshBook, feed, versionTold}
+use Rattle.history.specs.Runs.{World, freshWorld, Asked, read, readValue, join, Moves, start, step, ask, recover, cuts, Run, stop, go}
 use Rattle.history.proofs.Invariant.{Inv, HeldGood, baseCells}
 use Rattle.history.proofs.Theorem.{move-keeps, fresh}
 use Rattle.isolation.specs.Owners.{Owner, servo, media, blankedOperation, blanked, SameCall, SameInput, SameInputs, SameAnswer, SameAnswers, sameOwner, startRange, rangeOf, rangeHolds, gives}
@@ -35,7 +36,7 @@ use Rattle.isolation.proofs.Operations.{hiddenOperation}
 use Rattle.isolation.proofs.Pair.{HeldBoth, Pair}
 use Rattle.isolation.proofs.PairStarts.{held-alike, start-both}
 use Rattle.isolation.proofs.PairSteps.{step-both}
-use Rattle.isolation.proofs.PairReads.{read-both, value-both}
+use Rattle.isolation.proofs.PairReads.{read-both, value-both, join-both}
 use Rattle.isolation.proofs.PairRecoveries.{cut-both, recover-both}
 
 -- ---- what the same input says
@@ -189,6 +190,17 @@ module _ (L : Layout) (roomy : Roomy L) (n s : ℕ) (of : ℕ → Bool) where
           (subst⁻¹ (λ (v : Tables). ValuePromise L (h .rec) area′ (h′ .cells) v k p′) tables
           (subst⁻¹ (λ (j : Key). ValuePromise L (h .rec) area′ (h′ .cells) u′ j p′) keys
           (subst⁻¹ (λ (r : Record). ValuePromise L r area′ (h′ .cells) u′ k′ p′) (pair .held .rec-same) q′))))
+  asked-both b b′ t t′ who (join {area} {h} {m} {a} p) (join {area = area′} {h = h′} {m = m′} {a = a′} p′) inv inv′ pair e lent c =
+      answer-same who (asks joins) (asks joins) (readLengths area (h .cells)) (readLengths area′ (h′ .cells)) _ _
+      (ap pairing
+      (join-both of L area area′ (h .cells) (h′ .cells) (h .rec) (held-alike of L n s area area′ m b h (inv .held) (pair .alike))
+      (inv .held .genuine)
+      (subst⁻¹ (λ (r : Record). Genuine L area′ r (h′ .cells)) (pair .held .rec-same) (inv′ .held .genuine)) lent a a′ p
+      (subst⁻¹ (λ (r : Record). JoinPromise L r area′ (h′ .cells) a′) (pair .held .rec-same) p′)))
+  asked-both b b′ t t′ who (join p) (read ty′ p′) inv inv′ pair e lent c = let z : _≡_ {A = ℕ} 0 1 = cc in absurd (omega arith)
+  asked-both b b′ t t′ who (join p) (readValue ty′ q′) inv inv′ pair e lent c = let z : _≡_ {A = ℕ} 0 1 = cc in absurd (omega arith)
+  asked-both b b′ t t′ who (read ty p) (join p′) inv inv′ pair e lent c = let z : _≡_ {A = ℕ} 0 1 = cc in absurd (omega arith)
+  asked-both b b′ t t′ who (readValue ty q) (join p′) inv inv′ pair e lent c = let z : _≡_ {A = ℕ} 0 1 = cc in absurd (omega arith)
   asked-both b b′ t t′ who (read ty p) (readValue ty′ q′) inv inv′ pair e lent c = let z : _≡_ {A = ℕ} 0 1 = cc in absurd (omega arith)
   asked-both b b′ t t′ who (readValue ty q) (read ty′ p′) inv inv′ pair e lent c = let z : _≡_ {A = ℕ} 0 1 = cc in absurd (omega arith)
 

@@ -2,3 +2,4 @@
 pub mod Crossing
 pub mod CrossingLaws
 pub mod NoRecord
+pub mod Joining

@@ -1,10 +1,11 @@
-// The store for a firmware in C or Rust (include/kurdavel.h): the seven calls and the value read, over slices and numbers.
+// The store for a firmware in C or Rust (include/kurdavel.h): its calls and the value read, over slices and numbers.
 // Each function decodes the record from the words that are lent, makes the call, and encodes what it hands back. Nothing is
 // required of the caller's values: words that are no record are refused with 4. The answer is 0 or the refusal's number.
 use firmware::step_held;
 use index::search::search;
 use record::Expected;
 use record::FormatAnswer;
+use record::JoinAnswer;
 use record::ReadAnswer;
 use record::Record;
 use record::RecoverAnswer;
@@ -25,6 +26,7 @@ use segment::layout::HEAD_SIZE;
 use store::clean;
 use store::delete;
 use store::format;
+use store::join;
 use store::recover;
 use store::write;
 use store::write_expecting;
@@ -40,6 +42,7 @@ ghost use Rattle.model.specs.Refused.{freely, reaching};
 ghost use Rattle.record.specs.declared.Expected.{Expected};
 ghost use Rattle.words.specs.Words.{recordWords};
 ghost use Rattle.kurdavel.specs.Crossing.{FormatCrossed, RecoverCrossed, ReadCrossed, ValueCrossed, StartCrossed, StepCrossed, keptWords, Handed};
+ghost use Rattle.kurdavel.specs.Joining.{JoinCrossed};
 
 #[no_mangle]
 pub extern "C" fn kurdavel_format(slots: u32, size: u32, area: &mut [u8]) -> u32
@@ -346,6 +349,39 @@ pub extern "C" fn kurdavel_step(
         StepAnswer::Done(told) => {
             *left = 0;
             *version = told.0;
+            0
+        }
+    }
+}
+
+// Which two slots to join; both are 0 where it is refused.
+#[no_mangle]
+pub extern "C" fn kurdavel_join(
+    words: &[u32],
+    area: &[u8],
+    index: &[u32],
+    first: &mut u32,
+    second: &mut u32,
+) -> u32
+    ensures { λ r.
+        ⌜
+        JoinCrossed (now (words .entry)) (now (area .entry)) (now (index .entry)) (now (first .exit)) (now (second .exit)) r
+        ⌝ }
+{
+    *first = 0;
+    *second = 0;
+    let decoded = decode(words);
+    let rec = decoded.rec;
+    let joined = join(rec, area, index);
+    let answer = joined.answer;
+    match answer {
+        JoinAnswer::Refused(cause) => number(cause),
+        JoinAnswer::Pair {
+            first: lower,
+            second: upper,
+        } => {
+            *first = lower;
+            *second = upper;
             0
         }
     }

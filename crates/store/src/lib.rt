@@ -34,3 +34,7 @@ pub use cleaning::clean::clean;
 // tells its version, and brings record and index up to date. Refused with 4, 3 or 6, it changes nothing, but for one case that
 // no genuine store meets: the last step may find behind its store that the new entry cannot be read or that the index is full.
 pub use stepping::step;
+
+// Names the two slots of the log, the lower one first, that one new head can take over by a cleaning of exactly these two: the
+// lowest such pair. Refused with 4, 5 or, where there is none, 23.
+pub use joining::join::join;

@@ -2,29 +2,33 @@
 use Prim.Native.Nat.{ℕ}
 use mathlib.Core.Path.{_≡_, refl, sym, ap}
 use mathlib.Core.Bool.{Bool, true, false}
-use mathlib.Core.List.{List}
+use mathlib.Core.List.{List, [], _∷_}
 use mathlib.Core.Option.{Option, none, some}
 use native.Mathlib.Omega.{arith}
 use lib.Dec.{eqb}
 use lib.ListN.{length, replicate, length-replicate}
-use Rattle.segment.specs.Choice.{pick}
+use Rattle.segment.specs.Choice.{pick, isNone}
 use Rattle.segment.specs.Layout.{Layout}
 use Rattle.segment.specs.declared.Key.{Key}
 use Rattle.record.specs.RangeLaws.{between-low}
 use Rattle.record.specs.Refusals.{numberOfRefusal}
+use Rattle.record.specs.Pairs.{joinSaid}
+use Rattle.record.specs.declared.Joined.{Joined}
 use Rattle.record.specs.declared.Reading.{Reading}
 use Rattle.record.specs.declared.Recovery.{Recovery}
 use Rattle.record.specs.declared.RecoverAnswer.{RecoverAnswer}
 use Rattle.record.specs.declared.Refusal.{Refusal}
+use Rattle.record.specs.declared.Refusal.the-variants.{NoPair}
 use Rattle.record.specs.declared.Record.{Record}
 use Rattle.record.specs.declared.Tables.{Tables}
 use Rattle.model.specs.Log.{present}
-use Rattle.model.specs.Causes.{firstCause}
+use Rattle.model.specs.Causes.{when, firstCause}
 use Rattle.model.specs.Operations.{Operation, logNow}
 use Rattle.model.specs.Recovery.{recovery, recoveryFor, recoverCauses, recordFrom}
 use Rattle.model.specs.Refused.{Terms, reachCauses, readCauses, startCauses}
 use Rattle.model.specs.Promises.{IndexAfter, RecoverPromise, readAnswer, readLengths, ReadPromise, Part, valueAnswer, ValuePromise, Begun, begun, lentLengths, StartPromise}
-use Rattle.laws.specs.CauseLaws.{cause-first}
+use Rattle.model.specs.Joining.{SlotPair, joinPair, joinEarly, joinCauses, pairAnswer, joinAnswer, pairSaid, pairSaidBy, JoinPromise}
+use Rattle.laws.specs.CauseLaws.{cause-first, first-some}
 use Rattle.laws.specs.SaidLaws.{recover-says, read-settled, start-settled}
 use Rattle.laws.specs.RecoverLaws.{recovery-order, recovery-recovered, recovered-facts}
 use Rattle.laws.specs.Starts.{begun-length, start-early, read-early}
@@ -68,6 +72,39 @@ module _ (L : Layout) (r : Record) (area cells : List ℕ) (t : Tables) (k : Key
       record {
         early = λ c e. ap (λ (x : Option Refusal). valueAnswer L (r .size) x (present (logNow L area r) k)) (its-cause c e);
         exact = λ g. refl;
+      }
+
+-- ---- which two slots to join
+
+abbrev pub joinedBy : Layout → Record → List ℕ → List ℕ → Joined
+joinedBy L r area cells =
+    record {
+      answer =
+          joinAnswer (firstCause (joinCauses L r (readLengths area cells) (joinPair L r (logNow L area r)))) (joinPair L r (logNow L area r));
+      rec = r;
+    }
+
+module _ (L : Layout) (r : Record) (area cells : List ℕ) where
+  abbrev pair : Option SlotPair
+  pair = joinPair L r (logNow L area r)
+
+  pair-cause : (c : Refusal) → firstCause (joinEarly L r (readLengths area cells)) ≡ some c → firstCause (joinCauses L r (readLengths area cells) pair) ≡ some c
+  pair-cause c e = first-some (joinEarly L r (readLengths area cells)) (when (isNone pair) NoPair ∷ []) c e
+
+  said : (c : Option Refusal) (p : Option SlotPair) → joinSaid (joinAnswer c p) ≡ pairSaidBy c p
+  unfolding joinAnswer pairSaidBy pairAnswer pairSaid
+  said none none = refl
+  said none (some p) = refl
+  said (some c) p = refl
+
+  pub join-made : JoinPromise L r area cells (joinedBy L r area cells)
+  unfolding joinAnswer
+  join-made =
+      record {
+        hands-back = refl;
+        early = λ c e. ap (λ (x : Option Refusal). joinAnswer x pair) (pair-cause c e);
+        exact = λ g. refl;
+        says = λ s. said (firstCause (joinCauses L r (readLengths area cells) pair)) pair;
       }
 
 -- ---- write, delete and clean

@@ -7,20 +7,22 @@ use mathlib.Core.Option.{Option, none, some}
 use lib.ListN.{length}
 use Rattle.segment.specs.Layout.{Layout, edition1}
 use Rattle.record.specs.Answers.{recoverSaid, readSaid, startSaid, stepSaid}
+use Rattle.record.specs.Pairs.{joinSaid}
 use Rattle.record.specs.declared.Recovery.{Recovery}
 use Rattle.model.specs.Operations.{Operation, Typed, TypedKey}
 use Rattle.model.specs.Refused.{Terms}
 use Rattle.model.specs.Recovery.{recovery}
 use Rattle.model.specs.Promises.{readLengths, partOf, Begun, lentLengths}
-use Rattle.history.specs.Book.{Question, reads, readsValue, starts, steps, asks, recovers, Answer, saying, giving, Event, called, cut}
-use Rattle.history.specs.Runs.{Held, World, heldAfter, recoveredWorld, Asked, read, readValue, Moves, start, step, ask, recover, cuts, Run, stop, go}
-use Rattle.witness.specs.Answers.{readBy, partBy, read-made, value-made, startedBy, start-made, recoveredCells, recover-made}
+use Rattle.history.specs.Book.{Question, reads, readsValue, joins, starts, steps, asks, recovers, Answer, saying, giving, pairing, Event, called, cut}
+use Rattle.history.specs.Runs.{Held, World, heldAfter, recoveredWorld, Asked, read, readValue, join, Moves, start, step, ask, recover, cuts, Run, stop, go}
+use Rattle.witness.specs.Answers.{readBy, partBy, read-made, value-made, joinedBy, join-made, startedBy, start-made, recoveredCells, recover-made}
 use Rattle.witness.specs.Steps.{Moved, steppedBy, step-made}
 
 -- a question's key is of its types
 abbrev pub TypedQuestion : Question → Type 0
 TypedQuestion (reads t k) = TypedKey k
 TypedQuestion (readsValue t k) = TypedKey k
+TypedQuestion joins = Unit
 
 -- Arguments are of their types. A start gets any terms and any work buffer, a recovery any order list and any index.
 pub data Command : Type 0 where
@@ -60,6 +62,7 @@ steppedWorld w h x =
 unfoldable pub answerBy : Layout → Held → List ℕ → Question → Answer
 answerBy L h area (reads t k) = saying (readSaid (readBy L (h .rec) area (h .cells) t k .answer))
 answerBy L h area (readsValue t k) = giving (partOf area (partBy L (h .rec) area (h .cells) t k))
+answerBy L h area joins = pairing (joinSaid (joinedBy L (h .rec) area (h .cells) .answer))
 
 abbrev pub askedWorld : Layout → World → Held → Question → Played
 askedWorld L w h q =
@@ -113,6 +116,7 @@ module _ (n s : ℕ) where
   unfolding answerBy
   asked area m h (reads u k) t = read t (read-made edition1 (h .rec) area (h .cells) u k)
   asked area m h (readsValue u k) t = readValue t (value-made edition1 (h .rec) area (h .cells) u k)
+  asked area m h joins t = join (join-made edition1 (h .rec) area (h .cells))
 
   played-run : (area : List ℕ) (m : Option ℕ) (held : Option Held) (c : Command) →
       let w : World = record { area = area; held = held; cells = m } in From w (played edition1 n s w held c)

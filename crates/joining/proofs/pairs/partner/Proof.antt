@@ -22,7 +22,8 @@ loop-holds : tie.Need-loop-holds Inv-loop μ-loop
 loop-holds c = (omega arith, partner-start (numbersFit (now (c .before .before .args .totals)) (now (c .before .before .args .shares)) (c .before .before .args .split) (digestSize edition1)) _)
 
 pair-fits-requires : tie.Need-pair-fits-requires Inv-loop μ-loop
-pair-fits-requires c κs = (c .before .before .before .before .before .pre .0, (c .before .before .before .before .before .pre .1, c .if1 .taken))
+pair-fits-requires c κs =
+    (c .before .before .before .before .before .pre .0, (omega (arith, c .before .before .before .before .before .pre .1, c .if1 .taken), omega (arith, c .before .before .before .before .before .pre .1, c .if1 .taken)))
 
 returns : tie.Need-returns Inv-loop μ-loop
 returns c = partner-hit (numbersFit (now (c .before .before .before .before .before .before .before .args .totals)) (now (c .before .before .before .before .before .before .before .args .shares)) (c .before .before .before .before .before .before .before .args .split) (digestSize edition1)) _ _ _ _ (c .before .pair-fits .ensures) (c .before .before .before .before .loop .inv .1) (c .before .before .if1 .taken) (c .if2 .taken)

@@ -1,0 +1,3 @@
+-- 02, R-7 over runs, as statements.
+pub mod Helps
+pub mod Cases
