@@ -8,7 +8,7 @@ use lib.Dec.{eqb}
 use Rattle.segment.specs.Choice.{pick}
 use Rattle.record.specs.Refusals.{numberOfRefusal}
 use Rattle.record.specs.declared.Refusal.{Refusal}
-use Rattle.record.specs.declared.Refusal.the-variants.{Geometry, Cells, WorkShort, BadRecord, Busy, NonePending, ValueLength, Absent, VersionsSpent, NumbersSpent, KeysFull, NoRoom, BadVictims, KeptTooLong, BadOrder, NoDigest, BadDigest, DamagedLog, SharedVersion, TooManyKeys, OtherVersion, OutsideTables}
+use Rattle.record.specs.declared.Refusal.the-variants.{Geometry, Cells, WorkShort, BadRecord, Busy, NonePending, ValueLength, Absent, VersionsSpent, NumbersSpent, KeysFull, NoRoom, BadVictims, KeptTooLong, BadOrder, NoDigest, BadDigest, DamagedLog, SharedVersion, TooManyKeys, OtherVersion, OutsideTables, BadMap, MapNoDigest}
 use Rattle.model.specs.Causes.{Cause, firstCause}
 
 -- ---- no cause holds
@@ -128,6 +128,8 @@ refusal-number SharedVersion = refl
 refusal-number TooManyKeys = refl
 refusal-number OtherVersion = refl
 refusal-number OutsideTables = refl
+refusal-number BadMap = refl
+refusal-number MapNoDigest = refl
 
 -- ---- a number that no cause of a list has
 

@@ -56,7 +56,7 @@ pub record Sound (v : ℕ → View) (n m : ℕ) (h : Head) : Type 0 where
   pub keys : length (keysOf (logUnder v n h)) ≤ m - 1
 
 module _ (v : ℕ → View) (n m : ℕ) where
-  -- 16 to 20, as tests of a head that was found
+  -- 16 to 20 with 24 and 25, as tests of a head that was found
   abbrev pub headCauses : Head → List Cause
   headCauses h = imageCauses v n (some h) ++ keyCauses v n m (some h)
 
@@ -65,19 +65,17 @@ module _ (v : ℕ → View) (n m : ℕ) where
   clear-sound h e f =
       let digest = f .1 .0 in
       let number = either-false-left _ _ digest in
-      let rest = either-false-right _ _ digest in
-      let others = either-false-right _ _ rest in
       record {
         top =
             is-top v n h (head-is v n h e)
             (ltb-false 1 (sharing v (h .digest .number .0) n) (either-false-right _ _ number));
         numbered = eqb-false (h .digest .number .0) 0 (either-false-left _ _ number);
-        map-good = not-false _ (either-false-left _ _ rest);
-        digests = names-digests v (logSlots h) n (either-false-left _ _ others);
-        next-set = eqb-false (h .digest .next .0) 0 (either-false-right _ _ others);
-        scans = undamaged-scans v (logSlots h) n (f .1 .1 .0);
-        versions = f .1 .1 .1 .0;
-        keys = ltb-false (m - 1) (length (keysOf (logUnder v n h))) (f .1 .1 .1 .1 .0);
+        map-good = not-false _ (f .1 .1 .0);
+        digests = names-digests v (logSlots h) n (f .1 .1 .1 .0);
+        next-set = eqb-false (h .digest .next .0) 0 (either-false-right _ _ digest);
+        scans = undamaged-scans v (logSlots h) n (f .1 .1 .1 .1 .0);
+        versions = f .1 .1 .1 .1 .1 .0;
+        keys = ltb-false (m - 1) (length (keysOf (logUnder v n h))) (f .1 .1 .1 .1 .1 .1 .0);
       }
 
   pub sound-clear : (h : Head) → Sound v n m h → NoCause (headCauses h)
@@ -86,12 +84,17 @@ module _ (v : ℕ → View) (n m : ℕ) where
       let number =
       either-false _ _ (ne-eqb (h .digest .number .0) 0 (s .numbered))
       (le-ltb 1 (sharing v (h .digest .number .0) n) (omega (arith, top-alone v n h (s .top)))) in
-      let map : mapBad n h ≡ false = ap not (s .map-good) in
-      let others = either-false _ _ (digests-named v (logSlots h) n (s .digests)) (ne-eqb (h .digest .next .0) 0 (s .next-set)) in (
+      let map : mapBad n h ≡ false = ap not (s .map-good) in (
         refl,
         (
-          either-false _ _ number (either-false _ _ map others),
-          (scans-undamaged v (logSlots h) n (s .scans), (s .versions, (le-ltb (m - 1) (length (keysOf (logUnder v n h))) (s .keys), tt))),
+          either-false _ _ number (ne-eqb (h .digest .next .0) 0 (s .next-set)),
+          (
+            map,
+            (
+              digests-named v (logSlots h) n (s .digests),
+              (scans-undamaged v (logSlots h) n (s .scans), (s .versions, (le-ltb (m - 1) (length (keysOf (logUnder v n h))) (s .keys), tt))),
+            ),
+          ),
         ),
       )
 

@@ -17,3 +17,4 @@ pub mod Cases
 pub mod MoreCases
 pub mod RequestCases
 pub mod FullCases
+pub mod DigestCases

@@ -36,7 +36,7 @@ tombstones (suc n) = tombstones n ++ tombstone (keyed 1 (suc n)) (suc n) ∷ []
 abbrev pub seg : (number map next : ℕ) → List Entry → List ℕ
 seg number map next es = slotWith 255 (segmentWith number map next es)
 
-abbrev bare : ℕ → List ℕ
+abbrev pub bare : ℕ → List ℕ
 bare number = seg number 0 0 []
 
 abbrev pub vacant : List ℕ
@@ -48,11 +48,11 @@ abbrev refusesWith : (cells : ℕ) → (order area : List ℕ) → ℕ
 refusesWith cells order area = first (recoverCauses edition1 4 256 cells order area)
 
 -- with 16 cells and the slots in some order
-abbrev refuses : List ℕ → ℕ
+abbrev pub refuses : List ℕ → ℕ
 refuses area = refusesWith 16 (2 ∷ 0 ∷ 3 ∷ 1 ∷ []) area
 
 -- a head in slot 0 with damage behind its digest
-abbrev damagedHead : (number map next : ℕ) → List ℕ
+abbrev pub damagedHead : (number map next : ℕ) → List ℕ
 damagedHead number map next = slotWith 255 (segmentWith number map next [] ++ 6 ∷ [])
 
 -- one version twice in slot 0, and in slot 1 these bytes
@@ -80,18 +80,14 @@ recoveryRefusals =
     ((0 ∷ 1 ∷ 2 ∷ []) ∷ (0 ∷ 1 ∷ 2 ∷ 2 ∷ []) ∷ (0 ∷ 1 ∷ 2 ∷ 4 ∷ []) ∷ (0 ∷ 1 ∷ 2 ∷ 3 ∷ 3 ∷ []) ∷ []))
     (15 ∷ 15 ∷ 15 ∷ 15 ∷ [])
     ∷ row 16 (map refuses (replicate 1024 0 ∷ replicate 1024 255 ∷ [])) (16 ∷ 16 ∷ [])
-    -- highest number 0; shared with a free slot; a map with slot 4, without the head, of all slots, with a slot of no digest; next 0
+    -- highest number 0; shared with a free slot; next version 0
     ∷ row 17
     (map refuses
     ((damagedHead 0 1 1 ++ vacant ++ vacant ++ vacant)
     ∷ (damagedHead 2 1 1 ++ vacant ++ vacant ++ bare 2)
-    ∷ (damagedHead 2 17 1 ++ vacant ++ vacant ++ vacant)
-    ∷ (damagedHead 2 2 1 ++ bare 1 ++ vacant ++ vacant)
-    ∷ (damagedHead 5 15 1 ++ bare 1 ++ bare 2 ++ bare 3)
-    ∷ (damagedHead 2 3 1 ++ vacant ++ vacant ++ vacant)
     ∷ (damagedHead 2 1 0 ++ vacant ++ vacant ++ vacant)
     ∷ []))
-    (17 ∷ 17 ∷ 17 ∷ 17 ∷ 17 ∷ 17 ∷ 17 ∷ [])
+    (17 ∷ 17 ∷ 17 ∷ [])
     -- a lower number may be shared, and the other digests' maps and next versions say nothing
     ∷ row 17 (refuses (seg 2 3 1 [] ++ bare 1 ++ bare 1 ++ bare 1) ∷ []) (0 ∷ [])
     -- kinds 5, 6, 8 and 255; a version of 0 and one at the limit; an entry past the end by one byte; each in the last slot of the log

@@ -1,4 +1,5 @@
--- 01, "The log and its map" and "Refused calls": what recovery gives for an image, and the causes 1, 2 and 15 to 20.
+-- 01, "The log and its map" and "Refused calls": what recovery gives for an image, and the causes 1, 2 and 15 to 20, with 24 and 25
+-- of 02, R-8.
 use Prim.Native.Nat.{ℕ, zero, suc, _+_, _*_, _-_}
 use mathlib.Core.Bool.{Bool, true, false, not}
 use mathlib.Core.List.{List, [], _∷_, _++_}
@@ -12,7 +13,7 @@ use Rattle.slot_map.specs.Bit.{named}
 use Rattle.record.specs.Answers.{blank}
 use Rattle.record.specs.Range.{slotsGood, sizeGood, cellsGood, mapGood}
 use Rattle.record.specs.declared.Refusal.{Refusal}
-use Rattle.record.specs.declared.Refusal.the-variants.{Geometry, Cells, BadOrder, NoDigest, BadDigest, DamagedLog, SharedVersion, TooManyKeys}
+use Rattle.record.specs.declared.Refusal.the-variants.{Geometry, Cells, BadOrder, NoDigest, BadDigest, BadMap, MapNoDigest, DamagedLog, SharedVersion, TooManyKeys}
 use Rattle.record.specs.declared.Pending.the-variants.{Idle}
 use Rattle.record.specs.declared.Record.{Record}
 use Rattle.record.specs.declared.Recovery.{Recovery}
@@ -54,21 +55,22 @@ sharing v k (suc n) = sharing v k n + hasNumber (v n .digest) k
 abbrev pub numberBad : (ℕ → View) → ℕ → Head → Bool
 numberBad v n h = either (eqb (h .digest .number .0) 0) (ltb 1 (sharing v (h .digest .number .0) n))
 
--- a map with a slot that is not there, without the head, or of all slots
-abbrev pub mapBad : ℕ → Head → Bool
-mapBad n h = not (mapGood n (h .slot) (h .digest .map))
-
--- a slot of the map does not begin with a digest
-unfoldable pub namesNoDigest : (ℕ → View) → (ℕ → Bool) → ℕ → Bool
-namesNoDigest v p zero = false
-namesNoDigest v p (suc n) = either (namesNoDigest v p n) (both (p n) (isNone (v n .digest)))
-
 -- next version 0
 abbrev pub nextBad : Head → Bool
 nextBad h = eqb (h .digest .next .0) 0
 
+-- 17 speaks of the two counters that the digest holds, and of nothing that its map says.
 abbrev pub digestBad : (ℕ → View) → ℕ → Head → Bool
-digestBad v n h = either (numberBad v n h) (either (mapBad n h) (either (namesNoDigest v (named (h .digest .map)) n) (nextBad h)))
+digestBad v n h = either (numberBad v n h) (nextBad h)
+
+-- 24 (02, R-8): a map with a slot that is not there, without the head, or of all slots
+abbrev pub mapBad : ℕ → Head → Bool
+mapBad n h = not (mapGood n (h .slot) (h .digest .map))
+
+-- 25 (02, R-8): a slot of the map does not begin with a digest
+unfoldable pub namesNoDigest : (ℕ → View) → (ℕ → Bool) → ℕ → Bool
+namesNoDigest v p zero = false
+namesNoDigest v p (suc n) = either (namesNoDigest v p n) (both (p n) (isNone (v n .digest)))
 
 -- 18: damage in a slot of the log
 unfoldable pub logDamaged : (ℕ → View) → (ℕ → Bool) → ℕ → Bool
@@ -102,14 +104,17 @@ recordUnder v n s m h =
       pending = Idle;
     }
 
--- 16 to 19, which look at the image alone
+-- The head's digest: 17, 24, 25 (02, R-8).
+abbrev pub digestCauses : (ℕ → View) → ℕ → Head → List Cause
+digestCauses v n h =
+    when (digestBad v n h) BadDigest ∷ when (mapBad n h) BadMap ∷ when (namesNoDigest v (logSlots h) n) MapNoDigest ∷ []
+
+-- 16, 17, 24, 25, 18 and 19, which look at the image alone
 abbrev pub imageCauses : (ℕ → View) → ℕ → Option Head → List Cause
 imageCauses v n h =
     when (isNone h) NoDigest
-    ∷ when (digestBad v n (headElse h)) BadDigest
-    ∷ when (logDamaged v (logSlots (headElse h)) n) DamagedLog
-    ∷ when (versionShared (logUnder v n (headElse h))) SharedVersion
-    ∷ []
+    ∷ (digestCauses v n (headElse h) ++
+    (when (logDamaged v (logSlots (headElse h)) n) DamagedLog ∷ when (versionShared (logUnder v n (headElse h))) SharedVersion ∷ []))
 
 abbrev pub keyCauses : (ℕ → View) → ℕ → ℕ → Option Head → List Cause
 keyCauses v n m h = when (keysBad m (logUnder v n (headElse h))) TooManyKeys ∷ []
@@ -118,7 +123,7 @@ keyCauses v n m h = when (keysBad m (logUnder v n (headElse h))) TooManyKeys ∷
 abbrev pub lentCauses : ℕ → ℕ → ℕ → ℕ → List Cause
 lentCauses n s m areaLength = when (geometryBad n s areaLength) Geometry ∷ when (not (cellsGood m)) Cells ∷ []
 
--- Recovery: 1, 2, 15 to 20.
+-- Recovery: 1, 2, 15, 16, 17, 24, 25, 18, 19, 20.
 abbrev pub recoverCauses : Layout → ℕ → ℕ → ℕ → List ℕ → List ℕ → List Cause
 recoverCauses L n s m order area =
     lentCauses n s m (length area) ++ (when (orderBad n order) BadOrder ∷ []) ++

@@ -1,7 +1,7 @@
 -- 01, "Refused calls": the number of each cause, and of those that 02 adds.
 use Prim.Native.Nat.{ℕ}
 use Rattle.record.specs.declared.Refusal.{Refusal}
-use Rattle.record.specs.declared.Refusal.the-variants.{Geometry, Cells, WorkShort, BadRecord, Busy, NonePending, ValueLength, Absent, VersionsSpent, NumbersSpent, KeysFull, NoRoom, BadVictims, KeptTooLong, BadOrder, NoDigest, BadDigest, DamagedLog, SharedVersion, TooManyKeys, OtherVersion, OutsideTables}
+use Rattle.record.specs.declared.Refusal.the-variants.{Geometry, Cells, WorkShort, BadRecord, Busy, NonePending, ValueLength, Absent, VersionsSpent, NumbersSpent, KeysFull, NoRoom, BadVictims, KeptTooLong, BadOrder, NoDigest, BadDigest, DamagedLog, SharedVersion, TooManyKeys, OtherVersion, OutsideTables, BadMap, MapNoDigest}
 
 abbrev pub numberOfRefusal : Refusal → ℕ
 numberOfRefusal Geometry = 1
@@ -26,3 +26,5 @@ numberOfRefusal SharedVersion = 19
 numberOfRefusal TooManyKeys = 20
 numberOfRefusal OtherVersion = 21
 numberOfRefusal OutsideTables = 22
+numberOfRefusal BadMap = 24
+numberOfRefusal MapNoDigest = 25

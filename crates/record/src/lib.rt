@@ -89,6 +89,8 @@ pub enum Refusal {
     TooManyKeys,
     OtherVersion,
     OutsideTables,
+    BadMap,
+    MapNoDigest,
 }
 
 // The tables that a caller may reach (02, R-2), from the first to the last, both included; none where the first is above the
@@ -180,6 +182,8 @@ pub fn number(r: Refusal) -> u32
         Refusal::TooManyKeys => 20,
         Refusal::OtherVersion => 21,
         Refusal::OutsideTables => 22,
+        Refusal::BadMap => 24,
+        Refusal::MapNoDigest => 25,
     }
 }
 

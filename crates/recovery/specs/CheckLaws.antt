@@ -2,7 +2,7 @@
 use Prim.Native.Nat.{ℕ, _+_, _*_, _≤_, _<_, max}
 use mathlib.Core.Path.{_≡_, refl, sym, _∙_, ap}
 use mathlib.Core.Bool.{Bool, true, false, not}
-use mathlib.Core.List.{List, [], _∷_}
+use mathlib.Core.List.{List, [], _∷_, _++_}
 use mathlib.Core.Option.{Option, none, some}
 use native.Mathlib.Omega.{arith}
 use lib.ListN.{length}
@@ -13,11 +13,11 @@ use Rattle.segment.specs.declared.Version.{Version}
 use Rattle.record.specs.Range.{cellsGood, mapGood}
 use Rattle.record.specs.declared.Pending.the-variants.{Idle}
 use Rattle.record.specs.declared.Refusal.{Refusal}
-use Rattle.record.specs.declared.Refusal.the-variants.{Geometry, Cells, BadOrder, NoDigest, BadDigest, DamagedLog, SharedVersion}
+use Rattle.record.specs.declared.Refusal.the-variants.{Geometry, Cells, BadOrder, NoDigest, BadDigest, BadMap, MapNoDigest, DamagedLog, SharedVersion}
 use Rattle.model.specs.Log.{View, Head, Scan, damaged, scanned, scan, endOf, segmentOf, headOf, highest, versionShared}
 use Rattle.model.specs.Causes.{Cause, when, firstCause}
-use Rattle.model.specs.Recovery.{geometryBad, orderBad, headElse, mapBad, digestBad, logDamaged, logSlots, logUnder, imageCauses}
-use Rattle.laws.specs.CauseLaws.{cause-first, cause-skip, cause-none}
+use Rattle.model.specs.Recovery.{geometryBad, orderBad, headElse, mapBad, namesNoDigest, digestBad, logDamaged, logSlots, logUnder, digestCauses, imageCauses}
+use Rattle.laws.specs.CauseLaws.{cause-first, cause-skip, cause-none, first-some, first-none}
 use Rattle.laws.specs.Scans.{scan-scans, scans-high}
 use Rattle.laws.specs.Stores.{length-segment}
 use Rattle.recovery.specs.Recovering.{lentFirst, checkedAs, imageFor, imageOf, imageUnder, recordWith}
@@ -79,9 +79,39 @@ module _ {t x : Bool} (b : Bool) (e : t ≡ x) where
   unfolding either
   passed f g = rw (← e, f) g
 
--- the test of the map, by that of a record's map
-pub map-bad : (n : ℕ) (h : Head) (t : Bool) → t ≡ mapGood n (h .slot) (h .digest .map) → not t ≡ mapBad n h
-map-bad n h t e = ap not e
+-- 17, 24 and 25 at each return: t, u and w are what the code finds for the three tests.
+module _ (v : ℕ → View) (n : ℕ) (h : Head) {t : Bool} (e : t ≡ digestBad v n h) where
+  abbrev counters : Cause
+  counters = when (digestBad v n h) BadDigest
+
+  abbrev within : Cause
+  within = when (mapBad n h) BadMap
+
+  abbrev digests : Cause
+  digests = when (namesNoDigest v (logSlots h) n) MapNoDigest
+
+  pub digest-counters : t ≡ true → Checked.Refused BadDigest ≡ checkedAs (firstCause (digestCauses v n h))
+  unfolding checkedAs
+  digest-counters f = ap checkedAs (sym (cause-first counters (within ∷ digests ∷ []) (sym e ∙ f)))
+
+  module _ (f : t ≡ false) {u : Bool} (g : u ≡ mapGood n (h .slot) (h .digest .map)) where
+    pub digest-map : not u ≡ true → Checked.Refused BadMap ≡ checkedAs (firstCause (digestCauses v n h))
+    unfolding checkedAs
+    digest-map j =
+        ap checkedAs
+        (sym (cause-skip counters (within ∷ digests ∷ []) (sym e ∙ f) ∙ cause-first within (digests ∷ []) (ap not (sym g) ∙ j)))
+
+    module _ (j : not u ≡ false) {w : Bool} (k : w ≡ namesNoDigest v (logSlots h) n) where
+      third : firstCause (digestCauses v n h) ≡ firstCause (digests ∷ [])
+      third = cause-skip counters (within ∷ digests ∷ []) (sym e ∙ f) ∙ cause-skip within (digests ∷ []) (ap not (sym g) ∙ j)
+
+      pub digest-named : w ≡ true → Checked.Refused MapNoDigest ≡ checkedAs (firstCause (digestCauses v n h))
+      unfolding checkedAs
+      digest-named l = ap checkedAs (sym (third ∙ cause-first digests [] (sym k ∙ l)))
+
+      pub digest-passed : w ≡ false → Checked.Passed ≡ checkedAs (firstCause (digestCauses v n h))
+      unfolding checkedAs firstCause
+      digest-passed l = ap checkedAs (sym (third ∙ cause-none digests [] (sym k ∙ l) refl))
 
 -- ---- the image
 
@@ -97,33 +127,32 @@ module _ (v : ℕ → View) (n : ℕ) where
   head-some h e = ap (λ (o : Option Head). imageFor v n (headElse o) (firstCause (imageCauses v n o))) (sym e)
 
   module _ (h : Head) where
-    abbrev digest : Cause
-    digest = when (digestBad v n h) BadDigest
-
     abbrev damage : Cause
     damage = when (logDamaged v (logSlots h) n) DamagedLog
 
     abbrev shared : Cause
     shared = when (versionShared (logUnder v n h)) SharedVersion
 
-    has-head : firstCause (imageCauses v n (some h)) ≡ firstCause (digest ∷ damage ∷ shared ∷ [])
+    has-head : firstCause (imageCauses v n (some h)) ≡ firstCause (digestCauses v n h ++ (damage ∷ shared ∷ []))
     unfolding isNone headElse
-    has-head = cause-skip (when false NoDigest) (digest ∷ damage ∷ shared ∷ []) refl
+    has-head = cause-skip (when false NoDigest) (digestCauses v n h ++ (damage ∷ shared ∷ [])) refl
 
-    pub head-digest : digestBad v n h ≡ true → Image.Refused BadDigest ≡ imageUnder v n h
+    -- the digest's own causes come first
+    pub head-digest : (c : Refusal) → firstCause (digestCauses v n h) ≡ some c → Image.Refused c ≡ imageUnder v n h
     unfolding imageFor
-    head-digest e = ap (imageFor v n h) (sym (has-head ∙ cause-first digest (damage ∷ shared ∷ []) e))
+    head-digest c e = ap (imageFor v n h) (sym (has-head ∙ first-some (digestCauses v n h) (damage ∷ shared ∷ []) c e))
 
-    module _ (d : digestBad v n h ≡ false) where
+    module _ (d : firstCause (digestCauses v n h) ≡ none) where
+      behind : firstCause (imageCauses v n (some h)) ≡ firstCause (damage ∷ shared ∷ [])
+      behind = has-head ∙ first-none (digestCauses v n h) (damage ∷ shared ∷ []) d
+
       pub head-damaged : logDamaged v (logSlots h) n ≡ true → Image.Refused DamagedLog ≡ imageUnder v n h
       unfolding imageFor
-      head-damaged e =
-          ap (imageFor v n h)
-          (sym (has-head ∙ cause-skip digest (damage ∷ shared ∷ []) d ∙ cause-first damage (shared ∷ []) e))
+      head-damaged e = ap (imageFor v n h) (sym (behind ∙ cause-first damage (shared ∷ []) e))
 
       module _ (u : logDamaged v (logSlots h) n ≡ false) where
         last : firstCause (imageCauses v n (some h)) ≡ firstCause (shared ∷ [])
-        last = has-head ∙ cause-skip digest (damage ∷ shared ∷ []) d ∙ cause-skip damage (shared ∷ []) u
+        last = behind ∙ cause-skip damage (shared ∷ []) u
 
         pub head-shared : versionShared (logUnder v n h) ≡ true → Image.Refused SharedVersion ≡ imageUnder v n h
         unfolding imageFor

@@ -8,7 +8,7 @@ use native.Mathlib.Omega.{arith}
 use lib.Dec.{eqb}
 use lib.ListN.{length, replicate, length-replicate}
 use borrow.Author.Tests.{not-false, ltb-false}
-use Rattle.segment.specs.Choice.{pick, pick-true, pick-false, either-false-left, either-false-right}
+use Rattle.segment.specs.Choice.{pick, pick-true, pick-false}
 use Rattle.segment.specs.Layout.{Layout, versionLimit}
 use Rattle.segment.specs.LayoutLaws.{version-below}
 use Rattle.segment.specs.EntryLaws.{found-readable}
@@ -25,7 +25,7 @@ use Rattle.record.specs.declared.Recovery.{Recovery}
 use Rattle.record.specs.declared.RecoverAnswer.{RecoverAnswer}
 use Rattle.model.specs.Log.{View, Head, Placed, segmentOf, viewsOf, headOf, logOf, keysOf, highest, versionShared}
 use Rattle.model.specs.Causes.{Cause, when, firstCause}
-use Rattle.model.specs.Recovery.{orderBad, headElse, digestBad, logDamaged, logSlots, logUnder, keysBad, recordUnder, lentCauses, imageCauses, keyCauses, recoverCauses, recordFrom, recoveryFor, recovery}
+use Rattle.model.specs.Recovery.{orderBad, headElse, mapBad, logDamaged, logSlots, logUnder, keysBad, recordUnder, lentCauses, imageCauses, keyCauses, recoverCauses, recordFrom, recoveryFor, recovery}
 use Rattle.model.specs.Index.{IndexRule}
 use Rattle.model.specs.Operations.{logNow}
 use Rattle.model.specs.Promises.{RecoverPromise, IndexAfter}
@@ -62,7 +62,7 @@ first-keeps (x ∷ a) k c e = go (x .holds) e (λ q. first-keeps a (k .1) c q)
 
 -- ---- a sound image
 
--- The head's slot and digest, and what the four causes that do not hold say.
+-- The head's slot and digest, and that none of the image's causes holds.
 record SoundImage (v : ℕ → View) (n i : ℕ) (d : Digest) (top : Version) : Type 0 where
   clear : firstCause (imageCauses v n (headOf v n)) ≡ none
   head : headElse (headOf v n) ≡ record { slot = i; digest = d }
@@ -94,8 +94,7 @@ module _ (v : ℕ → View) (n i : ℕ) (d : Digest) (top : Version) (s : SoundI
 
   image-map : mapGood n i (d .map) ≡ true
   image-map =
-      let digest = subst (λ (h : Head). digestBad v n h ≡ false) (s .head) (passed .digest-good) in
-      not-false _ (either-false-left _ _ (either-false-right _ _ digest))
+      not-false _ (subst (λ (h : Head). mapBad n h ≡ false) (s .head) (passed .map-within))
 
   image-scans : AllScanned v (named (d .map)) n
   image-scans =
@@ -181,7 +180,7 @@ module _ (L : Layout) (n s : ℕ) (order area cells : List ℕ) where
             let same : b ≡ c = cc in
             let f : firstCause (imageCauses v n (headOf v n)) ≡ some c = p ∙ ap some same in
             refused-kept c (on-image ∙ first-some (imageCauses v n (headOf v n)) (keyCauses v n m (headOf v n)) c f)
-            (first-keeps (imageCauses v n (headOf v n)) (refl, (refl, (refl, (refl, tt)))) c f)
+            (first-keeps (imageCauses v n (headOf v n)) (refl, (refl, (refl, (refl, (refl, (refl, tt)))))) c f)
 
     module _ (i : ℕ) (d : Digest) (top : Version) (sound : imageOf v n ≡ Image.Sound i d top) where
       abbrev log : List Placed

@@ -1,4 +1,4 @@
--- Recovery in the parts in which its code makes it: what is lent (1, 2, 15), the image (16 to 19), and the record.
+-- Recovery in the parts in which its code makes it: what is lent (1, 2, 15), the image (16 to 19, 24 and 25), and the record.
 use Prim.Native.Nat.{ℕ, _+_, max}
 use mathlib.Core.List.{List, [], _∷_, _++_}
 use mathlib.Core.Option.{Option, none, some}
@@ -26,7 +26,7 @@ unfoldable pub checkedAs : Option Refusal → Checked
 checkedAs none = Checked.Passed
 checkedAs (some c) = Checked.Refused c
 
--- 16 to 19, or the head with the highest version in its log
+-- what refuses the image, or the head with the highest version in its log
 unfoldable pub imageFor : (ℕ → View) → ℕ → Head → Option Refusal → Image
 imageFor v n h none = Image.Sound (h .slot) (h .digest) (record { 0 = highest (logUnder v n h) })
 imageFor v n h (some c) = Image.Refused c

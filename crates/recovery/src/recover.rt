@@ -32,7 +32,8 @@ ghost use lib.ListN.{length};
 ghost use Rattle.segment.specs.Choice.{either};
 ghost use Rattle.segment.specs.Layout.{edition1};
 ghost use Rattle.model.specs.Log.{viewsOf};
-ghost use Rattle.model.specs.Recovery.{orderBad, sharing, digestBad};
+ghost use Rattle.model.specs.Causes.{firstCause};
+ghost use Rattle.model.specs.Recovery.{orderBad, sharing, digestBad, digestCauses};
 ghost use Rattle.model.specs.Promises.{RecoverPromise};
 ghost use Rattle.log.specs.Shape.{Shape};
 ghost use Rattle.recovery.specs.Order.{seeSlot, seenFrom};
@@ -103,7 +104,7 @@ fn number_bad(n: usize, s: usize, area: &[u8], number: DigestNumber) -> bool
     shared_number(n, s, area, number)
 }
 
-// 17, of the head's digest.
+// 17, of the head's digest: its number and its next version.
 fn digest_bad(n: usize, s: usize, area: &[u8], slot: usize, digest: Digest) -> bool
     requires { ⌜ Shape n s (now area) × (slot < n) ⌝ }
     ensures { λ r.
@@ -114,24 +115,35 @@ fn digest_bad(n: usize, s: usize, area: &[u8], slot: usize, digest: Digest) -> b
     if number_bad(n, s, area, number) {
         return true;
     }
-    if !map_good(n as u32, slot as u32, digest.map) {
-        return true;
-    }
-    if names_no_digest(n, s, area, digest.map) {
-        return true;
-    }
     next.0 == 0
 }
 
-// 17 to 19, under a head that was found.
-fn look_under(n: usize, s: usize, area: &[u8], slot: usize, digest: Digest) -> Image
+// 17, 24 and 25, of the head's digest (02, R-8).
+fn check_digest(n: usize, s: usize, area: &[u8], slot: usize, digest: Digest) -> Checked
     requires { ⌜ Shape n s (now area) × (slot < n) ⌝ }
+    ensures { λ r.
+        ⌜ r ≡ checkedAs
+        (firstCause (digestCauses (viewsOf edition1 (now (area .entry)) s) n (record { slot = slot; digest = digest }))) ⌝ }
+{
+    if digest_bad(n, s, area, slot, digest) {
+        return Checked::Refused(Refusal::BadDigest);
+    }
+    if !map_good(n as u32, slot as u32, digest.map) {
+        return Checked::Refused(Refusal::BadMap);
+    }
+    if names_no_digest(n, s, area, digest.map) {
+        return Checked::Refused(Refusal::MapNoDigest);
+    }
+    Checked::Passed
+}
+
+// 18 and 19, under a head whose digest is good.
+fn look_through(n: usize, s: usize, area: &[u8], slot: usize, digest: Digest) -> Image
+    requires { ⌜ Shape n s (now area)
+        × (firstCause (digestCauses (viewsOf edition1 (now area) s) n (record { slot = slot; digest = digest })) ≡ none) ⌝ }
     ensures { λ r.
         ⌜ r ≡ imageUnder (viewsOf edition1 (now (area .entry)) s) n (record { slot = slot; digest = digest }) ⌝ }
 {
-    if digest_bad(n, s, area, slot, digest) {
-        return Image::Refused(Refusal::BadDigest);
-    }
     let map = digest.map;
     let passed = survey(n, s, area, map);
     if !passed.sound {
@@ -148,7 +160,19 @@ fn look_under(n: usize, s: usize, area: &[u8], slot: usize, digest: Digest) -> I
     }
 }
 
-// 16 to 19, which look at the image alone.
+// 17, 24, 25, 18 and 19, under a head that was found.
+fn look_under(n: usize, s: usize, area: &[u8], slot: usize, digest: Digest) -> Image
+    requires { ⌜ Shape n s (now area) × (slot < n) ⌝ }
+    ensures { λ r.
+        ⌜ r ≡ imageUnder (viewsOf edition1 (now (area .entry)) s) n (record { slot = slot; digest = digest }) ⌝ }
+{
+    match check_digest(n, s, area, slot, digest) {
+        Checked::Refused(cause) => Image::Refused(cause),
+        Checked::Passed => look_through(n, s, area, slot, digest),
+    }
+}
+
+// 16, 17, 24, 25, 18 and 19, which look at the image alone.
 fn look_at(n: usize, s: usize, area: &[u8]) -> Image
     requires { ⌜ Shape n s (now area) ⌝ }
     ensures { λ r. ⌜ r ≡ imageOf (viewsOf edition1 (now (area .entry)) s) n ⌝ }
@@ -245,7 +269,7 @@ fn recover_image(n: u32, s: u32, order: &[u8], area: &[u8], index: &mut [u32]) -
     }
 }
 
-// Recovery: 1, 2, 15 to 20.
+// Recovery: 1, 2, 15, 16, 17, 24, 25, 18, 19, 20.
 pub fn recover(n: u32, s: u32, order: &[u8], area: &[u8], index: &mut [u32]) -> Recovery
     ensures { λ r.
         ⌜ RecoverPromise edition1 n s (now (order .entry)) (now (area .entry)) (now (index .entry)) (now (index .exit)) r ⌝ }

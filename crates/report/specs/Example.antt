@@ -1,10 +1,11 @@
 -- Texts computed: 01's two lines after case 2, keys in order, and refusals.
 use Prim.Native.Nat.{ℕ}
 use mathlib.Core.Path.{_≡_, refl}
-use mathlib.Core.List.{List, [], _∷_}
+use mathlib.Core.List.{List, [], _∷_, _++_}
 use lib.ListN.{replicate}
 use Rattle.model.specs.Operations.{Operation, write, delete}
 use Rattle.model.specs.Play.{opened, freshOver, keyed, playedAll}
+use Rattle.model.specs.MoreCases.{seg, vacant}
 use Rattle.text.specs.Ascii.{ascii}
 use Rattle.text.specs.Digits.{digitsIn}
 use Rattle.report.specs.Listing.{before, inOrder, ascending, presentOf}
@@ -42,9 +43,16 @@ unfolding opened digitsIn before inOrder ascending presentOf lineOf linesOf text
 in-order = refl
 
 -- Two bytes; an area that is a byte short; one without a digest.
+-- a head in slot 0 with this number, map and next version, and no other digest
+abbrev head : (number map next : ℕ) → List ℕ
+head number map next = seg number map next [] ++ vacant ++ vacant ++ vacant
+
 refusals :
     (dumpText (4 ∷ 0 ∷ []) ≡ ascii "refused 1\n")
     × (dumpText (input (replicate 1023 0)) ≡ ascii "refused 1\n")
     × (dumpText (input (replicate 1024 0)) ≡ ascii "refused 16\n")
+    × (dumpText (input (head 1 2 1)) ≡ ascii "refused 24\n")
+    × (dumpText (input (head 1 3 1)) ≡ ascii "refused 25\n")
+    × (dumpText (input (head 1 3 0)) ≡ ascii "refused 17\n")
 unfolding opened digitsIn before inOrder ascending presentOf lineOf linesOf textUnless areaText dumpText
-refusals = (refl, refl, refl)
+refusals = (refl, refl, refl, refl, refl, refl)
