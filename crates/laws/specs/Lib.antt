@@ -17,6 +17,7 @@ pub mod FormatBytes
 pub mod HeadLaws
 pub mod LogLaws
 pub mod RecoverLaws
+pub mod ScanLaws
 pub mod Appended
 pub mod Headed
 pub mod Cleaned

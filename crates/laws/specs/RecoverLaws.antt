@@ -138,7 +138,7 @@ clear-lent n s m areaLength f =
       cells-good = not-false _ (f .1 .0);
     }
 
-lent-clear : (n s m areaLength : ℕ) → Allowed n s m areaLength → NoCause (lentCauses n s m areaLength)
+pub lent-clear : (n s m areaLength : ℕ) → Allowed n s m areaLength → NoCause (lentCauses n s m areaLength)
 lent-clear n s m areaLength l = (
   ap not (both-true _ _ (both-true _ _ (l .slots-good) (l .size-good)) (eq-eqb areaLength (n * s) (l .long))),
   (ap not (l .cells-good), tt),

@@ -90,12 +90,12 @@ unfoldable pub after : List Item → Scan → Scan
 after is damaged = damaged
 after is (scanned js e) = scanned (is ++ js) e
 
-after-none : (r : Scan) → after [] r ≡ r
+pub after-none : (r : Scan) → after [] r ≡ r
 unfolding after
 after-none damaged = refl
 after-none (scanned js e) = refl
 
-after-first : (is : List Item) (x : Item) (r : Scan) → after is (itemFirst x r) ≡ after (is ++ (x ∷ [])) r
+pub after-first : (is : List Item) (x : Item) (r : Scan) → after is (itemFirst x r) ≡ after (is ++ (x ∷ [])) r
 unfolding after itemFirst
 after-first is x damaged = refl
 after-first is x (scanned js e) = ap (λ (l : List Item). scanned l e) (sym (append-assoc is (x ∷ []) js))

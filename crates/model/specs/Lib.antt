@@ -9,6 +9,7 @@ pub mod Operations
 pub mod Arguments
 pub mod Refused
 pub mod Promises
+pub mod Scanned
 pub mod PromiseLaws
 pub mod Table
 pub mod Expected
@@ -18,3 +19,4 @@ pub mod MoreCases
 pub mod RequestCases
 pub mod FullCases
 pub mod DigestCases
+pub mod ScanCases

@@ -61,7 +61,7 @@ sharedAnd bytes =
     seg 2 3 1 (small (keyed 1 1) 1 ∷ small (keyed 1 2) 1 ∷ []) ++ slotWith 255 (segmentWith 1 0 0 [] ++ bytes) ++ vacant ++ vacant
 
 -- 16 keys; the last entry has this version
-abbrev sixteenKeys : ℕ → List ℕ
+abbrev pub sixteenKeys : ℕ → List ℕ
 sixteenKeys v = seg 1 1 1 (tombstones 15 ++ tombstone (keyed 2 1) v ∷ []) ++ vacant ++ vacant ++ vacant
 
 abbrev formats : ℕ × ℕ × ℕ → ℕ

@@ -134,6 +134,16 @@ log-stands L area S p n scans x m =
     let s : List ℕ = segmentOf area S (x .slot) in
     scans-found (scan-scans L s (scan-whole (scan L s) (scans (x .slot) (w .below) (w .picked)))) (w .item)
 
+-- so at its place in the area stands the entry
+pub stands-at :
+    (L : Layout) (area : List ℕ) (S : ℕ) (p : ℕ → Bool) (n : ℕ) → AllScanned (viewsOf L area S) p n → (x : Placed) →
+    In x (logOf (viewsOf L area S) p n) → standsAt L S area (placeOf S x) ≡ answer L (entry (x .entry))
+stands-at L area S p n scans x m =
+    let s : List ℕ = segmentOf area S (x .slot) in
+    let found = log-stands L area S p n scans x m in
+    let inside : x .offset < S = omega (arith, found-fits L s (x .offset) (x .entry) found, length-take S (drop (x .slot * S) area)) in
+    ap (answer L) (found-place L S area (x .slot) (x .offset) inside ∙ found)
+
 -- ---- a genuine store
 
 -- the lookup for a key's object, or for none
@@ -173,11 +183,7 @@ module _ (L : Layout) (r : Record) (area cells : List ℕ) (t : Tables) (k : Key
       omega (arith, recovered-keys L (r .slots) S (r .cells) area (withPending r Idle) (genuine .recovers))
 
   pub at-place : (x : Placed) → In x log → standsAt L S area (placeOf S x) ≡ answer L (entry (x .entry))
-  at-place x m =
-      let s : List ℕ = segmentOf area S (x .slot) in
-      let found = log-stands L area S (named (r .map)) (r .slots) scans x m in
-      let inside : x .offset < S = omega (arith, found-fits L s (x .offset) (x .entry) found, length-take S (drop (x .slot * S) area)) in
-      ap (answer L) (found-place L S area (x .slot) (x .offset) inside ∙ found)
+  at-place x m = stands-at L area S (named (r .map)) (r .slots) scans x m
 
   pub genuine-lookup : holdsTable t (k .table) ≡ true → lookedUp L r area cells t k ≡ lookupFor L S (present log k)
   unfolding present

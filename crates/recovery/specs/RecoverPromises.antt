@@ -63,12 +63,12 @@ first-keeps (x ∷ a) k c e = go (x .holds) e (λ q. first-keeps a (k .1) c q)
 -- ---- a sound image
 
 -- The head's slot and digest, and that none of the image's causes holds.
-record SoundImage (v : ℕ → View) (n i : ℕ) (d : Digest) (top : Version) : Type 0 where
-  clear : firstCause (imageCauses v n (headOf v n)) ≡ none
-  head : headElse (headOf v n) ≡ record { slot = i; digest = d }
-  top-is : top ≡ record { 0 = highest (logOf v (named (d .map)) n) }
+pub record SoundImage (v : ℕ → View) (n i : ℕ) (d : Digest) (top : Version) : Type 0 where
+  pub clear : firstCause (imageCauses v n (headOf v n)) ≡ none
+  pub head : headElse (headOf v n) ≡ record { slot = i; digest = d }
+  pub top-is : top ≡ record { 0 = highest (logOf v (named (d .map)) n) }
 
-sound-image : (v : ℕ → View) (n i : ℕ) (d : Digest) (top : Version) → imageOf v n ≡ Image.Sound i d top → SoundImage v n i d top
+pub sound-image : (v : ℕ → View) (n i : ℕ) (d : Digest) (top : Version) → imageOf v n ≡ Image.Sound i d top → SoundImage v n i d top
 unfolding imageFor
 sound-image v n i d top e = go (headElse (headOf v n)) refl (firstCause (imageCauses v n (headOf v n))) refl e
   where
@@ -96,7 +96,7 @@ module _ (v : ℕ → View) (n i : ℕ) (d : Digest) (top : Version) (s : SoundI
   image-map =
       not-false _ (subst (λ (h : Head). mapBad n h ≡ false) (s .head) (passed .map-within))
 
-  image-scans : AllScanned v (named (d .map)) n
+  pub image-scans : AllScanned v (named (d .map)) n
   image-scans =
       undamaged-scans v (named (d .map)) n (subst (λ (h : Head). logDamaged v (logSlots h) n ≡ false) (s .head) (passed .undamaged))
 

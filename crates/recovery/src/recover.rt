@@ -173,7 +173,7 @@ fn look_under(n: usize, s: usize, area: &[u8], slot: usize, digest: Digest) -> I
 }
 
 // 16, 17, 24, 25, 18 and 19, which look at the image alone.
-fn look_at(n: usize, s: usize, area: &[u8]) -> Image
+pub fn look_at(n: usize, s: usize, area: &[u8]) -> Image
     requires { ⌜ Shape n s (now area) ⌝ }
     ensures { λ r. ⌜ r ≡ imageOf (viewsOf edition1 (now (area .entry)) s) n ⌝ }
 {

@@ -1,0 +1,52 @@
+-- `scanning::read::seek_in` meets its contract: a law for each return.
+use mathlib.Core.Bool.{true}
+use mathlib.Core.Path.{_≡_, sym, _∙_}
+use native.Mathlib.Omega.{arith}
+use borrow.Author.Needs.{needs}
+use borrow.Author.Tests.{not-true, not-false}
+use Rattle.segment.specs.Layout.{edition1}
+use Rattle.record.specs.Reach.{holdsTable}
+use Rattle.scanning.specs.SeekingLaws.{area-short, place-low, seek-outside, seek-none, seek-found}
+use Rattle.scanning.proofs.read.seek_in.Statement.{statement}
+use Rattle.scanning.proofs.read.seek_in.Tie as tie
+
+held : (c : tie.Else1) → let a = c .before .before .before .args in holdsTable (a .tables) (a .key .table) ≡ true
+held c = sym (c .before .holds-table .ensures) ∙ not-false _ (c .if1 .left)
+
+holds-table-requires : tie.Need-holds-table-requires
+holds-table-requires c κs = search needs
+
+returns : tie.Need-returns
+returns c =
+    let p = c .before .before .before .pre in
+    seek-outside edition1 _ _ _ _ (p .1) _ _ (sym (c .before .holds-table .ensures) ∙ not-true _ (c .if1 .taken))
+
+newest-requires : tie.Need-newest-requires
+newest-requires c κs = search needs
+
+returns-2 : tie.Need-returns-2
+returns-2 c =
+    let e = c .before .before .before .before in
+    let p = e .before .before .before .pre in
+    seek-none edition1 _ _ _ _ (p .1) _ _ (held e) _ (c .before .before .before .newest .ensures) (c .if2 .taken)
+
+found-at-requires : tie.Need-found-at-requires
+found-at-requires c κs =
+    let e = c .before .before .before .before in
+    let p = e .before .before .before .pre in (
+      omega (arith, p .0 .size-least),
+      p .0 .size-most,
+      place-low edition1 _ _ _ _ (p .1) (e .before .before .before .args .tables) _ (area-short (p .0)) _ (c .before .before .before .newest .ensures),
+    )
+
+returns-3 : tie.Need-returns-3
+returns-3 c =
+    let k = c .before in
+    let e = k .before .before .before .before in
+    let p = e .before .before .before .pre in
+    seek-found edition1 _ _ _ _ (p .1) _ _ (held e) _ (k .before .before .before .newest .ensures) (k .if2 .left) _ (c .found-at .ensures)
+
+pub seek-in-spec : {M : Type 1} → statement M
+seek-in-spec =
+    tie.close
+    (tie.spec holds-table-requires returns newest-requires returns-2 found-at-requires returns-3)

@@ -1,0 +1,219 @@
+-- What a walk over the log has seen of a key is the newest entry of the key.
+use Prim.Native.Nat.{ℕ, _+_, _*_, _≤_, _<_}
+use mathlib.Core.Path.{_≡_, refl, sym, _∙_, ap}
+use mathlib.Core.Bool.{Bool, true, false}
+use mathlib.Core.List.{List, [], _∷_, _++_, append-nil, List·Memᴰ·tail}
+use mathlib.Core.Option.{Option, none, some}
+use native.Mathlib.Omega.{arith}
+use lib.Dec.{ltb}
+use borrow.Author.Tests.{ltb-true, ltb-false, lt-ltb, le-ltb}
+use Rattle.segment.specs.Choice.{pick, pick-true, pick-false}
+use Rattle.segment.specs.Layout.{Layout, digestSize}
+use Rattle.segment.specs.Entry.{Entry, end, damage, entryAt, keyOf}
+use Rattle.segment.specs.Entries.{headerOf, nextOf, next-entry}
+use Rattle.segment.specs.declared.Header.{Header}
+use Rattle.segment.specs.declared.Key.{Key}
+use Rattle.segment.specs.declared.Next.{Next}
+use Rattle.segment.specs.declared.Version.{Version}
+use Rattle.segment.specs.declared.Next.the-variants as N
+use Rattle.model.specs.Log.{View, Item, Placed, placeOf, Scan, scanned, scan, itemsOf, placedIn, logOf, sameKeys, sameKey, laterOf, latest}
+use Rattle.laws.specs.Members.{In, first}
+use Rattle.laws.specs.LogLaws.{placedAt, placed-append}
+use Rattle.laws.specs.Scans.{itemAt}
+use Rattle.log.specs.Extents.{meets, restOf, rest-whole, rest-entry, rest-end, rest-damage, log-skip, log-take}
+use Rattle.log.specs.Surveys.{after, after-none, after-first}
+use Rattle.scanning.specs.Seeing.{seenWith, seeing, seenIn, seenOf}
+use Rattle.scanning.specs.declared.Seen.{Seen}
+
+-- ---- one entry more, at each test of the code
+
+module _ (k : Key) (a : Seen) (own : Key) (v : Version) (place : ℕ) where
+  pub with-other : sameKeys k own ≡ false → a ≡ seenWith k a own v place
+  unfolding seenWith
+  with-other e = sym (pick-false (sameKeys k own) _ a e)
+
+  module _ (e : sameKeys k own ≡ true) where
+    pub with-newer : a .version .0 < v .0 → record { version = v; place = place } ≡ seenWith k a own v place
+    unfolding seenWith
+    with-newer h = sym (pick-true (sameKeys k own) _ a e ∙ pick-true (ltb (a .version .0) (v .0)) _ a (lt-ltb (a .version .0) (v .0) h))
+
+    pub with-older : v .0 ≤ a .version .0 → a ≡ seenWith k a own v place
+    unfolding seenWith
+    with-older h = sym (pick-true (sameKeys k own) _ a e ∙ pick-false (ltb (a .version .0) (v .0)) _ a (le-ltb (a .version .0) (v .0) h))
+
+-- ---- one list after the other
+
+pub seen-append : (S : ℕ) (k : Key) (a : Seen) (xs ys : List Placed) → seenIn S k a (xs ++ ys) ≡ seenIn S k (seenIn S k a xs) ys
+unfolding seenIn
+seen-append S k a [] ys = refl
+seen-append S k a (x ∷ xs) ys = seen-append S k (seeing S k a x) xs ys
+
+-- ---- the entries of one slot
+
+-- Between two entries of the slot i whose bytes these are.
+pub record Seeing (L : Layout) (bytes : List ℕ) (S i : ℕ) (k : Key) (before : Seen) (at : ℕ) (now : Seen) : Type 0 where
+  pub items : List Item
+  pub splits : scan L bytes ≡ after items (restOf L bytes at)
+  pub seen : now ≡ seenIn S k before (placedIn i items)
+
+module _ (L : Layout) (bytes : List ℕ) (S i : ℕ) (k : Key) (before : Seen) where
+  pub see-start : Seeing L bytes S i k before (digestSize L) before
+  unfolding placedIn seenIn
+  see-start = record { items = []; splits = sym (after-none (restOf L bytes (digestSize L)) ∙ rest-whole L bytes); seen = refl }
+
+  -- what the whole slot leaves
+  abbrev whole : Seen
+  whole = seenIn S k before (placedIn i (itemsOf (scan L bytes)))
+
+  module _ (at : ℕ) (now : Seen) (so-far : Seeing L bytes S i k before at now) where
+    pub see-turn :
+        (next : Next) → next ≡ nextOf L (entryAt L bytes at) → (h : Header) → next ≡ N.Entry h → (then : Seen) →
+        then ≡ seenWith k now (h .key) (h .version) (i * S + at) → Seeing L bytes S i k before (at + h .length) then
+    unfolding placedIn seenIn
+    see-turn next given h e then t =
+        let m = meets L bytes at next given h e in
+        let item = itemAt at (m .met) in
+        record {
+          items = so-far .items ++ (item ∷ []);
+          splits =
+              so-far .splits ∙ ap (after (so-far .items)) (rest-entry L bytes at m) ∙
+              after-first (so-far .items) item (restOf L bytes (at + h .length));
+          seen =
+              t ∙ ap (λ (x : Header). seenWith k now (x .key) (x .version) (i * S + at)) (sym its) ∙
+              ap (λ (a : Seen). seeing S k a (placedAt i item)) (so-far .seen) ∙
+              sym
+              (ap (seenIn S k before) (placed-append i (so-far .items) (item ∷ [])) ∙
+              seen-append S k before (placedIn i (so-far .items)) (placedAt i item ∷ []));
+        }
+      where
+        its : headerOf L (meets L bytes at next given h e .met) ≡ h
+        its =
+            let (x, p, q) = next-entry L bytes at next given h e in
+            let there = meets L bytes at next given h e .is in
+            let same : meets L bytes at next given h e .met ≡ x = cc in
+            ap (headerOf L) same ∙ q
+
+    pub see-end : entryAt L bytes at ≡ end → now ≡ whole
+    unfolding after itemsOf
+    see-end e =
+        so-far .seen ∙
+        ap (λ (r : Scan). seenIn S k before (placedIn i (itemsOf r)))
+        (sym
+        (so-far .splits ∙ ap (after (so-far .items)) (rest-end L bytes at e) ∙ ap (λ (l : List Item). scanned l at) (append-nil (so-far .items))))
+
+    pub see-damage : entryAt L bytes at ≡ damage → before ≡ whole
+    unfolding after itemsOf placedIn seenIn
+    see-damage e =
+        ap (λ (r : Scan). seenIn S k before (placedIn i (itemsOf r)))
+        (sym (so-far .splits ∙ ap (after (so-far .items)) (rest-damage L bytes at e)))
+
+-- ---- the slots of the log
+
+-- what a walk from nothing on has seen in the slots below i that p picks
+abbrev pub seenBelow : ℕ → Key → (ℕ → View) → (ℕ → Bool) → ℕ → Seen
+seenBelow S k v p i = seenIn S k (seenOf S none) (logOf v p i)
+
+module _ (S : ℕ) (k : Key) (v : ℕ → View) (p : ℕ → Bool) where
+  pub walk-none : record { version = record { 0 = 0 }; place = 0 } ≡ seenBelow S k v p 0
+  unfolding logOf seenIn seenOf
+  walk-none = refl
+
+  module _ (i : ℕ) (now : Seen) (so-far : now ≡ seenBelow S k v p i) where
+    pub walk-skip : p i ≡ false → now ≡ seenBelow S k v p (i + 1)
+    walk-skip q = so-far ∙ ap (seenIn S k (seenOf S none)) (sym (log-skip v p i q))
+
+    pub walk-take : p i ≡ true → (then : Seen) → then ≡ seenIn S k now (placedIn i (itemsOf (v i .scan))) → then ≡ seenBelow S k v p (i + 1)
+    walk-take q then t =
+        t ∙ ap (λ (a : Seen). seenIn S k a (placedIn i (itemsOf (v i .scan)))) so-far ∙
+        sym
+        (ap (seenIn S k (seenOf S none)) (log-take v p i q) ∙
+        seen-append S k (seenOf S none) (logOf v p i) (placedIn i (itemsOf (v i .scan))))
+
+-- ---- the newest entry
+
+-- the newer of what was seen and of what comes
+unfoldable joined : Option Placed → Option Placed → Option Placed
+joined none b = b
+joined (some y) b = laterOf y b
+
+joined-none : (o : Option Placed) → joined o none ≡ o
+unfolding joined laterOf
+joined-none none = refl
+joined-none (some y) = refl
+
+later-two : (y x : Placed) (b : Option Placed) → joined (laterOf y (some x)) b ≡ laterOf y (laterOf x b)
+unfolding joined laterOf pick
+later-two y x none = go (ltb (y .entry .version) (x .entry .version))
+  where
+    go : (t : Bool) → joined (pick t (some x) (some y)) none ≡ pick t (some x) (some y)
+    go true = refl
+    go false = refl
+later-two y x (some z) =
+    go (ltb (y .entry .version) (x .entry .version)) refl (ltb (x .entry .version) (z .entry .version)) refl
+    (ltb (y .entry .version) (z .entry .version)) refl
+  where
+    go : (a : Bool) → ltb (y .entry .version) (x .entry .version) ≡ a → (b : Bool) → ltb (x .entry .version) (z .entry .version) ≡ b →
+        (c : Bool) → ltb (y .entry .version) (z .entry .version) ≡ c → joined (laterOf y (some x)) (some z) ≡ laterOf y (laterOf x (some z))
+    go true p true q true r = rw (p, q, r) refl
+    go true p true q false r =
+        absurd
+        (omega (
+          arith,
+          ltb-true (y .entry .version) (x .entry .version) p,
+          ltb-true (x .entry .version) (z .entry .version) q,
+          ltb-false (y .entry .version) (z .entry .version) r,
+        ))
+    go true p false q c r = rw (p, q, p) refl
+    go false p true q c r = rw (p, q, r) refl
+    go false p false q false r = rw (p, q, r, p) refl
+    go false p false q true r =
+        absurd
+        (omega (
+          arith,
+          ltb-false (y .entry .version) (x .entry .version) p,
+          ltb-false (x .entry .version) (z .entry .version) q,
+          ltb-true (y .entry .version) (z .entry .version) r,
+        ))
+
+joined-two : (o : Option Placed) (x : Placed) (b : Option Placed) → joined (joined o (some x)) b ≡ joined o (laterOf x b)
+unfolding joined
+joined-two none x b = refl
+joined-two (some y) x b = later-two y x b
+
+module _ (S : ℕ) (k : Key) where
+  -- one entry of the key more
+  see-own :
+      (o : Option Placed) (x : Placed) → sameKey k (x .entry) ≡ true → 0 < x .entry .version →
+      seeing S k (seenOf S o) x ≡ seenOf S (joined o (some x))
+  unfolding seenWith seenOf joined laterOf sameKey pick
+  see-own none x e p = rw (e, lt-ltb 0 (x .entry .version) p) refl
+  see-own (some y) x e p = rw e (go (ltb (y .entry .version) (x .entry .version)))
+    where
+      go : (t : Bool) → pick t (seenOf S (some x)) (seenOf S (some y)) ≡ seenOf S (pick t (some x) (some y))
+      go true = refl
+      go false = refl
+
+  see-other : (a : Seen) (x : Placed) → sameKey k (x .entry) ≡ false → seeing S k a x ≡ a
+  unfolding seenWith sameKey pick
+  see-other a x e = rw e refl
+
+  seen-after :
+      (o : Option Placed) (log : List Placed) → ((x : Placed) → In x log → 0 < x .entry .version) →
+      seenIn S k (seenOf S o) log ≡ seenOf S (joined o (latest log k))
+  unfolding seenIn latest
+  seen-after o [] above = ap (seenOf S) (sym (joined-none o))
+  seen-after o (x ∷ xs) above = go (sameKey k (x .entry)) refl (λ p. seen-after p xs (λ y m. above y (List·Memᴰ·tail m)))
+    where
+      go :
+          (t : Bool) → sameKey k (x .entry) ≡ t → ((p : Option Placed) → seenIn S k (seenOf S p) xs ≡ seenOf S (joined p (latest xs k))) →
+          seenIn S k (seeing S k (seenOf S o) x) xs ≡ seenOf S (joined o (pick t (laterOf x (latest xs k)) (latest xs k)))
+      go true e ih =
+          unfold pick in
+          ap (λ (a : Seen). seenIn S k a xs) (see-own o x e (above x first)) ∙ ih (joined o (some x)) ∙ ap (seenOf S) (joined-two o x (latest xs k))
+      go false e ih = unfold pick in ap (λ (a : Seen). seenIn S k a xs) (see-other (seenOf S o) x e) ∙ ih o
+
+  -- Where all versions are above 0 a walk from nothing on has seen the newest entry of the key.
+  pub seen-newest :
+      (log : List Placed) → ((x : Placed) → In x log → 0 < x .entry .version) → seenIn S k (seenOf S none) log ≡ seenOf S (latest log k)
+  unfolding joined
+  seen-newest log above = seen-after none log above

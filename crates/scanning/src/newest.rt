@@ -1,0 +1,91 @@
+// The walk over the log that keeps the newest entry of one key.
+use crate::Seen;
+use log::slots::is_named;
+use segment::Header;
+use segment::Key;
+use segment::Next;
+use segment::Version;
+use segment::area::cut;
+use segment::entries::next;
+use segment::layout::DIGEST_SIZE;
+ghost use Prim.Native.Nat.{_+_, _*_, _≤_};
+ghost use mathlib.Core.Path.{_≡_};
+ghost use mathlib.Core.Option.{none};
+ghost use lib.ListN.{length};
+ghost use Rattle.segment.specs.Layout.{edition1};
+ghost use Rattle.slot_map.specs.Bit.{named};
+ghost use Rattle.model.specs.Log.{segmentOf, viewsOf, scan, itemsOf, placedIn, logOf, sameKeys};
+ghost use Rattle.log.specs.Shape.{Shape};
+ghost use Rattle.scanning.specs.Seeing.{seenWith, seenIn, seenOf};
+
+// Whether an entry is of a key, an object or a tombstone.
+fn is_of(key: Key, header: Header) -> bool
+    ensures { λ r. ⌜ r ≡ sameKeys key (header .key) ⌝ }
+{
+    let own = header.key;
+    key.table == own.table && key.key == own.key
+}
+
+// What is seen after one entry more. A version is above 0, so the first entry of the key is newer than none.
+fn see(seen: Seen, key: Key, header: Header, place: usize) -> Seen
+    ensures { λ r. ⌜ r ≡ seenWith key seen (header .key) (header .version) place ⌝ }
+{
+    if !is_of(key, header) {
+        return seen;
+    }
+    let version = header.version;
+    let best = seen.version;
+    if best.0 < version.0 {
+        return Seen { version, place };
+    }
+    seen
+}
+
+// What is seen after the entries of a slot; of a damaged slot none count.
+fn see_slot(s: usize, area: &[u8], slot: usize, key: Key, before: Seen) -> Seen
+    requires { ⌜ slot * s + s ≤ length (now area) ⌝ }
+    ensures { λ r.
+        ⌜ r ≡ seenIn s key before (placedIn slot (itemsOf (scan edition1 (segmentOf (now (area .entry)) s slot)))) ⌝ }
+{
+    let part = cut(s, area, slot);
+    let start = slot * s;
+    let mut at = DIGEST_SIZE;
+    let mut seen = before;
+    loop {
+        match next(part, at) {
+            Next::Entry(header) => {
+                let length = header.length;
+                seen = see(seen, key, header, start + at);
+                at += length;
+            }
+            Next::End => {
+                return seen;
+            }
+            Next::Damage => {
+                return before;
+            }
+        }
+    }
+}
+
+// The newest entry of a key in the log of a map.
+pub fn newest(n: usize, s: usize, area: &[u8], map: u32, key: Key) -> Seen
+    requires { ⌜ Shape n s (now area) ⌝ }
+    ensures { λ r.
+        ⌜ r ≡ seenIn s key (seenOf s none) (logOf (viewsOf edition1 (now (area .entry)) s) (named map) n) ⌝ }
+{
+    let mut seen = Seen {
+        version: Version(0),
+        place: 0,
+    };
+    let mut i = 0;
+    while i < n {
+        let slot = i;
+        i += 1;
+        if !is_named(map, slot) {
+            continue;
+        }
+        seen = see_slot(s, area, slot, key, seen);
+    }
+    seen
+}
