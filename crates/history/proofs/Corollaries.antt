@@ -27,7 +27,7 @@ use Rattle.model.specs.Operations.{Operation, write, delete, clean, TypedKey}
 use Rattle.model.specs.Recovery.{orderBad}
 use Rattle.model.specs.Refused.{Lengths}
 use Rattle.model.specs.Promises.{FormatPromise, RecoverPromise, ReadPromise, Part, partOf, ValuePromise}
-use Rattle.history.specs.Book.{Question, reads, readsValue, Call, starts, steps, asks, recovers, Answer, saying, giving, Event, called, cut, accepted, Kept, Awaited, Book, freshBook, finish, versionFor, oneOff, takeOne, feedCall, feed, bookAfter, bookOf, versionTold, highestTold}
+use Rattle.history.specs.Book.{Question, reads, readsValue, scans, scansValue, Call, starts, steps, asks, recovers, Answer, saying, giving, Event, called, cut, accepted, Kept, Awaited, Book, freshBook, finish, versionFor, oneOff, takeOne, feedCall, feed, bookAfter, bookOf, versionTold, highestTold}
 use Rattle.history.specs.Runs.{World, freshWorld, Run}
 use Rattle.history.specs.Demand3.{LargeEnough, bookAnswer, bookValue, GivesBook, StepAgrees, QuestionAgrees, EventAgrees, EventsAgree, Demand3Of}
 use Rattle.history.specs.Finishing.{isWriteOf, lastOfWrite, finishesWrite, noWrite, Finishes}
@@ -163,21 +163,20 @@ module _ (n s : ℕ) (area₀ area : List ℕ) (ab : Bytes area₀) (format : Fo
           ap (λ (b : Book). b .keys k) (book-append freshBook before (called steps l a ∷ after)) ∙
           gone-since before l a k deleting done after none-written
 
-  -- And no read of it meanwhile: it answers 8, and the value is empty, whether an operation is pending or not.
+  -- And no read of it meanwhile, by the index or by scan: it answers 8, and the value is empty, whether an operation is pending or not.
   pub deleted-reads-gone :
       (before between after : List Event) (l lent : Lengths) (a x : Answer) (t : Tables) (k : Key) (q : Question) (w : World) → holdsTable t (k .table) ≡ true →
       Leads (before ++ called steps l a ∷ (between ++ called (asks q) lent x ∷ after)) w →
       bookOf before .pending ≡ some (record { operation = delete k; left = 1 }) → accepted a ≡ true →
       noWrite (feed (bookOf before) (called steps l a)) k between ≡ true →
       (q ≡ reads t k → x ≡ saying (refusal 8)) × (q ≡ readsValue t k → x ≡ giving [])
+      × ((n s : ℕ) → q ≡ scans n s t k → x ≡ saying (refusal 8)) × ((n s : ℕ) → q ≡ scansValue n s t k → x ≡ giving [])
   unfolding EventAgrees QuestionAgrees bookAnswer bookValue
   deleted-reads-gone before between after l lent a x t k q w held run deleting done none-written = (
-    λ e. subst (λ (y : Question). QuestionAgrees edition1 now y x) e agrees
-        ∙ ap saying (pick-true (holdsTable t (k .table)) (readSaid (bookAnswer edition1 (now .keys k))) (refusal 22) held)
-        ∙ ap (λ (y : Option Kept). saying (readSaid (bookAnswer edition1 y))) gone,
-    λ e. subst (λ (y : Question). QuestionAgrees edition1 now y x) e agrees
-        ∙ ap giving (pick-true (holdsTable t (k .table)) (bookValue (now .keys k)) [] held)
-        ∙ ap (λ (y : Option Kept). giving (bookValue y)) gone,
+    λ e. subst (λ (y : Question). QuestionAgrees edition1 now y x) e agrees ∙ says,
+    λ e. subst (λ (y : Question). QuestionAgrees edition1 now y x) e agrees ∙ gives,
+    λ n s e. subst (λ (y : Question). QuestionAgrees edition1 now y x) e agrees ∙ says,
+    λ n s e. subst (λ (y : Question). QuestionAgrees edition1 now y x) e agrees ∙ gives,
   )
     where
       now : Book
@@ -185,6 +184,15 @@ module _ (n s : ℕ) (area₀ area : List ℕ) (ab : Bytes area₀) (format : Fo
 
       gone : now .keys k ≡ none
       gone = gone-since before l a k deleting done between none-written
+
+      says : saying (pick (holdsTable t (k .table)) (readSaid (bookAnswer edition1 (now .keys k))) (refusal 22)) ≡ saying (refusal 8)
+      says =
+          ap saying (pick-true (holdsTable t (k .table)) (readSaid (bookAnswer edition1 (now .keys k))) (refusal 22) held)
+          ∙ ap (λ (y : Option Kept). saying (readSaid (bookAnswer edition1 y))) gone
+
+      gives : giving (pick (holdsTable t (k .table)) (bookValue (now .keys k)) []) ≡ giving []
+      gives =
+          ap giving (pick-true (holdsTable t (k .table)) (bookValue (now .keys k)) [] held) ∙ ap (λ (y : Option Kept). giving (bookValue y)) gone
 
       agrees : QuestionAgrees edition1 now q x
       agrees =

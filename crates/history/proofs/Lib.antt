@@ -4,6 +4,7 @@ pub mod Starts
 pub mod Finished
 pub mod Steps
 pub mod Readings
+pub mod Scannings
 pub mod Recoveries
 pub mod Theorem
 pub mod Books

@@ -40,7 +40,7 @@ use Rattle.history.proofs.Invariant.{Inv, Holding, HeldGood, Phase, idl
 
 -- ---- the record that is held passes the tests of range and length
 
-pick-same : {A : Type 0} (t : Bool) (a : A) → pick t a a ≡ a
+pub pick-same : {A : Type 0} (t : Bool) (a : A) → pick t a a ≡ a
 unfolding pick
 pick-same true a = refl
 pick-same false a = refl
@@ -180,6 +180,15 @@ module _ (L : Layout) (laws : OperationLaws L) (n s : ℕ) where
           go true e = value-answer e
           go false e = ap (λ (c : Option Refusal). partOf area (valueAnswer L (r .size) c (present (logNow L area r) k))) (only-outside e)
 
+  -- a version that a read tells is below the next
+  pub told-below :
+      (next : ℕ) → 0 < next → (c : Option Refusal) (o : Option Placed) → ((x : Placed) → o ≡ some x → x .entry .version < next) →
+      readSaid (readAnswer L c o) .version < next
+  unfolding readAnswer presentAnswer
+  told-below next some-next (some c) o less = some-next
+  told-below next some-next none none less = some-next
+  told-below next some-next none (some x) less = less x refl
+
   -- ---- reads in a run
 
   module _ (area : List ℕ) (h : Held) (m : Option ℕ) (b : Book) (t : ℕ) (inv : Inv L n s (record { area = area; held = some h; cells = m }) b t)
@@ -201,13 +210,10 @@ module _ (L : Layout) (laws : OperationLaws L) (n s : ℕ) where
       fits : fitsLent L (h .rec) (length area) (length (h .cells)) ≡ true
       fits = held-fits area m b h (inv .bytes) good
 
-      told-less :
-          (c : Option Refusal) (x : Option Placed) → present (logNow L area (h .rec)) k ≡ x → readSaid (readAnswer L c x) .version < b .next
-      unfolding readAnswer presentAnswer
-      told-less (some c) x e = omega (arith, inv .below)
-      told-less none none e = omega (arith, inv .below)
-      told-less none (some x) e =
-          omega (arith, next-now, laws .version-below area (withPending (h .rec) Idle) (good .genuine .recovers) k x e)
+      told-less : (c : Option Refusal) → readSaid (readAnswer L c (present (logNow L area (h .rec)) k)) .version < b .next
+      told-less c =
+          told-below (b .next) (omega (arith, inv .below)) c (present (logNow L area (h .rec)) k)
+          (λ x e. omega (arith, next-now, laws .version-below area (withPending (h .rec) Idle) (good .genuine .recovers) k x e))
 
       -- what is to be shown of a question
       abbrev QuestionGoal : Question → Lengths → Answer → Type 0
@@ -229,7 +235,7 @@ module _ (L : Layout) (laws : OperationLaws L) (n s : ℕ) where
           less : readSaid (a .answer) .version < b .next
           less =
               subst⁻¹ (λ (x : ReadAnswer). readSaid x .version < b .next) (p .exact (good .genuine))
-              (told-less (firstCause (readCauses L (h .rec) (logNow L area (h .rec)) (readLengths area (h .cells)) v k)) (present (logNow L area (h .rec)) k) refl)
+              (told-less (firstCause (readCauses L (h .rec) (logNow L area (h .rec)) (readLengths area (h .cells)) v k)))
 
       value-keeps :
           (v : Tables) (l : Lengths) (p : Part) → ValuePromise L (h .rec) area (h .cells) v k p →

@@ -30,12 +30,13 @@ use Rattle.laws.specs.Operated.{OperationLaws}
 use Rattle.laws.specs.RecoverLaws.{recovered-recovery}
 use Rattle.laws.specs.OperationsKept.{edition1-laws}
 use Rattle.history.specs.Book.{Event, Book, freshBook, feed, bookAfter, bookOf, versionTold, highestTold}
-use Rattle.history.specs.Runs.{World, freshWorld, Moves, start, step, ask, recover, cuts, Run, stop, go}
+use Rattle.history.specs.Runs.{World, freshWorld, Moves, start, step, ask, look, recover, cuts, Run, stop, go}
 use Rattle.history.specs.Demand3.{LargeEnough, GivesBook, EventAgrees, EventsAgree, Demand3Of, Demand3For, Demand3}
 use Rattle.history.proofs.Invariant.{Inv, HeldGood, baseCells, bookEntry}
 use Rattle.history.proofs.Starts.{start-keeps}
 use Rattle.history.proofs.Steps.{step-keeps}
 use Rattle.history.proofs.Readings.{read-answer, value-answer, ask-keeps}
+use Rattle.history.proofs.Scannings.{look-keeps}
 use Rattle.history.proofs.Recoveries.{recover-keeps, cut-keeps}
 
 module _ (L : Layout) (laws : OperationLaws L) (n s : ℕ) where
@@ -48,6 +49,7 @@ module _ (L : Layout) (laws : OperationLaws L) (n s : ℕ) where
   move-keeps b t (start {area} {work} {work′} {h} {m} {q} {o} {a} ty p) inv = start-keeps L laws n s area work work′ h m q o a b t ty p inv
   move-keeps b t (step {area} {area′} {cells′} {work} {h} {m} {a} own p) inv = step-keeps L laws n s area area′ cells′ work h m a b t own p inv
   move-keeps b t (ask p) inv = ask-keeps L laws n s b t p inv
+  move-keeps b t (look p) inv = look-keeps L laws n s b t p inv
   move-keeps b t (recover {w} {order} {cells} {cells′} {r} p) inv =
       (recover-keeps L n s w b t order (readLengths (w .area) cells) cells cells′ r p inv, tt)
   move-keeps b t (cuts {w}) inv = (cut-keeps L n s w b t inv, tt)

@@ -12,10 +12,12 @@ use Rattle.model.specs.Log.{sameKeys}
 use Rattle.model.specs.Operations.{Operation, write, delete, clean}
 use Rattle.model.specs.Refused.{Lengths, Terms}
 
--- A call that changes nothing: a read within some tables, and a read of the value.
+-- A call that changes nothing: a read within some tables, a read of the value, and the two by scan with N and S (02, R-9).
 pub data Question : Type 0 where
   reads : Tables → Key → Question
   readsValue : Tables → Key → Question
+  scans : ℕ → ℕ → Tables → Key → Question
+  scansValue : ℕ → ℕ → Tables → Key → Question
 
 -- A call on the store with its arguments: a start (write, delete or clean) on some terms, a step, a question, a recovery with N, S
 -- and the order list.

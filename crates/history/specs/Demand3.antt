@@ -26,7 +26,7 @@ use Rattle.model.specs.Operations.{Operation, write, delete, clean, TypedKey}
 use Rattle.model.specs.Recovery.{orderBad}
 use Rattle.model.specs.Refused.{Terms}
 use Rattle.model.specs.Promises.{FormatPromise, RecoverPromise, ReadPromise, Part, partOf, ValuePromise}
-use Rattle.history.specs.Book.{Question, reads, readsValue, starts, steps, asks, recovers, Answer, saying, giving, Event, called, cut, accepted, Kept, Awaited, Book, bookVersion, freshBook, feed, bookOf, versionFor, highestTold}
+use Rattle.history.specs.Book.{Question, reads, readsValue, scans, scansValue, starts, steps, asks, recovers, Answer, saying, giving, Event, called, cut, accepted, Kept, Awaited, Book, bookVersion, freshBook, feed, bookOf, versionFor, highestTold}
 use Rattle.history.specs.Runs.{World, freshWorld, Run}
 
 -- "its index as large as at the last accepted one": within the limits, and no smaller; before the first, any within the limits
@@ -66,9 +66,12 @@ StepAgrees b a (some p) = (a .stores ≡ p .left - 1) × (p .left ≡ 1 → a .v
 
 -- A read answers version and kind of what the book holds of its key, or 8, and a read of the value that value; also while an
 -- operation is pending. A key whose table the caller may not reach is answered with 22 and no value, whatever the book holds (02, R-2).
+-- A read by scan answers the same at any moment (02, R-9).
 unfoldable pub QuestionAgrees : Layout → Book → Question → Answer → Type 0
 QuestionAgrees L b (reads t k) a = a ≡ saying (pick (holdsTable t (k .table)) (readSaid (bookAnswer L (b .keys k))) (refusal 22))
 QuestionAgrees L b (readsValue t k) a = a ≡ giving (pick (holdsTable t (k .table)) (bookValue (b .keys k)) [])
+QuestionAgrees L b (scans n s t k) a = a ≡ saying (pick (holdsTable t (k .table)) (readSaid (bookAnswer L (b .keys k))) (refusal 22))
+QuestionAgrees L b (scansValue n s t k) a = a ≡ giving (pick (holdsTable t (k .table)) (bookValue (b .keys k)) [])
 
 -- 02, R-1: what a write expected of its key, where it was accepted, is the version that the book has of it.
 unfoldable pub Expects : Expected → ℕ → Type 0

@@ -14,13 +14,15 @@ use Rattle.record.specs.Answers.{recoverSaid, readSaid, startSaid, stepSaid}
 use Rattle.record.specs.declared.Record.{Record}
 use Rattle.record.specs.declared.Recovery.{Recovery}
 use Rattle.record.specs.declared.Reading.{Reading}
+use Rattle.record.specs.declared.ReadAnswer.{ReadAnswer}
 use Rattle.record.specs.declared.Start.{Start}
 use Rattle.record.specs.declared.Stepped.{Stepped}
 use Rattle.record.specs.declared.Tables.{Tables}
 use Rattle.model.specs.Operations.{Operation, Typed, TypedKey}
 use Rattle.model.specs.Refused.{Lengths, Terms, isPending}
 use Rattle.model.specs.Promises.{RecoverPromise, readLengths, ReadPromise, Part, partOf, ValuePromise, lentLengths, StartPromise, StepPromise}
-use Rattle.history.specs.Book.{Question, reads, readsValue, starts, steps, asks, recovers, Answer, saying, giving, Event, called, cut, accepted}
+use Rattle.model.specs.Scanned.{ScanPromise, ScanValue}
+use Rattle.history.specs.Book.{Question, reads, readsValue, scans, scansValue, starts, steps, asks, recovers, Answer, saying, giving, Event, called, cut, accepted}
 
 -- What the firmware holds from an accepted recovery to the next cut: the newest record, the index of that recovery, and the work
 -- buffer that the last accepted start filled.
@@ -60,6 +62,15 @@ pub data Asked (L : Layout) : World → Question → Lengths → Answer → Type
       {area : List ℕ} {h : Held} {m : Option ℕ} {v : Tables} {k : Key} {p : Part} → TypedKey k → ValuePromise L (h .rec) area (h .cells) v k p →
       Asked L (record { area = area; held = some h; cells = m }) (readsValue v k) (readLengths area (h .cells)) (giving (partOf area p))
 
+-- What a read by scan answers, by its promise. It gets N, S and the area alone, so nothing has to be held.
+pub data Scanned (L : Layout) (n s : ℕ) (area : List ℕ) : Question → Lengths → Answer → Type 0 where
+  scan :
+      {v : Tables} {k : Key} {a : ReadAnswer} → TypedKey k → ScanPromise L n s area v k a →
+      Scanned L n s area (scans n s v k) (readLengths area []) (saying (readSaid a))
+  scanValue :
+      {v : Tables} {k : Key} {p : Part} → TypedKey k → ScanValue L n s area v k p →
+      Scanned L n s area (scansValue n s v k) (readLengths area []) (giving (partOf area p))
+
 -- One event. A cut takes what is held and leaves the area with the stores made so far. The stores of an operation are made one by
 -- one, each by a step, and no other call stores anything; so a cut during a call is one before it, or one after it once its store
 -- is done, and a list with a cut at every place between events covers every single store before or after which the power fails.
@@ -81,6 +92,8 @@ pub data Moves (L : Layout) (n s : ℕ) : World → Event → World → Type 0 w
       (record { area = area′; held = some (record { rec = a .rec; cells = cells′; work = h .work }); cells = m })
   -- a question, which leaves all as it was
   ask : {w : World} {q : Question} {lent : Lengths} {a : Answer} → Asked L w q lent a → Moves L n s w (called (asks q) lent a) w
+  -- a read by scan with the N and S of the format, which also leaves all as it was: before the first recovery, during an operation, after a cut
+  look : {w : World} {q : Question} {lent : Lengths} {a : Answer} → Scanned L n s (w .area) q lent a → Moves L n s w (called (asks q) lent a) w
   -- a recovery with the N and S of the format, any order list and any index, with or without a cut before it
   recover :
       {w : World} {order cells cells′ : List ℕ} {r : Recovery} →

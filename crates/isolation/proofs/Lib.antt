@@ -7,6 +7,7 @@ pub mod Pair
 pub mod PairStarts
 pub mod PairSteps
 pub mod PairReads
+pub mod PairScans
 pub mod PairRecoveries
 pub mod Theorem
 pub mod Lists

@@ -48,7 +48,7 @@ present-key log k x e = go (latest log k) refl e
             same c = cc
 
 -- its value, empty where there is none
-unfoldable valueIn : Option Placed → List ℕ
+unfoldable pub valueIn : Option Placed → List ℕ
 valueIn none = []
 valueIn (some x) = bytesIn (x .entry .value)
 
@@ -67,10 +67,10 @@ module _ (of : ℕ → Bool) where
               ap (λ (t : Bool). hiddenValue t (x .entry .value)) (ap (λ (j : Key). of (j .table)) (sym (present-key log k x p)) ∙ e) ∙
               value-told (x .entry .value)
 
-  one-same : (log log′ : List Placed) (k : Key) → hiddenLog of log ≡ hiddenLog of log′ → hiddenOne of (present log k) ≡ hiddenOne of (present log′ k)
+  pub one-same : (log log′ : List Placed) (k : Key) → hiddenLog of log ≡ hiddenLog of log′ → hiddenOne of (present log k) ≡ hiddenOne of (present log′ k)
   one-same log log′ k e = sym (present-hidden of log k) ∙ ap (λ (l : List Placed). present l k) e ∙ present-hidden of log′ k
 
-  objects-same : (log log′ : List Placed) (k : Key) → hiddenLog of log ≡ hiddenLog of log′ → of (k .table) ≡ false → present log k ≡ present log′ k
+  pub objects-same : (log log′ : List Placed) (k : Key) → hiddenLog of log ≡ hiddenLog of log′ → of (k .table) ≡ false → present log k ≡ present log′ k
   objects-same log log′ k e t = sym (told-whole log k t) ∙ one-same log log′ k e ∙ told-whole log′ k t
 
   -- ---- version and kind
@@ -82,19 +82,24 @@ module _ (of : ℕ → Bool) where
   answer-hidden L none (some x) =
       ap (ReadAnswer.Present (record { 0 = x .entry .version })) (value-kind L (of (x .entry .table)) (x .entry .value))
 
-  module _ (L : Layout) (r : Record) (l : Lengths) (log log′ : List Placed) (logs : hiddenLog of log ≡ hiddenLog of log′) (u : Tables) (k : Key) where
-    absent-same : isNone (present log k) ≡ isNone (present log′ k)
-    absent-same = sym (absent-hidden of of log k) ∙ ap (λ (x : List Placed). isNone (present x k)) logs ∙ absent-hidden of of log′ k
+  -- the same cause tells the same
+  pub told-same :
+      (L : Layout) (c : Option Refusal) (log log′ : List Placed) (k : Key) → hiddenLog of log ≡ hiddenLog of log′ →
+      readAnswer L c (present log k) ≡ readAnswer L c (present log′ k)
+  told-same L c log log′ k logs =
+      sym (answer-hidden L c (present log k)) ∙ ap (readAnswer L c) (one-same log log′ k logs) ∙ answer-hidden L c (present log′ k)
 
+  pub absent-same : (log log′ : List Placed) (k : Key) → hiddenLog of log ≡ hiddenLog of log′ → isNone (present log k) ≡ isNone (present log′ k)
+  absent-same log log′ k logs = sym (absent-hidden of of log k) ∙ ap (λ (x : List Placed). isNone (present x k)) logs ∙ absent-hidden of of log′ k
+
+  module _ (L : Layout) (r : Record) (l : Lengths) (log log′ : List Placed) (logs : hiddenLog of log ≡ hiddenLog of log′) (u : Tables) (k : Key) where
     pub reads-refused : firstCause (readCauses L r log l u k) ≡ firstCause (readCauses L r log′ l u k)
-    reads-refused = rw absent-same
+    reads-refused = rw (absent-same log log′ k logs)
 
     pub answers-same :
         readAnswer L (firstCause (readCauses L r log l u k)) (present log k) ≡ readAnswer L (firstCause (readCauses L r log′ l u k)) (present log′ k)
     answers-same =
-        sym (answer-hidden L (firstCause (readCauses L r log l u k)) (present log k)) ∙
-        ap (readAnswer L (firstCause (readCauses L r log l u k))) (one-same log log′ k logs) ∙
-        answer-hidden L (firstCause (readCauses L r log l u k)) (present log′ k) ∙
+        told-same L (firstCause (readCauses L r log l u k)) log log′ k logs ∙
         ap (λ (c : Option Refusal). readAnswer L c (present log′ k)) reads-refused
 
 -- ---- in two worlds

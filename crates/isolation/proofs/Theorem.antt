@@ -19,13 +19,15 @@ use Rattle.model.specs.Causes.{firstCause}
 use Rattle.record.specs.Reach.{holdsTable}
 use Rattle.model.specs.Refused.{Lengths, Terms, readCauses}
 use Rattle.model.specs.Promises.{RecoverPromise, StartPromise, Genuine, ReadPromise, ValuePromise, partOf, readLengths, lentLengths}
+use Rattle.model.specs.Scanned.{ScanPromise, ScanValue}
 use Rattle.laws.specs.CauseLaws.{no-cause}
+use Rattle.laws.specs.Members.{clash}
 use Rattle.laws.specs.Starts.{StartInside, start-inside}
 use Rattle.laws.specs.Entering.{Roomy}
 use Rattle.laws.specs.Operated.{OperationLaws}
 use Rattle.laws.specs.OperationsKept.{operation-laws, edition1-roomy}
-use Rattle.history.specs.Book.{Question, reads, readsValue, Call, starts, steps, asks, recovers, Answer, saying, giving, Event, called, cut, Book, freshBook, feed, versionTold}
-use Rattle.history.specs.Runs.{World, freshWorld, Asked, read, readValue, Moves, start, step, ask, recover, cuts, Run, stop, go}
+use Rattle.history.specs.Book.{Question, reads, readsValue, scans, scansValue, Call, starts, steps, asks, recovers, Answer, saying, giving, Event, called, cut, Book, freshBook, feed, versionTold}
+use Rattle.history.specs.Runs.{World, freshWorld, Asked, read, readValue, Scanned, scan, scanValue, Moves, start, step, ask, look, recover, cuts, Run, stop, go}
 use Rattle.history.proofs.Invariant.{Inv, HeldGood, baseCells}
 use Rattle.history.proofs.Theorem.{move-keeps, fresh}
 use Rattle.isolation.specs.Owners.{Owner, servo, media, blankedOperation, blanked, SameCall, SameInput, SameInputs, SameAnswer, SameAnswers, sameOwner, startRange, rangeOf, rangeHolds, gives}
@@ -35,6 +37,7 @@ use Rattle.isolation.proofs.Operations.{hiddenOperation}
 use Rattle.isolation.proofs.Pair.{HeldBoth, Pair}
 use Rattle.isolation.proofs.PairStarts.{held-alike, start-both}
 use Rattle.isolation.proofs.PairSteps.{step-both}
+use Rattle.isolation.proofs.PairScans.{scan-inside, scan-both, scan-value-both}
 use Rattle.isolation.proofs.PairReads.{read-both, value-both}
 use Rattle.isolation.proofs.PairRecoveries.{cut-both, recover-both}
 
@@ -140,6 +143,23 @@ read-inside :
     holdsTable u (k .table) ≡ true
 read-inside L r log l u k e = not-false (holdsTable u (k .table)) (no-cause (readCauses L r log l u k) e .1 .0)
 
+-- which questions are asked without a record
+unfoldable byScan : Question → Bool
+byScan (reads u k) = false
+byScan (readsValue u k) = false
+byScan (scans n s u k) = true
+byScan (scansValue n s u k) = true
+
+asked-by : {L : Layout} {w : World} {q : Question} {l : Lengths} {a : Answer} → Asked L w q l a → byScan q ≡ false
+unfolding byScan
+asked-by (read ty p) = refl
+asked-by (readValue ty p) = refl
+
+scanned-by : {L : Layout} {n s : ℕ} {area : List ℕ} {q : Question} {l : Lengths} {a : Answer} → Scanned L n s area q l a → byScan q ≡ true
+unfolding byScan
+scanned-by (scan ty p) = refl
+scanned-by (scanValue ty p) = refl
+
 module _ (L : Layout) (roomy : Roomy L) (n s : ℕ) (of : ℕ → Bool) where
   laws : OperationLaws L
   laws = operation-laws L roomy
@@ -192,6 +212,47 @@ module _ (L : Layout) (roomy : Roomy L) (n s : ℕ) (of : ℕ → Bool) where
   asked-both b b′ t t′ who (read ty p) (readValue ty′ q′) inv inv′ pair e lent c = let z : _≡_ {A = ℕ} 0 1 = cc in absurd (omega arith)
   asked-both b b′ t t′ who (readValue ty q) (read ty′ p′) inv inv′ pair e lent c = let z : _≡_ {A = ℕ} 0 1 = cc in absurd (omega arith)
 
+  looked-both :
+      {w w′ : World} {q q′ : Question} {l l′ : Lengths} {a a′ : Answer} (b b′ : Book) (t t′ : ℕ) (who : Owner) → Scanned L n s (w .area) q l a →
+      Scanned L n s (w′ .area) q′ l′ a′ → Inv L n s w b t → Inv L n s w′ b′ t′ → Pair of L n s w w′ → q ≡ q′ → Covers of who (called (asks q) l a) →
+      SameAnswer who (called (asks q) l a) (called (asks q′) l′ a′)
+  looked-both {w} {w′} b b′ t t′ who (scan {v = u} {k} {a} ty p) (scan {v = u′} {k = k′} {a = a′} ty′ p′) inv inv′ pair e c =
+      answer-same who _ _ _ _ _ _
+      (ap saying
+      (scan-both of L laws n s (baseCells (w .cells)) (baseCells (w′ .cells)) (w .area) (w′ .area) (inv .bytes) (inv′ .bytes) (inv .base) (inv′ .base)
+      (pair .alike) u k a a′ p
+      (subst⁻¹ (λ (v : Tables). ScanPromise L n s (w′ .area) v k a′) tables
+      (subst⁻¹ (λ (j : Key). ScanPromise L n s (w′ .area) u′ j a′) keys p′))))
+    where
+      tables : u ≡ u′
+      tables = cc
+
+      keys : k ≡ k′
+      keys = cc
+  looked-both {w} {w′} b b′ t t′ who (scanValue {v = u} {k} {p} ty q) (scanValue {v = u′} {k = k′} {p = p′} ty′ q′) inv inv′ pair e c = by-owner who c
+    where
+      tables : u ≡ u′
+      tables = cc
+
+      keys : k ≡ k′
+      keys = cc
+
+      by-owner :
+          (who : Owner) → Covers of who (called (asks (scansValue n s u k)) (readLengths (w .area) []) (giving (partOf (w .area) p))) →
+          SameAnswer who (called (asks (scansValue n s u k)) (readLengths (w .area) []) (giving (partOf (w .area) p)))
+          (called (asks (scansValue n s u′ k′)) (readLengths (w′ .area) []) (giving (partOf (w′ .area) p′)))
+      by-owner media c = unfold SameAnswer in refl
+      by-owner servo c =
+          unfold SameAnswer Covers rangeOf rangeHolds in
+          ap giving
+          (scan-value-both of L laws n s (baseCells (w .cells)) (baseCells (w′ .cells)) (w .area) (w′ .area) (inv .bytes) (inv′ .bytes) (inv .base)
+          (inv′ .base) (pair .alike) u k p p′
+          (λ e. c (k .table) (scan-inside L laws n s (baseCells (w .cells)) (w .area) (inv .bytes) (inv .base) u k e)) q
+          (subst⁻¹ (λ (v : Tables). ScanValue L n s (w′ .area) v k p′) tables
+          (subst⁻¹ (λ (j : Key). ScanValue L n s (w′ .area) u′ j p′) keys q′)))
+  looked-both b b′ t t′ who (scan ty p) (scanValue ty′ q′) inv inv′ pair e c = let z : _≡_ {A = ℕ} 0 1 = cc in absurd (omega arith)
+  looked-both b b′ t t′ who (scanValue ty q) (scan ty′ p′) inv inv′ pair e c = let z : _≡_ {A = ℕ} 0 1 = cc in absurd (omega arith)
+
   abbrev Both : Owner → World → World → Event → Event → Type 0
   Both who x x′ e e′ = Pair of L n s x x′ × SameAnswer who e e′
 
@@ -239,6 +300,12 @@ module _ (L : Layout) (roomy : Roomy L) (n s : ℕ) (of : ℕ → Bool) where
   called-both b b′ t t′ who both-step m m′ inv inv′ pair same lent c = stepped-both b b′ t t′ who m m′ inv inv′ pair lent
   called-both b b′ t t′ who (both-ask q q′ e) (ask p) (ask p′) inv inv′ pair same lent c =
       (pair, asked-both b b′ t t′ who p p′ inv inv′ pair e lent c)
+  called-both b b′ t t′ who (both-ask q q′ e) (look p) (look p′) inv inv′ pair same lent c =
+      (pair, looked-both b b′ t t′ who p p′ inv inv′ pair e c)
+  called-both b b′ t t′ who (both-ask q q′ e) (ask p) (look p′) inv inv′ pair same lent c =
+      absurd (clash (byScan q) (ap byScan e ∙ scanned-by p′) (asked-by p))
+  called-both b b′ t t′ who (both-ask q q′ e) (look p) (ask p′) inv inv′ pair same lent c =
+      absurd (clash (byScan q) (scanned-by p) (ap byScan e ∙ asked-by p′))
   called-both b b′ t t′ who (both-recover k k′ j j′ order order′ e) m m′ inv inv′ pair same lent c = recovered-both b b′ t t′ who m m′ inv inv′ pair e lent
 
   move-both :

@@ -11,7 +11,7 @@ use Rattle.record.specs.declared.Tables.{Tables}
 use Rattle.model.specs.Operations.{Operation, write, delete, clean}
 use Rattle.record.specs.Reach.{holdsTable}
 use Rattle.model.specs.Refused.{Terms}
-use Rattle.history.specs.Book.{reads, readsValue, Call, starts, steps, asks, recovers, Event, called, cut}
+use Rattle.history.specs.Book.{reads, readsValue, scans, scansValue, Call, starts, steps, asks, recovers, Event, called, cut}
 
 -- Who made a call. Steps, cleanings, recoveries and cuts are common; it does not matter whose they are said to be.
 pub data Owner : Type 0 where
@@ -91,6 +91,8 @@ rangeOf (called (starts q o) lent a) = startRange q o
 rangeOf (called steps lent a) = none
 rangeOf (called (asks (reads given k)) lent a) = some given
 rangeOf (called (asks (readsValue given k)) lent a) = some given
+rangeOf (called (asks (scans n s given k)) lent a) = some given
+rangeOf (called (asks (scansValue n s given k)) lent a) = some given
 rangeOf (called (recovers n s order) lent a) = none
 rangeOf cut = none
 

@@ -1,0 +1,101 @@
+-- Reads by scan answer what the book holds at any moment, and keep the invariant (02, R-9).
+use Prim.Native.Nat.{ℕ, _<_, max}
+use native.Mathlib.Nat.{max-zero}
+use native.Mathlib.Omega.{arith}
+use mathlib.Core.Path.{_≡_, refl, sym, ap, ap₂, _∙_, subst⁻¹}
+use mathlib.Core.Bool.{true}
+use mathlib.Core.List.{List}
+use mathlib.Core.Option.{Option, some}
+use lib.ListN.{length, replicate, length-replicate}
+use Rattle.segment.specs.Choice.{pick}
+use Rattle.segment.specs.Layout.{Layout}
+use Rattle.segment.specs.declared.Key.{Key}
+use Rattle.record.specs.Answers.{readSaid}
+use Rattle.record.specs.Range.{fitsLent}
+use Rattle.record.specs.declared.ReadAnswer.{ReadAnswer}
+use Rattle.record.specs.declared.Record.{Record}
+use Rattle.record.specs.declared.Refusal.{Refusal}
+use Rattle.record.specs.declared.Tables.{Tables}
+use Rattle.model.specs.Log.{Placed, present}
+use Rattle.model.specs.Causes.{firstCause}
+use Rattle.model.specs.Recovery.{recovered, recordFrom}
+use Rattle.model.specs.Operations.{logNow}
+use Rattle.model.specs.Refused.{Lengths, readCauses}
+use Rattle.model.specs.Promises.{readLengths, readAnswer, Part, partOf, valueAnswer}
+use Rattle.model.specs.Scanned.{imageLog, scanCauses, ScanPromise, scannedPart, ScanValue}
+use Rattle.laws.specs.Operated.{OperationLaws}
+use Rattle.laws.specs.ScanLaws.{scan-log, scan-first}
+use Rattle.history.specs.Book.{Question, scans, scansValue, asks, Answer, saying, giving, called, accepted, Book, feed, feedCall, versionTold}
+use Rattle.history.specs.Runs.{World, Scanned, scan, scanValue}
+use Rattle.history.specs.Demand3.{QuestionAgrees, EventAgrees}
+use Rattle.history.proofs.Invariant.{Inv, baseCells}
+use Rattle.history.proofs.Readings.{pick-same, told-below, read-said, value-given}
+
+module _ (L : Layout) (laws : OperationLaws L) (n s : ℕ) (w : World) (b : Book) (t : ℕ) (inv : Inv L n s w b t) (k : Key) (v : Tables) where
+  abbrev m : ℕ
+  m = baseCells (w .cells)
+
+  -- the record that a recovery would give, and an index as long as it says
+  abbrev rec : Record
+  rec = recordFrom L n s m (w .area)
+
+  abbrev cells : List ℕ
+  cells = replicate m 0
+
+  abbrev log : List Placed
+  log = logNow L (w .area) rec
+
+  abbrev cause : Option Refusal
+  cause = firstCause (readCauses L rec log (readLengths (w .area) cells) v k)
+
+  fits : fitsLent L rec (length (w .area)) (length cells) ≡ true
+  fits = ap (λ (c : ℕ). fitsLent L rec (length (w .area)) c) (length-replicate m 0) ∙ laws .own-lengths n s m (w .area) rec (inv .bytes) (inv .base)
+
+  same-cause : firstCause (scanCauses L n s (w .area) v k) ≡ cause
+  same-cause = scan-first L n s m (w .area) rec (inv .base) v k cells (length-replicate m 0)
+
+  same-log : imageLog L n s (w .area) ≡ log
+  same-log = scan-log L n s m (w .area) rec (inv .base)
+
+  answered : (a : ReadAnswer) → ScanPromise L n s (w .area) v k a → a ≡ readAnswer L cause (present log k)
+  answered a p = p .answers ∙ ap₂ (λ (c : Option Refusal) (l : List Placed). readAnswer L c (present l k)) same-cause same-log
+
+  given : (p : Part) → ScanValue L n s (w .area) v k p → p ≡ valueAnswer L s cause (present log k)
+  given p q = q .exact ∙ ap₂ (λ (c : Option Refusal) (l : List Placed). valueAnswer L s c (present l k)) same-cause same-log
+
+  abbrev QuestionGoal : Question → Lengths → Answer → Type 0
+  QuestionGoal q l a =
+      Inv L n s w (feed b (called (asks q) l a)) (max t (versionTold (called (asks q) l a))) × EventAgrees L b (called (asks q) l a)
+
+  pub scan-keeps :
+      (l : Lengths) (a : ReadAnswer) → ScanPromise L n s (w .area) v k a → QuestionGoal (scans n s v k) l (saying (readSaid a))
+  unfolding feed feedCall versionTold EventAgrees QuestionAgrees
+  scan-keeps l a p = (
+    rw (pick-same (accepted (saying (readSaid a))) b)
+        (record { bytes = inv .bytes; base = inv .base; agrees = inv .agrees; below = omega (arith, inv .below, less); held = inv .held }),
+    ap (λ (x : ReadAnswer). saying (readSaid x)) (answered a p)
+        ∙ ap saying (read-said L laws n s (w .area) cells rec (inv .bytes) (inv .base) fits v k (b .keys k) (inv .agrees .map-same k)),
+  )
+    where
+      less : readSaid a .version < b .next
+      less =
+          subst⁻¹ (λ (x : ReadAnswer). readSaid x .version < b .next) (answered a p)
+          (told-below L laws n s (b .next) (omega (arith, inv .below)) cause (present log k)
+          (λ x e. omega (arith, inv .agrees .next-same, laws .version-below (w .area) rec (inv .base) k x e)))
+
+  pub scan-value-keeps :
+      (l : Lengths) (p : Part) → ScanValue L n s (w .area) v k p → QuestionGoal (scansValue n s v k) l (giving (partOf (w .area) p))
+  unfolding feed feedCall versionTold pick EventAgrees QuestionAgrees
+  scan-value-keeps l p q = (
+    rw (max-zero t) inv,
+    ap giving
+        (ap (partOf (w .area)) (given p q) ∙ value-given L laws n s (w .area) cells rec (inv .bytes) (inv .base) fits v k (b .keys k) (inv .agrees .map-same k)),
+  )
+
+-- A read by scan keeps the invariant, and answers what the book says.
+pub look-keeps :
+    (L : Layout) (laws : OperationLaws L) (n s : ℕ) {w : World} {q : Question} {l : Lengths} {a : Answer} (b : Book) (t : ℕ) →
+    Scanned L n s (w .area) q l a → Inv L n s w b t →
+    Inv L n s w (feed b (called (asks q) l a)) (max t (versionTold (called (asks q) l a))) × EventAgrees L b (called (asks q) l a)
+look-keeps L laws n s {w} b t (scan {v} {k} {a} ty p) inv = scan-keeps L laws n s w b t inv k v _ a p
+look-keeps L laws n s {w} b t (scanValue {v} {k} {p} ty q) inv = scan-value-keeps L laws n s w b t inv k v _ p q
