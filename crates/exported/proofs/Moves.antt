@@ -31,11 +31,11 @@ use Rattle.laws.specs.CauseLaws.{cause-first, refusal-number}
 use Rattle.words.specs.Words.{recordWords, isRecord, decoded}
 use Rattle.words.specs.WordLaws.{record-long, decoded-record, decoded-none, decode-encode}
 use Rattle.words.specs.declared.Decoded.{Decoded}
-use Rattle.history.specs.Book.{reads, readsValue, starts, steps, asks, recovers, saying, giving, Event, called}
+use Rattle.history.specs.Book.{reads, readsValue, scans, scansValue, starts, steps, asks, recovers, saying, giving, Event, called}
 use Rattle.history.specs.Runs as Store
 use Rattle.history.specs.Runs.{World, recoveredWorld, Run}
-use Rattle.kurdavel.specs.Crossing.{keptWords, wordsAfter, RecoverCrossed, ReadCrossed, ValueCrossed, storesAfter, StartCrossed, leftTold, toldAfter, StepCrossed}
-use Rattle.exported.specs.Runs.{HeldWords, Memory, heldBy, worldOf, KeyArgument, Arguments, numberSaid, stepTold, readTold, recoveredMemory, Exports, start, step, read, readValue, recover, short, cuts, ExportedRun, stop, go}
+use Rattle.kurdavel.specs.Crossing.{keptWords, wordsAfter, RecoverCrossed, ReadCrossed, ValueCrossed, ScanCrossed, ScanValueCrossed, storesAfter, StartCrossed, leftTold, toldAfter, StepCrossed}
+use Rattle.exported.specs.Runs.{HeldWords, Memory, heldBy, worldOf, KeyArgument, Arguments, numberSaid, stepTold, readTold, recoveredMemory, Exports, start, step, read, readValue, scan, scanValue, recover, short, cuts, ExportedRun, stop, go}
 
 -- ---- arguments: whatever has its C type is typed
 
@@ -203,6 +203,26 @@ module _ (n s : ℕ) where
       Store.go (Store.ask (Store.read {h = heldBy h} typed (c .promised)))
       (Store.go (Store.ask (Store.readValue {h = heldBy h} typed (c .value))) Store.stop)
 
+  scan-runs :
+      (m : Memory) (v : Tables) (k : Key) (version kind number : ℕ) → KeyArgument k → ScanCrossed n s (m .area) v k version kind number →
+      Runs (worldOf m) (called (asks (scans n s v k)) (readLengths (m .area) []) (saying (readTold number version kind)) ∷ []) (worldOf m)
+  scan-runs m v k version kind number p c =
+      subst (λ (a : Said). Runs (worldOf m) (called (asks (scans n s v k)) (readLengths (m .area) []) (saying a) ∷ []) (worldOf m))
+      (read-said (c .answer) version kind number (c .numbered) (c .version-told) (c .kind-told))
+      (Store.go (Store.look {w = worldOf m} (Store.scan (typed-key k (p .0) (p .1)) (c .promised))) Store.stop)
+
+  scan-value-runs :
+      (m : Memory) (v : Tables) (k : Key) (place bytes number : ℕ) → KeyArgument k → (c : ScanValueCrossed n s (m .area) v k place bytes number) →
+      Runs (worldOf m)
+      (called (asks (scans n s v k)) (readLengths (m .area) []) (saying (readSaid (c .answer)))
+      ∷ called (asks (scansValue n s v k)) (readLengths (m .area) []) (giving (take bytes (drop place (m .area))))
+      ∷ [])
+      (worldOf m)
+  scan-value-runs m v k place bytes number p c =
+      let typed = typed-key k (p .0) (p .1) in
+      Store.go (Store.look {w = worldOf m} (Store.scan typed (c .promised)))
+      (Store.go (Store.look {w = worldOf m} (Store.scanValue typed (c .value))) Store.stop)
+
   -- ---- recovery
 
   module _ (m : Memory) (cells′ words words′ : List ℕ) (rec : Record) (number : ℕ) (long : recordWords ≤ length words) where
@@ -252,6 +272,8 @@ module _ (n s : ℕ) where
   exports-run (read {area} {h} {m} {v} {k} {version} {kind} {number} p c) =
       read-runs area h m v k version kind number p c
   exports-run (readValue {area} {h} {m} {v} {k} {place} {bytes} {number} p c) = value-runs area h m v k place bytes number p c
+  exports-run (scan {m} {v} {k} {version} {kind} {number} p c) = scan-runs m v k version kind number p c
+  exports-run (scanValue {m} {v} {k} {place} {bytes} {number} p c) = scan-value-runs m v k place bytes number p c
   exports-run (recover {m} {order} {cells} {cells′} {words} {words′} {number} long c) =
       recover-runs m order cells cells′ words words′ number long c
   exports-run (short less c) = Store.stop

@@ -17,9 +17,9 @@ use Rattle.record.specs.declared.Tables.{Tables}
 use Rattle.model.specs.Refused.{Terms, isPending}
 use Rattle.model.specs.Promises.{readLengths, lentLengths}
 use Rattle.words.specs.Words.{recordWords, decoded}
-use Rattle.history.specs.Book.{reads, readsValue, starts, steps, asks, recovers, saying, giving, Event, called, cut}
+use Rattle.history.specs.Book.{reads, readsValue, scans, scansValue, starts, steps, asks, recovers, saying, giving, Event, called, cut}
 use Rattle.history.specs.Runs.{Held, World}
-use Rattle.kurdavel.specs.Crossing.{RecoverCrossed, ReadCrossed, ValueCrossed, StartCrossed, StepCrossed}
+use Rattle.kurdavel.specs.Crossing.{RecoverCrossed, ReadCrossed, ValueCrossed, ScanCrossed, ScanValueCrossed, StartCrossed, StepCrossed}
 
 -- ---- what is held
 
@@ -114,6 +114,18 @@ pub data Exports (n s : ℕ) : Memory → List Event → Memory → Type 0 where
       ∷ called (asks (readsValue v k)) (readLengths area (h .cells)) (giving (take bytes (drop place area)))
       ∷ [])
       (record { area = area; held = some h; cells = m })
+  -- kurdavel_scan_read with the N and S of the format, whether anything is held or not
+  scan :
+      {m : Memory} {v : Tables} {k : Key} {version kind number : ℕ} → KeyArgument k → ScanCrossed n s (m .area) v k version kind number →
+      Exports n s m (called (asks (scans n s v k)) (readLengths (m .area) []) (saying (readTold number version kind)) ∷ []) m
+  -- kurdavel_scan_read_value: its number is that of a read by scan, and then it gives the value
+  scanValue :
+      {m : Memory} {v : Tables} {k : Key} {place bytes number : ℕ} → KeyArgument k → (c : ScanValueCrossed n s (m .area) v k place bytes number) →
+      Exports n s m
+      (called (asks (scans n s v k)) (readLengths (m .area) []) (saying (readSaid (c .answer)))
+      ∷ called (asks (scansValue n s v k)) (readLengths (m .area) []) (giving (take bytes (drop place (m .area))))
+      ∷ [])
+      m
   -- kurdavel_recover with the N and S of the format, any order list, any index and room for the words
   recover :
       {m : Memory} {order cells cells′ words words′ : List ℕ} {number : ℕ} → recordWords ≤ length words →

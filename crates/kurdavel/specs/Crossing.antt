@@ -24,6 +24,7 @@ use Rattle.model.specs.Operations.{Operation}
 use Rattle.record.specs.declared.Tables.{Tables}
 use Rattle.model.specs.Refused.{Terms}
 use Rattle.model.specs.Promises.{FormatPromise, RecoverPromise, ReadPromise, ValuePromise, StartPromise, StepPromise}
+use Rattle.model.specs.Scanned.{ScanPromise, ScanValue}
 use Rattle.words.specs.Words.{recordWords, wordsOf, decoded}
 
 -- the words after a call that handed this record back
@@ -76,6 +77,25 @@ pub record ValueCrossed (words area cells : List ℕ) (t : Tables) (k : Key) (pl
   pub promised : ReadPromise edition1 (decoded words .rec) area cells t k reading
   pub numbered : number ≡ readSaid (reading .answer) .refused
   pub value : ValuePromise edition1 (decoded words .rec) area cells t k (record { place = place; bytes = bytes })
+  pub inside : place + bytes ≤ length area
+  pub nowhere : (number ≡ 0 → ⊥) → (place ≡ 0) × (bytes ≡ 0)
+
+-- ---- read by scan
+
+-- What the read by scan says (02, R-9); where it is refused version and kind are 0.
+pub record ScanCrossed (n s : ℕ) (area : List ℕ) (t : Tables) (k : Key) (version kind number : ℕ) : Type 0 where
+  pub answer : ReadAnswer
+  pub promised : ScanPromise edition1 n s area t k answer
+  pub numbered : number ≡ readSaid answer .refused
+  pub version-told : version ≡ readSaid answer .version
+  pub kind-told : kind ≡ readSaid answer .kind
+
+-- The value's place and length lie in the area; where the read is refused both are 0.
+pub record ScanValueCrossed (n s : ℕ) (area : List ℕ) (t : Tables) (k : Key) (place bytes number : ℕ) : Type 0 where
+  pub answer : ReadAnswer
+  pub promised : ScanPromise edition1 n s area t k answer
+  pub numbered : number ≡ readSaid answer .refused
+  pub value : ScanValue edition1 n s area t k (record { place = place; bytes = bytes })
   pub inside : place + bytes ≤ length area
   pub nowhere : (number ≡ 0 → ⊥) → (place ≡ 0) × (bytes ≡ 0)
 

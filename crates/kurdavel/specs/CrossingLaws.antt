@@ -34,10 +34,14 @@ use Rattle.index.specs.declared.Found.{Found}
 use Rattle.recovery.specs.Lookups.{lookupAt, lookedUp, toldBy, partBy}
 use Rattle.recovery.specs.LookupLaws.{looked-unfit, looked-fit, read-promise, value-promise, looked-outside}
 use Rattle.recovery.specs.declared.Lookup.{Lookup}
+use Rattle.model.specs.Scanned.{ScanValue}
+use Rattle.scanning.specs.Seeking.{sought, answerOf, partFor}
+use Rattle.scanning.specs.SeekingLaws.{scan-promise, scan-value}
+use Rattle.scanning.specs.declared.Sought.{Sought}
 use Rattle.words.specs.Words.{recordWords, wordsOf, isRecord, decoded}
 use Rattle.words.specs.WordLaws.{record-long, decoded-record, decoded-none}
 use Rattle.words.specs.declared.Decoded.{Decoded}
-use Rattle.kurdavel.specs.Crossing.{FormatCrossed, RecoverCrossed, wordsAfter, ReadCrossed, ValueCrossed, Handed, storesAfter, StartCrossed, keptWords, StepCrossed, leftTold, toldAfter}
+use Rattle.kurdavel.specs.Crossing.{FormatCrossed, RecoverCrossed, wordsAfter, ReadCrossed, ValueCrossed, ScanCrossed, ScanValueCrossed, Handed, storesAfter, StartCrossed, keptWords, StepCrossed, leftTold, toldAfter}
 
 -- words that decode to a record are enough of them
 pub ok-long : (words : List ℕ) {d : Decoded} → d ≡ decoded words → d .ok ≡ true → recordWords ≤ length words
@@ -162,6 +166,33 @@ value-crossed {words} {area} {cells} {t} {k} {place} {bytes} {b = b} l e m v i w
       inside = i;
       nowhere = w;
     }
+
+-- ---- read by scan
+
+module _ {n s : ℕ} {area : List ℕ} {t : Tables} {k : Key} {number : ℕ} {x b : Sought} (found : x ≡ sought edition1 n s area t k) (is : x ≡ b)
+    (told : number ≡ readSaid (answerOf b) .refused) where
+  pub scan-crossed : {version kind : ℕ} → version ≡ readSaid (answerOf b) .version → kind ≡ readSaid (answerOf b) .kind
+      → ScanCrossed n s area t k version kind number
+  scan-crossed v w =
+      record {
+        answer = answerOf b;
+        promised = scan-promise edition1 n s area t k b (sym is ∙ found);
+        numbered = told;
+        version-told = v;
+        kind-told = w;
+      }
+
+  pub scan-value-crossed : {place bytes : ℕ} → record { place = place; bytes = bytes } ≡ partFor edition1 b → place + bytes ≤ length area
+      → ((number ≡ 0 → ⊥) → (place ≡ 0) × (bytes ≡ 0)) → ScanValueCrossed n s area t k place bytes number
+  scan-value-crossed v i w =
+      record {
+        answer = answerOf b;
+        promised = scan-promise edition1 n s area t k b (sym is ∙ found);
+        numbered = told;
+        value = subst⁻¹ (ScanValue edition1 n s area t k) v (scan-value edition1 n s area t k b (sym is ∙ found));
+        inside = i;
+        nowhere = w;
+      }
 
 -- ---- write, delete and clean
 

@@ -1,4 +1,4 @@
-// The store for a firmware in C or Rust (include/kurdavel.h): the seven calls and the value read, over slices and numbers.
+// The store for a firmware in C or Rust (include/kurdavel.h): the calls and the value reads, over slices and numbers.
 // Each function decodes the record from the words that are lent, makes the call, and encodes what it hands back. Nothing is
 // required of the caller's values: words that are no record are refused with 4. The answer is 0 or the refusal's number.
 use firmware::step_held;
@@ -40,6 +40,8 @@ ghost use Rattle.model.specs.Refused.{freely, reaching};
 ghost use Rattle.record.specs.declared.Expected.{Expected};
 ghost use Rattle.words.specs.Words.{recordWords};
 ghost use Rattle.kurdavel.specs.Crossing.{FormatCrossed, RecoverCrossed, ReadCrossed, ValueCrossed, StartCrossed, StepCrossed, keptWords, Handed};
+
+pub mod scan;
 
 #[no_mangle]
 pub extern "C" fn kurdavel_format(slots: u32, size: u32, area: &mut [u8]) -> u32

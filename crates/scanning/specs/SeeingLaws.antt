@@ -1,13 +1,13 @@
 -- What a walk over the log has seen of a key is the newest entry of the key.
-use Prim.Native.Nat.{ℕ, _+_, _*_, _≤_, _<_}
+use Prim.Native.Nat.{ℕ, _+_, _*_, _<_}
 use mathlib.Core.Path.{_≡_, refl, sym, _∙_, ap}
 use mathlib.Core.Bool.{Bool, true, false}
 use mathlib.Core.List.{List, [], _∷_, _++_, append-nil, List·Memᴰ·tail}
 use mathlib.Core.Option.{Option, none, some}
 use native.Mathlib.Omega.{arith}
-use lib.Dec.{ltb}
-use borrow.Author.Tests.{ltb-true, ltb-false, lt-ltb, le-ltb}
-use Rattle.segment.specs.Choice.{pick, pick-true, pick-false}
+use lib.Dec.{eqb, ltb}
+use borrow.Author.Tests.{ltb-true, ltb-false, lt-ltb, eq-eqb, ne-eqb}
+use Rattle.segment.specs.Choice.{pick, pick-true, pick-false, both}
 use Rattle.segment.specs.Layout.{Layout, digestSize}
 use Rattle.segment.specs.Entry.{Entry, end, damage, entryAt, keyOf}
 use Rattle.segment.specs.Entries.{headerOf, nextOf, next-entry}
@@ -25,6 +25,16 @@ use Rattle.log.specs.Surveys.{after, after-none, after-first}
 use Rattle.scanning.specs.Seeing.{seenWith, seeing, seenIn, seenOf}
 use Rattle.scanning.specs.declared.Seen.{Seen}
 
+-- ---- whether two keys are one, at each test of the code
+
+pub same-table : (a b : Key) → a .table ≡ b .table → eqb (a .key) (b .key) ≡ sameKeys a b
+unfolding sameKeys both
+same-table a b e = rw (eq-eqb (a .table) (b .table) e) refl
+
+pub other-table : (a b : Key) → (a .table ≡ b .table → ⊥) → eqb (a .table) (b .table) ≡ sameKeys a b
+unfolding sameKeys both
+other-table a b e = rw (ne-eqb (a .table) (b .table) e) refl
+
 -- ---- one entry more, at each test of the code
 
 module _ (k : Key) (a : Seen) (own : Key) (v : Version) (place : ℕ) where
@@ -33,13 +43,13 @@ module _ (k : Key) (a : Seen) (own : Key) (v : Version) (place : ℕ) where
   with-other e = sym (pick-false (sameKeys k own) _ a e)
 
   module _ (e : sameKeys k own ≡ true) where
-    pub with-newer : a .version .0 < v .0 → record { version = v; place = place } ≡ seenWith k a own v place
+    pub with-newer : ltb (a .version .0) (v .0) ≡ true → record { version = v; place = place } ≡ seenWith k a own v place
     unfolding seenWith
-    with-newer h = sym (pick-true (sameKeys k own) _ a e ∙ pick-true (ltb (a .version .0) (v .0)) _ a (lt-ltb (a .version .0) (v .0) h))
+    with-newer h = sym (pick-true (sameKeys k own) _ a e ∙ pick-true (ltb (a .version .0) (v .0)) _ a h)
 
-    pub with-older : v .0 ≤ a .version .0 → a ≡ seenWith k a own v place
+    pub with-older : ltb (a .version .0) (v .0) ≡ false → a ≡ seenWith k a own v place
     unfolding seenWith
-    with-older h = sym (pick-true (sameKeys k own) _ a e ∙ pick-false (ltb (a .version .0) (v .0)) _ a (le-ltb (a .version .0) (v .0) h))
+    with-older h = sym (pick-true (sameKeys k own) _ a e ∙ pick-false (ltb (a .version .0) (v .0)) _ a h)
 
 -- ---- one list after the other
 

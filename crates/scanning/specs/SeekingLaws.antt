@@ -236,6 +236,20 @@ module _ (L : Layout) (n s : ℕ) (area : List ℕ) (t : Tables) (k : Key) where
           unfold partFor soughtAs soughtObject valueAnswer valuePart in
           ap (λ (m : ℕ). record { place = placeOf s y + entrySize L 0; bytes = m }) (long (length (bytesIn (y .entry .value))))
 
+  -- where an object is found no cause holds
+  found-clear : (p : ℕ) (w : Version) (kind m : ℕ) → Sought.Object p w kind m ≡ sought L n s area t k → cause ≡ none
+  found-clear p w kind m e = go cause refl e
+    where
+      go : (c : Option Refusal) → cause ≡ c → Sought.Object p w kind m ≡ soughtAs L s c object → cause ≡ none
+      go none q f = q
+      go (some c) q f =
+          let g : Sought.Object p w kind m ≡ Sought.Refused c = unfold soughtAs in f in let z : _≡_ {A = ℕ} 0 1 = cc in absurd (omega arith)
+
+  -- and the area is none of the geometry's refusals
+  pub found-short : (p : ℕ) (w : Version) (kind m : ℕ) → Sought.Object p w kind m ≡ sought L n s area t k → length area ≤ 65536
+  found-short p w kind m e =
+      area-short {s = s} {area = area} (seek-shape (no-cause (scanCauses L n s area t k) (found-clear p w kind m e) .0))
+
   -- an object that is found lies in the area
   pub sought-inside : (p : ℕ) (w : Version) (kind m : ℕ) → Sought.Object p w kind m ≡ sought L n s area t k → ObjectInside L area p m
   sought-inside p w kind m e = go cause refl object refl e

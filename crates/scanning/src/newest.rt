@@ -11,6 +11,7 @@ use segment::layout::DIGEST_SIZE;
 ghost use Prim.Native.Nat.{_+_, _*_, _≤_};
 ghost use mathlib.Core.Path.{_≡_};
 ghost use mathlib.Core.Option.{none};
+ghost use lib.Dec.{ltb};
 ghost use lib.ListN.{length};
 ghost use Rattle.segment.specs.Layout.{edition1};
 ghost use Rattle.slot_map.specs.Bit.{named};
@@ -26,7 +27,14 @@ fn is_of(key: Key, header: Header) -> bool
     key.table == own.table && key.key == own.key
 }
 
-// What is seen after one entry more. A version is above 0, so the first entry of the key is newer than none.
+// Whether a version is above another. Versions are above 0, so any of them is above that of no entry.
+fn is_newer(version: Version, best: Version) -> bool
+    ensures { λ r. ⌜ r ≡ ltb (best .0) (version .0) ⌝ }
+{
+    best.0 < version.0
+}
+
+// What is seen after one entry more.
 fn see(seen: Seen, key: Key, header: Header, place: usize) -> Seen
     ensures { λ r. ⌜ r ≡ seenWith key seen (header .key) (header .version) place ⌝ }
 {
@@ -34,8 +42,7 @@ fn see(seen: Seen, key: Key, header: Header, place: usize) -> Seen
         return seen;
     }
     let version = header.version;
-    let best = seen.version;
-    if best.0 < version.0 {
+    if is_newer(version, seen.version) {
         return Seen { version, place };
     }
     seen

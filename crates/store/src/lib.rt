@@ -5,7 +5,7 @@
 pub use recovery::format::format;
 
 // Gives the record of the store in an area, whatever the order in which the slots are read, and builds the index. Refused with
-// 1, 2 or 15 to 20; the index stays, but at 20 it is all 0.
+// 1, 2, 15, 16, 17, 24, 25, 18, 19 or 20; the index stays, but at 20 it is all 0.
 pub use recovery::recover::recover;
 
 // The version and kind of a key within the caller's tables, by its highest version in the log. Refused with 4, 22 or 8. Allowed
@@ -14,6 +14,11 @@ pub use recovery::read::read;
 
 // The value of a key, as a part of the area; the empty part at its start where read refuses.
 pub use recovery::read::read_value;
+
+// The same read and the same value without record and index: the log is scanned, with N and S alone (02, R-9). Refused with 1, 16, 17,
+// 24, 25, 18, 19, 22 or 8. Allowed at any moment, also before the first recovery.
+pub use scanning::read::scan_read;
+pub use scanning::read::scan_read_value;
 
 // Starts a write: checks, fills the work buffer, and answers the number of stores to come. Nothing is stored in the area.
 // Refused with 4, 22, 3, 5, 7, 9, 11, 12 or 10, it changes nothing.

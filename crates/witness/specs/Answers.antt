@@ -13,6 +13,7 @@ use Rattle.segment.specs.declared.Key.{Key}
 use Rattle.record.specs.RangeLaws.{between-low}
 use Rattle.record.specs.Refusals.{numberOfRefusal}
 use Rattle.record.specs.declared.Reading.{Reading}
+use Rattle.record.specs.declared.ReadAnswer.{ReadAnswer}
 use Rattle.record.specs.declared.Recovery.{Recovery}
 use Rattle.record.specs.declared.RecoverAnswer.{RecoverAnswer}
 use Rattle.record.specs.declared.Refusal.{Refusal}
@@ -24,8 +25,9 @@ use Rattle.model.specs.Operations.{Operation, logNow}
 use Rattle.model.specs.Recovery.{recovery, recoveryFor, recoverCauses, recordFrom}
 use Rattle.model.specs.Refused.{Terms, reachCauses, readCauses, startCauses}
 use Rattle.model.specs.Promises.{IndexAfter, RecoverPromise, readAnswer, readLengths, ReadPromise, Part, valueAnswer, ValuePromise, Begun, begun, lentLengths, StartPromise}
+use Rattle.model.specs.Scanned.{imageLog, scanCauses, ScanPromise, scannedPart, ScanValue}
 use Rattle.laws.specs.CauseLaws.{cause-first}
-use Rattle.laws.specs.SaidLaws.{recover-says, read-settled, start-settled}
+use Rattle.laws.specs.SaidLaws.{recover-says, read-says, read-settled, start-settled}
 use Rattle.laws.specs.RecoverLaws.{recovery-order, recovery-recovered, recovered-facts}
 use Rattle.laws.specs.Starts.{begun-length, start-early, read-early}
 use Rattle.index.specs.Build.{built}
@@ -69,6 +71,19 @@ module _ (L : Layout) (r : Record) (area cells : List ℕ) (t : Tables) (k : Key
         early = λ c e. ap (λ (x : Option Refusal). valueAnswer L (r .size) x (present (logNow L area r) k)) (its-cause c e);
         exact = λ g. refl;
       }
+
+-- ---- read by scan
+
+abbrev pub scanBy : Layout → ℕ → ℕ → List ℕ → Tables → Key → ReadAnswer
+scanBy L n s area t k = readAnswer L (firstCause (scanCauses L n s area t k)) (present (imageLog L n s area) k)
+
+module _ (L : Layout) (n s : ℕ) (area : List ℕ) (t : Tables) (k : Key) where
+  pub scan-made : ScanPromise L n s area t k (scanBy L n s area t k)
+  scan-made =
+      record { answers = refl; says = read-says L (firstCause (scanCauses L n s area t k)) (present (imageLog L n s area) k) }
+
+  pub scan-value-made : ScanValue L n s area t k (scannedPart L n s area t k)
+  scan-value-made = record { exact = refl }
 
 -- ---- write, delete and clean
 

@@ -7,7 +7,7 @@ use mathlib.Core.List.{List, [], _∷_, _++_}
 use mathlib.Core.Option.{Option, some}
 use native.Mathlib.Omega.{arith}
 use lib.ListN.{length}
-use Rattle.segment.specs.Choice.{both, pick-true}
+use Rattle.segment.specs.Choice.{pick, both, pick-true}
 use Rattle.segment.specs.Layout.{edition1}
 use Rattle.segment.specs.declared.Key.{Key}
 use Rattle.record.specs.Answers.{Said, readSaid, refusal, saidBy}
@@ -22,7 +22,7 @@ use Rattle.model.specs.Play.{opened}
 use Rattle.record.specs.Reach.{holdsTable, allTables}
 use Rattle.model.specs.Recovery.{orderBad, recovery}
 use Rattle.model.specs.Promises.{formatAnswer, areaUnless, FormatPromise, RecoverPromise, ReadPromise, Part, partOf, ValuePromise}
-use Rattle.history.specs.Book.{reads, starts, asks, Answer, saying, Event, called, cut, accepted, bookVersion, Book, freshBook, versionFor, feed, bookOf, highestTold, versionTold}
+use Rattle.history.specs.Book.{reads, scansValue, starts, asks, Answer, saying, giving, Event, called, cut, accepted, bookVersion, Book, freshBook, versionFor, feed, bookOf, highestTold, versionTold}
 use Rattle.history.specs.Demand3.{LargeEnough, bookAnswer, bookValue, GivesBook, StepAgrees, QuestionAgrees, EventAgrees, EventsAgree, Demand3Of}
 use Rattle.history.proofs.Readings.{feed-asks}
 use Rattle.history.proofs.Theorem.{demand-3}
@@ -30,7 +30,7 @@ use Rattle.history.specs.Finishing.{goesOn, allGoOn}
 use Rattle.history.proofs.Corollaries.{agree-at, agree-behind, told-below-next}
 use Rattle.history.proofs.Expecting.{expected-found, replaces-expected}
 use Rattle.witness.specs.Answers.{recoveredCells, recover-made}
-use Rattle.witness.specs.Example.{computing, booking, bytes-of, nine, nine-typed, ten, ten-typed, ones, twos, threes, expecting, told, lent, startedOn, started, stepped, recovered, readEvent, valueEvent, readsAs, leaving, begins, writes, idles, half, meanwhile, fails, others, deletes, cleans, ends, before, area₀, events, all, run, two, cleaned}
+use Rattle.witness.specs.Example.{computing, booking, bytes-of, nine, nine-typed, ten, ten-typed, ones, twos, threes, expecting, told, lent, startedOn, started, stepped, recovered, readEvent, valueEvent, readsAs, scanEvent, scansAs, leaving, begins, writes, idles, half, meanwhile, fails, others, deletes, cleans, ends, before, area₀, events, all, run, two, cleaned}
 
 pub formats : FormatPromise edition1 4 256 before area₀ FormatAnswer.Formatted
 unfolding opened formatAnswer areaUnless saidBy
@@ -151,15 +151,29 @@ read-agreed prior k a value after inside h =
     }
 
 -- on the fresh store, while the second write is pending, and after the recovery in the end
-pub read-fresh : ReadAgreed (bookOf (recovered ∷ [])) nine (refusal 8) []
+pub read-fresh : ReadAgreed (bookOf (scansAs nine (refusal 8) [] ++ recovered ∷ [])) nine (refusal 8) []
 unfolding holdsTable both
-read-fresh = read-agreed (recovered ∷ []) nine (refusal 8) [] (writes ++ rest) refl (demanded .agrees)
+read-fresh = read-agreed (scansAs nine (refusal 8) [] ++ recovered ∷ []) nine (refusal 8) [] (writes ++ rest) refl (demanded .agrees)
 
 pub read-meanwhile : ReadAgreed (bookOf (begins ++ (writes ++ (idles ++ half)))) nine (told 0 1 1) ones
 unfolding holdsTable both
 read-meanwhile =
     read-agreed (begins ++ (writes ++ (idles ++ half))) nine (told 0 1 1) ones (fails ++ (others ++ (deletes ++ (cleans ++ ends)))) refl
     (demanded .agrees)
+
+-- after the cut, with no record held, a read by scan answered what the book has
+pub scan-unheld :
+    told 0 1 1 ≡
+    readSaid (bookAnswer edition1 (bookOf (begins ++ (writes ++ (idles ++ (half ++ (meanwhile ++ (scansAs nine (told 0 1 1) ones ++ cut ∷ [])))))) .keys nine))
+unfolding EventAgrees QuestionAgrees pick holdsTable both
+scan-unheld =
+    ap (λ (x : Answer). x .said)
+    (agree-at freshBook (begins ++ (writes ++ (idles ++ (half ++ (meanwhile ++ (scansAs nine (told 0 1 1) ones ++ cut ∷ []))))))
+    (scanEvent nine (told 0 1 1))
+    (called (asks (scansValue 4 256 allTables nine)) (record { area = 1024; index = 0; work = 0 }) (giving ones)
+    ∷ recovered
+    ∷ readsAs nine (told 0 1 1) ones ++ (others ++ (deletes ++ (cleans ++ ends))))
+    (demanded .agrees))
 
 -- ---- what a write expected
 

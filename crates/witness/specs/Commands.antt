@@ -7,26 +7,33 @@ use mathlib.Core.Option.{Option, none, some}
 use lib.ListN.{length}
 use Rattle.segment.specs.Layout.{Layout, edition1}
 use Rattle.record.specs.Answers.{recoverSaid, readSaid, startSaid, stepSaid}
+use Rattle.segment.specs.declared.Key.{Key}
 use Rattle.record.specs.declared.Recovery.{Recovery}
+use Rattle.record.specs.declared.Tables.{Tables}
 use Rattle.model.specs.Operations.{Operation, Typed, TypedKey}
 use Rattle.model.specs.Refused.{Terms}
 use Rattle.model.specs.Recovery.{recovery}
 use Rattle.model.specs.Promises.{readLengths, partOf, Begun, lentLengths}
-use Rattle.history.specs.Book.{Question, reads, readsValue, starts, steps, asks, recovers, Answer, saying, giving, Event, called, cut}
-use Rattle.history.specs.Runs.{Held, World, heldAfter, recoveredWorld, Asked, read, readValue, Moves, start, step, ask, recover, cuts, Run, stop, go}
-use Rattle.witness.specs.Answers.{readBy, partBy, read-made, value-made, startedBy, start-made, recoveredCells, recover-made}
+use Rattle.model.specs.Scanned.{scannedPart}
+use Rattle.history.specs.Book.{Question, reads, readsValue, scans, scansValue, starts, steps, asks, recovers, Answer, saying, giving, Event, called, cut}
+use Rattle.history.specs.Runs.{Held, World, heldAfter, recoveredWorld, Asked, read, readValue, scan, scanValue, Moves, start, step, ask, look, recover, cuts, Run, stop, go}
+use Rattle.witness.specs.Answers.{readBy, partBy, read-made, value-made, scanBy, scan-made, scan-value-made, startedBy, start-made, recoveredCells, recover-made}
 use Rattle.witness.specs.Steps.{Moved, steppedBy, step-made}
 
--- a question's key is of its types
+-- A question's key is of its types. Those by scan need no record, and are commands of their own.
 abbrev pub TypedQuestion : Question → Type 0
 TypedQuestion (reads t k) = TypedKey k
 TypedQuestion (readsValue t k) = TypedKey k
+TypedQuestion (scans n s t k) = ⊥
+TypedQuestion (scansValue n s t k) = ⊥
 
 -- Arguments are of their types. A start gets any terms and any work buffer, a recovery any order list and any index.
 pub data Command : Type 0 where
   operate : Terms → (o : Operation) → Typed o → List ℕ → Command
   advance : Command
   question : (q : Question) → TypedQuestion q → Command
+  glance : Tables → (k : Key) → TypedKey k → Command
+  glanceValue : Tables → (k : Key) → TypedKey k → Command
   restart : List ℕ → List ℕ → Command
   powerCut : Command
 
@@ -60,10 +67,27 @@ steppedWorld w h x =
 unfoldable pub answerBy : Layout → Held → List ℕ → Question → Answer
 answerBy L h area (reads t k) = saying (readSaid (readBy L (h .rec) area (h .cells) t k .answer))
 answerBy L h area (readsValue t k) = giving (partOf area (partBy L (h .rec) area (h .cells) t k))
+answerBy L h area (scans n s t k) = saying (readSaid (scanBy L n s area t k))
+answerBy L h area (scansValue n s t k) = giving (partOf area (scannedPart L n s area t k))
 
 abbrev pub askedWorld : Layout → World → Held → Question → Played
 askedWorld L w h q =
     record { events = called (asks q) (readLengths (w .area) (h .cells)) (answerBy L h (w .area) q) ∷ []; world = w }
+
+-- a read by scan, and one of the value
+abbrev pub glanced : Layout → ℕ → ℕ → World → Tables → Key → Played
+glanced L n s w t k =
+    record {
+      events = called (asks (scans n s t k)) (readLengths (w .area) []) (saying (readSaid (scanBy L n s (w .area) t k))) ∷ [];
+      world = w;
+    }
+
+abbrev pub glancedValue : Layout → ℕ → ℕ → World → Tables → Key → Played
+glancedValue L n s w t k =
+    record {
+      events = called (asks (scansValue n s t k)) (readLengths (w .area) []) (giving (partOf (w .area) (scannedPart L n s (w .area) t k))) ∷ [];
+      world = w;
+    }
 
 abbrev pub restarted : Layout → ℕ → ℕ → World → List ℕ → List ℕ → Recovery → Played
 restarted L n s w order cells r =
@@ -72,7 +96,7 @@ restarted L n s w order cells r =
       world = recoveredWorld w (recoveredCells L s order (w .area) cells r) r;
     }
 
--- Without a record only a recovery and a cut can happen: any other command does nothing. A step gets the work buffer of the start.
+-- Without a record only a recovery, a read by scan and a cut can happen: any other command does nothing. A step gets the work buffer of the start.
 unfoldable pub played : Layout → ℕ → ℕ → World → Option Held → Command → Played
 played L n s w (some h) (operate q o t work) = startedWorld w h q o work (startedBy L q o (h .rec) (w .area) (h .cells) work)
 played L n s w (some h) advance = steppedWorld w h (steppedBy L (h .rec) (w .area) (h .cells) (h .work))
@@ -80,6 +104,8 @@ played L n s w (some h) (question q t) = askedWorld L w h q
 played L n s w none (operate q o t work) = record { events = []; world = w }
 played L n s w none advance = record { events = []; world = w }
 played L n s w none (question q t) = record { events = []; world = w }
+played L n s w held (glance t k ty) = glanced L n s w t k
+played L n s w held (glanceValue t k ty) = glancedValue L n s w t k
 played L n s w held (restart order cells) = restarted L n s w order cells (recovery L n s (length cells) order (w .area))
 played L n s w held powerCut = record { events = cut ∷ []; world = record { area = w .area; held = none; cells = w .cells } }
 
@@ -113,6 +139,8 @@ module _ (n s : ℕ) where
   unfolding answerBy
   asked area m h (reads u k) t = read t (read-made edition1 (h .rec) area (h .cells) u k)
   asked area m h (readsValue u k) t = readValue t (value-made edition1 (h .rec) area (h .cells) u k)
+  asked area m h (scans k j u i) t = absurd t
+  asked area m h (scansValue k j u i) t = absurd t
 
   played-run : (area : List ℕ) (m : Option ℕ) (held : Option Held) (c : Command) →
       let w : World = record { area = area; held = held; cells = m } in From w (played edition1 n s w held c)
@@ -123,6 +151,10 @@ module _ (n s : ℕ) where
   played-run area m none (operate q o t work) = stop
   played-run area m none advance = stop
   played-run area m none (question q t) = stop
+  played-run area m (some h) (glance u k t) = one (look (scan t (scan-made edition1 n s area u k)))
+  played-run area m none (glance u k t) = one (look (scan t (scan-made edition1 n s area u k)))
+  played-run area m (some h) (glanceValue u k t) = one (look (scanValue t (scan-value-made edition1 n s area u k)))
+  played-run area m none (glanceValue u k t) = one (look (scanValue t (scan-value-made edition1 n s area u k)))
   played-run area m (some h) (restart order cells) = one (recover (recover-made edition1 n s order area cells))
   played-run area m none (restart order cells) = one (recover (recover-made edition1 n s order area cells))
   played-run area m (some h) powerCut = one cuts

@@ -11,7 +11,7 @@ use Rattle.record.specs.declared.Tables.{Tables}
 use Rattle.model.specs.Operations.{write, delete, clean}
 use Rattle.model.specs.Refused.{Terms}
 use Rattle.model.specs.Table.{Row, row, failing, Hold, rows-hold}
-use Rattle.history.specs.Book.{reads, readsValue, Call, starts, steps, asks, recovers, Event, called, cut}
+use Rattle.history.specs.Book.{reads, readsValue, scans, scansValue, Call, starts, steps, asks, recovers, Event, called, cut}
 
 -- ---- an event as numbers: what is told, the lengths lent, which call it is, and its arguments; and its value
 
@@ -27,6 +27,8 @@ callNumbers (asks (reads t k)) = 2 ∷ t .first ∷ t .last ∷ k .table ∷ k .
 callNumbers (asks (readsValue t k)) = 3 ∷ t .first ∷ t .last ∷ k .table ∷ k .key ∷ []
 callNumbers (starts t (clean victims)) = 4 ∷ expectedNumber (t .expected) ∷ t .tables .first ∷ t .tables .last ∷ victims ∷ []
 callNumbers (starts t (delete k)) = 5 ∷ expectedNumber (t .expected) ∷ t .tables .first ∷ t .tables .last ∷ k .table ∷ k .key ∷ []
+callNumbers (asks (scans n s t k)) = 7 ∷ n ∷ s ∷ t .first ∷ t .last ∷ k .table ∷ k .key ∷ []
+callNumbers (asks (scansValue n s t k)) = 8 ∷ n ∷ s ∷ t .first ∷ t .last ∷ k .table ∷ k .key ∷ []
 callNumbers (starts t (write k value)) = 6 ∷ expectedNumber (t .expected) ∷ t .tables .first ∷ t .tables .last ∷ k .table ∷ k .key ∷ value
 
 unfoldable pub eventNumbers : Event → List ℕ
@@ -60,7 +62,10 @@ callFrom (suc (suc zero)) xs = asks (reads (tablesFrom xs) (keyFrom (drop 2 xs))
 callFrom (suc (suc (suc zero))) xs = asks (readsValue (tablesFrom xs) (keyFrom (drop 2 xs)))
 callFrom (suc (suc (suc (suc zero)))) xs = starts (termsFrom xs) (clean (getD xs 3 0))
 callFrom (suc (suc (suc (suc (suc zero))))) xs = starts (termsFrom xs) (delete (keyFrom (drop 3 xs)))
-callFrom (suc (suc (suc (suc (suc (suc n)))))) xs = starts (termsFrom xs) (write (keyFrom (drop 3 xs)) (drop 5 xs))
+callFrom (suc (suc (suc (suc (suc (suc zero)))))) xs = starts (termsFrom xs) (write (keyFrom (drop 3 xs)) (drop 5 xs))
+callFrom (suc (suc (suc (suc (suc (suc (suc zero))))))) xs = asks (scans (getD xs 0 0) (getD xs 1 0) (tablesFrom (drop 2 xs)) (keyFrom (drop 4 xs)))
+callFrom (suc (suc (suc (suc (suc (suc (suc (suc n)))))))) xs =
+    asks (scansValue (getD xs 0 0) (getD xs 1 0) (tablesFrom (drop 2 xs)) (keyFrom (drop 4 xs)))
 
 eventFrom : List ℕ → List ℕ → Event
 eventFrom [] value = cut
@@ -83,6 +88,8 @@ event-back (called steps l a) = refl
 event-back (called (recovers n s order) l a) = refl
 event-back (called (asks (reads t k)) l a) = refl
 event-back (called (asks (readsValue t k)) l a) = refl
+event-back (called (asks (scans n s t k)) l a) = refl
+event-back (called (asks (scansValue n s t k)) l a) = refl
 event-back (called (starts t (clean victims)) l a) = ap (λ (x : Terms). called (starts x (clean victims)) l a) (terms-back t)
 event-back (called (starts t (delete k)) l a) = ap (λ (x : Terms). called (starts x (delete k)) l a) (terms-back t)
 event-back (called (starts t (write k value)) l a) = ap (λ (x : Terms). called (starts x (write k value)) l a) (terms-back t)

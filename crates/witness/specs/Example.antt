@@ -1,5 +1,5 @@
 -- One run, computed: N 4, S 256, M 16; a write, a second write of the same key that is cut in its middle, a write of another key, a
--- delete, a cleaning, recoveries, and reads before, during and after them.
+-- delete, a cleaning, recoveries, reads before, during and after them, and reads by scan where no record is held and while one is.
 use Prim.Native.Nat.{ℕ, zero, suc, _+_, _<_}
 use mathlib.Core.Path.{_≡_, refl, subst}
 use mathlib.Core.List.{List, [], _∷_, _++_}
@@ -21,7 +21,7 @@ use Rattle.model.specs.Play.{opened, keyed}
 use Rattle.record.specs.Reach.{allTables}
 use Rattle.model.specs.Refused.{Lengths, Terms, freely}
 use Rattle.model.specs.Table.{failing}
-use Rattle.history.specs.Book.{reads, readsValue, starts, steps, asks, recovers, saying, giving, Event, called, cut, Kept, Awaited, Book, finish, oneOff, takeOne, feedCall, feed, bookAfter, bookOf}
+use Rattle.history.specs.Book.{reads, readsValue, scans, scansValue, starts, steps, asks, recovers, saying, giving, Event, called, cut, Kept, Awaited, Book, finish, oneOff, takeOne, feedCall, feed, bookAfter, bookOf}
 use Rattle.history.specs.Runs.{freshWorld, Run}
 use Rattle.index.specs.Build as Build
 use Rattle.index.specs.Build.{entriesFrom, inLog, listed}
@@ -34,7 +34,7 @@ use Rattle.stepping.specs.Next.{commitStore, fitsSlot, fitsLeft, slotStore, slo
 use Rattle.witness.specs.Answers.{cellsBy}
 use Rattle.witness.specs.Compared.{expectedNumber, callNumbers, eventNumbers, eventValue, compared, events-equal}
 use Rattle.witness.specs.Steps.{storedBy, steppedUnless}
-use Rattle.witness.specs.Commands.{Command, operate, advance, question, restart, powerCut, answerBy, Played, played, playOn, playAll, commands-run}
+use Rattle.witness.specs.Commands.{Command, operate, advance, question, glance, glanceValue, restart, powerCut, answerBy, Played, played, playOn, playAll, commands-run}
 
 -- ---- the commands
 
@@ -82,9 +82,14 @@ recovering = restart (0 ∷ 1 ∷ 2 ∷ 3 ∷ []) (replicate 16 0)
 abbrev pub looking : (k : Key) → TypedKey k → List Command → List Command
 looking k t rest = question (reads allTables k) t ∷ question (readsValue allTables k) t ∷ rest
 
+-- the same by scan
+abbrev pub glancing : (k : Key) → TypedKey k → List Command → List Command
+glancing k t rest = glance allTables k t ∷ glanceValue allTables k t ∷ rest
+
 abbrev pub commands : List Command
 commands =
-    recovering
+    glancing nine nine-typed
+    (recovering
     ∷ looking nine nine-typed
     (starting (write nine ones) (nine-typed, bytes-of 8 0x11 (omega arith))
     ∷ replicate 20 advance ++ advance
@@ -92,15 +97,17 @@ commands =
     (startingOn (expecting 0) (write nine twos) (nine-typed, bytes-of 8 0x22 (omega arith))
     ∷ startingOn (expecting 1) (write nine twos) (nine-typed, bytes-of 8 0x22 (omega arith))
     ∷ replicate 7 advance ++ looking nine nine-typed
+    (glancing nine nine-typed
     (powerCut
-    ∷ recovering
+    ∷ glancing nine nine-typed
+    (recovering
     ∷ looking nine nine-typed
     (startingOn (expecting 0) (write ten threes) (ten-typed, bytes-of 24 0x33 (omega arith))
     ∷ replicate 36 advance ++ starting (delete nine) nine-typed
     ∷ replicate 12 advance ++ starting (clean 1) (omega arith)
     ∷ replicate 50 advance ++ powerCut
     ∷ recovering
-    ∷ looking nine nine-typed (looking ten ten-typed [])))))
+    ∷ looking nine nine-typed (looking ten ten-typed []))))))))
 
 -- ---- the events, with their answers as numbers
 
@@ -133,6 +140,14 @@ valueEvent k value = called (asks (readsValue allTables k)) (lent 0) (giving val
 abbrev pub readsAs : Key → Said → List ℕ → List Event
 readsAs k a value = readEvent k a ∷ valueEvent k value ∷ []
 
+-- a read by scan that is answered so, and the value
+abbrev pub scanEvent : Key → Said → Event
+scanEvent k a = called (asks (scans 4 256 allTables k)) (record { area = 1024; index = 0; work = 0 }) (saying a)
+
+abbrev pub scansAs : Key → Said → List ℕ → List Event
+scansAs k a value =
+    scanEvent k a ∷ called (asks (scansValue 4 256 allTables k)) (record { area = 1024; index = 0; work = 0 }) (giving value) ∷ []
+
 -- f steps, one after the other, the last of which leaves k stores
 abbrev pub leaving : ℕ → ℕ → List Event
 leaving zero k = []
@@ -145,9 +160,9 @@ finishedOn q o n version = startedOn q o (n + 1) ∷ leaving n 1 ++ stepped (tol
 abbrev pub finished : Operation → ℕ → ℕ → List Event
 finished = finishedOn freely
 
--- The fresh store: a read answers 8, and the value is empty.
+-- The fresh store: a read answers 8, and the value is empty, by scan before the first recovery too.
 abbrev pub begins : List Event
-begins = recovered ∷ readsAs nine (refusal 8) []
+begins = scansAs nine (refusal 8) [] ++ recovered ∷ readsAs nine (refusal 8) []
 
 -- The first write is version 1, of kind 1; a step too many is refused with 6.
 abbrev pub writes : List Event
@@ -167,9 +182,9 @@ half =
 abbrev pub meanwhile : List Event
 meanwhile = readsAs nine (told 0 1 1) ones
 
--- The cut in it, and what is left.
+-- The cut in it, and what is left; a scan shows the same during the write, and after the cut without a record.
 abbrev pub fails : List Event
-fails = cut ∷ recovered ∷ readsAs nine (told 0 1 1) ones
+fails = scansAs nine (told 0 1 1) ones ++ cut ∷ scansAs nine (told 0 1 1) ones ++ recovered ∷ readsAs nine (told 0 1 1) ones
 
 -- The write of the other key, which is expected to be absent, takes the version that the cut write did not get, and the delete the one
 -- after.
