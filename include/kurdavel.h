@@ -107,8 +107,7 @@
  *   Values of 8 bytes in old head records begin with the position as a 32-bit float (IEEE 754, little-endian), the other four
  *   bytes being free; new ones have the position there as a whole number. kurdavel_from_float and kurdavel_to_float convert
  *   such a value and never round: where a float is no whole count, or a count is lost in a float (16,777,217 is the first), they
- *   refuse. They know nothing of the store. examples/c/positions.c carries a record over, under a key of its own and cut
- *   anywhere.
+ *   refuse. They know nothing of the store. examples/c/heads.c moves a record to a key of its own, cut anywhere.
  *
  * MEDIA THAT ARE NOT MEMORY
  *   Where the parameters lie in serial FRAM or EEPROM behind a driver, lend a copy in RAM as the area. At power on the copy
