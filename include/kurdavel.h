@@ -67,16 +67,16 @@
  *   show through the refusals 5, 6, 9 to 14, 20 and 21, the numbers of stores, the versions and the places.
  *
  * WHAT THE CALLS COST
- *   A step before the last, kurdavel_next_store, kurdavel_fewest and the conversions of positions do the same little work
- *   whatever the store holds. A read, the start of a write or delete
- *   and the last step of either search the index once, but for a delete that is done as a cleaning (kurdavel_delete).
- *   Recovery, the start of a cleaning of slots that hold tombstones, the start of such a delete and the last step of
- *   every cleaning and of every such delete look at each entry of the log (at most (N - 1) * ((S - 13) / 11) of them),
- *   with a search for each; recovery and these last steps also write all M words of the index. kurdavel_join takes no more
- *   than one and a half times as long as the starts of a cleaning of each slot of the log, one after another.
- *   kurdavel_scan_read looks at each entry of the log as recovery does, without the index, and takes no longer. A search looks at few
- *   words while M is well above the number of keys, and never at more than the keys and one more. docs/PERFORMANCE.md
- *   has bounds and measured worst cases.
+ *   A step before the last, kurdavel_next_store, kurdavel_fewest and the conversions of positions do the same little
+ *   work whatever the store holds. A read, the start of a write or delete and the last step of either search the index
+ *   once, but for a delete that is done as a cleaning (kurdavel_delete). Recovery, the start of a cleaning of slots
+ *   that hold tombstones, the start of such a delete and the last step of every cleaning and of every such delete look
+ *   at each entry of the log (at most (N - 1) * ((S - 13) / 11) of them), with a search for each; recovery and these
+ *   last steps also write all M words of the index. kurdavel_join takes no more than one and a half times as long as
+ *   the starts of a cleaning of each slot of the log, one after another. kurdavel_scan_read looks at each entry of the
+ *   log as recovery does, without the index, and takes no longer. A search looks at few words while M is well above the
+ *   number of keys, and never at more than the keys and one more. docs/PERFORMANCE.md has bounds and measured worst
+ *   cases.
  *
  * THE PROMISE ABOUT CUTS, AND THE RULES OF USE THAT IT RESTS ON
  *   Wherever the power fails, the next recovery is accepted and gives exactly what the finished operations left,
@@ -104,27 +104,28 @@
  *   library in another form, keep it so.
  *
  * HEAD POSITIONS AS FLOATS AND AS COUNTS
- *   Values of 8 bytes in old head records begin with the position as a 32-bit float (IEEE 754, little-endian), the other four
- *   bytes being free; new ones have the position there as a whole number. kurdavel_from_float and kurdavel_to_float convert
- *   such a value and never round: where a float is no whole count, or a count is lost in a float (16,777,217 is the first), they
- *   refuse. They know nothing of the store. examples/c/positions.c carries a record over, under a key of its own and cut
- *   anywhere.
+ *   Values of 8 bytes in old head records begin with the position as a 32-bit float (IEEE 754, little-endian), the
+ *   other four bytes being free; new ones have the position there as a whole number. kurdavel_from_float and
+ *   kurdavel_to_float convert such a value and never round: where a float is no whole count, or a count is lost in a
+ *   float (16,777,217 is the first), they refuse. They know nothing of the store. examples/c/heads.c moves a record to
+ *   a key of its own, cut anywhere.
  *
  * MEDIA THAT ARE NOT MEMORY
- *   Where the parameters lie in serial FRAM or EEPROM behind a driver, lend a copy in RAM as the area. At power on the copy
- *   is read from the device and recovered. Before each step kurdavel_next_store tells the place and the byte that the step
- *   will store, and the firmware puts the same byte at the same place of the device: right before the step or right after
- *   it, but in every case before the next one, and after the last one before the operation is reported as done. The device
- *   has then made the same stores in the same order as the copy, all of them or all but one, or one more. A cut loses the
- *   copy, and the device decides: it is what a cut of the store one store earlier or later would leave, which the promise
- *   covers. A driver that writes a byte twice after an error does no harm; one that merges or reorders bytes does.
- *   kurdavel_format makes its stores in one call: put the whole area on the device after it. examples/c/device.c shows all
- *   this.
+ *   Where the parameters lie in serial FRAM or EEPROM behind a driver, lend a copy in RAM as the area. At power on the
+ *   copy is read from the device and recovered. Before each step kurdavel_next_store tells the place and the byte that
+ *   the step will store, and the firmware puts the same byte at the same place of the device: right before the step or
+ *   right after it, but in every case before the next one, and after the last one before the operation is reported as
+ *   done. The device has then made the same stores in the same order as the copy, all of them or all but one, or one
+ *   more. A cut loses the copy, and the device decides: it is what a cut of the store one store earlier or later would
+ *   leave, which the promise covers. A driver that writes a byte twice after an error does no harm; one that merges or
+ *   reorders bytes does. kurdavel_format makes its stores in one call: put the whole area on the device after it.
+ *   examples/c/device.c shows all this.
  *
  * INTERRUPTS AND TASKS
  *   One call at a time for each store, but reads, which change nothing, may overlap one another. A read from an
  *   interrupt or another task is allowed between two steps, not while a call that changes the record, the index or the
- *   area is under way.
+ *   area is under way. The same holds for kurdavel_scan_read, kurdavel_scan_read_value, kurdavel_next_store,
+ *   kurdavel_fewest and kurdavel_join, which change nothing either.
  *
  * CHOOSING M, AND ROOM
  *   Every key with an entry in the log has one cell, and M - 1 keys is the most. A deleted key counts until no entry
@@ -136,9 +137,9 @@
  *   11, and a slot holds S - 13 bytes of them. A delete needs no room: a store that is full of live objects can be
  *   emptied again, one key after another.
  *
- *   An idle task that cleans ahead of need asks kurdavel_fewest for its victim: of that slot the fewest bytes of objects
- *   are kept. The words KURDAVEL_WORD_PRESENT.. of the record say for each slot how many they are. Tombstones may be kept
- *   besides, 11 bytes each.
+ *   An idle task that cleans ahead of need asks kurdavel_fewest for its victim: of that slot the fewest bytes of
+ *   objects are kept. The words KURDAVEL_WORD_PRESENT.. of the record say for each slot how many they are. Tombstones
+ *   may be kept besides, 11 bytes each.
  *
  *   What helps after a refusal
  *    9  Only a format, which empties the store: no version is left. Reads and cleanings go on.
@@ -207,8 +208,8 @@ extern "C" {
 #define KURDAVEL_STACK_JOIN 0u
 #define KURDAVEL_STACK_SCAN_READ 0u
 #define KURDAVEL_STACK_SCAN_READ_VALUE 0u
-#define KURDAVEL_STACK_FROM_FLOAT 0u
-#define KURDAVEL_STACK_TO_FLOAT 0u
+#define KURDAVEL_STACK_FROM_FLOAT 64u
+#define KURDAVEL_STACK_TO_FLOAT 64u
 
 /* The words of a record. The store is the library's to change: read these, and write none. */
 enum kurdavel_word {
@@ -274,7 +275,8 @@ enum kurdavel_answer {
     KURDAVEL_REFUSED_BAD_MAP = 24,         /* the head's map names a slot not below N, lacks the head or leaves no slot
                                               free */
     KURDAVEL_REFUSED_NOT_A_DIGEST = 25,    /* the head's map names a slot that does not begin with a digest */
-    KURDAVEL_REFUSED_BAD_FLOAT = 26,       /* the float is no whole number from 0 to 67,108,864, or has its sign bit set */
+    KURDAVEL_REFUSED_BAD_FLOAT = 26,       /* the float is no whole number from 0 to 67,108,864, or its sign bit is
+                                              set */
     KURDAVEL_REFUSED_BAD_COUNT = 27        /* the count is above 67,108,864, or no float holds it */
 };
 
