@@ -72,7 +72,7 @@ module _ (L : Layout) (n s m : ℕ) (area : List ℕ) where
 
   module _ (h : Head) (lent : Allowed n s m (length area)) (sound : Sound v n m h) where
     abbrev own : Record
-    own = recordUnder v n s m h
+    own = recordUnder L v n s m h
 
     own-log : imageLog L n s area ≡ logNow L area own
     unfolding headElse
