@@ -95,7 +95,7 @@ module _ (L : Layout) (roomy : Roomy L) (before cells : List ℕ) (idle : Record
           let w = entry-finished L r done (logNow L before idle) (logNow L after fin) after cells x
           (appended-added L roomy before idle e recovers bytes f (leb-true (idle .end + sizeOf L e) (idle .size) t))
           (recovered-apart L (idle .slots) (idle .size) (idle .cells) after fin q)
-          (recovered-found L (idle .slots) (idle .size) (idle .cells) after fin q) (f .takes .version) indexed (omega arith) in
+          (recovered-found L (idle .slots) (idle .size) (idle .cells) after fin q) (f .takes .version) indexed (omega arith) (facts .cells-high) in
           record {
             answers =
                 w .answers ∙ ap (λ (s : Record). record { answer = StepAnswer.Done (record { 0 = idle .next .0 }); rec = s })
@@ -124,7 +124,7 @@ module _ (L : Layout) (roomy : Roomy L) (before cells : List ℕ) (idle : Record
           let w = entry-finished L r (done (withBit (idle .map) (newSlot idle))) (logNow L before idle) (logNow L after fin) after cells x
           (headed-added L roomy before idle e recovers bytes f t)
           (recovered-apart L (idle .slots) (idle .size) (idle .cells) after fin q)
-          (recovered-found L (idle .slots) (idle .size) (idle .cells) after fin q) (f .takes .version) indexed (omega arith) in
+          (recovered-found L (idle .slots) (idle .size) (idle .cells) after fin q) (f .takes .version) indexed (omega arith) (facts .cells-high) in
           record {
             answers =
                 w .answers ∙ ap (λ (s : Record). record { answer = StepAnswer.Done (record { 0 = idle .next .0 }); rec = s })
