@@ -34,6 +34,7 @@ use Rattle.laws.specs.Scans.{scan-scans, scans-found}
 use Rattle.laws.specs.Stores.{slots-apart, slot-inside, length-segment}
 use Rattle.laws.specs.RecoverLaws.{recovered-case, recovered-apart, recovered-lent}
 use Rattle.index.specs.Search.{cellHas, searchFor}
+use Rattle.index.specs.SearchLaws.{search-within}
 use Rattle.index.specs.Finds.{search-known}
 use Rattle.index.specs.Area.{AllIn, area-picks}
 use Rattle.index.specs.BuildLaws.{log-in-area}
@@ -169,15 +170,15 @@ module _ (L : Layout) (area cells : List ℕ) (r : Record) (g : Genuine L area r
     pub cell : HasCell (r .size) cells top
     pub finds : searchFor L area cells k ≡ Found.At (cell .cell)
 
-  pub key-cell : (x : Placed) → In x log → KeyCell (keyOf (x .entry))
-  key-cell x m = go (latest log (keyOf (x .entry))) refl
+  pub key-cell : length cells ≤ 4096 → (x : Placed) → In x log → KeyCell (keyOf (x .entry))
+  key-cell few x m = go (latest log (keyOf (x .entry))) refl
     where
       go : (o : Option Placed) → latest log (keyOf (x .entry)) ≡ o → KeyCell (keyOf (x .entry))
       go none e = absurd (clash _ (own-key (x .entry)) (latest-none log (keyOf (x .entry)) e x m))
       go (some y) e =
           let (c, s) =
           search-known (r .size) log cells (g .rule) (cellHas L area (keyOf (x .entry))) (keyOf (x .entry)) (area-picks L area (r .size) log (keyOf (x .entry)) all-in) y e in
-          record { top = y; is = e; cell = c; finds = s }
+          record { top = y; is = e; cell = c; finds = search-within L area cells (keyOf (x .entry)) few ∙ s }
 
   -- keys with one cell are one
   one-cell : (j k : Key) (a : KeyCell j) (b : KeyCell k) → a .cell .cell ≡ b .cell .cell → j ≡ k
@@ -227,7 +228,7 @@ module _ (L : Layout) (area cells : List ℕ) (r : Record) (g : Genuine L area r
     where
       own : KeyCell (keyOf (y .entry))
       own =
-          key-cell (placedAt i y)
+          key-cell few (placedAt i y)
           (in-log v (named (r .map)) (r .slots) (placedAt i y)
           (record {
             below = h;
@@ -288,7 +289,7 @@ module _ (L : Layout) (area cells : List ℕ) (r : Record) (g : Genuine L area r
         keptTest L area cells ms (headerOf L (x .entry)) (placeOf (r .size) x) ≡ isKept victims log x
     unfolding keptAt cellKept both
     kept-same ms tell x m e =
-        let c = key-cell x m in
+        let c = key-cell few x m in
         ap (cellKept cells ms (isTombstone (x .entry)) (placeOf (r .size) x)) (c .finds)
         ∙ ap (λ (b : Bool). both b (either (not (isTombstone (x .entry))) (isMarked ms (c .cell .cell)))) (cell-highest x m c)
         ∙ ap (both (isHighest log (x .entry))) (tell x m e c)

@@ -118,7 +118,7 @@ module _ (L : Layout) (area cells : List ℕ) (r : Record) (g : Genuine L area r
   -- ---- what the index tells
 
   pub cell : KeyCell L area cells r g (keyOf (x .entry))
-  cell = key-cell L area cells r g x member
+  cell = key-cell L area cells r g few x member
 
   abbrev i : ℕ
   i = cell .cell .cell

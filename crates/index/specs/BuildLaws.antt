@@ -27,6 +27,7 @@ use Rattle.laws.specs.Versions.{shared-apart}
 use Rattle.laws.specs.LogLaws.{AllScanned, itemOf, placed-mem, mem-placed, in-log, log-in, scan-whole}
 use Rattle.laws.specs.Scans.{scan-scans, scans-found}
 use Rattle.index.specs.Area.{InArea, AllIn}
+use Rattle.index.specs.Search.{mostCells}
 use Rattle.index.specs.Insert.{Tally, counted, over, insertAll}
 use Rattle.index.specs.InsertLaws.{Tells, tells-log}
 use Rattle.index.specs.Build.{entriesAt, inLog, slotEntries, listed, Rebuilt, finished, built}
@@ -180,13 +181,13 @@ logIn L area S map n = logOf (viewsOf L area S) (named map) n
 
 module _ (L : Layout) (area : List ℕ) (S map n m : ℕ) (order : List ℕ) (long : length area ≡ n * S) (below : map < 2 ^ n)
     (scans : AllScanned (viewsOf L area S) (named map) n) (versions : versionShared (logIn L area S map n) ≡ false)
-    (order-good : orderBad n order ≡ false) (some-cell : 0 < m) where
+    (order-good : orderBad n order ≡ false) (some-cell : 0 < m) (most : m ≤ mostCells) where
   abbrev tally : Tally
   tally = insertAll L area S (listed L area S map order) (counted (replicate m 0) 0)
 
   told : Tells S m (logIn L area S map n) tally
   told =
-      tells-log L area S m (listed L area S map order) (logIn L area S map n) some-cell
+      tells-log L area S m (listed L area S map order) (logIn L area S map n) some-cell most
       (listed-log L area S map n long below scans order order-good) (log-in-area L area S (named map) n scans)
       (shared-apart (logIn L area S map n) versions)
 

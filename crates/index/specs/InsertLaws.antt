@@ -18,7 +18,8 @@ use Rattle.model.specs.Index.{HasCell, IndexRule}
 use Rattle.laws.specs.Members.{clash, first, Within, Same, same-sym, same-trans, added-same, added-between}
 use Rattle.laws.specs.Latest.{Newest, latest-some, latest-none, latest-has, key-none, Apart, apart-same}
 use Rattle.laws.specs.Keys.{keys-same}
-use Rattle.index.specs.Search.{versionAt, cellHas, searchFor}
+use Rattle.index.specs.Search.{versionAt, cellHas, searchFor, mostCells}
+use Rattle.index.specs.SearchLaws.{search-within}
 use Rattle.index.specs.Finds.{Picks, FreeCell, search-known, search-new}
 use Rattle.index.specs.Front.{latest-again}
 use Rattle.index.specs.Puts.{rule-latest, rule-same, target-known, target-new, put-newest, put-older}
@@ -114,7 +115,7 @@ unfoldable pub Tells : ℕ → ℕ → List Placed → Tally → Type 0
 Tells S m log (counted cells n) = Indexed S m log cells n
 Tells S m log over = m ≤ length (keysOf log)
 
-module _ (L : Layout) (area : List ℕ) (S m : ℕ) (log : List Placed) (x : Placed) (there : AllIn L area S (x ∷ log)) (apart : Apart (x ∷ log)) where
+module _ (L : Layout) (area : List ℕ) (S m : ℕ) (log : List Placed) (x : Placed) (most : m ≤ mostCells) (there : AllIn L area S (x ∷ log)) (apart : Apart (x ∷ log)) where
   picks-all : Picks (cellHas L area (keyOf (x .entry))) S (x ∷ log) (keyOf (x .entry))
   picks-all = area-picks L area S (x ∷ log) (keyOf (x .entry)) there
 
@@ -226,11 +227,11 @@ module _ (L : Layout) (area : List ℕ) (S m : ℕ) (log : List Placed) (x : Pla
         go none l =
             let f = search-new S log cells (ix .rule) (cellHas L area (keyOf (x .entry))) (keyOf (x .entry))
             (λ y i. picks-all y (List·Memᴰ·tail i)) l (omega (arith, ix .keys, ix .few, ix .long)) in
-            fresh l (f .0) (f .1)
+            fresh l (f .0) (search-within L area cells (keyOf (x .entry)) (omega (arith, ix .long, most)) ∙ f .1)
         go (some y) l =
             let f = search-known S log cells (ix .rule) (cellHas L area (keyOf (x .entry))) (keyOf (x .entry))
             (λ z i. picks-all z (List·Memᴰ·tail i)) y l in
-            some-key y l (f .0) (f .1) (ltb (y .entry .version) (x .entry .version)) refl
+            some-key y l (f .0) (search-within L area cells (keyOf (x .entry)) (omega (arith, ix .long, most)) ∙ f .1) (ltb (y .entry .version) (x .entry .version)) refl
 
     -- what an insertion of a newer entry answers: the place of the key's latest entry, which it replaces, or that the key is new
     pub replaces : (y : Placed) → latest log (keyOf (x .entry)) ≡ some y → y .entry .version < x .entry .version
@@ -284,7 +285,7 @@ tells-none S m h =
     zeros : (i : ℕ) → i < m → _≡_ {A = ℕ} (getD (replicate m 0) i 0) 0
     zeros i b = getD-replicate m i 0 0 b
 
-module _ (L : Layout) (area : List ℕ) (S m : ℕ) (all : List Placed) (there : AllIn L area S all) (apart : Apart all) where
+module _ (L : Layout) (area : List ℕ) (S m : ℕ) (most : m ≤ mostCells) (all : List Placed) (there : AllIn L area S all) (apart : Apart all) where
   -- items are left to go through, and log is what was gone through
   pub tells-rest :
       (items log : List Placed) → Within items all → Within log all → (s : Tally) → Tells S m log s →
@@ -293,7 +294,7 @@ module _ (L : Layout) (area : List ℕ) (S m : ℕ) (all : List Placed) (there :
   tells-rest [] log wi wl s w = (log, record { to = λ y i. i; from = λ y i. i }, w)
   tells-rest (x ∷ items) log wi wl s w =
       let rest = tells-rest items (x ∷ log) (λ y i. wi y (List·Memᴰ·tail i)) within (insertNext L area S x s)
-      (tells-next L area S m log x (λ y i. there y (within y i)) (λ y z i j. apart y z (within y i) (within z j)) s w) in
+      (tells-next L area S m log x most (λ y i. there y (within y i)) (λ y z i j. apart y z (within y i) (within z j)) s w) in
       (rest .0, same-trans (added-same (added-between items x log)) (rest .1), rest .2)
     where
       within : Within (x ∷ log) all
@@ -303,10 +304,10 @@ module _ (L : Layout) (area : List ℕ) (S m : ℕ) (all : List Placed) (there :
 -- Whatever the order of a log's entries, going through them gives the rule for the log and the number of its keys, or finds
 -- as many keys as cells or more.
 pub tells-log :
-    (L : Layout) (area : List ℕ) (S m : ℕ) (items log : List Placed) → 0 < m → Same items log → AllIn L area S log → Apart log →
+    (L : Layout) (area : List ℕ) (S m : ℕ) (items log : List Placed) → 0 < m → m ≤ mostCells → Same items log → AllIn L area S log → Apart log →
     Tells S m log (insertAll L area S items (counted (replicate m 0) 0))
-tells-log L area S m items log h e there apart =
-    let w = tells-rest L area S m log there apart items [] (e .to) (λ y i. absurd (List·Memᴰ·not-nil i)) (counted (replicate m 0) 0) (tells-none S m h) in
+tells-log L area S m items log h most e there apart =
+    let w = tells-rest L area S m most log there apart items [] (e .to) (λ y i. absurd (List·Memᴰ·not-nil i)) (counted (replicate m 0) 0) (tells-none S m h) in
     let same : Same (w .0) log =
     same-trans (same-sym (w .1)) (same-trans (record { to = λ y i. rw (append-nil items) at i; from = λ y i. rw (append-nil items) i }) e) in
     tells-same S m (w .0) log same (apart-same (same-sym same) apart) (insertAll L area S items (counted (replicate m 0) 0)) (w .2)

@@ -39,5 +39,12 @@ hasKeyAt L area k p =
 abbrev pub cellHas : Layout → List ℕ → Key → ℕ → Bool
 cellHas L area k c = hasKeyAt L area k (c - 1)
 
-abbrev pub searchFor : Layout → List ℕ → List ℕ → Key → Found
-searchFor L area cells k = probe (cellHas L area k) cells (length cells) (startCell (length cells) k)
+-- the most cells that there can be (01: M up to 4,096)
+abbrev pub mostCells : ℕ
+mostCells = 4096
+
+-- From the cell of the key's hash over all cells. 02, R-6: place and count are numbers of 16 bits, in which the most cells have room. More
+-- cells than that, which the range test lets no call have, are not searched.
+unfoldable pub searchFor : Layout → List ℕ → List ℕ → Key → Found
+searchFor L area cells k =
+    pick (leb (length cells) mostCells) (probe (cellHas L area k) cells (length cells) (startCell (length cells) k)) Full

@@ -1,20 +1,22 @@
 -- The search at each test of the code. Premises are the tests as the code has them, and what its callees give.
-use Prim.Native.Nat.{ℕ, _+_, _-_, _≤_, _<_}
+use Prim.Native.Nat.{ℕ, _+_, _-_, _%_, _≤_, _<_}
 use mathlib.Core.Path.{_≡_, sym, _∙_, ap}
 use mathlib.Core.Bool.{Bool, true, false}
 use mathlib.Core.List.{List}
 use mathlib.Core.Logic.{_⊎_, inl, inr}
+use native.Mathlib.Decide.{decLt}
 use native.Mathlib.Nat.{eq-zero-or-pos}
 use native.Mathlib.Omega.{arith}
 use lib.Dec.{eqb, leb}
 use lib.ListN.{length, getD}
 use borrow.Author.Tests.{le-leb, lt-leb, leb-true, eq-eqb, ne-eqb}
-use Rattle.segment.specs.Choice.{both, both-left, both-false-left, both-false-right}
+use Rattle.word.specs.Fnv.{keyHash}
+use Rattle.segment.specs.Choice.{pick-true, pick-false, both, both-left, both-false-left, both-false-right}
 use Rattle.segment.specs.Layout.{Layout, entrySize}
 use Rattle.segment.specs.declared.Key.{Key}
 use Rattle.model.specs.Index.{around, startCell}
 use Rattle.index.specs.Around.{around-below, around-over, start-below}
-use Rattle.index.specs.Search.{tableAt, keyAt, hasKeyAt, cellHas, probe, searchFor}
+use Rattle.index.specs.Search.{tableAt, keyAt, hasKeyAt, cellHas, probe, mostCells, searchFor}
 use Rattle.index.specs.Probe.{probe-none, probe-free, probe-at, probe-next, Probed, probed, reached-below}
 use Rattle.index.specs.declared.Found.{Found}
 
@@ -74,22 +76,51 @@ pub record Inside (L : Layout) (area cells : List ℕ) (i : ℕ) : Type 0 where
   pub taken : 0 < getD cells i 0
   pub fits : getD cells i 0 - 1 + entrySize L 0 ≤ length area
 
+module _ (L : Layout) (area cells : List ℕ) (k : Key) where
+  -- up to the most cells all are searched, and above that none
+  pub search-within : length cells ≤ mostCells → searchFor L area cells k ≡ probe (cellHas L area k) cells (length cells) (startCell (length cells) k)
+  unfolding searchFor
+  search-within h = pick-true (leb (length cells) mostCells) _ _ (le-leb (length cells) mostCells h)
+
+  pub search-above : mostCells < length cells → Found.Full ≡ searchFor L area cells k
+  unfolding searchFor
+  search-above h = sym (pick-false (leb (length cells) mostCells) _ _ (lt-leb (length cells) mostCells h))
+
+  pub search-empty : length cells ≡ 0 → Found.Full ≡ searchFor L area cells k
+  search-empty z =
+      sym
+      (search-within (omega arith)
+      ∙ ap (λ (f : ℕ). probe (cellHas L area k) cells f (startCell (length cells) k)) z
+      ∙ probe-none (cellHas L area k) cells (startCell (length cells) k))
+
+-- The search from the first cell, m being the number of cells as the code holds it.
+pub search-from :
+    (L : Layout) (area cells : List ℕ) (k : Key) {m at hash : ℕ} → m ≡ length cells → length cells ≤ mostCells → hash ≡ keyHash (k .table) (k .key) →
+    at ≡ hash % m → probe (cellHas L area k) cells m at ≡ searchFor L area cells k
+search-from L area cells k {m} {at} {hash} long most hashed first =
+    sym
+    (search-within L area cells k most
+    ∙ λ i. probe (cellHas L area k) cells (sym long i) (start i))
+  where
+    start : startCell (length cells) k ≡ at
+    start = sym (first ∙ λ i. hashed i % long i)
+
 module _ (L : Layout) (area cells : List ℕ) (k : Key) (i : ℕ) where
-  -- an answer that is not full came from some cell
-  some-cell : (a : Found) → searchFor L area cells k ≡ a → (Found.Full ≡ a → ⊥) → 0 < length cells
-  some-cell a e n = go (eq-zero-or-pos (length cells))
+  -- an answer that is not full came from some cell, of no more than the most
+  some-cell : (a : Found) → searchFor L area cells k ≡ a → (Found.Full ≡ a → ⊥) → (0 < length cells) × (length cells ≤ mostCells)
+  some-cell a e n = go (eq-zero-or-pos (length cells)) (decLt mostCells (length cells))
     where
-      go : (length cells ≡ 0) ⊎ (0 < length cells) → 0 < length cells
-      go (inl z) =
-          absurd (n (sym (probe-none (cellHas L area k) cells (startCell (length cells) k)) ∙ ap (λ (f : ℕ). probe (cellHas L area k) cells f (startCell (length cells) k)) (sym z) ∙ e))
-      go (inr h) = h
+      go : (length cells ≡ 0) ⊎ (0 < length cells) → Dec (mostCells < length cells) → (0 < length cells) × (length cells ≤ mostCells)
+      go (inl z) d = absurd (n (search-empty L area cells k z ∙ e))
+      go (inr h) (yes l) = absurd (n (search-above L area cells k l ∙ e))
+      go (inr h) (no l) = (h, omega arith)
 
   pub search-inside : searchFor L area cells k ≡ Found.At i → Inside L area cells i
   unfolding Probed hasKeyAt
   search-inside e =
       let h = some-cell (Found.At i) e (λ q. let z : _≡_ {A = ℕ} 0 1 = cc in omega arith) in
-      let s = start-below (length cells) k h in
-      let w : Probed (cellHas L area k) cells (startCell (length cells) k) (Found.At i) = rw e at (probed (cellHas L area k) cells (startCell (length cells) k) s) in
+      let s = start-below (length cells) k (h .0) in
+      let w : Probed (cellHas L area k) cells (startCell (length cells) k) (Found.At i) = rw (sym (search-within L area cells k (h .1)) ∙ e) at (probed (cellHas L area k) cells (startCell (length cells) k) s) in
       record {
         below = reached-below (cellHas L area k) cells (startCell (length cells) k) i s (w .0);
         taken = nonzero (w .1);
@@ -103,6 +134,6 @@ module _ (L : Layout) (area cells : List ℕ) (k : Key) (i : ℕ) where
   unfolding Probed
   search-free e =
       let h = some-cell (Found.Free i) e (λ q. let z : _≡_ {A = ℕ} 0 1 = cc in omega arith) in
-      let s = start-below (length cells) k h in
-      let w : Probed (cellHas L area k) cells (startCell (length cells) k) (Found.Free i) = rw e at (probed (cellHas L area k) cells (startCell (length cells) k) s) in
+      let s = start-below (length cells) k (h .0) in
+      let w : Probed (cellHas L area k) cells (startCell (length cells) k) (Found.Free i) = rw (sym (search-within L area cells k (h .1)) ∙ e) at (probed (cellHas L area k) cells (startCell (length cells) k) s) in
       reached-below (cellHas L area k) cells (startCell (length cells) k) i s (w .0)

@@ -29,39 +29,46 @@ fn cell_has(area: &[u8], key: Key, cell: u32) -> bool
     key.key == read32(area, place + 3)
 }
 
+// As many cells as an index can have (01: M up to 4,096). The range test lets no call go on with more.
+const MOST_CELLS: usize = 4096;
+
 // The first of m cells to look at.
-fn first_cell(hash: u32, m: usize) -> usize
+fn first_cell(hash: u32, m: u16) -> u16
     requires { ⌜ 0 < m ⌝ }
     ensures { λ r. ⌜ r ≡ hash % m ⌝ }
 {
-    remainder(hash as usize, m)
+    remainder(hash as usize, m as usize) as u16
 }
 
 // The next of m cells, going round.
-fn next_cell(at: usize, m: usize) -> usize
+fn next_cell(at: u16, m: u16) -> u16
     requires { ⌜ at < m ⌝ }
     ensures { λ r. ⌜ r ≡ around m (at + 1) ⌝ }
 {
     if at + 1 == m { 0 } else { at + 1 }
 }
 
-// Where a key's cell is, or where it would be.
+// Where a key's cell is, or where it would be. The place among the cells and the number of cells left are held in 16 bits.
 pub fn search(area: &[u8], cells: &[u32], key: Key) -> Found
     ensures { λ r. ⌜ r ≡ searchFor edition1 (now (area .entry)) (now (cells .entry)) key ⌝ }
 {
-    let m = cells.len();
-    if m == 0 {
+    let length = cells.len();
+    if length == 0 {
         return Found::Full;
     }
+    if MOST_CELLS < length {
+        return Found::Full;
+    }
+    let m = length as u16;
     let mut at = first_cell(key_hash(key.table, key.key), m);
     let mut left = m;
     while 0 < left {
-        let cell = cells[at];
+        let cell = cells[at as usize];
         if cell == 0 {
-            return Found::Free(at);
+            return Found::Free(at as usize);
         }
         if cell_has(area, key, cell) {
-            return Found::At(at);
+            return Found::At(at as usize);
         }
         at = next_cell(at, m);
         left -= 1;

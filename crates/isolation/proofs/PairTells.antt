@@ -10,6 +10,7 @@ use lib.Dec.{ltb}
 use lib.ListN.{length, getD, drop, length-drop}
 use Rattle.segment.specs.Choice.{pick}
 use Rattle.segment.specs.Layout.{Layout}
+use Rattle.record.specs.Answers.{taken}
 use Rattle.record.specs.declared.Foretold.{Foretold}
 use Rattle.record.specs.declared.Pending.{Pending}
 use Rattle.record.specs.declared.Pending.the-variants.{Idle, Append, NewHead, Clean, Forget}
@@ -24,7 +25,7 @@ use Rattle.model.specs.Promises.{tellLengths, TellPromise}
 use Rattle.history.specs.Book.{telling}
 use Rattle.history.specs.Runs.{Held}
 use Rattle.history.proofs.Tellings.{idle-refused, started-pending}
-use Rattle.isolation.specs.Owners.{SameNumbers}
+use Rattle.isolation.specs.Owners.{numbersOf, SameNumbers}
 use Rattle.isolation.proofs.Hidden.{hiddenLog}
 use Rattle.isolation.proofs.Alike.{logs-same}
 use Rattle.isolation.proofs.Operations.{pending-same, long-same}
@@ -105,10 +106,9 @@ module _ (of : ℕ → Bool) (L : Layout) (area area′ work work′ : List ℕ)
 
     -- both are told a store at one place
     at-place : (place q byte byte′ : ℕ) → a .answer ≡ TellAnswer.At place byte → a′ .answer ≡ TellAnswer.At q byte′ → place ≡ q → Goal
-    at-place place q byte byte′ e e′ same = (
-      ap (λ (x : TellAnswer). telling x .said) e ∙ sym (ap (λ (x : TellAnswer). telling x .said) e′),
-      ap (λ (x : TellAnswer). telling x .place) e ∙ same ∙ sym (ap (λ (x : TellAnswer). telling x .place) e′),
-    )
+    at-place place q byte byte′ e e′ same =
+        ap (λ (x : TellAnswer). numbersOf (telling x)) e ∙ ap (λ (k : ℕ). record { said = taken; value = []; place = k }) same
+        ∙ sym (ap (λ (x : TellAnswer). numbersOf (telling x)) e′)
 
     module _ (x : Running of L area area′ (h .rec) (h .work) (h′ .work)) (goes : cause ≡ none) where
       abbrev log : List Placed
@@ -165,6 +165,5 @@ module _ (of : ℕ → Bool) (L : Layout) (area area′ work work′ : List ℕ)
 
         go : (c : Option Refusal) → cause ≡ c → Goal
         go (some c) e =
-            let same : a .answer ≡ a′ .answer = p .refused c e ∙ sym (p′ .refused c (cause′ (some c) e)) in
-            (ap (λ (x : TellAnswer). telling x .said) same, ap (λ (x : TellAnswer). telling x .place) same)
+            ap (λ (x : TellAnswer). numbersOf (telling x)) (p .refused c e ∙ sym (p′ .refused c (cause′ (some c) e)))
         go none e = by-phase e (held .phase)

@@ -85,13 +85,13 @@ answer-own servo (starts q o) c′ l l′ a = refl
 answer-own servo steps c′ l l′ a = refl
 answer-own servo (asks (reads u k)) c′ l l′ a = refl
 answer-own servo (asks (readsValue u k)) c′ l l′ a = refl
-answer-own servo (asks tells) c′ l l′ a = (refl, refl)
+answer-own servo (asks tells) c′ l l′ a = refl
 answer-own servo (asks fewest) c′ l l′ a = refl
 answer-own servo (asks joins) c′ l l′ a = refl
 answer-own servo (asks (scans n s u k)) c′ l l′ a = refl
 answer-own servo (asks (scansValue n s u k)) c′ l l′ a = refl
 answer-own servo (recovers n s order) c′ l l′ a = refl
-answer-own media c c′ l l′ a = (refl, refl)
+answer-own media c c′ l l′ a = refl
 
 -- and numbers alone serve either owner of the call that tells the next store
 numbers-same : (who : Owner) (l l′ : Lengths) (a a′ : Answer) → SameNumbers a a′ → SameAnswer who (called (asks tells) l a) (called (asks tells) l′ a′)
@@ -222,7 +222,7 @@ module _ (L : Layout) (roomy : Roomy L) (n s : ℕ) (of : ℕ → Bool) where
           (who : Owner) → Covers of who (called (asks (readsValue u k)) (readLengths area (h .cells)) (giving (partOf area p))) →
           SameAnswer who (called (asks (readsValue u k)) (readLengths area (h .cells)) (giving (partOf area p)))
           (called (asks (readsValue u′ k′)) (readLengths area′ (h′ .cells)) (giving (partOf area′ p′)))
-      by-owner media c = unfold SameAnswer in (refl, refl)
+      by-owner media c = unfold SameAnswer in refl
       by-owner servo c =
           unfold SameAnswer SameToServo Covers rangeOf rangeHolds in
           ap giving

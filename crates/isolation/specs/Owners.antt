@@ -55,9 +55,12 @@ SameInputs (who ∷ owners) (e ∷ es) [] = ⊥
 
 -- ---- the same answer
 
--- the same in all numbers: refusals, stores, versions, kinds and the place that is told
+-- An answer without the bytes that it gives: all its numbers, which are refusals, stores, versions, kinds and the place that is told.
+abbrev pub numbersOf : Answer → Answer
+numbersOf a = record { said = a .said; value = []; place = a .place }
+
 abbrev pub SameNumbers : Answer → Answer → Type 0
-SameNumbers a a′ = (a .said ≡ a′ .said) × (a .place ≡ a′ .place)
+SameNumbers a a′ = numbersOf a ≡ numbersOf a′
 
 -- Servo gets the same answer, the value that it reads among it. What the next step will store is the one call whose bytes are nobody's
 -- answer: who drives the device makes it for both owners, and while a write of media's or a cleaning is pending the byte may be one of

@@ -191,7 +191,7 @@ module _ (L : Layout) (area cells : List ℕ) (r : Record) (g : Genuine L area r
         ∙ sym (ap (λ (t : Bool). both t (both (isHighest log (x .entry)) (either (not (isTombstone (x .entry))) outside))) (ap (named (pairOf i j)) own ∙ own-victim))
       where
         c : KeyCell L area cells r g (keyOf (x .entry))
-        c = key-cell L area cells r g x m
+        c = key-cell L area cells r g few x m
 
         n : ℕ
         n = getD notes (c .cell .cell) 0

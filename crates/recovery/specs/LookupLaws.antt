@@ -37,8 +37,9 @@ use Rattle.laws.specs.Latest.{latest-some}
 use Rattle.laws.specs.LogLaws.{AllScanned, log-in, scan-whole}
 use Rattle.laws.specs.Scans.{scan-scans, scans-found}
 use Rattle.laws.specs.RecoverLaws.{recovered-case, recovered-keys}
-use Rattle.index.specs.Search.{searchFor, cellHas}
-use Rattle.index.specs.SearchLaws.{search-inside}
+use Rattle.model.specs.Index.{startCell}
+use Rattle.index.specs.Search.{probe, searchFor, cellHas}
+use Rattle.index.specs.SearchLaws.{search-within, search-inside}
 use Rattle.index.specs.Area.{area-picks}
 use Rattle.index.specs.Finds.{Picks, search-known, search-new}
 use Rattle.index.specs.BuildLaws.{log-in-area}
@@ -192,17 +193,20 @@ module _ (L : Layout) (r : Record) (area cells : List ℕ) (t : Tables) (k : Key
       picks : Picks (cellHas L area k) S log k
       picks = area-picks L area S log k (log-in-area L area S (named (r .map)) (r .slots) scans)
 
+      within : searchFor L area cells k ≡ probe (cellHas L area k) cells (length cells) (startCell (length cells) k)
+      within = let l = lent L r (length area) (length cells) fit in search-within L area cells k (omega (arith, l .index-own, l .cells-high))
+
       go : (o : Option Placed) → latest log k ≡ o → lookedUp L r area cells t k ≡ lookupFor L S (objectOnly (latest log k))
       go none e =
           let (c, f) = search-new S log cells (genuine .rule) (cellHas L area k) k picks e few in
-          looked-free L r area cells t k fit held (c .cell) f ∙ sym (ap (λ (o : Option Placed). lookupFor L S (objectOnly o)) e ∙ absent)
+          looked-free L r area cells t k fit held (c .cell) (within ∙ f) ∙ sym (ap (λ (o : Option Placed). lookupFor L S (objectOnly o)) e ∙ absent)
         where
           absent : lookupFor L S (objectOnly none) ≡ Lookup.Absent
           absent = unfold lookupFor objectOnly in refl
       go (some x) e =
           let (c, f) = search-known S log cells (genuine .rule) (cellHas L area k) k picks x e in
           let place : getD cells (c .cell) 0 - 1 ≡ placeOf S x = omega (arith, c .holds) in
-          looked-at L r area cells t k fit held (c .cell) f
+          looked-at L r area cells t k fit held (c .cell) (within ∙ f)
           ∙ ap (λ (p : ℕ). lookupOf p (standsAt L S area p)) place
           ∙ ap (lookupOf (placeOf S x)) (at-place x (latest-some log k x e .member))
           ∙ entry-lookup L S x

@@ -204,12 +204,12 @@ module _ (L : Layout) (n s : ℕ) (order area cells : List ℕ) where
       rebuilt : keysBad m log ≡ false → Holds s m log (built L area s (d .map) order m)
       rebuilt few =
           built-rule L area s (d .map) n m order (lent-fits .area-own) (map-in n i (d .map) (image-map v n i d top image) .below)
-          (image-scans v n i d top image) (image-versions v n i d top image) (lent-tested .order-good) cells-some few
+          (image-scans v n i d top image) (image-versions v n i d top image) (lent-tested .order-good) cells-some (omega (arith, cells-few)) few
 
       overfull : keysBad m log ≡ true → built L area s (d .map) order m ≡ record { answer = Built.TooMany; cells = replicate m 0 }
       overfull many =
           built-over L area s (d .map) n m order (lent-fits .area-own) (map-in n i (d .map) (image-map v n i d top image) .below)
-          (image-scans v n i d top image) (image-versions v n i d top image) (lent-tested .order-good) cells-some many
+          (image-scans v n i d top image) (image-versions v n i d top image) (lent-tested .order-good) cells-some (omega (arith, cells-few)) many
 
       -- the highest version in the log, and so the next, fits
       pub highest-fits : 0 < versionLimit L → top .0 < versionLimit L

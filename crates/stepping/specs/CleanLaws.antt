@@ -13,11 +13,11 @@ use borrow.Author.Tests.{le-ltb, eq-eqb}
 use Rattle.segment.specs.Choice.{both-true, either}
 use Rattle.segment.specs.Layout.{Layout}
 use Rattle.slot_map.specs.Bit.{named}
-use Rattle.record.specs.RangeLaws.{map-in}
+use Rattle.record.specs.RangeLaws.{between-high, map-in}
 use Rattle.record.specs.declared.Record.{Record}
 use Rattle.model.specs.Log.{viewsOf, logOf, keysOf}
 use Rattle.model.specs.Recovery.{recovered, lists, listsBelow, orderBad, logUnder}
-use Rattle.laws.specs.RecoverLaws.{recovered-case}
+use Rattle.laws.specs.RecoverLaws.{recovered-case, recovered-facts}
 use Rattle.index.specs.Build.{built}
 use Rattle.index.specs.BuildLaws.{Holds, built-rule, all-listed}
 use Rattle.stepping.specs.Finish.{upFrom, ascending}
@@ -66,5 +66,5 @@ recovered-built L n s m area order r e good some-cell =
     recovered-case L n s m area (λ (k : Record). Holds s m (logOf (viewsOf L area s) (named (k .map)) n) (built L area s (k .map) order m))
     (λ h l f.
     built-rule L area s (h .digest .map) n m order (l .long) (map-in n (h .slot) (h .digest .map) (f .map-good) .below) (f .scans) (f .versions) good
-    some-cell (le-ltb (m - 1) (length (keysOf (logUnder (viewsOf L area s) n h))) (f .keys)))
+    some-cell (between-high 16 4096 m (recovered-facts L n s m area r e .lent .cells-good)) (le-ltb (m - 1) (length (keysOf (logUnder (viewsOf L area s) n h))) (f .keys)))
     r e

@@ -1,5 +1,5 @@
 -- An entry that has come to stand goes into the index: the rule holds for the new log, and the number of keys is the new record's.
-use Prim.Native.Nat.{ℕ, _+_, _*_, _-_, _<_}
+use Prim.Native.Nat.{ℕ, _+_, _*_, _-_, _≤_, _<_}
 use mathlib.Core.Path.{_≡_, refl, sym, _∙_, ap, subst}
 use mathlib.Core.Bool.{Bool, true, false}
 use mathlib.Core.List.{List, _∷_, List·Memᴰ·head}
@@ -27,6 +27,7 @@ use Rattle.laws.specs.Scans.{scan-scans, scans-found}
 use Rattle.laws.specs.Latest.{Apart, apart-same, latest-some}
 use Rattle.laws.specs.RecoverLaws.{recovered-case}
 use Rattle.index.specs.Area.{AllIn}
+use Rattle.index.specs.Search.{mostCells}
 use Rattle.index.specs.Insert.{Insertion, inserted, counted, over, tallied}
 use Rattle.index.specs.InsertLaws.{Indexed, Tells, replaces, comes-new, tells-next, tells-same, tally-new, tally-over, tally-newer, tally-older, tally-full, insert-next}
 use Rattle.index.specs.BuildLaws.{found-in-area}
@@ -95,7 +96,7 @@ told-known r done version k counts h = pick-true (ltb k (r .cells)) _ _ (lt-ltb 
 
 module _ (L : Layout) (r : Record) (done : Commit) (log log′ : List Placed) (area′ cells : List ℕ) (x : Placed) (added : Added log x log′)
     (apart : Apart log′) (found : AllFound L area′ (r .size) log′) (version : x .entry .version ≡ r .next .0)
-    (ix : Indexed (r .size) (r .cells) log cells (r .keys)) (few : length (keysOf log′) < r .cells)
+    (ix : Indexed (r .size) (r .cells) log cells (r .keys)) (few : length (keysOf log′) < r .cells) (most : r .cells ≤ mostCells)
     (above : (y : Placed) → In y log → y .entry .version < x .entry .version)
   where
     all-there : AllIn L area′ (r .size) (x ∷ log)
@@ -113,7 +114,7 @@ module _ (L : Layout) (r : Record) (done : Commit) (log log′ : List Placed) (a
     told =
         tells-same (r .size) (r .cells) (x ∷ log) log′ (added-same added) all-apart (tallied (put .answer) (put .cells) (r .keys))
         (subst (Tells (r .size) (r .cells) (x ∷ log)) (insert-next L area′ (r .size) x cells (r .keys) put refl)
-        (tells-next L area′ (r .size) (r .cells) log x all-there all-apart (counted cells (r .keys)) ix))
+        (tells-next L area′ (r .size) (r .cells) log x most all-there all-apart (counted cells (r .keys)) ix))
 
     -- the version that the code goes by is the entry's
     same-put : inserted L area′ cells (placeOf (r .size) x) (keyOf (x .entry)) (r .next .0) ≡ put

@@ -100,7 +100,7 @@ module _ (L : Layout) (roomy : Roomy L) (before cells : List ℕ) (idle : Record
           let w = entry-finished L r done (logNow L before idle) (logNow L after fin) after cells x
           (appended-added L roomy before idle e recovers bytes f (leb-true (idle .end + sizeOf L e) (idle .size) t))
           (recovered-apart L (idle .slots) (idle .size) (idle .cells) after fin q)
-          (recovered-found L (idle .slots) (idle .size) (idle .cells) after fin q) (f .takes .version) indexed (omega arith)
+          (recovered-found L (idle .slots) (idle .size) (idle .cells) after fin q) (f .takes .version) indexed (omega arith) (facts .cells-high)
           (λ y i. omega (arith, recovered-above L (idle .slots) (idle .size) (idle .cells) before idle recovers y i, f .takes .version)) in
           record {
             answers =
@@ -130,7 +130,7 @@ module _ (L : Layout) (roomy : Roomy L) (before cells : List ℕ) (idle : Record
           let w = entry-finished L r (done (withBit (idle .map) (newSlot idle))) (logNow L before idle) (logNow L after fin) after cells x
           (headed-added L roomy before idle e recovers bytes f t)
           (recovered-apart L (idle .slots) (idle .size) (idle .cells) after fin q)
-          (recovered-found L (idle .slots) (idle .size) (idle .cells) after fin q) (f .takes .version) indexed (omega arith)
+          (recovered-found L (idle .slots) (idle .size) (idle .cells) after fin q) (f .takes .version) indexed (omega arith) (facts .cells-high)
           (λ y i. omega (arith, recovered-above L (idle .slots) (idle .size) (idle .cells) before idle recovers y i, f .takes .version)) in
           record {
             answers =

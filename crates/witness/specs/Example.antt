@@ -26,7 +26,7 @@ use Rattle.history.specs.Runs.{freshWorld, Run}
 use Rattle.index.specs.Build as Build
 use Rattle.index.specs.Build.{entriesFrom, inLog, listed}
 use Rattle.index.specs.Insert.{insertedAt, tallied, insertNext, insertAll}
-use Rattle.index.specs.Search.{probe, hasKeyAt}
+use Rattle.index.specs.Search.{probe, hasKeyAt, searchFor}
 use Rattle.starting.specs.Stores.{commitStores}
 use Rattle.counting.specs.Counting.{foundBytes, lostAt, renewedAt}
 use Rattle.stepping.specs.Finish.{keysAfter, answeredWith, lostBy, foundIn, finishEntry, finishAppend, finishHead, upFrom, finishClean, finishForget, oneLess, finishWith, advanced}
@@ -229,7 +229,7 @@ all = playAll edition1 4 256 (freshWorld area₀) commands
 
 -- What the run computes with, opened by one name.
 unfoldable pub computing : Unit {0}
-unfolding opened fnvStep fnvFrom withBit less around entriesFrom inLog listed Build.finished insertedAt tallied insertNext insertAll probe hasKeyAt
+unfolding opened fnvStep fnvFrom withBit less around entriesFrom inLog listed Build.finished insertedAt tallied insertNext insertAll probe searchFor hasKeyAt
     keysAfter answeredWith foundBytes lostAt lostBy renewedAt foundIn finishEntry finishAppend finishHead upFrom finishClean finishForget oneLess finishWith advanced
     entryAgrees slotAgrees victimsAgree agreesWith testedStore
     commitStores commitStore fitsSlot fitsLeft slotStore slotNext pendingNext cellsBy storedBy steppedUnless toldStore toldUnless answerBy lentBy played playOn compared expectedNumber callNumbers eventNumbers eventValue

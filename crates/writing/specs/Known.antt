@@ -19,7 +19,7 @@ use Rattle.record.specs.RangeLaws.{Lent}
 use Rattle.record.specs.declared.Pending.the-variants.{Idle}
 use Rattle.record.specs.declared.Record.{Record}
 use Rattle.model.specs.Log.{Placed, segmentOf, placeOf, viewsOf, scan, latest, objectOnly, present, hasKey, keysOf}
-use Rattle.model.specs.Index.{HasCell}
+use Rattle.model.specs.Index.{HasCell, startCell}
 use Rattle.model.specs.Operations.{logNow}
 use Rattle.model.specs.Refused.{versionIn, keyFacts}
 use Rattle.model.specs.Promises.{Genuine}
@@ -28,7 +28,8 @@ use Rattle.laws.specs.Latest.{latest-some, latest-has, latest-none, key-none}
 use Rattle.laws.specs.LogLaws.{AllScanned, log-in, scan-whole}
 use Rattle.laws.specs.Scans.{scan-scans, scans-found}
 use Rattle.laws.specs.RecoverLaws.{recovered-case, recovered-keys}
-use Rattle.index.specs.Search.{cellHas, searchFor}
+use Rattle.index.specs.Search.{probe, cellHas, searchFor}
+use Rattle.index.specs.SearchLaws.{search-within}
 use Rattle.index.specs.Area.{area-picks}
 use Rattle.index.specs.BuildLaws.{log-in-area}
 use Rattle.index.specs.Finds.{Picks, FreeCell, search-known, search-new}
@@ -84,12 +85,15 @@ module _ (L : Layout) (area : List ℕ) (r : Record) (cells : List ℕ) (g : Gen
     picks : Picks (cellHas L area k) (r .size) (logNow L area r) k
     picks = area-picks L area (r .size) (logNow L area r) k (log-in-area L area (r .size) (named (r .map)) (r .slots) scans)
 
+    within : searchFor L area cells k ≡ probe (cellHas L area k) cells (length cells) (startCell (length cells) k)
+    within = search-within L area cells k (omega (arith, h .index-own, h .cells-high))
+
     -- Nothing of the key in the log, and its latest entry x: what the search finds.
     no-entry : latest (logNow L area r) k ≡ none → (c : FreeCell cells k) × (searchFor L area cells k ≡ Free (c .cell))
-    no-entry e = search-new (r .size) (logNow L area r) cells (g .rule) (cellHas L area k) k picks e few
+    no-entry e = let f = search-new (r .size) (logNow L area r) cells (g .rule) (cellHas L area k) k picks e few in (f .0, within ∙ f .1)
 
     an-entry : (x : Placed) → latest (logNow L area r) k ≡ some x → (c : HasCell (r .size) cells x) × (searchFor L area cells k ≡ At (c .cell))
-    an-entry x e = search-known (r .size) (logNow L area r) cells (g .rule) (cellHas L area k) k picks x e
+    an-entry x e = let f = search-known (r .size) (logNow L area r) cells (g .rule) (cellHas L area k) k picks x e in (f .0, within ∙ f .1)
 
     -- so the code's facts of a key are the log's
     pub genuine-facts : factsFor L r area cells k ≡ keyFacts (logNow L area r) k
