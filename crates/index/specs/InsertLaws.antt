@@ -240,8 +240,8 @@ module _ (L : Layout) (area : List ℕ) (S m : ℕ) (log : List Placed) (x : Pla
         let f = search-known S log cells (ix .rule) (cellHas L area (keyOf (x .entry))) (keyOf (x .entry))
         (λ z i. picks-all z (List·Memᴰ·tail i)) y l in
         ap (λ (i : Insertion). i .answer)
-        (insert-newer L area cells (placeOf S x) (keyOf (x .entry)) (x .entry .version) (f .0 .cell) (f .1)
-        (omega (arith, its-version y l (f .0) (f .1))))
+        (insert-newer L area cells (placeOf S x) (keyOf (x .entry)) (x .entry .version) (f .0 .cell) (search-within L area cells (keyOf (x .entry)) (omega (arith, ix .long, most)) ∙ f .1)
+        (omega (arith, its-version y l (f .0) (search-within L area cells (keyOf (x .entry)) (omega (arith, ix .long, most)) ∙ f .1))))
         ∙ ap Inserted.Newer (omega (arith, f .0 .holds))
 
     pub comes-new : latest log (keyOf (x .entry)) ≡ none
@@ -250,7 +250,8 @@ module _ (L : Layout) (area : List ℕ) (S m : ℕ) (log : List Placed) (x : Pla
         let f = search-new S log cells (ix .rule) (cellHas L area (keyOf (x .entry))) (keyOf (x .entry))
         (λ y i. picks-all y (List·Memᴰ·tail i)) l (omega (arith, ix .keys, ix .few, ix .long)) in
         ap (λ (i : Insertion). i .answer)
-        (insert-new L area cells (placeOf S x) (keyOf (x .entry)) (x .entry .version) (f .0 .cell) (f .1))
+        (insert-new L area cells (placeOf S x) (keyOf (x .entry)) (x .entry .version) (f .0 .cell)
+        (search-within L area cells (keyOf (x .entry)) (omega (arith, ix .long, most)) ∙ f .1))
 
   -- one entry more
   pub tells-next : (s : Tally) → Tells S m log s → Tells S m (x ∷ log) (insertNext L area S x s)
