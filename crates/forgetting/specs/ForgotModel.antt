@@ -35,7 +35,7 @@ use Rattle.laws.specs.LogLaws.{AllScanned, InLog, log-in}
 use Rattle.laws.specs.RecoverLaws.{recovered-case, recovered-highest}
 use Rattle.laws.specs.MapLaws.{inSlot}
 use Rattle.laws.specs.Forgotten.{IsLive, present-live, instead, instead-own, instead-other, replaced-those, forgotten-kept, forgotten-tombstone}
-use Rattle.laws.specs.Room.{slot-log}
+use Rattle.laws.specs.Counted.{slot-log}
 use Rattle.laws.specs.Cleanings.{log-stands}
 use Rattle.index.specs.Search.{searchFor}
 use Rattle.index.specs.declared.Found.{Found}

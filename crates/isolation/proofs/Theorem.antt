@@ -296,7 +296,7 @@ module _ (L : Layout) (roomy : Roomy L) (n s : ℕ) (of : ℕ → Bool) where
           (who : Owner) → Covers of who (called (asks (scansValue n s u k)) (readLengths (w .area) []) (giving (partOf (w .area) p))) →
           SameAnswer who (called (asks (scansValue n s u k)) (readLengths (w .area) []) (giving (partOf (w .area) p)))
           (called (asks (scansValue n s u′ k′)) (readLengths (w′ .area) []) (giving (partOf (w′ .area) p′)))
-      by-owner media c = unfold SameAnswer in (refl, refl)
+      by-owner media c = unfold SameAnswer in refl
       by-owner servo c =
           unfold SameAnswer SameToServo Covers rangeOf rangeHolds in
           ap giving

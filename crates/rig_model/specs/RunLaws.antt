@@ -109,7 +109,7 @@ unfolding fitsLent inRange lengthsOwn
 fits-pending r p a c e l =
     let range = both-left _ _ e in
     let x = both-right _ _ range in
-    both-true _ _ (both-true _ _ (both-left _ _ range) (both-true _ _ (both-left _ _ x) (both-true _ _ (both-left _ _ (both-right _ _ x)) l))) (both-right _ _ e)
+    both-true _ _ (both-true _ _ (both-left _ _ range) (both-true _ _ (both-left _ _ x) (both-true _ _ (both-left _ _ (both-right _ _ x)) (both-true _ _ (both-left _ _ (both-right _ _ (both-right _ _ x))) l)))) (both-right _ _ e)
 
 -- all stores are made, and the store is idle again
 pub record Ended (before : List ℕ) (idle : Record) (o : Operation) (area : List ℕ) (r : Record) (cells : List ℕ) : Type 0 where

@@ -137,12 +137,12 @@ module _ (L : Layout) (r : Record) (done : Commit) (log log′ : List Placed) (a
 
         go : (o : Option Placed) → latest log (keyOf (x .entry)) ≡ o → lostBy L (r .size) area′ (put .answer) (r .counts) ≡ withoutLive L (present log (keyOf (x .entry))) (r .counts)
         go none p =
-            ap (λ (a : Inserted). lostBy L (r .size) area′ a (r .counts)) (comes-new L area′ (r .size) (r .cells) log x all-there all-apart cells (r .keys) ix p)
+            ap (λ (a : Inserted). lostBy L (r .size) area′ a (r .counts)) (comes-new L area′ (r .size) (r .cells) log x most all-there all-apart cells (r .keys) ix p)
             ∙ unfold lostBy in kept-none none p refl
         go (some z) p =
             let member = latest-some log (keyOf (x .entry)) z p .member in
             ap (λ (a : Inserted). lostBy L (r .size) area′ a (r .counts))
-            (replaces L area′ (r .size) (r .cells) log x all-there all-apart cells (r .keys) ix z p (above z member))
+            (replaces L area′ (r .size) (r .cells) log x most all-there all-apart cells (r .keys) ix z p (above z member))
             ∙ unfold lostBy in
             lost-latest L (r .size) area′ log (keyOf (x .entry)) z (r .counts) p (inside z member) (found z (added .old z member))
 

@@ -13,7 +13,8 @@ step-held-requires : tie.Need-step-held-requires
 step-held-requires c κs = search needs
 
 keep-stepped-requires : tie.Need-keep-stepped-requires
-keep-stepped-requires c κs = ?
+keep-stepped-requires c κs =
+    steps-on (c .before .before .before .before .before .before .before .before .before .before .decode .ensures) (c .before .before .before .before .before .before .step-held .ensures .1)
 
 enum-known-answer : tie.Need-enum-known-answer
 enum-known-answer c = search needs
