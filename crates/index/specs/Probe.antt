@@ -1,9 +1,10 @@
 -- What a search over any cells says, by its answer.
-use Prim.Native.Nat.{ℕ, zero, suc, _+_, _<_}
-use mathlib.Core.Path.{_≡_, refl, _∙_, ap, subst}
+use Prim.Native.Nat.{ℕ, zero, suc, _+_, _≤_, _<_}
+use mathlib.Core.Path.{_≡_, refl, sym, _∙_, ap, subst}
 use mathlib.Core.Bool.{Bool, true, false}
 use mathlib.Core.List.{List}
-use native.Mathlib.Nat.{add-zero, zero-add}
+use mathlib.Core.Logic.{_⊎_, inl, inr}
+use native.Mathlib.Nat.{add-zero, zero-add, eq-zero-or-pos}
 use native.Mathlib.Numerals.{add-one}
 use native.Mathlib.Omega.{arith}
 use lib.Dec.{eqb}
@@ -13,9 +14,15 @@ use borrow.Author.Tests.{eq-eqb, ne-eqb, eqb-true, eqb-false}
 use Rattle.segment.specs.Choice.{pick, pick-true, pick-false}
 use Rattle.model.specs.Index.{around, Met}
 use Rattle.index.specs.Search.{probe}
-use Rattle.index.specs.Around.{around-below, around-lt, around-next}
+use Rattle.index.specs.Around.{around-below, around-over, around-lt, around-next}
 use Rattle.index.specs.declared.Found.{Found}
 use Rattle.index.specs.declared.Found.the-variants.{At, Free, Full}
+
+-- an answer, or another where it met neither a free cell nor a picked one
+unfoldable pub orElse : Found → Found → Found
+orElse (At i) other = At i
+orElse (Free i) other = Free i
+orElse Full other = other
 
 module _ (t : ℕ → Bool) (cells : List ℕ) where
   -- ---- the search at each of its tests
@@ -45,6 +52,53 @@ module _ (t : ℕ → Bool) (cells : List ℕ) where
         (getD cells at 0 ≡ 0 → ⊥) → t (getD cells at 0) ≡ false →
         probe t cells f at ≡ probe t cells g (around (length cells) (at + 1))
     probe-next n p = held n ∙ pick-false (t (getD cells at 0)) (At at) _ p
+
+    -- within the cells nothing goes round; after the last of them no cell is to go
+    pub probe-up :
+        at + f ≤ length cells → (getD cells at 0 ≡ 0 → ⊥) → t (getD cells at 0) ≡ false →
+        probe t cells f at ≡ probe t cells g (at + 1)
+    probe-up h n p = probe-next n p ∙ go (eq-zero-or-pos g)
+      where
+        none : (z : g ≡ 0) (i : ℕ) → probe t cells g i ≡ Full
+        none z i = ap (λ (n : ℕ). probe t cells n i) z ∙ probe-none i
+
+        go : (g ≡ 0) ⊎ (0 < g) → probe t cells g (around (length cells) (at + 1)) ≡ probe t cells g (at + 1)
+        go (inl z) = none z (around (length cells) (at + 1)) ∙ sym (none z (at + 1))
+        go (inr l) = ap (probe t cells g) (around-below (length cells) (at + 1) (omega arith))
+
+  -- ---- the search taken apart where it goes round
+
+  -- up to the end of the cells, and if that meets nothing, on from 0
+  pub probe-split :
+      (b a at : ℕ) → at + a ≡ length cells →
+      probe t cells (a + b) (around (length cells) at) ≡ orElse (probe t cells a at) (probe t cells b 0)
+  unfolding orElse
+  probe-split b zero at e =
+      (λ i. probe t cells (zero-add b i) (first i)) ∙ sym (ap (λ (x : Found). orElse x (probe t cells b 0)) (probe-none at))
+    where
+      first : around (length cells) at ≡ 0
+      first = around-over (length cells) at (omega arith) ∙ omega arith
+  probe-split b (suc a) at e =
+      ap (probe t cells (suc a + b)) (around-below (length cells) at (omega arith))
+      ∙ go (eqb (getD cells at 0) 0) refl (t (getD cells at 0)) refl (probe-split b a (at + 1) (omega arith))
+    where
+      second : Found
+      second = probe t cells b 0
+
+      go : (z : Bool) → eqb (getD cells at 0) 0 ≡ z → (s : Bool) → t (getD cells at 0) ≡ s
+          → probe t cells (a + b) (around (length cells) (at + 1)) ≡ orElse (probe t cells a (at + 1)) second
+          → probe t cells (suc a + b) at ≡ orElse (probe t cells (suc a) at) second
+      go true ez s es ih =
+          let z = eqb-true (getD cells at 0) 0 ez in
+          probe-free (suc a + b) (a + b) at (omega arith) z ∙ sym (ap (λ (x : Found). orElse x second) (probe-free (suc a) a at (omega arith) z))
+      go false ez true es ih =
+          let n = eqb-false (getD cells at 0) 0 ez in
+          probe-at (suc a + b) (a + b) at (omega arith) n es ∙ sym (ap (λ (x : Found). orElse x second) (probe-at (suc a) a at (omega arith) n es))
+      go false ez false es ih =
+          let n = eqb-false (getD cells at 0) 0 ez in
+          probe-next (suc a + b) (a + b) at (omega arith) n es
+          ∙ ih
+          ∙ sym (ap (λ (x : Found). orElse x second) (probe-up (suc a) a at (omega arith) (omega arith) n es))
 
   -- ---- what was passed, and where the search stopped
 

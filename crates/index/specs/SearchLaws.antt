@@ -5,7 +5,7 @@ use mathlib.Core.Bool.{Bool, true, false}
 use mathlib.Core.List.{List}
 use mathlib.Core.Logic.{_⊎_, inl, inr}
 use native.Mathlib.Decide.{decLt}
-use native.Mathlib.Nat.{eq-zero-or-pos}
+use native.Mathlib.Nat.{eq-zero-or-pos, mod-lt}
 use native.Mathlib.Omega.{arith}
 use lib.Dec.{eqb, leb}
 use lib.ListN.{length, getD}
@@ -15,9 +15,9 @@ use Rattle.segment.specs.Choice.{pick-true, pick-false, both, both-left, both-f
 use Rattle.segment.specs.Layout.{Layout, entrySize}
 use Rattle.segment.specs.declared.Key.{Key}
 use Rattle.model.specs.Index.{around, startCell}
-use Rattle.index.specs.Around.{around-below, around-over, start-below}
+use Rattle.index.specs.Around.{around-below, start-below}
 use Rattle.index.specs.Search.{tableAt, keyAt, hasKeyAt, cellHas, probe, mostCells, searchFor}
-use Rattle.index.specs.Probe.{probe-none, probe-free, probe-at, probe-next, Probed, probed, reached-below}
+use Rattle.index.specs.Probe.{orElse, probe-none, probe-free, probe-at, probe-up, probe-split, Probed, probed, reached-below}
 use Rattle.index.specs.declared.Found.{Found}
 
 -- ---- whether the entry at a place has a key
@@ -41,32 +41,23 @@ module _ (L : Layout) (area : List ℕ) (k : Key) (p : ℕ) where
   key-by-key h t et q j ej =
       rw (le-leb (p + entrySize L 0) (length area) h, eq-eqb (k .table) (tableAt area p) (q ∙ et), ej)
 
--- ---- the next cell
+-- ---- a turn of the search up to an end: the whole answer is the answer from here
 
-module _ (m at : ℕ) where
-  pub next-first : at + 1 ≡ m → 0 ≡ around m (at + 1)
-  next-first e = sym (around-over m (at + 1) (omega arith) ∙ omega arith)
-
-  pub next-higher : at < m → (at + 1 ≡ m → ⊥) → at + 1 ≡ around m (at + 1)
-  next-higher h n = sym (around-below m (at + 1) (omega arith))
-
--- ---- a turn of the search: the whole answer is the answer from here
-
-module _ (t : ℕ → Bool) (cells : List ℕ) (whole : Found) (left at : ℕ) (from : probe t cells left at ≡ whole) where
-  pub turn-full : left ≤ 0 → Found.Full ≡ whole
+module _ (t : ℕ → Bool) (cells : List ℕ) (whole : Found) (end at : ℕ) (from : probe t cells (end - at) at ≡ whole) where
+  pub turn-full : end ≤ at → Found.Full ≡ whole
   turn-full h = sym (probe-none t cells at) ∙ ap (λ (n : ℕ). probe t cells n at) (omega arith) ∙ from
 
-  module _ (some-left : 0 < left) where
+  module _ (below : at < end) where
     pub turn-free : getD cells at 0 ≡ 0 → Found.Free at ≡ whole
-    turn-free z = sym (probe-free t cells left (left - 1) at (omega arith) z) ∙ from
+    turn-free z = sym (probe-free t cells (end - at) (end - (at + 1)) at (omega arith) z) ∙ from
 
     pub turn-at : (getD cells at 0 ≡ 0 → ⊥) → t (getD cells at 0) ≡ true → Found.At at ≡ whole
-    turn-at n e = sym (probe-at t cells left (left - 1) at (omega arith) n e) ∙ from
+    turn-at n e = sym (probe-at t cells (end - at) (end - (at + 1)) at (omega arith) n e) ∙ from
 
     pub turn-next :
-        (getD cells at 0 ≡ 0 → ⊥) → t (getD cells at 0) ≡ false → (next : ℕ) → next ≡ around (length cells) (at + 1) →
-        probe t cells (left - 1) next ≡ whole
-    turn-next n e next is = ap (probe t cells (left - 1)) is ∙ sym (probe-next t cells left (left - 1) at (omega arith) n e) ∙ from
+        end ≤ length cells → (getD cells at 0 ≡ 0 → ⊥) → t (getD cells at 0) ≡ false →
+        probe t cells (end - (at + 1)) (at + 1) ≡ whole
+    turn-next h n e = sym (probe-up t cells (end - at) (end - (at + 1)) at (omega arith) (omega arith) n e) ∙ from
 
 -- ---- what an answer says for any area and any cells
 
@@ -93,17 +84,47 @@ module _ (L : Layout) (area cells : List ℕ) (k : Key) where
       ∙ ap (λ (f : ℕ). probe (cellHas L area k) cells f (startCell (length cells) k)) z
       ∙ probe-none (cellHas L area k) cells (startCell (length cells) k))
 
--- The search from the first cell, m being the number of cells as the code holds it.
-pub search-from :
-    (L : Layout) (area cells : List ℕ) (k : Key) {m at hash : ℕ} → m ≡ length cells → length cells ≤ mostCells → hash ≡ keyHash (k .table) (k .key) →
-    at ≡ hash % m → probe (cellHas L area k) cells m at ≡ searchFor L area cells k
-search-from L area cells k {m} {at} {hash} long most hashed first =
+-- the first cell to look at is one of the cells
+pub first-below : (m at hash : ℕ) → 0 < m → at ≡ hash % m → at < m
+first-below m at hash some first = rw first (mod-lt hash some)
+
+-- The search in two runs, m being the number of cells and at the first to look at, as the code holds them.
+pub search-runs :
+    (L : Layout) (area cells : List ℕ) (k : Key) {m at hash : ℕ} → m ≡ length cells → 0 < m → length cells ≤ mostCells →
+    hash ≡ keyHash (k .table) (k .key) → at ≡ hash % m →
+    orElse (probe (cellHas L area k) cells (m - at) at) (probe (cellHas L area k) cells (at - 0) 0) ≡ searchFor L area cells k
+search-runs L area cells k {m} {at} {hash} long some most hashed first =
     sym
     (search-within L area cells k most
-    ∙ λ i. probe (cellHas L area k) cells (sym long i) (start i))
+    ∙ (λ i. t (all i) (start i))
+    ∙ probe-split (cellHas L area k) cells (at - 0) (m - at) at (omega (arith, below)))
   where
-    start : startCell (length cells) k ≡ at
-    start = sym (first ∙ λ i. hashed i % long i)
+    t : ℕ → ℕ → Found
+    t = probe (cellHas L area k) cells
+
+    below : at < m
+    below = first-below m at hash some first
+
+    all : length cells ≡ (m - at) + (at - 0)
+    all = omega (arith, below)
+
+    start : startCell (length cells) k ≡ around (length cells) at
+    start = sym (around-below (length cells) at (omega (arith, below)) ∙ first ∙ λ i. hashed i % long i)
+
+-- ---- the answer by that of the first run
+
+module _ (first second whole : Found) (runs : orElse first second ≡ whole) where
+  pub run-at : (i : ℕ) → first ≡ Found.At i → Found.At i ≡ whole
+  unfolding orElse
+  run-at i e = ap (λ (x : Found). orElse x second) (sym e) ∙ runs
+
+  pub run-free : (i : ℕ) → first ≡ Found.Free i → Found.Free i ≡ whole
+  unfolding orElse
+  run-free i e = ap (λ (x : Found). orElse x second) (sym e) ∙ runs
+
+  pub run-on : first ≡ Found.Full → second ≡ whole
+  unfolding orElse
+  run-on e = ap (λ (x : Found). orElse x second) (sym e) ∙ runs
 
 module _ (L : Layout) (area cells : List ℕ) (k : Key) (i : ℕ) where
   -- an answer that is not full came from some cell, of no more than the most

@@ -6,11 +6,11 @@ use word::fnv::key_hash;
 use word::number::read16;
 use word::number::read32;
 use word::remainder::remainder;
-ghost use Prim.Native.Nat.{_+_, _%_, _<_};
+ghost use Prim.Native.Nat.{_-_, _%_, _≤_, _<_};
 ghost use mathlib.Core.Path.{_≡_};
+ghost use lib.ListN.{length};
 ghost use Rattle.segment.specs.Layout.{edition1};
-ghost use Rattle.model.specs.Index.{around};
-ghost use Rattle.index.specs.Search.{cellHas, searchFor};
+ghost use Rattle.index.specs.Search.{cellHas, probe, searchFor};
 
 // Whether the entry at a cell's place has that key. A place at which no entry fits has none. The key is read at its offsets
 // and not through the entry reader, for this is done in every turn of the search: through the reader a read of a present key
@@ -40,15 +40,29 @@ fn first_cell(hash: u32, m: u16) -> u16
     remainder(hash as usize, m as usize) as u16
 }
 
-// The next of m cells, going round.
-fn next_cell(at: u16, m: u16) -> u16
-    requires { ⌜ at < m ⌝ }
-    ensures { λ r. ⌜ r ≡ around m (at + 1) ⌝ }
+// The cells from a place up to an end, both held in 16 bits. Nothing goes round in here: a turn's place is the one before
+// and 1 more, so that no upper bits are to be cleared in each turn.
+fn search_up(area: &[u8], cells: &[u32], key: Key, from: u16, end: u16) -> Found
+    requires { ⌜ (from ≤ end) × (end ≤ length (now cells)) ⌝ }
+    ensures { λ r.
+        ⌜ r ≡ probe (cellHas edition1 (now (area .entry)) key) (now (cells .entry)) (end - from) from ⌝ }
 {
-    if at + 1 == m { 0 } else { at + 1 }
+    let mut at = from;
+    while at < end {
+        let cell = cells[at as usize];
+        if cell == 0 {
+            return Found::Free(at as usize);
+        }
+        if cell_has(area, key, cell) {
+            return Found::At(at as usize);
+        }
+        at += 1;
+    }
+    Found::Full
 }
 
-// Where a key's cell is, or where it would be. The place among the cells and the number of cells left are held in 16 bits.
+// Where a key's cell is, or where it would be: from its first cell up to the end, then from the start up to its first cell.
+// The place among the cells and their number are held in 16 bits.
 pub fn search(area: &[u8], cells: &[u32], key: Key) -> Found
     ensures { λ r. ⌜ r ≡ searchFor edition1 (now (area .entry)) (now (cells .entry)) key ⌝ }
 {
@@ -60,18 +74,10 @@ pub fn search(area: &[u8], cells: &[u32], key: Key) -> Found
         return Found::Full;
     }
     let m = length as u16;
-    let mut at = first_cell(key_hash(key.table, key.key), m);
-    let mut left = m;
-    while 0 < left {
-        let cell = cells[at as usize];
-        if cell == 0 {
-            return Found::Free(at as usize);
-        }
-        if cell_has(area, key, cell) {
-            return Found::At(at as usize);
-        }
-        at = next_cell(at, m);
-        left -= 1;
+    let first = first_cell(key_hash(key.table, key.key), m);
+    match search_up(area, cells, key, first, m) {
+        Found::At(i) => Found::At(i),
+        Found::Free(i) => Found::Free(i),
+        Found::Full => search_up(area, cells, key, 0, first),
     }
-    Found::Full
 }

@@ -1,90 +1,67 @@
--- `index::search::search` meets its contract. The invariant: the search from here, over the cells left, gives the whole answer.
-use Prim.Native.Nat.{_≤_, _<_}
+-- `index::search::search` meets its contract: two runs make the whole search, and the answer goes by that of the first.
 use mathlib.Core.Path.{_≡_, refl, sym, _∙_}
-use native.Mathlib.Nat.{mod-lt}
 use native.Mathlib.Omega.{arith}
-use lib.ListN.{length}
 use borrow.Author.Needs.{needs}
 use Rattle.segment.specs.Layout.{edition1}
-use Rattle.index.specs.Search.{probe, cellHas, searchFor}
-use Rattle.index.specs.Around.{around-lt}
-use Rattle.index.specs.SearchLaws.{search-empty, search-above, search-from, turn-full, turn-free, turn-at, turn-next}
+use Rattle.index.specs.SearchLaws.{search-empty, search-above, first-below, search-runs, run-at, run-free, run-on}
 use Rattle.index.proofs.search.search.Statement.{statement}
 use Rattle.index.proofs.search.search.Tie as tie
 
-abbrev Inv-loop : tie.InvT-loop
-Inv-loop area cells key n m at₀ left₀ at left =
-    (at < length cells) × (left ≤ length cells) × (probe (cellHas edition1 area key) cells left at ≡ searchFor edition1 area cells key)
-
-abbrev μ-loop : tie.MeasureT-loop
-μ-loop area cells key n m at₀ left₀ at left = left
-
-returns : tie.Need-returns Inv-loop μ-loop
+returns : tie.Need-returns
 returns c = search-empty edition1 _ _ _ (c .if1 .taken)
 
-returns-2 : tie.Need-returns-2 Inv-loop μ-loop
+returns-2 : tie.Need-returns-2
 returns-2 c = search-above edition1 _ _ _ (c .if2 .taken)
 
-cast-m : tie.Need-cast-m Inv-loop μ-loop
+cast-m : tie.Need-cast-m
 cast-m c = search needs
 
-first-cell-requires : tie.Need-first-cell-requires Inv-loop μ-loop
+first-cell-requires : tie.Need-first-cell-requires
 first-cell-requires c κs = search needs
 
-loop-holds : tie.Need-loop-holds Inv-loop μ-loop
-loop-holds c = (
-  rw (c .first-cell .ensures) (mod-lt _ (omega arith)),
-  omega arith,
-  search-from edition1 _ _ _ refl (omega arith) (c .before .key-hash .ensures) (c .first-cell .ensures),
-)
+search-up-requires : tie.Need-search-up-requires
+search-up-requires c κs =
+    let l = first-below _ _ _ (omega arith) (c .first-cell .ensures) in
+    (omega (arith, l), omega arith)
 
-returns-3 : tie.Need-returns-3 Inv-loop μ-loop
+search-up-requires-2 : tie.Need-search-up-requires-2
+search-up-requires-2 c κs =
+    let l = first-below _ _ _ (omega arith) (c .before .before .before .first-cell .ensures) in
+    (omega arith, omega (arith, l))
+
+returns-3 : tie.Need-returns-3
 returns-3 c =
-    let l = c .before .before in
-    turn-free _ _ _ _ _ (l .before .loop .inv .2) (l .loop-test .taken) (c .if3 .taken)
+    let s = c .before .before .before in
+    run-at _ _ _ (search-runs edition1 _ _ _ refl (omega arith) (omega arith) (s .before .before .key-hash .ensures) (s .before .first-cell .ensures)) _
+    (sym (s .search-up .ensures) ∙ c .before .i .given .1)
 
-returns-4 : tie.Need-returns-4 Inv-loop μ-loop
+returns-4 : tie.Need-returns-4
 returns-4 c =
-    let l = c .before .before .before .before in
-    turn-at _ _ _ _ _ (l .before .loop .inv .2) (l .loop-test .taken) (c .before .before .if3 .left) (sym (c .before .cell-has .ensures) ∙ c .if4 .taken)
+    let s = c .before .before .before in
+    run-free _ _ _ (search-runs edition1 _ _ _ refl (omega arith) (omega arith) (s .before .before .key-hash .ensures) (s .before .first-cell .ensures)) _
+    (sym (s .search-up .ensures) ∙ c .before .i2 .given .1)
 
-next-cell-requires : tie.Need-next-cell-requires Inv-loop μ-loop
-next-cell-requires c κs = search needs
-
-loop-again : tie.Need-loop-again Inv-loop μ-loop
-loop-again c =
-    let l = c .before .before .before .before .before in (
-      rw (c .next-cell .ensures) (around-lt _ _ (omega arith)),
-      omega arith,
-      turn-next _ _ _ _ _ (l .before .loop .inv .2) (l .loop-test .taken) (c .before .before .before .if3 .left)
-          (sym (c .before .before .cell-has .ensures) ∙ c .before .if4 .left) _ (c .next-cell .ensures),
-    )
-
-returns-5 : tie.Need-returns-5 Inv-loop μ-loop
-returns-5 c = turn-full _ _ _ _ _ (c .before .loop .inv .2) (c .loop-test .left)
+returns-5 : tie.Need-returns-5
+returns-5 c =
+    let s = c .before .before .before in
+    c .search-up2 .ensures
+    ∙ run-on _ _ _ (search-runs edition1 _ _ _ refl (omega arith) (omega arith) (s .before .before .key-hash .ensures) (s .before .first-cell .ensures))
+    (sym (s .search-up .ensures) ∙ c .before .enum-told .given .1)
 
 pub search-spec : {M : Type 1} → statement M
 search-spec =
     tie.close
     (tie.spec
-    Inv-loop
-    μ-loop
     returns
     returns-2
     cast-m
     (λ c κs. search needs)
     first-cell-requires
-    loop-holds
+    search-up-requires
     (λ c. search needs)
     (λ c. search needs)
     (λ c. search needs)
-    (λ c. search needs)
+    search-up-requires-2
     returns-3
-    (λ c κs. search needs)
-    (λ c. search needs)
     returns-4
-    next-cell-requires
-    (λ c. search needs)
-    (λ c. search needs)
-    loop-again
     returns-5)
