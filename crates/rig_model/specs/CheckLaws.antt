@@ -5,19 +5,20 @@ use mathlib.Core.Bool.{Bool, true, false, not, true≢false}
 use mathlib.Core.List.{List, [], _∷_}
 use mathlib.Core.Option.{Option, none, some}
 use native.Mathlib.Omega.{arith}
-use lib.Dec.{eqb, lit<}
+use lib.Dec.{eqb}
 use lib.ListN.{length, getD, drop, drop-of-length-le}
 use lib.Seq.{drop-cons}
 use native.Mathlib.Numerals.{add-one}
-use borrow.Author.Tests.{eq-eqb, ne-eqb, not-true, not-false}
+use borrow.Author.Tests.{eq-eqb, ne-eqb}
 use Rattle.word.specs.Number.{Bytes}
-use Rattle.segment.specs.Choice.{pick, both, either, both-false-left, both-false-right, isNone}
+use Rattle.segment.specs.Choice.{pick, both, either, both-false-left, isNone}
 use Rattle.segment.specs.Layout.{edition1}
 use Rattle.segment.specs.Entry.{bytesIn}
 use Rattle.segment.specs.declared.Key.{Key}
 use Rattle.segment.specs.declared.Version.{Version}
 use Rattle.slot_map.specs.Bit.{named}
 use Rattle.record.specs.Range.{fitsLent}
+use Rattle.record.specs.RangeLaws.{lent}
 use Rattle.record.specs.Reach.{allTables, all-hold}
 use Rattle.record.specs.declared.ReadAnswer.{ReadAnswer}
 use Rattle.record.specs.declared.Reading.{Reading}
@@ -25,13 +26,13 @@ use Rattle.record.specs.declared.Record.{Record}
 use Rattle.record.specs.declared.Recovery.{Recovery}
 use Rattle.record.specs.declared.RecoverAnswer.{RecoverAnswer}
 use Rattle.record.specs.declared.Refusal.{Refusal}
-use Rattle.record.specs.declared.Refusal.the-variants.{BadRecord, OutsideTables, Absent}
+use Rattle.record.specs.declared.Refusal.the-variants.{Absent}
 use Rattle.model.specs.Log.{Placed, present, viewsOf, logOf, highest}
-use Rattle.model.specs.Causes.{when, firstCause}
+use Rattle.model.specs.Causes.{firstCause}
 use Rattle.model.specs.Recovery.{recovered, recovery, recoveryFor, recordFrom, areaCauses, ifNone, orderBad, listsBelow, lists, logDamaged}
 use Rattle.model.specs.Operations.{logNow}
 use Rattle.model.specs.Refused.{keyAbsent, readCauses}
-use Rattle.model.specs.Promises.{Genuine, RecoverPromise, IndexAfter, ReadPromise, readAnswer, presentAnswer, readLengths, Part, partOf, valuePart, valueAnswer, promisedPart, ValueReference, RefersTo}
+use Rattle.model.specs.Promises.{Genuine, RecoverPromise, IndexAfter, ReadPromise, readAnswer, presentAnswer, readLengths, Part, partOf, valuePart, valueAnswer, promisedPart, ValueReference}
 use denote.Ref.{RefT}
 use Rattle.laws.specs.LogLaws.{AllScanned, scans-undamaged}
 use Rattle.laws.specs.OperationsKept.{edition1-laws}
@@ -167,6 +168,11 @@ module _ (area : List ℕ) (r : Record) (cells : List ℕ) (y : Ready area r cel
           ∙ ap (λ (p : Option Placed). keyAs p held) (sym (o .is-present))
 
 -- ---- the next version
+
+pub area-long : (area : List ℕ) (r : Record) → Bytes area → recovered edition1 4 256 16 area ≡ some r → length area ≡ 1024
+area-long area r bytes e =
+    let l = lent edition1 r (length area) 16 (edition1-laws .own-lengths 4 256 16 area r bytes e) in
+    l .area-own ∙ (λ i. slots-of edition1 4 256 16 area r e i * size-of edition1 4 256 16 area r e i)
 
 pub shape : (area : List ℕ) → length area ≡ 1024 → Shape 4 256 area
 shape area e = record { slots-least = omega arith; slots-most = omega arith; size-least = omega arith; size-most = omega arith; whole = e }

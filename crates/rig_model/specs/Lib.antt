@@ -3,3 +3,4 @@ pub mod Verdict
 pub mod RunLaws
 pub mod CheckLaws
 pub mod PlayLaws
+pub mod LoopLaws

@@ -4,7 +4,6 @@ use mathlib.Core.Path.{_≡_, refl, sym, ap, _∙_, subst}
 use mathlib.Core.Bool.{Bool, true, false}
 use mathlib.Core.List.{List, [], _∷_, _++_}
 use mathlib.Core.Option.{Option, none, some}
-use native.Mathlib.Numerals.{add-one}
 use native.Mathlib.Omega.{arith}
 use lib.Dec.{lit<}
 use lib.ListN.{length, take, replicate}
@@ -12,26 +11,35 @@ use Rattle.word.specs.Number.{Bytes}
 use Rattle.segment.specs.Choice.{pick, both, either}
 use Rattle.segment.specs.Layout.{edition1}
 use Rattle.record.specs.RangeLaws.{lent}
+use Rattle.segment.specs.declared.Key.{Key}
+use Rattle.record.specs.Range.{between, cellsGood}
+use Rattle.record.specs.Reach.{allTables}
+use Rattle.record.specs.declared.FormatAnswer.{FormatAnswer}
 use Rattle.record.specs.declared.Record.{Record}
+use Rattle.record.specs.declared.Recovery.{Recovery}
+use Rattle.record.specs.declared.Tables.{Tables}
 use Rattle.record.specs.declared.Refusal.{Refusal}
 use Rattle.record.specs.declared.Start.{Start}
 use Rattle.record.specs.declared.StartAnswer.{StartAnswer}
-use Rattle.record.specs.declared.Stepped.{Stepped}
-use Rattle.model.specs.Operations.{Operation, Typed, logNow, stored, formatted}
-use Rattle.model.specs.Refused.{freely}
-use Rattle.model.specs.Promises.{StartPromise, StepPromise}
+use Rattle.model.specs.Operations.{Operation, write, delete, clean, Typed, stored, formatted}
+use Rattle.model.specs.Causes.{firstCause}
+use Rattle.model.specs.Recovery.{recovered, recovery, recordFrom, geometryBad}
+use Rattle.model.specs.Refused.{Terms, freely, reaching}
+use Rattle.model.specs.Promises.{FormatPromise, areaUnless, RecoverPromise, StartPromise}
+use Rattle.laws.specs.OperationsKept.{edition1-laws}
+use Rattle.laws.specs.RecoverLaws.{recovered-recovery}
 use Rattle.laws.specs.Operated.{planAt}
 use Rattle.histories.specs.declared.Letter.{Letter}
 use Rattle.histories.specs.declared.Letter.the-variants.{WriteA, WriteB, DeleteA, DeleteB, CleanAll}
 use Rattle.histories.specs.declared.book.Book.{Book}
-use Rattle.histories.specs.Letters.{Word, legal}
-use Rattle.histories.specs.List.{legalOnes, historiesOf, histories}
-use Rattle.histories.specs.Numbered.{word, numbered, shorter, Taken, taken}
-use Rattle.histories.specs.Book.{finished, freshBook}
+use Rattle.histories.specs.Letters.{Word}
+use Rattle.histories.specs.List.{histories}
+use Rattle.histories.specs.Numbered.{word, Taken, taken}
+use Rattle.histories.specs.Book.{firstKey, secondKey, finished, freshBook}
 use Rattle.rig_model.specs.Verdict.{wrongAt, operationAt, causeAt, cutsWrong, refuses, recordAt, wordWrong, historyWrong, firstWrong}
 use Rattle.rig_model.specs.RunLaws.{Ready, Ended, Under, ready-record, start-refused, start-stores, start-under}
 use Rattle.history.proofs.Invariant.{slots-of}
-use Rattle.rig_model.specs.CheckLaws.{fits}
+use Rattle.rig_model.specs.CheckLaws.{fits, recovered-ready, order-up}
 
 -- ---- the operation of a letter is one of its types
 
@@ -77,9 +85,9 @@ module _ (fromLog : Bool) (l : Letter) (place : ℕ) (area : List ℕ) (b : Book
   unfolding wordWrong
   from-letter w =
       ap (λ (x : Record).
-          pick (refuses (causeAt area x (operationAt l place x))) (wordWrong fromLog w (place + 1) area b)
-          (either (cutsWrong fromLog area x (operationAt l place x) b 0 (length (planAt edition1 area x (operationAt l place x))))
-          (wordWrong fromLog w (place + 1) (stored area (planAt edition1 area x (operationAt l place x))) (finished b l place))))
+      pick (refuses (causeAt area x (operationAt l place x))) (wordWrong fromLog w (place + 1) area b)
+      (either (cutsWrong fromLog area x (operationAt l place x) b 0 (length (planAt edition1 area x (operationAt l place x))))
+      (wordWrong fromLog w (place + 1) (stored area (planAt edition1 area x (operationAt l place x))) (finished b l place))))
       own-record
 
   module _ (work work′ : List ℕ) (a : Start) (ty : Typed o) (al : length area ≡ 1024) (wl : length work ≡ 256) (p : StartPromise edition1 freely o r area cells work work′ a) where
@@ -213,7 +221,7 @@ word-end fromLog whole left rest place area b e w t i = i ∙ sym (w ∙ ap (λ 
 
 -- ---- the loops over the histories
 
-first-append : (fromLog : Bool) (a c : List Word) → firstWrong fromLog a ≡ none → firstWrong fromLog (a ++ c) ≡ firstWrong fromLog c
+pub first-append : (fromLog : Bool) (a c : List Word) → firstWrong fromLog a ≡ none → firstWrong fromLog (a ++ c) ≡ firstWrong fromLog c
 unfolding firstWrong
 first-append fromLog [] c e = refl
 first-append fromLog (w ∷ a) c e = go (historyWrong fromLog w) e (first-append fromLog a c)
@@ -223,7 +231,7 @@ first-append fromLog (w ∷ a) c e = go (historyWrong fromLog w) e (first-append
     go true e ih = unfold pick in (let z : _≡_ {A = ℕ} 0 1 = cc in absurd (omega arith))
     go false e ih = unfold pick in ih e
 
-first-found : (fromLog : Bool) (a c : List Word) (w : Word) → firstWrong fromLog a ≡ some w → firstWrong fromLog (a ++ c) ≡ some w
+pub first-found : (fromLog : Bool) (a c : List Word) (w : Word) → firstWrong fromLog a ≡ some w → firstWrong fromLog (a ++ c) ≡ some w
 unfolding firstWrong pick
 first-found fromLog [] c w e = let z : _≡_ {A = ℕ} 0 1 = cc in absurd (omega arith)
 first-found fromLog (v ∷ a) c w e = go (historyWrong fromLog v) e (first-found fromLog a c w)
@@ -232,3 +240,66 @@ first-found fromLog (v ∷ a) c w e = go (historyWrong fromLog v) e (first-found
         → pick t (some v) (firstWrong fromLog (a ++ c)) ≡ some w
     go true e ih = e
     go false e ih = ih e
+
+-- ---- the start of each letter
+
+module _ (l : Letter) (place : ℕ) (r : Record) (area cells work work′ : List ℕ) (a : Start) (t : Tables) (all : t ≡ allTables) (k : Key) where
+  abbrev Starts : Terms → Operation → Type 0
+  Starts q o = StartPromise edition1 q o r area cells work work′ a
+
+  as-letter : (m : Letter) → l ≡ m → Starts freely (operationAt m place r) → Starts freely (operationAt l place r)
+  as-letter m e p = subst (λ (x : Letter). Starts freely (operationAt x place r)) (sym e) p
+
+  freely-reaching : (o : Operation) → Starts (reaching t) o → Starts freely o
+  freely-reaching o p = subst (λ (x : Tables). Starts (reaching x) o) all p
+
+  pub start-write-a : l ≡ WriteA → k ≡ firstKey → Starts (reaching t) (write k (replicate 8 place)) → Starts freely (operationAt l place r)
+  unfolding operationAt
+  start-write-a e f p = as-letter WriteA e (freely-reaching _ (subst (λ (x : Key). Starts (reaching t) (write x (replicate 8 place))) f p))
+
+  pub start-write-b : l ≡ WriteB → k ≡ secondKey → Starts (reaching t) (write k (replicate 8 place)) → Starts freely (operationAt l place r)
+  unfolding operationAt
+  start-write-b e f p = as-letter WriteB e (freely-reaching _ (subst (λ (x : Key). Starts (reaching t) (write x (replicate 8 place))) f p))
+
+  pub start-delete-a : l ≡ DeleteA → k ≡ firstKey → Starts (reaching t) (delete k) → Starts freely (operationAt l place r)
+  unfolding operationAt
+  start-delete-a e f p = as-letter DeleteA e (freely-reaching _ (subst (λ (x : Key). Starts (reaching t) (delete x)) f p))
+
+  pub start-delete-b : l ≡ DeleteB → k ≡ secondKey → Starts (reaching t) (delete k) → Starts freely (operationAt l place r)
+  unfolding operationAt
+  start-delete-b e f p = as-letter DeleteB e (freely-reaching _ (subst (λ (x : Key). Starts (reaching t) (delete x)) f p))
+
+pub start-clean : (l : Letter) (place : ℕ) (r : Record) (area cells work work′ : List ℕ) (a : Start) → l ≡ CleanAll → StartPromise edition1 freely (clean (r .map)) r area cells work work′ a
+    → StartPromise edition1 freely (operationAt l place r) r area cells work work′ a
+unfolding operationAt
+start-clean l place r area cells work work′ a e p = subst (λ (x : Letter). StartPromise edition1 freely (operationAt x place r) r area cells work work′ a) (sym e) p
+
+-- ---- a fresh store
+
+abbrev pub freshArea : List ℕ
+freshArea = formatted edition1 4 256 (replicate 1024 0)
+
+zero-bytes : (n : ℕ) → Bytes (replicate n 0)
+zero-bytes zero i = omega arith
+zero-bytes (suc n) zero = omega arith
+zero-bytes (suc n) (suc i) = zero-bytes n i
+
+pub format-fresh : (area′ : List ℕ) (a : FormatAnswer) → FormatPromise edition1 4 256 (replicate 1024 0) area′ a → area′ ≡ freshArea
+unfolding areaUnless firstCause pick between both
+format-fresh area′ a p = p .leaves
+
+pub fresh-ready : (area cells cells′ : List ℕ) (r : Recovery) → area ≡ freshArea → length cells ≡ 16 → RecoverPromise edition1 4 256 (0 ∷ 1 ∷ 2 ∷ 3 ∷ []) area cells cells′ r
+    → Ready area (r .rec) cells′
+fresh-ready area cells cells′ r e long p =
+    recovered-ready (0 ∷ 1 ∷ 2 ∷ 3 ∷ []) area cells cells′ r order-up long p
+    (subst Bytes (sym e) (edition1-laws .format-bytes 4 256 (replicate 1024 0) (zero-bytes 1024)))
+    (ap (λ (x : Recovery). x .answer)
+    (p .answers
+    ∙ ap (λ (m : ℕ). recovery edition1 4 256 m (0 ∷ 1 ∷ 2 ∷ 3 ∷ []) area) long
+    ∙ recovered-recovery edition1 4 256 16 area (0 ∷ 1 ∷ 2 ∷ 3 ∷ []) (recordFrom edition1 4 256 16 area) order-up (subst (λ (x : List ℕ). recovered edition1 4 256 16 x ≡ some (recordFrom edition1 4 256 16 x)) (sym e) (edition1-laws .format-recovers 4 256 16 (replicate 1024 0) geometry cells-good))))
+  where
+    geometry : geometryBad 4 256 (length {A = ℕ} (replicate 1024 0)) ≡ false
+    geometry = unfold between both in refl
+
+    cells-good : cellsGood 16 ≡ true
+    cells-good = unfold between both in refl
