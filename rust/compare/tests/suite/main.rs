@@ -8,6 +8,7 @@ mod not_genuine;
 mod random_histories;
 mod refused_calls;
 mod replay_program;
+mod rig;
 mod short_histories;
 mod two_owners;
 mod vectors;
