@@ -193,7 +193,7 @@ unfoldable pub shorter : ℕ → List Word
 shorter zero = []
 shorter (suc n) = shorter n ++ historiesOf n
 
-histories-shorter : (n : ℕ) → shorter (suc n) ≡ histories n
+pub histories-shorter : (n : ℕ) → shorter (suc n) ≡ histories n
 unfolding histories shorter
 histories-shorter zero = refl
 histories-shorter (suc n) = ap (λ (x : List Word). x ++ historiesOf (suc n)) (histories-shorter n)

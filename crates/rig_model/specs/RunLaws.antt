@@ -1,44 +1,40 @@
 -- Laws of a run: what the promises of start and step give on a store that is idle and recovered, and on one whose operation is under way.
-use Prim.Native.Nat.{ℕ, zero, suc, _+_, _-_, _≤_, _<_}
+use Prim.Native.Nat.{ℕ, suc, _+_, _-_, _≤_, _<_}
 use mathlib.Core.Path.{_≡_, refl, sym, ap, _∙_, subst, subst⁻¹}
 use mathlib.Core.Bool.{Bool, true, false, not}
 use mathlib.Core.List.{List, [], _∷_}
-use mathlib.Core.Option.{Option, none, some}
-use native.Mathlib.Nat.{sub-zero}
+use mathlib.Core.Option.{none, some}
 use native.Mathlib.Omega.{arith}
-use lib.Dec.{leb, eqb}
 use lib.ListN.{length, take}
-use lib.Seq.{sets, take-all}
-use borrow.Author.Tests.{ltb-false, le-ltb, le-leb, eq-eqb, not-false}
+use lib.Seq.{take-all}
+use borrow.Author.Tests.{le-ltb, le-leb}
 use Rattle.word.specs.Number.{Bytes}
 use Rattle.word.specs.Laws.{taken-sets}
-use Rattle.segment.specs.Choice.{pick, both, both-left, both-right, both-true}
-use Rattle.segment.specs.Layout.{Layout, edition1, entrySize}
+use Rattle.segment.specs.Choice.{pick, both-left, both-right, both-true}
+use Rattle.segment.specs.Layout.{edition1, entrySize}
 use Rattle.segment.specs.Entry.{Entry}
 use Rattle.segment.specs.declared.Key.{Key}
 use Rattle.record.specs.Answers.{withPending}
 use Rattle.record.specs.Range.{between, leftGood, inRange, lengthsOwn, fitsLent}
 use Rattle.record.specs.declared.Pending.{Pending}
-use Rattle.record.specs.declared.Pending.the-variants.{Idle, Append, NewHead, Clean, Forget}
+use Rattle.record.specs.declared.Pending.the-variants.{Idle}
 use Rattle.record.specs.declared.Record.{Record}
 use Rattle.record.specs.declared.Refusal.{Refusal}
 use Rattle.record.specs.declared.Refusal.the-variants.{BadRecord, WorkShort, NonePending}
 use Rattle.record.specs.declared.Start.{Start}
 use Rattle.record.specs.declared.StartAnswer.{StartAnswer}
 use Rattle.record.specs.declared.Stepped.{Stepped}
-use Rattle.record.specs.declared.StepAnswer.{StepAnswer}
 use Rattle.model.specs.Log.{Placed}
 use Rattle.model.specs.Causes.{when, firstCause}
-use Rattle.model.specs.Recovery.{recovered, recordFrom}
+use Rattle.model.specs.Recovery.{recovered}
 use Rattle.model.specs.Index.{IndexRule}
-use Rattle.model.specs.Operations.{Operation, write, delete, clean, Typed, logNow, Laid, laid, laidAppend, laidHead, laidEntry, laidForget, laidDelete, fitsHead, noRoom, writtenEntry, tombstoneEntry, planFor, storesFor, startedRecord, stored, finishedRecord}
-use Rattle.model.specs.Refused.{Lengths, freely, recordBad, isPending, startCauses, stepCauses}
-use Rattle.model.specs.Promises.{Genuine, Started, StartPromise, Begun, begun, lentLengths, StepPromise, StepExact, stepped, IndexStepped, leftAfter}
+use Rattle.model.specs.Operations.{Operation, write, delete, clean, Typed, logNow, Laid, laid, laidAppend, laidHead, laidEntry, laidForget, laidDelete, fitsHead, noRoom, writtenEntry, tombstoneEntry, stored, finishedRecord}
+use Rattle.model.specs.Refused.{Lengths, freely, isPending, startCauses, stepCauses}
+use Rattle.model.specs.Promises.{Genuine, Started, StartPromise, Begun, begun, lentLengths, StepPromise, StepExact, stepped, IndexStepped}
 use Rattle.laws.specs.Stores.{length-stored}
-use Rattle.laws.specs.Passed.{start-passed}
 use Rattle.laws.specs.Operated.{Accepted, OperationLaws, planAt}
 use Rattle.laws.specs.OperationsKept.{edition1-laws}
-use Rattle.history.proofs.Invariant.{recovered-is, idle-of, slots-of, size-of, cells-of, idle-same, own-geometry, with-geometry}
+use Rattle.history.proofs.Invariant.{recovered-is, idle-of, slots-of, size-of, cells-of, idle-same, own-geometry}
 use Rattle.rig_model.specs.Verdict.{lent, causeAt, recordAt}
 
 laws : OperationLaws edition1

@@ -106,13 +106,18 @@ historyWrong fromLog w = wordWrong fromLog w 1 (formatted edition1 4 256 (replic
 
 -- ---- what is printed
 
--- the first history of a list that recovers wrongly, or `none`
-unfoldable pub verdictLine : Bool → List Word → List ℕ
-verdictLine fromLog [] = ascii "none" ++ 10 ∷ []
-verdictLine fromLog (w ∷ ws) = pick (historyWrong fromLog w) (lineOf w) (verdictLine fromLog ws)
+-- the first history of a list that recovers wrongly
+unfoldable pub firstWrong : Bool → List Word → Option Word
+firstWrong fromLog [] = none
+firstWrong fromLog (w ∷ ws) = pick (historyWrong fromLog w) (some w) (firstWrong fromLog ws)
+
+-- its line, or that of `none`
+abbrev pub verdictLine : Option Word → List ℕ
+verdictLine none = ascii "none" ++ 10 ∷ []
+verdictLine (some w) = lineOf w
 
 abbrev pub textFor : Bool → ℕ → List ℕ
-textFor fromLog n = linesOf (histories n) ++ verdictLine fromLog (histories n)
+textFor fromLog n = linesOf (histories n) ++ verdictLine (firstWrong fromLog (histories n))
 
 -- The text for an input: exactly one byte, the digit 0 to 6; any other prints nothing.
 unfoldable pub rigText : Bool → List ℕ → List ℕ

@@ -1,7 +1,7 @@
 // What recovery makes of an area after a cut, compared with the book.
-use crate::book;
-use crate::book::Book;
-use crate::book::Held;
+use histories::book;
+use histories::book::Book;
+use histories::book::Held;
 use log::survey::survey;
 use record::ReadAnswer;
 use record::Record;
@@ -12,9 +12,21 @@ use segment::Key;
 use store::read;
 use store::read_value;
 use store::recover;
+ghost use Prim.Native.Nat.{_<_};
+ghost use mathlib.Core.Path.{_≡_};
+ghost use mathlib.Core.Option.{some};
+ghost use Rattle.word.specs.Number.{Bytes};
+ghost use Rattle.segment.specs.Layout.{edition1};
+ghost use Rattle.model.specs.Log.{present};
+ghost use Rattle.model.specs.Operations.{logNow};
+ghost use Rattle.model.specs.Recovery.{recovered};
+ghost use Rattle.rig_model.specs.Verdict.{eightAre, keyAs, nextOf, storeAs, wrongAt};
+ghost use Rattle.rig_model.specs.RunLaws.{Ready};
 
 // Whether these are eight bytes, all this one.
-fn all_are(bytes: &[u8], byte: u8) -> bool {
+fn all_are(bytes: &[u8], byte: u8) -> bool
+    ensures { λ r. ⌜ r ≡ eightAre (now (bytes .entry)) byte ⌝ }
+{
     if bytes.len() != 8 {
         return false;
     }
@@ -29,7 +41,10 @@ fn all_are(bytes: &[u8], byte: u8) -> bool {
 }
 
 // Whether a key has the version and the value of the book, or is absent where the book has nothing of it.
-fn key_as(rec: Record, area: &[u8], index: &[u32], key: Key, held: Held) -> bool {
+fn key_as(rec: Record, area: &[u8], index: &[u32], key: Key, held: Held) -> bool
+    requires { ⌜ Ready (now area) rec (now index) × (key .table < 65536) ⌝ }
+    ensures { λ r. ⌜ r ≡ keyAs (present (logNow edition1 (now (area .entry)) rec) key) held ⌝ }
+{
     let tables = Tables {
         first: 0,
         last: 65535,
@@ -48,9 +63,12 @@ fn key_as(rec: Record, area: &[u8], index: &[u32], key: Key, held: Held) -> bool
 }
 
 // The next version: the record's, or from log entries alone one more than their highest.
-fn next_of(rec: Record, area: &[u8], from_log: bool) -> u32 {
+fn next_of(rec: Record, area: &[u8], faulty: bool) -> u32
+    requires { ⌜ (recovered edition1 4 256 16 (now area) ≡ some rec) × Bytes (now area) ⌝ }
+    ensures { λ r. ⌜ r ≡ nextOf faulty (logNow edition1 (now (area .entry)) rec) rec ⌝ }
+{
     let next = rec.next;
-    if !from_log {
+    if !faulty {
         return next.0;
     }
     let passed = survey(4, 256, area, rec.map);
@@ -62,12 +80,15 @@ fn next_of(rec: Record, area: &[u8], from_log: bool) -> u32 {
 }
 
 // Whether a recovered store is the book's.
-fn store_as(rec: Record, area: &[u8], index: &[u32], book: Book, from_log: bool) -> bool {
-    if next_of(rec, area, from_log) != book.next {
+fn store_as(rec: Record, area: &[u8], index: &[u32], book: Book, faulty: bool) -> bool
+    requires { ⌜ Ready (now area) rec (now index) ⌝ }
+    ensures { λ r. ⌜ r ≡ storeAs faulty (logNow edition1 (now (area .entry)) rec) rec book ⌝ }
+{
+    if next_of(rec, area, faulty) != book.next {
         return false;
     }
     let mut ranks = [0; 4096];
-    if gather(256, area, index, &mut ranks) != book::count(book) {
+    if gather(rec.size as usize, area, index, &mut ranks) != book::count(book) {
         return false;
     }
     let first = book.first;
@@ -79,13 +100,15 @@ fn store_as(rec: Record, area: &[u8], index: &[u32], book: Book, from_log: bool)
 }
 
 // Whether recovery of what a cut leaves is refused or gives another store than the book's.
-pub fn recovers_wrongly(area: &[u8; 1024], book: Book, from_log: bool) -> bool {
+pub fn recovers_wrongly(area: &[u8], book: Book, faulty: bool) -> bool
+    ensures { λ r. ⌜ r ≡ wrongAt faulty (now (area .entry)) book ⌝ }
+{
     let mut index = [0; 16];
     let recovery = recover(4, 256, b"\x02\x00\x03\x01", area, &mut index);
     let answer = recovery.answer;
     let rec = recovery.rec;
     match answer {
         RecoverAnswer::Refused(_) => true,
-        RecoverAnswer::Recovered => !store_as(rec, area, &index, book, from_log),
+        RecoverAnswer::Recovered => !store_as(rec, area, &index, book, faulty),
     }
 }

@@ -1,8 +1,8 @@
 // A history run on the store, with a cut before its first store and after every one.
-use crate::book;
-use crate::book::Book;
 use crate::check::recovers_wrongly;
 use histories::Letter;
+use histories::book;
+use histories::book::Book;
 use histories::letter_of;
 use histories::words;
 use record::Record;
@@ -17,6 +17,16 @@ use store::recover;
 use store::step;
 use store::write;
 ghost use Prim.Native.Nat.{_≤_};
+ghost use mathlib.Core.Path.{_≡_};
+ghost use lib.ListN.{length};
+ghost use Rattle.segment.specs.Layout.{edition1};
+ghost use Rattle.record.specs.Reach.{allTables};
+ghost use Rattle.model.specs.Promises.{StartPromise};
+ghost use Rattle.model.specs.Refused.{freely};
+ghost use Rattle.histories.specs.Numbered.{word};
+ghost use Rattle.rig_model.specs.Verdict.{operationAt, historyWrong};
+ghost use Rattle.rig_model.specs.RunLaws.{Ready};
+ghost use Rattle.rig_model.specs.PlayLaws.{Plays};
 
 // The record after a letter, the book, and whether a cut on the way recovered wrongly.
 struct Played {
@@ -25,7 +35,9 @@ struct Played {
     wrong: bool,
 }
 
-fn all_tables() -> Tables {
+fn all_tables() -> Tables
+    ensures { λ r. ⌜ r ≡ allTables ⌝ }
+{
     Tables {
         first: 0,
         last: 65535,
@@ -33,14 +45,11 @@ fn all_tables() -> Tables {
 }
 
 // The start of a letter's operation: eight bytes written, each the letter's place, a key deleted, or all slots of the log cleaned.
-fn start(
-    l: Letter,
-    place: u8,
-    rec: Record,
-    area: &[u8; 1024],
-    index: &[u32; 16],
-    work: &mut [u8; 256],
-) -> Start {
+fn start(l: Letter, place: u8, rec: Record, area: &[u8], index: &[u32], work: &mut [u8]) -> Start
+    ensures { λ r.
+        ⌜ StartPromise edition1 freely (operationAt l place rec) rec (now (area .entry)) (now (index .entry)) (now (work .entry))
+        (now (work .exit)) r ⌝ }
+{
     let value = [place; 8];
     match l {
         Letter::WriteA => write(
@@ -73,11 +82,15 @@ fn play(
     place: u8,
     rec: Record,
     book: Book,
-    area: &mut [u8; 1024],
-    index: &mut [u32; 16],
-    work: &mut [u8; 256],
-    from_log: bool,
-) -> Played {
+    area: &mut [u8],
+    index: &mut [u32],
+    work: &mut [u8],
+    faulty: bool,
+) -> Played
+    requires { ⌜ Ready (now area) rec (now index) × (length (now work) ≡ 256) ⌝ }
+    ensures { λ r.
+        ⌜ Plays faulty l place (now (area .entry)) book (now (area .exit)) (r .rec) (now (index .exit)) (r .book) (r .wrong) ⌝ }
+{
     let begun = start(l, place, rec, area, index, work);
     let answer = begun.answer;
     let StartAnswer::Started(stores) = answer else {
@@ -90,7 +103,7 @@ fn play(
     let mut rec = begun.rec;
     let mut left = stores;
     while 0 < left {
-        if recovers_wrongly(area, book, from_log) {
+        if recovers_wrongly(area, book, faulty) {
             return Played {
                 rec,
                 book,
@@ -110,8 +123,9 @@ fn play(
 }
 
 // Whether a history recovers wrongly after any cut.
-pub fn is_wrong(letters: u32, number: u32, from_log: bool) -> bool
+pub fn is_wrong(letters: u32, number: u32, faulty: bool) -> bool
     requires { ⌜ letters ≤ 6 ⌝ }
+    ensures { λ r. ⌜ r ≡ historyWrong faulty (word letters number) ⌝ }
 {
     let mut area = [0; 1024];
     let mut index = [0; 16];
@@ -137,7 +151,7 @@ pub fn is_wrong(letters: u32, number: u32, from_log: bool) -> bool
             &mut area,
             &mut index,
             &mut work,
-            from_log,
+            faulty,
         );
         if played.wrong {
             return true;
@@ -147,5 +161,5 @@ pub fn is_wrong(letters: u32, number: u32, from_log: bool) -> bool
         rec = now;
         book = held;
     }
-    recovers_wrongly(&area, book, from_log)
+    recovers_wrongly(&area, book, faulty)
 }

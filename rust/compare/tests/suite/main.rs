@@ -11,6 +11,7 @@ mod positions;
 mod random_histories;
 mod refused_calls;
 mod replay_program;
+mod rig;
 mod short_histories;
 mod two_owners;
 mod vectors;

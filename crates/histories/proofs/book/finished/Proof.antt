@@ -1,72 +1,53 @@
+-- `histories::book::finished` meets its contract.
 use borrow.Author.Needs.{needs}
 use Rattle.histories.proofs.book.finished.Statement.{statement}
 use Rattle.histories.proofs.book.finished.Tie as tie
-use Rattle.histories.proofs.book.finished.Reads as reads
-use Rattle.histories.proofs.book.finished.Lts as lts
-use Rattle.histories.proofs.book.absent.Reads as absent-reads
-use Rattle.histories.proofs.book.following.Reads as following-reads
 
--- src/book.rt:73:19
 enum-told : tie.Need-enum-told
 enum-told c = search needs
 
--- src/book.rt:73:19
 following-requires : tie.Need-following-requires
 following-requires c κs = search needs
 
--- src/book.rt:78:19
 enum-told-2 : tie.Need-enum-told-2
 enum-told-2 c = search needs
 
--- src/book.rt:78:19
 following-requires-2 : tie.Need-following-requires-2
 following-requires-2 c κs = search needs
 
--- src/book.rt:83:19
 enum-told-3 : tie.Need-enum-told-3
 enum-told-3 c = search needs
 
--- src/book.rt:83:19
 following-requires-3 : tie.Need-following-requires-3
 following-requires-3 c κs = search needs
 
--- src/book.rt:84:20
 absent-requires : tie.Need-absent-requires
 absent-requires c κs = search needs
 
--- src/book.rt:88:19
 enum-told-4 : tie.Need-enum-told-4
 enum-told-4 c = search needs
 
--- src/book.rt:88:19
 following-requires-4 : tie.Need-following-requires-4
 following-requires-4 c κs = search needs
 
--- src/book.rt:90:21
 absent-requires-2 : tie.Need-absent-requires-2
 absent-requires-2 c κs = search needs
 
--- src/book.rt:92:29
 enum-told-5 : tie.Need-enum-told-5
 enum-told-5 c = search needs
 
--- src/book.rt:61:1
 returns : tie.Need-returns
 returns c = rw (c .following .ensures, c .before .enum-told .given .1)
 
--- src/book.rt:61:1
 returns-2 : tie.Need-returns-2
 returns-2 c = rw (c .following2 .ensures, c .before .enum-told2 .given .1)
 
--- src/book.rt:61:1
 returns-3 : tie.Need-returns-3
 returns-3 c = rw (c .before .following3 .ensures, c .absent .ensures, c .before .before .enum-told3 .given .1)
 
--- src/book.rt:61:1
 returns-4 : tie.Need-returns-4
 returns-4 c = rw (c .before .following4 .ensures, c .absent2 .ensures, c .before .before .enum-told4 .given .1)
 
--- src/book.rt:61:1
 returns-5 : tie.Need-returns-5
 returns-5 c = search needs
 

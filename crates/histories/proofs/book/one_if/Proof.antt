@@ -1,14 +1,11 @@
+-- `histories::book::one_if` meets its contract.
 use Rattle.histories.specs.Book.{one-none, one-some}
 use Rattle.histories.proofs.book.one_if.Statement.{statement}
 use Rattle.histories.proofs.book.one_if.Tie as tie
-use Rattle.histories.proofs.book.one_if.Reads as reads
-use Rattle.histories.proofs.book.one_if.Lts as lts
 
--- src/book.rt:100:9
 returns : tie.Need-returns
 returns c = one-none (c .before .args .version) (c .if1 .taken)
 
--- src/book.rt:96:1
 returns-2 : tie.Need-returns-2
 returns-2 c = one-some (c .before .args .version) (c .if1 .left)
 
