@@ -44,7 +44,7 @@ use Rattle.history.specs.Runs.{Held, World, Asked, read, readValue, tell
 use Rattle.model.specs.Joining.{joinEarly, JoinPromise}
 use Rattle.history.specs.Demand3.{bookAnswer, bookValue, QuestionAgrees, EventAgrees}
 use Rattle.history.proofs.Invariant.{Inv, Holding, HeldGood, Phase, idle, pending, bookEntry, started-accepted, next-of, log-of, with-geometry}
-use Rattle.history.proofs.Tellings.{tell-keeps}
+use Rattle.history.proofs.Tellings.{started-pending, tell-keeps}
 
 -- ---- the record that is held passes the tests of range and length
 
@@ -75,24 +75,6 @@ laid-left L r log o k = go o
     gone false j = entry (fitsHead L r (tombstoneEntry r j)) (tombstoneEntry r j)
 
     go : (o : Operation) → storesLeft (laid L r log o .pending k) ≡ k
-    go (write j value) = entry (fitsHead L r (writtenEntry r j value)) (writtenEntry r j value)
-    go (delete j) = gone (noRoom r (entrySize L 0)) j
-    go (clean victims) = refl
-
--- and is then pending
-pub laid-pending : (L : Layout) (r : Record) (log : List Placed) (o : Operation) (k : ℕ) → isPending (laid L r log o .pending k) ≡ true
-unfolding laid pick isPending
-laid-pending L r log o k = go o
-  where
-    entry : (t : Bool) (e : Entry) → isPending (pick t (laidAppend L e) (laidHead L r e) .pending k) ≡ true
-    entry true e = refl
-    entry false e = refl
-
-    gone : (t : Bool) (j : Key) → isPending (pick t (laidForget L r log j) (laidEntry L r (tombstoneEntry r j)) .pending k) ≡ true
-    gone true j = refl
-    gone false j = entry (fitsHead L r (tombstoneEntry r j)) (tombstoneEntry r j)
-
-    go : (o : Operation) → isPending (laid L r log o .pending k) ≡ true
     go (write j value) = entry (fitsHead L r (writtenEntry r j value)) (writtenEntry r j value)
     go (delete j) = gone (noRoom r (entrySize L 0)) j
     go (clean victims) = refl
@@ -313,7 +295,7 @@ module _ (L : Layout) (laws : OperationLaws L) (n s : ℕ) where
           p .early Busy
           (cause-skip (when (recordBad L (h .rec) (readLengths area (h .cells))) BadRecord) _ (ap not (held-fits area m b h ab good)) ∙
           cause-first (when (isPending (h .rec .pending)) Busy) []
-          (ap (λ (r : Record). isPending (r .pending)) (st .record-now) ∙ laid-pending L (st .idle) (logNow L (st .before) (st .idle)) (st .operation) _))
+          (started-pending L area (h .rec) (h .work) st))
 
   join-keeps :
       (area : List ℕ) (h : Held) (m : Option ℕ) (b : Book) (t : ℕ) (l : Lengths) (a : Joined) → Inv L n s (record { area = area; held = some h; cells = m }) b t →

@@ -46,7 +46,8 @@ use Rattle.joining.specs.PairLaws.{Joins, pair-given, pair-none}
 use Rattle.history.specs.Book.{joins, starts, steps, asks, Answer, saying, pairing, called, accepted, Book, freshBook, feed, bookOf, versionTold, highestTold}
 use Rattle.history.specs.Runs.{Held, World, heldAfter, Asked, join, Moves, start, step, ask}
 use Rattle.history.proofs.Invariant.{Inv, Holding, HeldGood, idle-same}
-use Rattle.history.proofs.Readings.{laid-pending, held-fits}
+use Rattle.history.proofs.Tellings.{started-pending}
+use Rattle.history.proofs.Readings.{held-fits}
 use Rattle.history.proofs.Starts.{not-pending}
 use Rattle.history.proofs.Theorem.{fresh, run-keeps, move-keeps}
 use Rattle.joined.specs.Helps.{Stepping, halt, then, NonePending, NumbersLeft, Named, Helps, JoinHelps, LogSlots, NoJoin}
@@ -429,9 +430,7 @@ module _ (L : Layout) (laws : OperationLaws L) (n s : ℕ) where
           (lent : Lengths) (a : Answer) (z : World) → s ≤ lent .work → Moves L n s (at area₂ h₂ m₂) (called (starts t (write k value)) lent a) z → accepted a ≡ true
       unfolding isPending begun startCauses
       written acc area₂ h₂ m₂ b₂ told₂ inv₂ good₂ (going st _ _ _) quiet lent a z long move =
-          let pending : isPending (h₂ .rec .pending) ≡ true =
-          ap (λ (x : Record). isPending (x .pending)) (st .record-now) ∙ laid-pending L (st .idle) (logNow L (st .before) (st .idle)) (st .operation) _ in
-          let never : _≡_ {A = Bool} true false = sym pending ∙ ap isPending quiet in
+          let never : _≡_ {A = Bool} true false = sym (started-pending L area₂ (h₂ .rec) (h₂ .work) st) ∙ ap isPending quiet in
           let w : _≡_ {A = ℕ} 0 1 = cc in
           absurd (omega arith)
       written acc area₂ h₂ m₂ b₂ told₂ inv₂ good₂ (over here is) quiet lent a z long move =
