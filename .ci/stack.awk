@@ -2,8 +2,8 @@
 #
 # Prints a line for each kurdavel_ function: its name and the most bytes that lie below its arguments on any path, its
 # return address included. A frame is all that the function pushes and subtracts, taken together, and below it the
-# deepest of its calls, or the red zone where it may be in use. A call of memset counts with its return address; what
-# memset takes itself is the firmware's own. Whatever would make the sum wrong ends the program with status 1: a stack
+# deepest of its calls, or the red zone where it may be in use. A call of memcpy or memset counts with its return
+# address; what they take themselves is the firmware's own. Whatever would make the sum wrong ends the program with status 1: a stack
 # pointer that is moved in another way, a call through a pointer, a recursion, a call of an unknown function.
 
 function fail(why) {
@@ -36,7 +36,7 @@ function note_target(target) {
 }
 
 function depth(f,    targets, count, i, below, deepest) {
-    if (f == "memset") return 8
+    if (f == "memcpy" || f == "memset") return 8
     if (!(f in frame)) { name = f; fail("is called and not known") }
     if (f in open) { name = f; fail("calls itself") }
     open[f] = 1

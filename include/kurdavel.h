@@ -2,8 +2,8 @@
  * Kurdavel: a parameter store for a drive's firmware, in one log that may be cut anywhere.
  *
  * Link with libkurdavel.a, which `rt staticlib kurdavel` writes to target/staticlib/ (x86-64, the calling convention of
- * System V). The library keeps nothing from call to call, allocates nothing, and calls nothing but memset, which the
- * firmware has. Its code uses SSE registers, with the instructions that every x86-64 has (SSE2), and the red zone: the
+ * System V). The library keeps nothing from call to call, allocates nothing, and calls nothing but memcpy and memset,
+ * which the firmware has. Its code uses SSE registers, with the instructions that every x86-64 has (SSE2), and the red zone: the
  * 128 bytes below the stack pointer. So an interrupt handler on the same stack leaves these bytes alone, and saves the
  * SSE registers that it changes. How much stack each call takes is said by KURDAVEL_STACK_.. below.
  *
@@ -192,22 +192,22 @@ extern "C" {
 
 /*
  * The most bytes of stack that a call takes, with its return address, without arguments that are passed on the stack
- * and without what memset takes. `.ci/firmware` counts them in the machine code and holds them to these.
+ * and without what memcpy and memset take. `.ci/firmware` counts them in the machine code and holds them to these.
  */
 #define KURDAVEL_STACK_FORMAT 64u
-#define KURDAVEL_STACK_RECOVER 3584u
-#define KURDAVEL_STACK_READ 256u
-#define KURDAVEL_STACK_READ_VALUE 256u
-#define KURDAVEL_STACK_WRITE 768u
-#define KURDAVEL_STACK_WRITE_EXPECTING 768u
-#define KURDAVEL_STACK_DELETE 1152u
-#define KURDAVEL_STACK_CLEAN 1152u
-#define KURDAVEL_STACK_STEP 896u
-#define KURDAVEL_STACK_FEWEST 0u
-#define KURDAVEL_STACK_NEXT_STORE 0u
-#define KURDAVEL_STACK_JOIN 0u
-#define KURDAVEL_STACK_SCAN_READ 0u
-#define KURDAVEL_STACK_SCAN_READ_VALUE 0u
+#define KURDAVEL_STACK_RECOVER 4096u
+#define KURDAVEL_STACK_READ 384u
+#define KURDAVEL_STACK_READ_VALUE 384u
+#define KURDAVEL_STACK_WRITE 1920u
+#define KURDAVEL_STACK_WRITE_EXPECTING 1792u
+#define KURDAVEL_STACK_DELETE 1792u
+#define KURDAVEL_STACK_CLEAN 1536u
+#define KURDAVEL_STACK_STEP 2944u
+#define KURDAVEL_STACK_FEWEST 640u
+#define KURDAVEL_STACK_NEXT_STORE 768u
+#define KURDAVEL_STACK_JOIN 8960u
+#define KURDAVEL_STACK_SCAN_READ 3840u
+#define KURDAVEL_STACK_SCAN_READ_VALUE 3840u
 #define KURDAVEL_STACK_FROM_FLOAT 64u
 #define KURDAVEL_STACK_TO_FLOAT 64u
 
