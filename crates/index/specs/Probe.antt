@@ -24,6 +24,12 @@ orElse (At i) other = At i
 orElse (Free i) other = Free i
 orElse Full other = other
 
+pub or-full : (a : Found) → orElse a Full ≡ a
+unfolding orElse
+or-full (At i) = refl
+or-full (Free i) = refl
+or-full Full = refl
+
 module _ (t : ℕ → Bool) (cells : List ℕ) where
   -- ---- the search at each of its tests
 

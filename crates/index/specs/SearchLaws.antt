@@ -17,7 +17,7 @@ use Rattle.segment.specs.declared.Key.{Key}
 use Rattle.model.specs.Index.{around, startCell}
 use Rattle.index.specs.Around.{around-below, start-below}
 use Rattle.index.specs.Search.{tableAt, keyAt, hasKeyAt, cellHas, probe, mostCells, searchFor}
-use Rattle.index.specs.Probe.{orElse, probe-none, probe-free, probe-at, probe-up, probe-split, Probed, probed, reached-below}
+use Rattle.index.specs.Probe.{orElse, or-full, probe-none, probe-free, probe-at, probe-up, probe-split, Probed, probed, reached-below}
 use Rattle.index.specs.declared.Found.{Found}
 
 -- ---- whether the entry at a place has a key
@@ -92,12 +92,12 @@ first-below m at hash some first = rw first (mod-lt hash some)
 pub search-runs :
     (L : Layout) (area cells : List ℕ) (k : Key) {m at hash : ℕ} → m ≡ length cells → 0 < m → length cells ≤ mostCells →
     hash ≡ keyHash (k .table) (k .key) → at ≡ hash % m →
-    orElse (probe (cellHas L area k) cells (m - at) at) (probe (cellHas L area k) cells (at - 0) 0) ≡ searchFor L area cells k
+    orElse (probe (cellHas L area k) cells (m - at) at) (probe (cellHas L area k) cells at 0) ≡ searchFor L area cells k
 search-runs L area cells k {m} {at} {hash} long some most hashed first =
     sym
     (search-within L area cells k most
     ∙ (λ i. t (all i) (start i))
-    ∙ probe-split (cellHas L area k) cells (at - 0) (m - at) at (omega (arith, below)))
+    ∙ probe-split (cellHas L area k) cells at (m - at) at (omega (arith, below)))
   where
     t : ℕ → ℕ → Found
     t = probe (cellHas L area k) cells
@@ -105,26 +105,43 @@ search-runs L area cells k {m} {at} {hash} long some most hashed first =
     below : at < m
     below = first-below m at hash some first
 
-    all : length cells ≡ (m - at) + (at - 0)
+    all : length cells ≡ m - at + at
     all = omega (arith, below)
 
     start : startCell (length cells) k ≡ around (length cells) at
     start = sym (around-below (length cells) at (omega (arith, below)) ∙ first ∙ λ i. hashed i % long i)
 
--- ---- the answer by that of the first run
+-- ---- a run from a cell up to an end, by its answer: the whole answer is that of this run, or of one from 0 up to the cell
 
-module _ (first second whole : Found) (runs : orElse first second ≡ whole) where
-  pub run-at : (i : ℕ) → first ≡ Found.At i → Found.At i ≡ whole
+module _ (t : ℕ → Bool) (cells : List ℕ) (whole : Found) (from end : ℕ)
+    (runs : orElse (probe t cells (end - from) from) (probe t cells from 0) ≡ whole) where
+  pub runs-over : from ≤ end → end ≤ 0 → Found.Full ≡ whole
   unfolding orElse
-  run-at i e = ap (λ (x : Found). orElse x second) (sym e) ∙ runs
+  runs-over h z = sym (λ i. orElse (none (end - from) from (omega arith) i) (none from 0 (omega arith) i)) ∙ runs
+    where
+      none : (f at : ℕ) → f ≡ 0 → probe t cells f at ≡ Found.Full
+      none f at e = ap (λ (n : ℕ). probe t cells n at) e ∙ probe-none t cells at
 
-  pub run-free : (i : ℕ) → first ≡ Found.Free i → Found.Free i ≡ whole
-  unfolding orElse
-  run-free i e = ap (λ (x : Found). orElse x second) (sym e) ∙ runs
+  module _ (run : Found) (is : run ≡ probe t cells (end - from) from) where
+    by-run : (a : Found) → run ≡ a → orElse a (probe t cells from 0) ≡ whole
+    by-run a e = ap (λ (x : Found). orElse x (probe t cells from 0)) (sym e ∙ is) ∙ runs
 
-  pub run-on : first ≡ Found.Full → second ≡ whole
-  unfolding orElse
-  run-on e = ap (λ (x : Found). orElse x second) (sym e) ∙ runs
+    pub run-at : (i : ℕ) → run ≡ Found.At i → Found.At i ≡ whole
+    unfolding orElse
+    run-at i e = by-run (Found.At i) e
+
+    pub run-free : (i : ℕ) → run ≡ Found.Free i → Found.Free i ≡ whole
+    unfolding orElse
+    run-free i e = by-run (Found.Free i) e
+
+    -- after the run from 0 nothing is left
+    pub run-next : run ≡ Found.Full → orElse (probe t cells (from - 0) 0) (probe t cells 0 0) ≡ whole
+    unfolding orElse
+    run-next e =
+        ap (orElse (probe t cells (from - 0) 0)) (probe-none t cells 0)
+        ∙ or-full (probe t cells (from - 0) 0)
+        ∙ ap (λ (f : ℕ). probe t cells f 0) (omega arith)
+        ∙ by-run Found.Full e
 
 module _ (L : Layout) (area cells : List ℕ) (k : Key) (i : ℕ) where
   -- an answer that is not full came from some cell, of no more than the most

@@ -61,8 +61,9 @@ fn search_up(area: &[u8], cells: &[u32], key: Key, from: u16, end: u16) -> Found
     Found::Full
 }
 
-// Where a key's cell is, or where it would be: from its first cell up to the end, then from the start up to its first cell.
-// The place among the cells and their number are held in 16 bits.
+// Where a key's cell is, or where it would be: a run from its first cell up to the end, then one from 0 up to its first cell.
+// The place among the cells and their number are held in 16 bits. Both runs are one call in a loop, for with two calls this
+// function is no longer put in line in the reads.
 pub fn search(area: &[u8], cells: &[u32], key: Key) -> Found
     ensures { λ r. ⌜ r ≡ searchFor edition1 (now (area .entry)) (now (cells .entry)) key ⌝ }
 {
@@ -74,10 +75,21 @@ pub fn search(area: &[u8], cells: &[u32], key: Key) -> Found
         return Found::Full;
     }
     let m = length as u16;
-    let first = first_cell(key_hash(key.table, key.key), m);
-    match search_up(area, cells, key, first, m) {
-        Found::At(i) => Found::At(i),
-        Found::Free(i) => Found::Free(i),
-        Found::Full => search_up(area, cells, key, 0, first),
+    let mut from = first_cell(key_hash(key.table, key.key), m);
+    let mut end = m;
+    while 0 < end {
+        match search_up(area, cells, key, from, end) {
+            Found::At(i) => {
+                return Found::At(i);
+            }
+            Found::Free(i) => {
+                return Found::Free(i);
+            }
+            Found::Full => {
+                end = from;
+                from = 0;
+            }
+        }
     }
+    Found::Full
 }
