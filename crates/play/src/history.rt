@@ -19,6 +19,8 @@ pub enum Event {
     Delete(usize),
     // The victims.
     Clean(u32),
+    // The question which two slots to join, and the cleaning of these.
+    Join,
     // The supply fails after so many stores of the operation that comes next.
     Fails(u32),
     // A cut with nothing pending, and a recovery.
@@ -26,7 +28,7 @@ pub enum Event {
 }
 
 // How many events there are.
-pub const EVENTS: usize = 96;
+pub const EVENTS: usize = 158;
 
 // 01's cases, with the cuts of case 3, and a longer history.
 const HISTORY: [Event; EVENTS] = [
@@ -133,11 +135,75 @@ const HISTORY: [Event; EVENTS] = [
     Event::Recover,
     Event::Write(0, 8, 0x1d, 1),
     Event::Recover,
+    // All slots that a log may have are in use, and keys are overwritten for long: a write that meets 12 is made again when
+    // two slots are joined.
+    Event::Format,
+    Event::Write(0, 56, 0x20, 1),
+    Event::Write(1, 120, 0x21, 1),
+    Event::Write(2, 24, 0x22, 1),
+    Event::Write(3, 56, 0x23, 1),
+    Event::Write(0, 56, 0x24, 1),
+    Event::Write(1, 120, 0x25, 1),
+    Event::Write(2, 24, 0x26, 1),
+    Event::Write(3, 56, 0x27, 1),
+    Event::Write(0, 56, 0x28, 1),
+    Event::Join,
+    Event::Write(0, 56, 0x28, 1),
+    Event::Write(1, 120, 0x29, 1),
+    Event::Write(2, 24, 0x2a, 1),
+    Event::Write(3, 56, 0x2b, 1),
+    Event::Write(0, 56, 0x2c, 1),
+    Event::Join,
+    Event::Write(0, 56, 0x2c, 1),
+    Event::Write(1, 120, 0x2d, 1),
+    Event::Write(2, 24, 0x2e, 1),
+    Event::Write(3, 56, 0x2f, 1),
+    Event::Join,
+    Event::Write(3, 56, 0x2f, 1),
+    Event::Write(0, 56, 0x30, 1),
+    Event::Write(1, 120, 0x31, 1),
+    Event::Write(2, 24, 0x32, 1),
+    Event::Write(3, 56, 0x33, 1),
+    Event::Write(0, 56, 0x34, 1),
+    Event::Join,
+    Event::Write(0, 56, 0x34, 1),
+    Event::Write(1, 120, 0x35, 1),
+    Event::Write(2, 24, 0x36, 1),
+    Event::Write(3, 56, 0x37, 1),
+    Event::Write(0, 56, 0x38, 1),
+    Event::Join,
+    Event::Write(0, 56, 0x38, 1),
+    Event::Write(1, 120, 0x39, 1),
+    Event::Write(2, 24, 0x3a, 1),
+    Event::Write(3, 56, 0x3b, 1),
+    Event::Join,
+    Event::Write(3, 56, 0x3b, 1),
+    Event::Write(0, 56, 0x3c, 1),
+    Event::Write(1, 120, 0x3d, 1),
+    Event::Join,
+    Event::Write(1, 120, 0x3d, 1),
+    Event::Write(2, 24, 0x3e, 1),
+    Event::Write(3, 56, 0x3f, 1),
+    Event::Write(0, 56, 0x40, 1),
+    Event::Join,
+    Event::Write(0, 56, 0x40, 1),
+    Event::Write(1, 120, 0x41, 1),
+    Event::Write(2, 24, 0x42, 1),
+    Event::Write(3, 56, 0x43, 1),
+    Event::Join,
+    Event::Write(3, 56, 0x43, 1),
+    Event::Write(0, 56, 0x44, 1),
+    Event::Write(1, 120, 0x45, 1),
+    Event::Join,
+    Event::Write(1, 120, 0x45, 1),
+    Event::Write(2, 24, 0x46, 1),
+    Event::Write(3, 56, 0x47, 1),
+    Event::Recover,
 ];
 
 // The event of a number, which is below that of all events.
 pub fn scheduled(i: usize) -> Event
-    requires { ⌜ i < 96 ⌝ }
+    requires { ⌜ i < 158 ⌝ }
 {
     HISTORY[i]
 }
@@ -180,6 +246,7 @@ pub fn happens(
         }
         Event::Delete(number) => operations::delete_key(played, area, index, work, number),
         Event::Clean(victims) => operations::clean_slots(played, area, index, work, victims),
+        Event::Join => operations::join_slots(played, area, index, work),
         Event::Fails(n) => failing(played, n),
         Event::Recover => memory::power_on(area, index, played.book),
     }

@@ -7,6 +7,7 @@ use crate::book::Value;
 use crate::lines;
 use crate::memory;
 use crate::reads;
+use record::JoinAnswer;
 use record::Pending;
 use record::Record;
 use record::Start;
@@ -14,8 +15,10 @@ use record::StartAnswer;
 use record::StepAnswer;
 use record::Tables;
 use segment::Version;
+use slot_map::with_slot;
 use store::clean;
 use store::delete;
+use store::join;
 use store::step;
 use store::write;
 ghost use mathlib.Core.Path.{_≡_};
@@ -294,4 +297,37 @@ pub fn clean_slots(
         fails: played.fails,
     };
     run(start, area, index, work, due)
+}
+
+// A map with a slot more; a slot that no map names is left out.
+fn with(map: u32, slot: u32) -> u32 {
+    if slot < 32 {
+        return with_slot(map, slot);
+    }
+    map
+}
+
+// The two slots that one new head can take over are told and cleaned.
+pub fn join_slots(
+    played: Played,
+    area: &mut [u8; 1024],
+    index: &mut [u32; 16],
+    work: &mut [u8; 256],
+) -> Played {
+    let rec = played.rec;
+    let joined = join(rec, area, index);
+    let answer = joined.answer;
+    match answer {
+        JoinAnswer::Pair { first, second } => {
+            lines::field(b"join ", first);
+            lines::field(b" ", second);
+            lines::text(b"\n");
+            clean_slots(played, area, index, work, with(with(0, first), second))
+        }
+        JoinAnswer::Refused(cause) => {
+            lines::field(b"join: refused ", record::number(cause));
+            lines::text(b"\n");
+            played
+        }
+    }
 }

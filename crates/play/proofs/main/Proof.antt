@@ -5,10 +5,10 @@ use Rattle.play.proofs.main.Statement.{statement}
 use Rattle.play.proofs.main.Tie as tie
 
 abbrev Inv-loop : tie.InvT-loop
-Inv-loop area₀ index₀ work₀ played₀ i₀ area index work played i = i ≤ 96
+Inv-loop area₀ index₀ work₀ played₀ i₀ area index work played i = i ≤ 158
 
 abbrev μ-loop : tie.MeasureT-loop
-μ-loop area₀ index₀ work₀ played₀ i₀ area index work played i = 96 - i
+μ-loop area₀ index₀ work₀ played₀ i₀ area index work played i = 158 - i
 
 pub main-spec : {M : Type 1} → statement M
 main-spec =

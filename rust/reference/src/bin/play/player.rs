@@ -5,8 +5,8 @@ use std::fmt::Write;
 use reference::book::{self, Book, Operation};
 use reference::segment::{object_kind, Digest, DIGEST_BYTES};
 use reference::{
-    clean, delete, format, read, read_value, recover, step, write, DigestNumber, Pending, Record,
-    SlotMap, Started, Tables, Version,
+    clean, delete, format, join, read, read_value, recover, step, write, DigestNumber, Pending,
+    Record, SlotMap, Started, Tables, Version,
 };
 
 use crate::history::{Event, KEYS};
@@ -103,6 +103,7 @@ impl Player {
             }
             Event::Delete(key) => self.operation(Operation::Delete(KEYS[key])),
             Event::Clean(victims) => self.operation(Operation::Clean(victims)),
+            Event::Join => self.join(),
             Event::Fails(stores) => self.fails = stores,
             Event::Recover => self.power_on(),
         }
@@ -200,6 +201,17 @@ impl Player {
             }
         }
         self.fails = 0;
+    }
+
+    /// The two slots that one new head can take over are told and cleaned.
+    fn join(&mut self) {
+        match join(&self.record(), &self.area, &self.index) {
+            Ok((first, second)) => {
+                self.line(&format!("join {first} {second}"));
+                self.operation(Operation::Clean(SlotMap(1 << first | 1 << second)));
+            }
+            Err(refusal) => self.line(&format!("join: refused {}", refusal.number())),
+        }
     }
 
     fn start(&mut self, operation: &Operation) -> Started {
