@@ -64,8 +64,10 @@
  * TWO OWNERS OF ONE STORE
  *   Parts of a firmware whose tables have none in common, and which give no others with their calls, can by them neither
  *   read nor change each other's values. What one gets (answers, versions, places, values) does not depend on the bytes
- *   that the other writes. It does depend on the other's keys, the lengths of its values and the number of its calls, which
- *   show through the refusals 5, 6, 9 to 14, 20 and 21, the numbers of stores, the versions and the places.
+ *   that the other writes, but for the byte that kurdavel_next_store tells: it may be of the other's value, so that call
+ *   is for the part that drives the device for both. What one gets does depend on the other's keys, the lengths of its
+ *   values and the number of its calls, which show through the refusals 5, 6, 9 to 14, 20, 21 and 23, the numbers of
+ *   stores, the versions, the slots and the places.
  *
  * WHAT THE CALLS COST
  *   A step before the last, kurdavel_next_store, kurdavel_fewest and the conversions of positions do the same little
