@@ -8,11 +8,11 @@ use native.Mathlib.Nat.{mul-le-mul}
 use native.Mathlib.Omega.{arith}
 use lib.ListN.{length}
 use lib.Seq.{sets}
-use borrow.Author.Tests.{not-true}
+use borrow.Author.Tests.{not-true, not-false}
 use Rattle.segment.specs.Layout.{edition1}
 use Rattle.segment.specs.declared.Key.{Key}
 use Rattle.segment.specs.declared.Version.{Version}
-use Rattle.record.specs.Answers.{blank, formatSaid, recoverSaid, readSaid, startSaid, stepSaid, tellSaid, fewestSaid, withPending}
+use Rattle.record.specs.Answers.{blank, bare, formatSaid, recoverSaid, readSaid, startSaid, stepSaid, tellSaid, fewestSaid, withPending}
 use Rattle.record.specs.Range.{fitsLent}
 use Rattle.record.specs.RangeLaws.{lent, blank-unfit}
 use Rattle.record.specs.declared.Refusal.{Refusal}
@@ -39,11 +39,11 @@ use Rattle.telling.specs.Told as Told
 use Rattle.stepping.specs.Tested.{StepTested}
 use Rattle.index.specs.Search.{searchFor}
 use Rattle.index.specs.declared.Found.{Found}
-use Rattle.recovery.specs.Lookups.{lookupAt, lookedUp, toldBy, partBy}
-use Rattle.recovery.specs.LookupLaws.{looked-unfit, looked-fit, read-promise, value-promise, looked-outside}
+use Rattle.recovery.specs.Lookups.{Reached, lookupAt, lookedUp, toldBy, partBy}
+use Rattle.recovery.specs.LookupLaws.{reached, looked-unfit, looked-fit, read-promise, value-promise, looked-outside}
 use Rattle.recovery.specs.declared.Lookup.{Lookup}
-use Rattle.words.specs.Words.{recordWords, pendingWords, wordsOf, isRecord, decoded}
-use Rattle.words.specs.WordLaws.{record-long, counts-long, decoded-record, decoded-none, pending-alone}
+use Rattle.words.specs.Words.{recordWords, pendingWords, wordsOf, word, recordIn, isRecord, decoded}
+use Rattle.words.specs.WordLaws.{record-long, counts-long, decoded-record, decoded-none, pending-alone, fits-record, fits-decoded}
 use Rattle.words.specs.declared.Decoded.{Decoded}
 use Rattle.kurdavel.specs.Crossing.{FormatCrossed, RecoverCrossed, wordsAfter, ReadCrossed, ValueCrossed, Handed, storesAfter, StartCrossed, keptWords, StepCrossed, SteppedOn, leftTold, toldAfter, placeTold, byteTold, TellCrossed, slotTold, FewestCrossed, ScanCrossed, ScanValueCrossed}
 use Rattle.model.specs.Scanned.{ScanValue}
@@ -139,6 +139,33 @@ pub looked-found : (words area cells : List ℕ) (t : Tables) (k : Key) {d : Dec
 looked-found words area cells t k {d} f fit held e l =
     looked-crossed words area cells t k f
     (l ∙ ap (lookupAt edition1 (d .rec .size) area cells) e ∙ sym (looked-fit edition1 (d .rec) area cells t k fit held))
+
+-- the same of words that were tested as they are
+pub fits-words : (words : List ℕ) (a i : ℕ) → fitsLent edition1 (decoded words .rec) a i ≡ true → recordWords ≤ length words
+fits-words words a i fit = record-long words (fits-record edition1 words a i fit)
+
+pub size-word : (words : List ℕ) (a i : ℕ) → fitsLent edition1 (decoded words .rec) a i ≡ true → decoded words .rec .size ≡ word words 1
+size-word words a i fit = ap (λ (d : Decoded). d .rec .size) (fits-decoded edition1 words a i fit)
+
+-- and the front that they say is the record's
+pub front-says : (words : List ℕ) (a i : ℕ) {t : Bool} → t ≡ fitsLent edition1 (decoded words .rec) a i → not t ≡ false → {f : Record}
+    → f ≡ bare (recordIn words) → f ≡ bare (decoded words .rec)
+front-says words a i {t} e fit f =
+    f ∙ ap (λ (d : Decoded). bare (d .rec)) (sym (fits-decoded edition1 words a i (sym e ∙ not-false t fit)))
+
+pub looked-word : (words area cells : List ℕ) (t : Tables) (k : Key) {x : Lookup} {found : Found}
+    → fitsLent edition1 (decoded words .rec) (length area) (length cells) ≡ true → holdsTable t (k .table) ≡ true → found ≡ searchFor edition1 area cells k
+    → x ≡ lookupAt edition1 (word words 1) area cells found → x ≡ lookedUp edition1 (decoded words .rec) area cells t k
+looked-word words area cells t k {found = found} fit held e l =
+    looked-found words area cells t k refl fit held e
+    (l ∙ ap (λ (s : ℕ). lookupAt edition1 s area cells found) (sym (size-word words (length area) (length cells) fit)))
+
+pub reached-word : (words area cells : List ℕ) (t : Tables) (k : Key)
+    → fitsLent edition1 (decoded words .rec) (length area) (length cells) ≡ true → holdsTable t (k .table) ≡ true → (i : ℕ)
+    → searchFor edition1 area cells k ≡ Found.At i → Reached (word words 1) cells i
+reached-word words area cells t k fit held i e =
+    subst (λ (s : ℕ). Reached s cells i) (size-word words (length area) (length cells) fit)
+    (reached edition1 (decoded words .rec) area cells t k fit held i e)
 
 -- words that are no record say the blank one, which is bad
 pub looked-none : (words area cells : List ℕ) (t : Tables) (k : Key) {d : Decoded} → d ≡ decoded words → not (d .ok) ≡ true

@@ -1,7 +1,6 @@
 // The store for a firmware in C or Rust (include/kurdavel.h): its calls and the value reads, over slices and numbers.
 // Each function decodes the record from the words that are lent, makes the call, and encodes what it hands back. Nothing is
 // required of the caller's values: words that are no record are refused with 4. The answer is 0 or the refusal's number.
-use firmware::step_held;
 use index::search::search;
 use position::from_float;
 use position::hand_over;
@@ -15,14 +14,10 @@ use record::Record;
 use record::RecoverAnswer;
 use record::Start;
 use record::StartAnswer;
-use record::StepAnswer;
 use record::Tables;
-use record::TellAnswer;
 use record::number;
-use record::range::fits_lent;
 use record::reach::holds_table;
 use recovery::Lookup;
-use recovery::read::find;
 use recovery::read::look_at;
 use recovery::read::told;
 use segment::Key;
@@ -34,13 +29,13 @@ use store::fewest_present;
 use store::format;
 use store::join;
 use store::recover;
-use store::tell;
 use store::write;
 use store::write_expecting;
+use words::SIZE;
 use words::WORDS;
 use words::decode;
 use words::encode;
-use words::encode_pending;
+use words::fits;
 ghost use Prim.Native.Nat.{_≤_};
 ghost use mathlib.Core.Path.{_≡_};
 ghost use mathlib.Core.Bool.{true};
@@ -50,10 +45,11 @@ ghost use Rattle.model.specs.Refused.{freely, reaching};
 ghost use Rattle.position.specs.Convert.{fromFloat, toFloat, ConversionCrossed};
 ghost use Rattle.record.specs.declared.Expected.{Expected};
 ghost use Rattle.words.specs.Words.{recordWords};
-ghost use Rattle.kurdavel.specs.Crossing.{FormatCrossed, RecoverCrossed, ReadCrossed, ValueCrossed, StartCrossed, StepCrossed, SteppedOn, FewestCrossed, TellCrossed, keptWords, Handed};
+ghost use Rattle.kurdavel.specs.Crossing.{FormatCrossed, RecoverCrossed, ReadCrossed, ValueCrossed, StartCrossed, FewestCrossed, keptWords, Handed};
 ghost use Rattle.kurdavel.specs.Joining.{JoinCrossed};
 
 pub mod scan;
+pub mod step;
 
 #[no_mangle]
 pub extern "C" fn kurdavel_format(slots: u32, size: u32, area: &mut [u8]) -> u32
@@ -95,6 +91,8 @@ pub extern "C" fn kurdavel_recover(
     }
 }
 
+// Both reads are made of the parts of `find`, on the words as they are: the record is tested and not copied, and the compiler puts the
+// search in line in both.
 #[no_mangle]
 pub extern "C" fn kurdavel_read(
     words: &[u32],
@@ -115,12 +113,14 @@ pub extern "C" fn kurdavel_read(
 {
     *version = 0;
     *kind = 0;
-    let decoded = decode(words);
-    if !decoded.ok {
+    if !fits(words, area.len(), index.len()) {
         return 4;
     }
-    let rec = decoded.rec;
-    let answer = told(find(rec, area, index, Tables { first, last }, Key { table, key }));
+    if !holds_table(Tables { first, last }, table) {
+        return 22;
+    }
+    let found = search(area, index, Key { table, key });
+    let answer = told(look_at(words[SIZE] as usize, area, index, found));
     match answer {
         ReadAnswer::Refused(cause) => number(cause),
         ReadAnswer::Present {
@@ -134,8 +134,6 @@ pub extern "C" fn kurdavel_read(
     }
 }
 
-// Made of the parts of `find` and not by a call of it. In the library `kurdavel_read` is then its only caller, and the compiler
-// puts the search in line in both.
 #[no_mangle]
 pub extern "C" fn kurdavel_read_value(
     words: &[u32],
@@ -156,19 +154,14 @@ pub extern "C" fn kurdavel_read_value(
 {
     *place = 0;
     *bytes = 0;
-    let decoded = decode(words);
-    if !decoded.ok {
-        return 4;
-    }
-    let rec = decoded.rec;
-    if !fits_lent(rec, area.len(), index.len()) {
+    if !fits(words, area.len(), index.len()) {
         return 4;
     }
     if !holds_table(Tables { first, last }, table) {
         return 22;
     }
     let found = search(area, index, Key { table, key });
-    match look_at(rec.size as usize, area, index, found) {
+    match look_at(words[SIZE] as usize, area, index, found) {
         Lookup::Object {
             place: entry,
             version: _,
@@ -193,25 +186,6 @@ fn keep(words: &mut [u32], ok: bool, rec: Record)
 {
     if ok {
         encode(rec, words);
-    }
-}
-
-// The record after a step back into its words, if they were a record's. While stores are left only the words of its pending operation
-// change.
-fn keep_stepped(words: &mut [u32], ok: bool, answer: StepAnswer, rec: Record)
-    requires { ⌜ SteppedOn ok (now words) answer rec ⌝ }
-    ensures kept { λ _. ⌜ now (words .exit) ≡ keptWords ok (now (words .entry)) rec ⌝ }
-    ensures long { λ _. ⌜ (ok ≡ true → length (rec .counts) ≡ 32) ⌝ }
-{
-    match answer {
-        StepAnswer::Left(_) => {
-            if ok {
-                let pending = rec.pending;
-                encode_pending(pending, words);
-            }
-        }
-        StepAnswer::Done(_) => keep(words, ok, rec),
-        StepAnswer::Refused(_) => keep(words, ok, rec),
     }
 }
 
@@ -346,76 +320,6 @@ pub extern "C" fn kurdavel_clean(
     let rec = decoded.rec;
     let start = clean(rec, area, index, work, victims);
     hand_back(words, decoded.ok, start, stores)
-}
-
-#[no_mangle]
-pub extern "C" fn kurdavel_step(
-    words: &mut [u32],
-    area: &mut [u8],
-    index: &mut [u32],
-    work: &[u8],
-    left: &mut u32,
-    version: &mut u32,
-) -> u32
-    ensures { λ r.
-        ⌜
-        StepCrossed (now (words .entry)) (now (words .exit)) (now (area .entry)) (now (area .exit)) (now (index .entry))
-        (now (index .exit)) (now (work .entry)) (now (left .entry)) (now (left .exit)) (now (version .entry))
-        (now (version .exit)) r
-        ⌝ }
-{
-    let decoded = decode(words);
-    let rec = decoded.rec;
-    let stepped = step_held(rec, area, index, work);
-    let after = stepped.rec;
-    let answer = stepped.answer;
-    keep_stepped(words, decoded.ok, answer, after);
-    match answer {
-        StepAnswer::Refused(cause) => number(cause),
-        StepAnswer::Left(count) => {
-            *left = count;
-            *version = 0;
-            0
-        }
-        StepAnswer::Done(told) => {
-            *left = 0;
-            *version = told.0;
-            0
-        }
-    }
-}
-
-// Place and byte of the store that the next step will make; both are 0 where it is refused.
-#[no_mangle]
-pub extern "C" fn kurdavel_next_store(
-    words: &[u32],
-    area: &[u8],
-    work: &[u8],
-    at: &mut u32,
-    byte: &mut u32,
-) -> u32
-    ensures { λ r.
-        ⌜
-        TellCrossed (now (words .entry)) (now (area .entry)) (now (work .entry)) (now (at .exit)) (now (byte .exit)) r
-        ⌝ }
-{
-    *at = 0;
-    *byte = 0;
-    let decoded = decode(words);
-    let rec = decoded.rec;
-    let foretold = tell(rec, area, work);
-    let answer = foretold.answer;
-    match answer {
-        TellAnswer::Refused(cause) => number(cause),
-        TellAnswer::At {
-            place: found,
-            byte: stored,
-        } => {
-            *at = found;
-            *byte = stored as u32;
-            0
-        }
-    }
 }
 
 // The slot of the log with the fewest present bytes, by the record alone; 0 where it is refused.

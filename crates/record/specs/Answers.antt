@@ -108,6 +108,23 @@ withPending r p =
       pending = p;
     }
 
+-- the record with no present bytes, for what does not look at them
+abbrev pub bare : Record → Record
+bare r =
+    record {
+      slots = r .slots;
+      size = r .size;
+      cells = r .cells;
+      head = r .head;
+      end = r .end;
+      digest = r .digest;
+      map = r .map;
+      next = r .next;
+      keys = r .keys;
+      counts = replicate 32 0;
+      pending = r .pending;
+    }
+
 -- The record that stands beside a refusal of recovery: N is 0, so every call refuses it with 4.
 abbrev pub blank : Record
 blank =

@@ -8,7 +8,7 @@ use native.Mathlib.Nat.{lt-of-not-le}
 use mathlib.Core.List.{List, [], _∷_}
 use native.Mathlib.Numerals.{add-one}
 use lib.Dec.{eqb, ltb, leb}
-use lib.ListN.{length, getD, drop, drop-of-length-le}
+use lib.ListN.{length, getD, replicate, drop, drop-of-length-le}
 use lib.Seq.{drop-cons}
 use borrow.Author.Tests.{ltb-true, leb-true, eqb-true, eqb-false, not-true, not-false, lt-ltb, le-ltb, le-leb, lt-leb, eq-eqb, ne-eqb}
 use Rattle.segment.specs.Choice.{both, both-left, both-right, both-true, both-false-right}
@@ -17,7 +17,7 @@ use Rattle.slot_map.specs.Bit.{named}
 use Rattle.slot_map.specs.BitLaws.{bit-above, named-true, clear-named}
 use Rattle.slot_map.specs.Count.{used, allSlots}
 use Rattle.slot_map.specs.CountLaws.{not-all, all-named}
-use Rattle.record.specs.Answers.{storesLeft, withPending, blank}
+use Rattle.record.specs.Answers.{storesLeft, withPending, bare, blank}
 use Rattle.record.specs.Range.{between, slotsGood, sizeGood, cellsGood, mapGood, leftGood, countsGood, inRange, lengthsOwn, fitsLent}
 use Rattle.record.specs.declared.Pending.{Pending}
 use Rattle.record.specs.declared.Pending.the-variants.{Idle, Append, NewHead, Clean, Forget}
@@ -218,6 +218,51 @@ pub in-parts : (L : Layout) (r : Record) → inRange L r
 unfolding inRange limitsGood countersGood
 in-parts L r = simp both-assoc
 
+-- the test of all numbers but those of present bytes, which no other looks at
+unfoldable pub frontGood : Layout → Record → Bool
+frontGood L r =
+    both (limitsGood r) (both (mapGood (r .slots) (r .head) (r .map)) (both (countersGood L r) (leftGood (r .size) (r .pending))))
+
+pub front-bare : (L : Layout) (r : Record) → frontGood L (bare r) ≡ frontGood L r
+unfolding frontGood limitsGood countersGood
+front-bare L r = refl
+
+both-comm : (a b : Bool) → both a b ≡ both b a
+unfolding both
+both-comm true true = refl
+both-comm true false = refl
+both-comm false true = refl
+both-comm false false = refl
+
+pub in-front : (L : Layout) (r : Record) → inRange L r ≡ both (frontGood L r) (countsGood (r .size - digestSize L) (r .counts))
+unfolding frontGood
+in-front L r =
+    in-parts L r
+    ∙ ap (λ (t : Bool). both (limitsGood r) (both (mapGood (r .slots) (r .head) (r .map)) (both (countersGood L r) t)))
+    (both-comm (countsGood (r .size - digestSize L) (r .counts)) (leftGood (r .size) (r .pending)))
+    ∙ simp both-assoc
+
+-- the whole test in the order in which it is made on a record's words, the present bytes last
+pub fits-front : (L : Layout) (r : Record) (a i : ℕ)
+    → fitsLent L r a i ≡ both (frontGood L (bare r)) (both (lengthsOwn (bare r) a i) (countsGood (r .size - digestSize L) (r .counts)))
+unfolding fitsLent lengthsOwn
+fits-front L r a i =
+    ap (λ (t : Bool). both t (lengthsOwn r a i)) (in-front L r)
+    ∙ both-assoc (frontGood L r) (countsGood (r .size - digestSize L) (r .counts)) (lengthsOwn r a i)
+    ∙ ap₂ both (sym (front-bare L r)) (both-comm (countsGood (r .size - digestSize L) (r .counts)) (lengthsOwn r a i))
+
+-- the record without its present bytes passes where the record does
+no-counts : (m n : ℕ) → countsGood m (replicate n 0) ≡ true
+unfolding countsGood
+no-counts m zero = refl
+no-counts m (suc n) = both-true (leb 0 m) (countsGood m (replicate n 0)) (le-leb 0 m (omega arith)) (no-counts m n)
+
+pub fits-bare : (L : Layout) (r : Record) (a i : ℕ) → fitsLent L r a i ≡ true → fitsLent L (bare r) a i ≡ true
+fits-bare L r a i e =
+    let parts = sym (fits-front L r a i) ∙ e in
+    fits-front L (bare r) a i
+    ∙ both-true _ _ (both-left _ _ parts) (both-true _ _ (both-left _ _ (both-right _ _ parts)) (no-counts (r .size - digestSize L) 32))
+
 -- What the test of the limits says.
 pub record Limits (r : Record) : Type 0 where
   pub slots-low : 4 ≤ r .slots
@@ -238,6 +283,10 @@ limits r e =
       cells-low = between-low 16 4096 (r .cells) (both-right _ _ (both-right _ _ e));
       cells-high = between-high 16 4096 (r .cells) (both-right _ _ (both-right _ _ e));
     }
+
+pub front-limits : (L : Layout) (r : Record) → frontGood L r ≡ true → Limits r
+unfolding frontGood
+front-limits L r e = limits r (both-left _ _ e)
 
 pub range-limits : (L : Layout) (r : Record) → inRange L r ≡ true → Limits r
 range-limits L r e = limits r (both-left _ _ (sym (in-parts L r) ∙ e))

@@ -6,7 +6,7 @@ use segment::layout::DIGEST_SIZE;
 ghost use Prim.Native.Nat.{_-_, _≤_};
 ghost use mathlib.Core.Path.{_≡_};
 ghost use Rattle.record.specs.Range.{between, slotsGood, sizeGood, cellsGood, mapGood, leftGood, countsGood, inRange, fitsLent, lengthsOwn};
-ghost use Rattle.record.specs.RangeLaws.{limitsGood, countersGood};
+ghost use Rattle.record.specs.RangeLaws.{limitsGood, countersGood, frontGood};
 ghost use lib.Dec.{leb};
 ghost use Rattle.segment.specs.Choice.{both};
 ghost use Rattle.segment.specs.Layout.{edition1, digestSize};
@@ -99,7 +99,7 @@ fn still_good(good: bool, count: u32, limit: u32) -> bool
 
 // Whether none of the numbers of present bytes is above the limit. Every one is looked at, so that the compiler may take several at
 // once.
-fn counts_good(counts: &[u32], limit: u32) -> bool
+pub fn counts_good(counts: &[u32], limit: u32) -> bool
     ensures { λ r. ⌜ r ≡ countsGood limit (now (counts .entry)) ⌝ }
 {
     let mut good = true;
@@ -120,9 +120,9 @@ fn bytes_good(rec: Record) -> bool
     counts_good(&counts, rec.size - DIGEST_SIZE as u32)
 }
 
-// Whether every number of the record is in range.
-pub fn in_range(rec: Record) -> bool
-    ensures { λ r. ⌜ r ≡ inRange edition1 rec ⌝ }
+// Whether every number of the record is in range, those of present bytes left aside.
+pub fn front_good(rec: Record) -> bool
+    ensures { λ r. ⌜ r ≡ frontGood edition1 rec ⌝ }
 {
     if !limits_good(rec) {
         return false;
@@ -130,15 +130,19 @@ pub fn in_range(rec: Record) -> bool
     if !map_good(rec.slots, rec.head, rec.map) {
         return false;
     }
-    if !counters_good(rec) {
-        return false;
-    }
     let pending = rec.pending;
-    bytes_good(rec) && left_good(rec.size, pending)
+    counters_good(rec) && left_good(rec.size, pending)
+}
+
+// Whether every number of the record is in range.
+pub fn in_range(rec: Record) -> bool
+    ensures { λ r. ⌜ r ≡ inRange edition1 rec ⌝ }
+{
+    front_good(rec) && bytes_good(rec)
 }
 
 // Whether the area is N × S bytes long and the index M cells.
-fn lengths_own(rec: Record, area: usize, index: usize) -> bool
+pub fn lengths_own(rec: Record, area: usize, index: usize) -> bool
     requires { ⌜ (rec .slots ≤ 32) × (rec .size ≤ 2048) ⌝ }
     ensures { λ r. ⌜ r ≡ lengthsOwn rec area index ⌝ }
 {

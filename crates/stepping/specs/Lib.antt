@@ -7,3 +7,4 @@ pub mod CleanLaws
 pub mod ExactLaws
 pub mod StepLaws
 pub mod Foretold
+pub mod OnLaws

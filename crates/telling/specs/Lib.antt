@@ -7,3 +7,4 @@ pub mod AgreeLaws
 pub mod TestLaws
 pub mod Told
 pub mod ToldLaws
+pub mod BareLaws

@@ -107,8 +107,6 @@ module _ (L : Layout) (laws : OperationLaws L) (r : Record) (area work : List �
             says = told-says cause refl;
           }
 
-  -- ---- at each return of the code; t is what it finds for range and lengths, k for the stores left, u whether the operation agrees
-
   -- what the code is to show of its answer
   abbrev pub Ensured : Foretold → Type 0
   Ensured x = (x ≡ toldBy L r area work) × TellPromise L r area work x
@@ -116,50 +114,53 @@ module _ (L : Layout) (laws : OperationLaws L) (r : Record) (area work : List �
   both-hold : {x : Foretold} → x ≡ toldBy L r area work → Ensured x
   both-hold e = (e, told-promise e)
 
-  refused-told : (c : Refusal) → cause ≡ some c → {x : Foretold} → x ≡ refusedTelling r c → Ensured x
-  refused-told c e h = both-hold (h ∙ sym (ap (λ (a : TellAnswer). record { answer = a; rec = r }) (unless-some c e)))
+  pub tell-told : {a : TellAnswer} → a ≡ toldBy L r area work .answer → Ensured (record { answer = a; rec = r })
+  tell-told e = both-hold (ap (λ (a : TellAnswer). record { answer = a; rec = r }) e)
 
-  found-told : cause ≡ none → (y : NextStore) → testedStore L (length area) work r ≡ y → {x : Foretold} → x ≡ record { answer = toldStore y; rec = r } → Ensured x
-  found-told e y t h = both-hold (h ∙ sym (ap (λ (a : TellAnswer). record { answer = a; rec = r }) (unless-none e ∙ ap toldStore t)))
+  pub tell-bad : {t : Bool} → t ≡ fitsLent L r (length area) (r .cells) → not t ≡ true → Ensured (refusedTelling r BadRecord)
+  tell-bad found e = both-hold (sym (ap (λ (a : TellAnswer). record { answer = a; rec = r }) (unless-some BadRecord (step-bad L r lengths found e))))
 
-  bad-told : cause ≡ none → testedStore L (length area) work r ≡ Bad → {x : Foretold} → x ≡ refusedTelling r BadRecord → Ensured x
-  unfolding toldStore
-  bad-told e t h = found-told e Bad t h
+  -- ---- at each return of the code, behind the tests of range and lengths; k is what it finds for the stores left, u whether the operation agrees
 
-  module _ {t : Bool} (found : t ≡ fitsLent L r (length area) (r .cells)) where
-    pub tell-bad : not t ≡ true → {x : Foretold} → x ≡ refusedTelling r BadRecord → Ensured x
-    tell-bad e = refused-told BadRecord (step-bad L r lengths found e)
+  module _ (fit : fitsLent L r (length area) (r .cells) ≡ true) where
+    -- the answer that is to be told
+    abbrev Told : TellAnswer → Type 0
+    Told a = a ≡ toldUnless L r (length area) work cause
 
-    module _ (good : not t ≡ false) where
-      pub tell-lent : Lent L r (length area) (r .cells)
-      tell-lent = step-lent L r lengths found good
+    pub tell-lent : Lent L r (length area) (r .cells)
+    tell-lent = lent L r (length area) (r .cells) fit
 
-      pub tell-short : length work < r .size → {x : Foretold} → x ≡ refusedTelling r WorkShort → Ensured x
-      tell-short h = refused-told WorkShort (step-short L r lengths found good h)
+    pub tell-short : length work < r .size → Told (TellAnswer.Refused WorkShort)
+    tell-short h = sym (unless-some WorkShort (step-short L r lengths (sym fit) refl h))
 
-      module _ (enough : r .size ≤ length work) {k : ℕ} (left : k ≡ storesLeft (r .pending)) where
-        pub tell-none : k ≡ 0 → {x : Foretold} → x ≡ refusedTelling r NonePending → Ensured x
-        tell-none e = refused-told NonePending (step-none L r lengths found good enough left e)
+    module _ (enough : r .size ≤ length work) {k : ℕ} (left : k ≡ storesLeft (r .pending)) where
+      pub tell-none : k ≡ 0 → Told (TellAnswer.Refused NonePending)
+      tell-none e = sym (unless-some NonePending (step-none L r lengths (sym fit) refl enough left e))
 
-        module _ (some-left : k ≡ 0 → ⊥) {u : Bool} (agrees : u ≡ agreesWith L r (r .pending)) where
-          goes : cause ≡ none
-          goes = step-goes L r lengths found good enough left some-left
+      module _ (some-left : k ≡ 0 → ⊥) {u : Bool} (agrees : u ≡ agreesWith L r (r .pending)) where
+        goes : cause ≡ none
+        goes = step-goes L r lengths (sym fit) refl enough left some-left
 
-          pub tell-unfit : not u ≡ true → {x : Foretold} → x ≡ refusedTelling r BadRecord → Ensured x
-          tell-unfit e = bad-told goes (tested-unfit L (length area) work r agrees e)
+        told-store : (y : NextStore) → testedStore L (length area) work r ≡ y → Told (toldStore y)
+        told-store y t = sym (unless-none goes ∙ ap toldStore t)
 
-          module _ (fit : not u ≡ false) {y : NextStore} (next : y ≡ nextStore (length area) work r) where
-            pub tell-nowhere : y ≡ Bad → {x : Foretold} → x ≡ refusedTelling r BadRecord → Ensured x
-            tell-nowhere e = bad-told goes (tested-next L (length area) work r agrees fit (sym next ∙ e))
+        pub tell-unfit : not u ≡ true → Told (TellAnswer.Refused BadRecord)
+        unfolding toldStore
+        tell-unfit e = told-store Bad (tested-unfit L (length area) work r agrees e)
 
-            module _ (place byte : ℕ) (is : y ≡ At place byte) where
-              tested : testedStore L (length area) work r ≡ At place byte
-              tested = tested-next L (length area) work r agrees fit (sym next ∙ is)
+        module _ (fitting : not u ≡ false) {y : NextStore} (next : y ≡ nextStore (length area) work r) where
+          pub tell-nowhere : y ≡ Bad → Told (TellAnswer.Refused BadRecord)
+          unfolding toldStore
+          tell-nowhere e = told-store Bad (tested-next L (length area) work r agrees fitting (sym next ∙ e))
 
-              pub tell-place : place < 4294967296
-              tell-place =
-                  omega (arith, found-inside goes place byte tested, fits goes .area-own, mul-le-mul (fits goes .slots-high) (fits goes .size-high))
+          module _ (place byte : ℕ) (is : y ≡ At place byte) where
+            tested : testedStore L (length area) work r ≡ At place byte
+            tested = tested-next L (length area) work r agrees fitting (sym next ∙ is)
 
-              pub tell-at : Ensured (record { answer = TellAnswer.At place byte; rec = r })
-              unfolding toldStore
-              tell-at = found-told goes (At place byte) tested refl
+            pub tell-place : place < 4294967296
+            tell-place =
+                omega (arith, found-inside goes place byte tested, fits goes .area-own, mul-le-mul (fits goes .slots-high) (fits goes .size-high))
+
+            pub tell-at : Told (TellAnswer.At place byte)
+            unfolding toldStore
+            tell-at = told-store (At place byte) tested

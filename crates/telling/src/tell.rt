@@ -9,17 +9,35 @@ use record::TellAnswer;
 use record::range::fits_lent;
 use record::stores_left;
 ghost use mathlib.Core.Path.{_≡_};
+ghost use mathlib.Core.Bool.{true};
+ghost use lib.ListN.{length};
 ghost use Rattle.segment.specs.Layout.{edition1};
+ghost use Rattle.record.specs.Range.{fitsLent};
 ghost use Rattle.model.specs.Promises.{TellPromise};
-ghost use Rattle.telling.specs.Told.{refusedTelling, toldBy};
+ghost use Rattle.telling.specs.Told.{toldBy};
 
-// The record goes back as it was.
-fn refused(rec: Record, cause: Refusal) -> Foretold
-    ensures { λ r. ⌜ r ≡ refusedTelling rec cause ⌝ }
+// The store that the next step makes, of a record that has passed the tests of range and lengths: refused with 3 or 6, and with 4 where
+// the pending operation does not agree with the record.
+pub fn store_of(rec: Record, area: &[u8], work: &[u8]) -> TellAnswer
+    requires { ⌜ fitsLent edition1 rec (length (now area)) (rec .cells) ≡ true ⌝ }
+    ensures { λ r. ⌜ r ≡ toldBy edition1 rec (now (area .entry)) (now (work .entry)) .answer ⌝ }
 {
-    Foretold {
-        answer: TellAnswer::Refused(cause),
-        rec: rec,
+    if work.len() < rec.size as usize {
+        return TellAnswer::Refused(Refusal::WorkShort);
+    }
+    let pending = rec.pending;
+    if stores_left(pending) == 0 {
+        return TellAnswer::Refused(Refusal::NonePending);
+    }
+    if !agrees(rec) {
+        return TellAnswer::Refused(Refusal::BadRecord);
+    }
+    match next_store(rec, area, work) {
+        NextStore::Bad => TellAnswer::Refused(Refusal::BadRecord),
+        NextStore::At { place, byte } => TellAnswer::At {
+            place: place as u32,
+            byte,
+        },
     }
 }
 
@@ -33,26 +51,11 @@ pub fn tell(rec: Record, area: &[u8], work: &[u8]) -> Foretold
         ⌝ }
 {
     if !fits_lent(rec, area.len(), rec.cells as usize) {
-        return refused(rec, Refusal::BadRecord);
+        return Foretold {
+            answer: TellAnswer::Refused(Refusal::BadRecord),
+            rec,
+        };
     }
-    if work.len() < rec.size as usize {
-        return refused(rec, Refusal::WorkShort);
-    }
-    let pending = rec.pending;
-    if stores_left(pending) == 0 {
-        return refused(rec, Refusal::NonePending);
-    }
-    if !agrees(rec) {
-        return refused(rec, Refusal::BadRecord);
-    }
-    let NextStore::At { place, byte } = next_store(rec, area, work) else {
-        return refused(rec, Refusal::BadRecord);
-    };
-    Foretold {
-        answer: TellAnswer::At {
-            place: place as u32,
-            byte,
-        },
-        rec: rec,
-    }
+    let answer = store_of(rec, area, work);
+    Foretold { answer, rec }
 }

@@ -1,7 +1,7 @@
 -- Encoding and decoding are inverse.
-use Prim.Native.Nat.{ℕ, zero, suc, _+_, _≤_, _<_}
+use Prim.Native.Nat.{ℕ, zero, suc, _+_, _-_, _≤_, _<_}
 use mathlib.Core.Path.{_≡_, refl, sym, ap, _∙_}
-use mathlib.Core.Bool.{Bool, true, false}
+use mathlib.Core.Bool.{Bool, true, false, not}
 use mathlib.Core.List.{List, [], _∷_, _++_, append-nil}
 use native.Mathlib.Omega.{arith}
 use lib.Dec.{eqb, leb}
@@ -9,7 +9,10 @@ use lib.ListN.{length, getD, set, replicate, take, drop, take-append-drop, lengt
 use lib.Seq.{sets, sets-eq, length-sets, drop-cons, length-take-le, take-add, take-at, drop-set-lt}
 use borrow.Author.Tests.{leb-true, le-leb, lt-leb, eqb-true, eqb-false, eq-eqb, ne-eqb}
 use Rattle.segment.specs.Choice.{pick, pick-true, pick-false, both, both-left, both-right, both-false-left, both-true, either}
-use Rattle.record.specs.Answers.{blank, withPending}
+use Rattle.segment.specs.Layout.{Layout, digestSize}
+use Rattle.record.specs.Answers.{blank, bare, withPending}
+use Rattle.record.specs.Range.{countsGood, lengthsOwn, fitsLent}
+use Rattle.record.specs.RangeLaws.{frontGood, fits-front, blank-unfit, stop, go}
 use Rattle.record.specs.declared.Pending.{Pending}
 use Rattle.record.specs.declared.Pending.the-variants.{Idle, Append, NewHead, Clean, Forget}
 use Rattle.record.specs.declared.Record.{Record}
@@ -130,6 +133,54 @@ pub long-enough : (w : List ℕ) → recordWords ≤ length w
     → isRecord w ≡ both (reserveZero (word w 8) (word w 10) (word w 11)) (pendingFits (word w 12) (word w 13) (word w 14) (word w 15) (word w 16))
 unfolding isRecord both
 long-enough w h = rw (le-leb recordWords (length w) h)
+
+-- ---- the test of 4 on the words
+
+module _ (L : Layout) (w : List ℕ) (a i : ℕ) where
+  abbrev tested : Decoded → Bool
+  tested d = fitsLent L (d .rec) a i
+
+  pub none-unfit : isRecord w ≡ false → tested (decoded w) ≡ false
+  none-unfit e = ap tested (decoded-none w e) ∙ blank-unfit L a i
+
+  pub fits-said : isRecord w ≡ true
+      → tested (decoded w)
+      ≡ both (frontGood L (bare (recordIn w))) (both (lengthsOwn (bare (recordIn w)) a i) (countsGood (word w 1 - digestSize L) (countsIn w)))
+  fits-said e = ap tested (decoded-record w e) ∙ fits-front L (recordIn w) a i
+
+  -- what the code finds of a record's words, test by test
+  module _ (are : isRecord w ≡ true) {f : Record} (front : f ≡ bare (recordIn w)) {t : Bool} (first : t ≡ frontGood L f) where
+    front-is : t ≡ frontGood L (bare (recordIn w))
+    front-is = first ∙ ap (frontGood L) front
+
+    pub front-unfit : not t ≡ true → false ≡ tested (decoded w)
+    front-unfit e = stop _ front-is e ∙ sym (fits-said are)
+
+    module _ (passed : not t ≡ false) {u : Bool} (second : u ≡ lengthsOwn f a i) where
+      own-is : u ≡ lengthsOwn (bare (recordIn w)) a i
+      own-is = second ∙ ap (λ (r : Record). lengthsOwn r a i) front
+
+      pub lengths-unfit : not u ≡ true → false ≡ tested (decoded w)
+      lengths-unfit e = go _ front-is passed (stop _ own-is e) ∙ sym (fits-said are)
+
+      pub counts-decide : not u ≡ false → {v : Bool} → v ≡ countsGood (f .size - digestSize L) (countsIn w) → v ≡ tested (decoded w)
+      counts-decide e third =
+          go _ front-is passed (go _ own-is e (third ∙ ap (λ (r : Record). countsGood (r .size - digestSize L) (countsIn w)) front))
+          ∙ sym (fits-said are)
+
+  -- words that pass it are a record's, and say it
+  pub fits-record : tested (decoded w) ≡ true → isRecord w ≡ true
+  fits-record e = turn (isRecord w) refl
+    where
+      turn : (t : Bool) → isRecord w ≡ t → t ≡ true
+      turn true f = refl
+      turn false f =
+          let no : true ≡ false = sym e ∙ none-unfit f in
+          let z : _≡_ {A = ℕ} 0 1 = cc in
+          absurd (omega arith)
+
+  pub fits-decoded : tested (decoded w) ≡ true → decoded w ≡ record { ok = true; rec = recordIn w }
+  fits-decoded e = decoded-record w (fits-record e)
 
 -- ---- a record's words decode to the record
 
@@ -270,11 +321,14 @@ module _ (w : List ℕ) (e : isRecord w ≡ true) where
       ap (λ (l : List ℕ). sets v 17 (take 32 l)) (sym (behind-sets (pendingWords p) w 12 17 (omega (arith, pending-five p))))
       ∙ part-same v 17 32 (omega (arith, record-long w e, length-sets w 12 (pendingWords p)))
 
+  pub pending-words : pendingWords (recordIn w .pending) ≡ word w 12 ∷ word w 13 ∷ word w 14 ∷ word w 15 ∷ word w 16 ∷ []
+  pending-words = pending-back (word w 12) (word w 13) (word w 14) (word w 15) (word w 16) (both-right _ _ tests)
+
   pending-same : sets w 12 (pendingWords (recordIn w .pending)) ≡ w
   unfolding wordsFrom
   pending-same =
       ap (λ (l : List ℕ). sets w 12 l)
-      (pending-back (word w 12) (word w 13) (word w 14) (word w 15) (word w 16) (both-right _ _ tests)
+      (pending-words
       ∙ sym (from-words w 12 5 (omega (arith, record-long w e))))
       ∙ part-same w 12 5 (omega (arith, record-long w e))
 
@@ -284,3 +338,12 @@ module _ (w : List ℕ) (e : isRecord w ≡ true) where
 
   pub encode-decode : sets w 0 (wordsOf (recordIn w)) ≡ w
   encode-decode = sym (pending-alone (recordIn w .pending)) ∙ pending-same
+
+  -- and where it differs in the stores left alone, one word is another
+  pub left-alone : (j : ℕ) (p : Pending) → pendingWords p ≡ word w 12 ∷ word w 13 ∷ word w 14 ∷ word w 15 ∷ j ∷ []
+      → set w 16 j ≡ sets w 0 (wordsOf (withPending (recordIn w) p))
+  unfolding wordsFrom
+  left-alone j p f =
+      let same : sets w 12 (word w 12 ∷ word w 13 ∷ word w 14 ∷ word w 15 ∷ []) ≡ w =
+      ap (λ (l : List ℕ). sets w 12 l) (sym (from-words w 12 4 (omega (arith, record-long w e)))) ∙ part-same w 12 4 (omega (arith, record-long w e)) in
+      ap (λ (l : List ℕ). set l 16 j) (sym same) ∙ ap (λ (l : List ℕ). sets w 12 l) (sym f) ∙ pending-alone p

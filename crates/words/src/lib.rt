@@ -2,18 +2,32 @@
 use record::Pending;
 use record::Record;
 use record::blank;
+use record::range::counts_good;
+use record::range::front_good;
+use record::range::lengths_own;
 use segment::DigestNumber;
 use segment::Version;
+use segment::layout::DIGEST_SIZE;
 ghost use Prim.Native.Nat.{_+_, _≤_};
 ghost use mathlib.Core.Path.{_≡_};
 ghost use mathlib.Core.Bool.{true};
 ghost use mathlib.Core.List.{[], _∷_};
 ghost use lib.ListN.{length};
 ghost use lib.Seq.{sets};
+ghost use Rattle.segment.specs.Layout.{edition1};
+ghost use Rattle.record.specs.Answers.{bare};
+ghost use Rattle.record.specs.Range.{fitsLent};
 ghost use Rattle.words.specs.Words.{recordWords, numberWords, pendingWords, zeros, reserveZero, pendingFits, pendingOf, wordsOf, countsIn, recordIn, isRecord, decoded};
 
 // How many words a record takes.
 pub const WORDS: usize = 49;
+
+// The words of S, of M and of the stores left.
+pub const SIZE: usize = 1;
+
+pub const CELLS: usize = 2;
+
+pub const LEFT: usize = 16;
 
 // The word of the first count.
 const COUNTS: usize = 17;
@@ -209,4 +223,43 @@ pub fn decode(words: &[u32]) -> Decoded
     }
     let rec = blank();
     Decoded { ok: false, rec }
+}
+
+// The record that the first words say, with no present bytes: for tests and calls that do not look at them, so that the 32 numbers
+// need not be carried along.
+pub fn front_in(words: &[u32]) -> Record
+    requires { ⌜ recordWords ≤ length (now words) ⌝ }
+    ensures { λ r. ⌜ r ≡ bare (recordIn (now (words .entry))) ⌝ }
+{
+    let pending = pending_of(words[12], words[13], words[14], words[15], words[16]);
+    Record {
+        slots: words[0],
+        size: words[1],
+        cells: words[2],
+        head: words[3],
+        end: words[4],
+        digest: DigestNumber(words[5]),
+        map: words[6],
+        next: Version(words[7]),
+        keys: words[9],
+        counts: [0; 32],
+        pending,
+    }
+}
+
+// The test of 4 that needs no look at the log, on a record where it stands: the 32 numbers are looked at among the words.
+pub fn fits(words: &[u32], area: usize, index: usize) -> bool
+    ensures { λ r. ⌜ r ≡ fitsLent edition1 (decoded (now (words .entry)) .rec) area index ⌝ }
+{
+    if !is_record(words) {
+        return false;
+    }
+    let front = front_in(words);
+    if !front_good(front) {
+        return false;
+    }
+    if !lengths_own(front, area, index) {
+        return false;
+    }
+    counts_good(&words[COUNTS..WORDS], front.size - DIGEST_SIZE as u32)
 }

@@ -1,57 +1,86 @@
 -- `kurdavel::kurdavel_read` meets its contract.
-use mathlib.Core.Path.{refl}
-use Rattle.kurdavel.specs.CrossingLaws.{looked-crossed, looked-none, read-crossed}
-use Rattle.recovery.specs.Lookups.{toldBy}
+use mathlib.Core.Bool.{true}
+use mathlib.Core.Path.{_≡_, refl, sym, _∙_}
+use native.Mathlib.Omega.{arith}
+use lib.ListN.{length}
+use Rattle.segment.specs.Layout.{edition1}
+use Rattle.record.specs.Range.{fitsLent}
+use Rattle.record.specs.Reach.{holdsTable}
+use Rattle.recovery.specs.Lookups.{lookedUp, toldBy}
+use Rattle.words.specs.Words.{decoded}
+use Rattle.kurdavel.specs.CrossingLaws.{fits-words, looked-lost, looked-away, looked-word, reached-word, read-crossed}
 use borrow.Author.Needs.{needs}
+use borrow.Author.Tests.{not-true, not-false}
 use Rattle.kurdavel.proofs.kurdavel_read.Statement.{statement}
 use Rattle.kurdavel.proofs.kurdavel_read.Tie as tie
 
-decode-requires : tie.Need-decode-requires
-decode-requires c κs = search needs
+-- the record fits what is lent, and the caller may reach the key
+fit : (c : tie.Else1)
+    → let a = c .before .before .before .before .before .args in
+    fitsLent edition1 (decoded (a .words .now) .rec) (length (a .area .now)) (length (a .index .now)) ≡ true
+fit c = sym (c .before .fits2 .ensures) ∙ not-false _ (c .if1 .left)
+
+held : (c : tie.Else2)
+    → let a = c .before .before .before .before .before .before .before .args in
+    holdsTable (record { first = a .first; last = a .last }) (a .table) ≡ true
+held c = sym (c .before .holds-table .ensures) ∙ not-false _ (c .if2 .left)
+
+-- what the look says, by the record that the words say
+looked : (c : tie.After-look-at)
+    → let a = c .before .before .before .before .before .before .before .before .before .before .args in
+    c .look-at .result ≡
+    lookedUp edition1 (decoded (a .words .now) .rec) (a .area .now) (a .index .now) (record { first = a .first; last = a .last })
+    (record { table = a .table; key = a .key })
+looked c =
+    let e = c .before .before .before in
+    looked-word _ _ _ _ _ (fit (e .before .before)) (held e) (c .before .before .search .ensures) (c .look-at .ensures)
 
 returns : tie.Need-returns
 unfolding toldBy
-returns c = read-crossed (looked-none _ _ _ _ _ (c .before .before .decode .ensures) (c .if1 .taken)) refl refl refl refl refl
-
-find-requires : tie.Need-find-requires
-find-requires c κs = search needs
-
-told-requires : tie.Need-told-requires
-told-requires c κs = search needs
-
-enum-known-answer : tie.Need-enum-known-answer
-enum-known-answer c = search needs
-
-number-requires : tie.Need-number-requires
-number-requires c κs = search needs
-
-enum-known-answer-2 : tie.Need-enum-known-answer-2
-enum-known-answer-2 c = search needs
-
-cast-kind : tie.Need-cast-kind
-cast-kind c = search needs
+returns c = read-crossed (looked-lost _ _ _ _ _ refl (sym (c .before .fits2 .ensures) ∙ not-true _ (c .if1 .taken))) refl refl refl refl refl
 
 returns-2 : tie.Need-returns-2
+unfolding toldBy
 returns-2 c =
-    read-crossed (looked-crossed _ _ _ _ _ (c .before .before .before .before .before .before .before .before .before .decode .ensures) (c .before .before .before .before .before .find .ensures)) (c .before .before .before .before .told .ensures) (c .before .before .answer .given .1)
-    (c .number .ensures) refl refl
+    read-crossed (looked-away _ _ _ _ _ refl (fit (c .before .before)) (sym (c .before .holds-table .ensures) ∙ not-true _ (c .if2 .taken))) refl refl
+    refl refl refl
+
+shared-slice-read-look-at : tie.Need-shared-slice-read-look-at
+shared-slice-read-look-at c = omega (arith, fits-words _ _ _ (fit (c .before .before .before .before)))
+
+cast-look-at : tie.Need-cast-look-at
+cast-look-at c = omega (arith, c .shared-slice-known4 .given 1)
+
+look-at-requires : tie.Need-look-at-requires
+look-at-requires c κs =
+    let e = c .before .before in
+    let t = e .before .before in
+    λ i f. reached-word _ _ _ _ _ (fit t) (held e) i (sym (c .before .search .ensures) ∙ f)
 
 returns-3 : tie.Need-returns-3
 returns-3 c =
-    read-crossed (looked-crossed _ _ _ _ _ (c .before .before .before .before .before .before .before .before .decode .ensures) (c .before .before .before .before .find .ensures)) (c .before .before .before .told .ensures) (c .before .answer2 .given .1)
-    refl refl refl
+    read-crossed (looked (c .before .before .before .before .before)) (c .before .before .before .before .told .ensures) (c .before .before .answer .given .1)
+    (c .number .ensures) refl refl
+
+returns-4 : tie.Need-returns-4
+returns-4 c = read-crossed (looked (c .before .before .before .before)) (c .before .before .before .told .ensures) (c .before .answer2 .given .1) refl refl refl
 
 pub kurdavel-read-spec : {M : Type 1} → statement M
 kurdavel-read-spec =
     tie.close
     (tie.spec
-    decode-requires
+    (λ c κs. search needs)
     returns
-    find-requires
-    told-requires
-    enum-known-answer
-    number-requires
-    enum-known-answer-2
-    cast-kind
+    (λ c κs. search needs)
     returns-2
-    returns-3)
+    (λ c κs. search needs)
+    shared-slice-read-look-at
+    cast-look-at
+    look-at-requires
+    (λ c κs. search needs)
+    (λ c. search needs)
+    (λ c κs. search needs)
+    (λ c. search needs)
+    (λ c. search needs)
+    returns-3
+    returns-4)

@@ -8,83 +8,66 @@ use Rattle.segment.specs.Layout.{edition1}
 use Rattle.record.specs.Range.{fitsLent}
 use Rattle.record.specs.Reach.{holdsTable}
 use Rattle.recovery.specs.Lookups.{lookedUp, toldBy, partBy}
-use Rattle.recovery.specs.LookupLaws.{reached, ObjectInside, object-inside}
+use Rattle.recovery.specs.LookupLaws.{ObjectInside, object-inside}
 use Rattle.words.specs.Words.{decoded}
-use Rattle.kurdavel.specs.CrossingLaws.{looked-none, looked-lost, looked-away, looked-found, found-small, value-crossed}
+use Rattle.kurdavel.specs.CrossingLaws.{fits-words, looked-lost, looked-away, looked-word, reached-word, found-small, value-crossed}
 use borrow.Author.Needs.{needs}
 use borrow.Author.Tests.{not-true, not-false}
 use Rattle.kurdavel.proofs.kurdavel_read_value.Statement.{statement}
 use Rattle.kurdavel.proofs.kurdavel_read_value.Tie as tie
 
 -- the record fits what is lent, and the caller may reach the key
-fit : (c : tie.Else2)
-    → let a = c .before .before .before .before .before .before .before .before .before .args in
-    fitsLent edition1 (c .before .before .before .before .before .decode .result .rec) (length (a .area .now)) (length (a .index .now)) ≡ true
-fit c = sym (c .before .fits-lent .ensures) ∙ not-false _ (c .if2 .left)
+fit : (c : tie.Else1)
+    → let a = c .before .before .before .before .before .args in
+    fitsLent edition1 (decoded (a .words .now) .rec) (length (a .area .now)) (length (a .index .now)) ≡ true
+fit c = sym (c .before .fits2 .ensures) ∙ not-false _ (c .if1 .left)
 
-held : (c : tie.Else3)
-    → let a = c .before .before .before .before .before .before .before .before .before .before .before .args in
+held : (c : tie.Else2)
+    → let a = c .before .before .before .before .before .before .before .args in
     holdsTable (record { first = a .first; last = a .last }) (a .table) ≡ true
-held c = sym (c .before .holds-table .ensures) ∙ not-false _ (c .if3 .left)
+held c = sym (c .before .holds-table .ensures) ∙ not-false _ (c .if2 .left)
 
 -- what the look says, by the record that the words say
 looked : (c : tie.After-look-at)
-    → let a = c .before .before .before .before .before .before .before .before .before .before .before .before .before .before .args in
+    → let a = c .before .before .before .before .before .before .before .before .before .before .args in
     c .look-at .result ≡
     lookedUp edition1 (decoded (a .words .now) .rec) (a .area .now) (a .index .now) (record { first = a .first; last = a .last })
     (record { table = a .table; key = a .key })
 looked c =
     let e = c .before .before .before in
-    let t = e .before .before in
-    looked-found _ _ _ _ _ (t .before .before .before .before .before .decode .ensures) (fit t) (held e) (c .before .before .search .ensures) (c .look-at .ensures)
+    looked-word _ _ _ _ _ (fit (e .before .before)) (held e) (c .before .before .search .ensures) (c .look-at .ensures)
 
 -- the entry of an object that was found lies in the area, whose length is a record's
 inside : (c : tie.After-known-told)
-    → ObjectInside edition1 (c .before .before .before .before .before .before .before .before .before .before .before .before .before .before .before .before .before .args .area .now) (c .before .entry .given .0 .0) (c .before .entry .given .0 .1 .1 .1 .0)
+    → ObjectInside edition1 (c .before .before .before .before .before .before .before .before .before .before .before .before .before .args .area .now) (c .before .entry .given .0 .0) (c .before .entry .given .0 .1 .1 .1 .0)
 inside c = object-inside edition1 _ _ _ _ _ _ _ _ _ (sym (looked (c .before .before .before)) ∙ c .before .entry .given .1)
 
-small : (c : tie.After-known-told) → length (c .before .before .before .before .before .before .before .before .before .before .before .before .before .before .before .before .before .args .area .now) ≤ 65536
+small : (c : tie.After-known-told) → length (c .before .before .before .before .before .before .before .before .before .before .before .before .before .args .area .now) ≤ 65536
 small c = found-small _ _ _ _ _ (sym (looked (c .before .before .before)) ∙ c .before .entry .given .1)
-
-decode-requires : tie.Need-decode-requires
-decode-requires c κs = search needs
 
 returns : tie.Need-returns
 unfolding toldBy partBy
 returns c =
-    value-crossed (looked-none _ _ _ _ _ (c .before .before .decode .ensures) (c .if1 .taken)) refl refl refl (omega arith) (λ _. (refl, refl))
-
-fits-lent-requires : tie.Need-fits-lent-requires
-fits-lent-requires c κs = search needs
+    value-crossed (looked-lost _ _ _ _ _ refl (sym (c .before .fits2 .ensures) ∙ not-true _ (c .if1 .taken))) refl refl refl
+    (omega arith) (λ _. (refl, refl))
 
 returns-2 : tie.Need-returns-2
 unfolding toldBy partBy
 returns-2 c =
-    value-crossed (looked-lost _ _ _ _ _ (c .before .before .before .before .before .decode .ensures) (sym (c .before .fits-lent .ensures) ∙ not-true _ (c .if2 .taken))) refl refl refl
+    value-crossed (looked-away _ _ _ _ _ refl (fit (c .before .before)) (sym (c .before .holds-table .ensures) ∙ not-true _ (c .if2 .taken))) refl refl refl
     (omega arith) (λ _. (refl, refl))
 
-holds-table-requires : tie.Need-holds-table-requires
-holds-table-requires c κs = search needs
-
-returns-3 : tie.Need-returns-3
-unfolding toldBy partBy
-returns-3 c =
-    let t = c .before .before in
-    value-crossed (looked-away _ _ _ _ _ (t .before .before .before .before .before .decode .ensures) (fit t) (sym (c .before .holds-table .ensures) ∙ not-true _ (c .if3 .taken))) refl refl refl
-    (omega arith) (λ _. (refl, refl))
-
-search-requires : tie.Need-search-requires
-search-requires c κs = search needs
+shared-slice-read-look-at : tie.Need-shared-slice-read-look-at
+shared-slice-read-look-at c = omega (arith, fits-words _ _ _ (fit (c .before .before .before .before)))
 
 cast-look-at : tie.Need-cast-look-at
-cast-look-at c = search needs
+cast-look-at c = omega (arith, c .shared-slice-known4 .given 1)
 
 look-at-requires : tie.Need-look-at-requires
 look-at-requires c κs =
-    let e = c .before .before in λ i f. reached edition1 _ _ _ _ _ (fit (e .before .before)) (held e) i (sym (c .before .search .ensures) ∙ f)
-
-enum-known-entry : tie.Need-enum-known-entry
-enum-known-entry c = search needs
+    let e = c .before .before in
+    let t = e .before .before in
+    λ i f. reached-word _ _ _ _ _ (fit t) (held e) i (sym (c .before .search .ensures) ∙ f)
 
 add-place : tie.Need-add-place
 unfolding edition1
@@ -102,55 +85,45 @@ cast-bytes : tie.Need-cast-bytes
 unfolding edition1
 cast-bytes c = let h = inside c in let l = small c in omega arith
 
-enum-told : tie.Need-enum-told
-enum-told c = search needs
-
-enum-told-2 : tie.Need-enum-told-2
-enum-told-2 c = search needs
-
-enum-told-3 : tie.Need-enum-told-3
-enum-told-3 c = search needs
-
-returns-4 : tie.Need-returns-4
+returns-3 : tie.Need-returns-3
 unfolding edition1 toldBy partBy
-returns-4 c =
+returns-3 c =
     let h = inside c in
     value-crossed (looked (c .before .before .before)) (c .before .entry .given .1) refl refl (omega arith) (λ refused. absurd (refused refl))
 
+returns-4 : tie.Need-returns-4
+unfolding toldBy partBy
+returns-4 c = value-crossed (looked (c .before .before)) (c .enum-told .given .1) refl refl (omega arith) (λ _. (refl, refl))
+
 returns-5 : tie.Need-returns-5
 unfolding toldBy partBy
-returns-5 c = value-crossed (looked (c .before .before)) (c .enum-told .given .1) refl refl (omega arith) (λ _. (refl, refl))
+returns-5 c = value-crossed (looked (c .before .before)) (c .enum-told2 .given .1) refl refl (omega arith) (λ _. (refl, refl))
 
 returns-6 : tie.Need-returns-6
 unfolding toldBy partBy
-returns-6 c = value-crossed (looked (c .before .before)) (c .enum-told2 .given .1) refl refl (omega arith) (λ _. (refl, refl))
-
-returns-7 : tie.Need-returns-7
-unfolding toldBy partBy
-returns-7 c = value-crossed (looked (c .before .before)) (c .enum-told3 .given .1) refl refl (omega arith) (λ _. (refl, refl))
+returns-6 c = value-crossed (looked (c .before .before)) (c .enum-told3 .given .1) refl refl (omega arith) (λ _. (refl, refl))
 
 pub kurdavel-read-value-spec : {M : Type 1} → statement M
 kurdavel-read-value-spec =
     tie.close
     (tie.spec
-    decode-requires
+    (λ c κs. search needs)
     returns
-    fits-lent-requires
+    (λ c κs. search needs)
     returns-2
-    holds-table-requires
-    returns-3
-    search-requires
+    (λ c κs. search needs)
+    shared-slice-read-look-at
     cast-look-at
     look-at-requires
-    enum-known-entry
+    (λ c. search needs)
     add-place
     cast-place
     sub-bytes
     cast-bytes
-    enum-told
-    enum-told-2
-    enum-told-3
+    (λ c. search needs)
+    (λ c. search needs)
+    (λ c. search needs)
+    returns-3
     returns-4
     returns-5
-    returns-6
-    returns-7)
+    returns-6)

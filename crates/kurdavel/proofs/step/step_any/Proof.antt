@@ -1,10 +1,10 @@
--- `kurdavel::kurdavel_step` meets its contract.
+-- `kurdavel::step::step_any` meets its contract.
 use mathlib.Core.Path.{refl}
 use Rattle.kurdavel.specs.Crossing.{leftTold, toldAfter}
 use Rattle.kurdavel.specs.CrossingLaws.{steps-on, step-crossed}
 use borrow.Author.Needs.{needs}
-use Rattle.kurdavel.proofs.kurdavel_step.Statement.{statement}
-use Rattle.kurdavel.proofs.kurdavel_step.Tie as tie
+use Rattle.kurdavel.proofs.step.step_any.Statement.{statement}
+use Rattle.kurdavel.proofs.step.step_any.Tie as tie
 
 decode-requires : tie.Need-decode-requires
 decode-requires c κs = search needs
@@ -70,8 +70,8 @@ unfolding leftTold toldAfter
 returns-3 c =
     step-crossed (c .before .before .before .before .before .before .before .before .before .before .before .before .before .before .before .before .decode .ensures) (c .before .before .before .before .before .before .before .before .before .before .before .before .step-held .ensures) (c .before .before .before .before .before .keep-stepped .ensures) (c .before .answer3 .given .1) refl refl refl
 
-pub kurdavel-step-spec : {M : Type 1} → statement M
-kurdavel-step-spec =
+pub step-any-spec : {M : Type 1} → statement M
+step-any-spec =
     tie.close
     (tie.spec
     decode-requires

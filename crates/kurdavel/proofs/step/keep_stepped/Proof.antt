@@ -1,9 +1,9 @@
--- `kurdavel::keep_stepped` meets its contract.
+-- `kurdavel::step::keep_stepped` meets its contract.
 use Rattle.words.specs.WordLaws.{record-long}
 use Rattle.kurdavel.specs.CrossingLaws.{kept-off, kept-pending, long-pending, never-both}
 use borrow.Author.Needs.{needs}
-use Rattle.kurdavel.proofs.keep_stepped.Statement.{statement}
-use Rattle.kurdavel.proofs.keep_stepped.Tie as tie
+use Rattle.kurdavel.proofs.step.keep_stepped.Statement.{statement}
+use Rattle.kurdavel.proofs.step.keep_stepped.Tie as tie
 
 enum-told : tie.Need-enum-told
 enum-told c = search needs

@@ -1,0 +1,170 @@
+-- A step that leaves stores to be done, made on the words of the record: what it promises, at each return of its code.
+use Prim.Native.Nat.{ℕ, _-_, _≤_, _<_}
+use mathlib.Core.Path.{_≡_, refl, sym, _∙_, ap, subst, subst⁻¹}
+use mathlib.Core.Bool.{Bool, true, false}
+use mathlib.Core.List.{List, [], _∷_, _++_}
+use native.Mathlib.Omega.{arith}
+use lib.ListN.{length, getD, take, set}
+use lib.Seq.{sets}
+use Rattle.segment.specs.Layout.{edition1}
+use Rattle.record.specs.Answers.{storesLeft, stepSaid, tellSaid, withPending}
+use Rattle.record.specs.Range.{fitsLent}
+use Rattle.record.specs.RangeLaws.{lent}
+use Rattle.record.specs.declared.Pending.{Pending}
+use Rattle.record.specs.declared.Pending.the-variants.{Idle, Append, NewHead, Clean, Forget}
+use Rattle.record.specs.declared.Record.{Record}
+use Rattle.record.specs.declared.Refusal.{Refusal}
+use Rattle.record.specs.declared.Refusal.the-variants.{BadRecord}
+use Rattle.record.specs.declared.StepAnswer.{StepAnswer}
+use Rattle.record.specs.declared.TellAnswer.{TellAnswer}
+use Rattle.model.specs.Promises.{StepPromise}
+use Rattle.laws.specs.OperationsKept.{edition1-roomy, edition1-laws}
+use Rattle.telling.specs.BareLaws.{found-bad}
+use Rattle.telling.specs.Told.{foundBy, toldBy}
+use Rattle.telling.specs.ToldLaws.{told-promise}
+use Rattle.stepping.specs.Finish.{oneLess}
+use Rattle.stepping.specs.FinishLaws.{advance-left}
+use Rattle.stepping.specs.OnLaws.{found-refused, found-stored}
+use Rattle.words.specs.Words.{recordWords, pendingWords, wordsOf, word, recordIn, isRecord, decoded}
+use Rattle.words.specs.WordLaws.{too-short, counts-long, decoded-record, decoded-none, none-unfit, fits-record, pending-words, left-alone, encode-decode}
+use Rattle.words.specs.declared.Decoded.{Decoded}
+use Rattle.kurdavel.specs.Crossing.{StepCrossed, keptWords, leftTold, toldAfter, TellCrossed, placeTold, byteTold}
+use Rattle.kurdavel.specs.CrossingLaws.{kept-on, kept-off, step-crossed}
+
+-- ---- the words of a pending operation with one store less
+
+abbrev less : List ℕ → List ℕ
+less l = take 4 l ++ ((getD l 4 0 - 1) ∷ [])
+
+less-words : (p : Pending) → pendingWords (oneLess p) ≡ less (pendingWords p)
+unfolding oneLess
+less-words Idle = refl
+less-words (Append n k) = refl
+less-words (NewHead i n k) = refl
+less-words (Clean i v n k) = refl
+less-words (Forget i v n k) = refl
+
+left-fifth : (p : Pending) → getD (pendingWords p) 4 0 ≡ storesLeft p
+left-fifth Idle = refl
+left-fifth (Append n k) = refl
+left-fifth (NewHead i n k) = refl
+left-fifth (Clean i v n k) = refl
+left-fifth (Forget i v n k) = refl
+
+-- ---- what was found of the next store
+
+module _ (words area work : List ℕ) where
+  abbrev says : Record
+  says = decoded words .rec
+
+  abbrev found : ℕ → TellAnswer
+  found cells = foundBy edition1 says area cells work
+
+  -- a record that does not fit is refused with 4
+  unfit-found : (cells : ℕ) → fitsLent edition1 says (length area) cells ≡ false → TellAnswer.Refused BadRecord ≡ found cells
+  unfit-found cells e = found-bad edition1 says area cells work {t = false} (sym e) refl
+
+  -- a record for which a store is found fits, and the words are a record's
+  found-fit : (cells p b : ℕ) → found cells ≡ TellAnswer.At p b → fitsLent edition1 says (length area) cells ≡ true
+  found-fit cells p b e = go (fitsLent edition1 says (length area) cells) refl
+    where
+      go : (t : Bool) → fitsLent edition1 says (length area) cells ≡ t → fitsLent edition1 says (length area) cells ≡ true
+      go true f = f
+      go false f =
+          let w : TellAnswer.Refused BadRecord ≡ TellAnswer.At p b = unfit-found cells f ∙ e in
+          let z : _≡_ {A = ℕ} 0 1 = cc in
+          absurd (omega arith)
+
+  found-record : (cells p b : ℕ) → found cells ≡ TellAnswer.At p b → isRecord words ≡ true
+  found-record cells p b e = fits-record edition1 words (length area) cells (found-fit cells p b e)
+
+  -- and it lies in the area
+  pub on-inside : (cells p b : ℕ) → found cells ≡ TellAnswer.At p b → p < length area
+  on-inside cells p b e =
+      let fit = found-fit cells p b e in
+      let own : cells ≡ says .cells = lent edition1 says (length area) cells fit .index-own in
+      told-promise edition1 edition1-laws says area work refl .inside p b (ap found (sym own) ∙ e)
+
+  -- ---- the step
+
+  module _ (cells : List ℕ) (left version : ℕ) where
+    -- the words that say a record that is handed back
+    same-words : words ≡ keptWords (decoded words .ok) words says
+    same-words = go (isRecord words) refl
+      where
+        go : (t : Bool) → isRecord words ≡ t → words ≡ keptWords (decoded words .ok) words says
+        go true f =
+            kept-on words words says (ap (λ (d : Decoded). d .ok) (decoded-record words f))
+            (sym (encode-decode words f) ∙ ap (λ (d : Decoded). sets words 0 (wordsOf (d .rec))) (sym (decoded-record words f)))
+        go false f = kept-off words says (ap (λ (d : Decoded). d .ok) (decoded-none words f))
+
+    long : decoded words .ok ≡ true → length (says .counts) ≡ 32
+    long ok = go (isRecord words) refl
+      where
+        go : (t : Bool) → isRecord words ≡ t → length (says .counts) ≡ 32
+        go true f = ap (λ (d : Decoded). length (d .rec .counts)) (decoded-record words f) ∙ counts-long words f
+        go false f =
+            let no : decoded words .ok ≡ false = ap (λ (d : Decoded). d .ok) (decoded-none words f) in
+            let z : _≡_ {A = ℕ} 0 1 = cc in
+            absurd (omega arith)
+
+    pub on-refused : (c : Refusal) {number : ℕ} → found (length cells) ≡ TellAnswer.Refused c → number ≡ tellSaid (TellAnswer.Refused c) .refused
+        → StepCrossed words words area area cells cells work left left version version number
+    unfolding leftTold toldAfter
+    on-refused c e m =
+        step-crossed {b = StepAnswer.Refused c} refl (found-refused edition1 edition1-roomy says area cells work c e) (same-words, long) refl m refl refl
+
+    pub on-stored : (p b : ℕ) {words′ : List ℕ} → found (length cells) ≡ TellAnswer.At p b → 1 < word words 16
+        → words′ ≡ set words 16 (word words 16 - 1)
+        → StepCrossed words words′ area (set area p b) cells cells work left (word words 16 - 1) version 0 0
+    unfolding leftTold toldAfter
+    on-stored p b {words′} e more w =
+        let are = found-record (length cells) p b e in
+        let is : decoded words ≡ record { ok = true; rec = recordIn words } = decoded-record words are in
+        let five = pending-words words are in
+        let k : word words 16 ≡ storesLeft (recordIn words .pending) =
+        sym (ap (λ (l : List ℕ). getD l 4 0) five) ∙ left-fifth (recordIn words .pending) in
+        let k-said : word words 16 ≡ storesLeft (says .pending) = k ∙ ap (λ (d : Decoded). storesLeft (d .rec .pending)) (sym is) in
+        let after : Record = withPending says (oneLess (says .pending)) in
+        let its : after ≡ withPending (recordIn words) (oneLess (recordIn words .pending)) =
+        ap (λ (d : Decoded). withPending (d .rec) (oneLess (d .rec .pending))) is in
+        step-crossed {x = record { answer = StepAnswer.Left (word words 16 - 1); rec = after }} refl
+        (found-stored edition1 edition1-roomy says area cells work p b e
+        (advance-left edition1 says (set area p b) cells k-said more refl refl)) (
+          kept-on words words′ after (ap (λ (d : Decoded). d .ok) is)
+              (w
+              ∙ left-alone words are (word words 16 - 1) (oneLess (recordIn words .pending)) (less-words (recordIn words .pending) ∙ ap less five)
+              ∙ ap (λ (r : Record). sets words 0 (wordsOf r)) (sym its)),
+          λ ok. long ok,
+        )
+        refl refl refl refl
+
+  -- ---- the store told
+
+  -- no index is lent: it counts as long as the record says, and words that are no record are refused whatever they say of it
+  found-told : found (word words 2) ≡ toldBy edition1 says area work .answer
+  found-told = go (isRecord words) refl
+    where
+      go : (t : Bool) → isRecord words ≡ t → found (word words 2) ≡ found (says .cells)
+      go true f = ap found (ap (λ (d : Decoded). d .rec .cells) (sym (decoded-record words f)))
+      go false f =
+          sym (unfit-found (word words 2) (none-unfit edition1 words (length area) (word words 2) f))
+          ∙ unfit-found (says .cells) (none-unfit edition1 words (length area) (says .cells) f)
+
+  pub told-crossed : {a b : TellAnswer} {place byte number : ℕ} → a ≡ found (word words 2) → a ≡ b → number ≡ tellSaid b .refused
+      → place ≡ placeTold b → byte ≡ byteTold b → TellCrossed words area work place byte number
+  told-crossed {a} {b} e f m l v =
+      let is : toldBy edition1 says area work .answer ≡ b = sym (e ∙ found-told) ∙ f in
+      record {
+        foretold = toldBy edition1 says area work;
+        found = refl;
+        promised = told-promise edition1 edition1-laws says area work refl;
+        numbered = m ∙ ap (λ (x : TellAnswer). tellSaid x .refused) (sym is);
+        place-told = l ∙ ap placeTold (sym is);
+        byte-told = v ∙ ap byteTold (sym is);
+      }
+
+  pub told-few : length words < recordWords → TellCrossed words area work 0 0 4
+  unfolding placeTold byteTold
+  told-few h =
+      told-crossed (unfit-found (word words 2) (none-unfit edition1 words (length area) (word words 2) (too-short words h))) refl refl refl refl

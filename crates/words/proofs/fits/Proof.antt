@@ -1,0 +1,67 @@
+-- `words::fits` meets its contract.
+use borrow.Author.Needs.{needs}
+use mathlib.Core.Path.{_≡_, sym, _∙_}
+use mathlib.Core.Bool.{true}
+use borrow.Author.Tests.{not-true, not-false}
+use native.Mathlib.Omega.{arith}
+use Rattle.segment.specs.Layout.{edition1}
+use Rattle.record.specs.RangeLaws.{Limits, front-limits}
+use Rattle.words.specs.Words.{isRecord}
+use Rattle.words.specs.WordLaws.{record-long, none-unfit, front-unfit, lengths-unfit, counts-decide}
+use Rattle.words.proofs.fits.Statement.{statement}
+use Rattle.words.proofs.fits.Tie as tie
+
+are-record : (c : tie.Else1) → isRecord (c .before .before .before .args .words .now) ≡ true
+are-record c = sym (c .before .is-record .ensures) ∙ not-false _ (c .if1 .left)
+
+returns : tie.Need-returns
+returns c = sym (none-unfit edition1 _ _ _ (sym (c .before .is-record .ensures) ∙ not-true _ (c .if1 .taken)))
+
+front-in-requires : tie.Need-front-in-requires
+front-in-requires c κs = record-long _ (are-record c)
+
+returns-2 : tie.Need-returns-2
+returns-2 c = front-unfit edition1 _ _ _ (are-record (c .before .before .before)) (c .before .before .front-in .ensures) (c .before .front-good .ensures) (c .if2 .taken)
+
+-- what is known once the front is tested
+within : (c : tie.Else2) → Limits (c .before .before .front-in .result)
+within c = front-limits edition1 _ (sym (c .before .front-good .ensures) ∙ not-false _ (c .if2 .left))
+
+lengths-own-requires : tie.Need-lengths-own-requires
+lengths-own-requires c κs = omega (arith, within c)
+
+returns-3 : tie.Need-returns-3
+returns-3 c =
+    let d = c .before .before .before in
+    lengths-unfit edition1 _ _ _ (are-record (d .before .before)) (d .before .front-in .ensures) (d .front-good .ensures) (c .before .before .if2 .left) (c .before .lengths-own .ensures) (c .if3 .taken)
+
+part-counts-good-end : tie.Need-part-counts-good-end
+part-counts-good-end c = omega (arith, record-long _ (are-record (c .before .before .before .before .before)))
+
+sub-counts-good-2 : tie.Need-sub-counts-good-2
+sub-counts-good-2 c = omega (arith, within (c .before .before .before .before))
+
+returns-4 : tie.Need-returns-4
+unfolding edition1
+returns-4 c =
+    let d = c .before .before .before .before .before .before in
+    counts-decide edition1 _ _ _ (are-record (d .before .before)) (d .before .front-in .ensures) (d .front-good .ensures) (c .before .before .before .before .before .if2 .left) (c .before .before .before .before .lengths-own .ensures) (c .before .before .before .if3 .left) (c .counts-good .ensures)
+
+pub fits-spec : {M : Type 1} → statement M
+fits-spec =
+    tie.close
+    (tie.spec
+    (λ c κs. search needs)
+    returns
+    front-in-requires
+    (λ c κs. search needs)
+    returns-2
+    lengths-own-requires
+    returns-3
+    (λ c. search needs)
+    (λ c. search needs)
+    part-counts-good-end
+    (λ c. search needs)
+    sub-counts-good-2
+    (λ c κs. search needs)
+    returns-4)
