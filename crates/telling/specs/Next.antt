@@ -10,6 +10,7 @@ use Rattle.record.specs.declared.Pending.the-variants.{Idle, Append, NewHead, C
 use Rattle.record.specs.declared.Record.{Record}
 use Rattle.starting.specs.Stores.{commitStores}
 use Rattle.telling.specs.declared.NextStore.{NextStore}
+use Rattle.telling.specs.declared.Target.{Target}
 use Rattle.telling.specs.declared.NextStore.the-variants.{At, Bad}
 
 -- The store after j others, where the first n bytes of the work buffer come to an offset of the slot that begins at `base`: the
@@ -37,7 +38,18 @@ slotNext areaLength work S slot offset n first k =
     pick (both (fitsSlot areaLength (length work) S slot offset n) (fitsLeft k (commitStores S offset n + first)))
     (slotStore (slot * S) S offset n work first (commitStores S offset n + first - k)) Bad
 
--- An append commits at the head's end; a new head first loses its byte 0, and commits at its start.
+-- Where the bytes of an operation go: an append commits at the head's end; a new head first loses its byte 0, and commits at its start.
+abbrev pub headTarget : ℕ → ℕ → ℕ → Target
+headTarget i n k = record { slot = i; offset = 0; count = n; first = 1; left = k }
+
+unfoldable pub targetOf : Pending → ℕ → ℕ → Target
+targetOf Idle head end = record { slot = 0; offset = 0; count = 0; first = 0; left = 0 }
+targetOf (Append n k) head end = record { slot = head; offset = end; count = n; first = 0; left = k }
+targetOf (NewHead i n k) head end = headTarget i n k
+targetOf (Clean i v n k) head end = headTarget i n k
+targetOf (Forget i v n k) head end = headTarget i n k
+
+-- The next store of a pending operation; none where nothing is pending.
 unfoldable pub pendingNext : ℕ → List ℕ → Record → Pending → NextStore
 pendingNext areaLength work r Idle = Bad
 pendingNext areaLength work r (Append n k) = slotNext areaLength work (r .size) (r .head) (r .end) n 0 k

@@ -1,6 +1,6 @@
 -- Place and byte at each test of the code, and for a started operation: the store of its plan whose turn it is.
 use Prim.Native.Nat.{ℕ, _+_, _*_, _-_, _≤_, _<_}
-use mathlib.Core.Path.{_≡_, refl, sym, _∙_, ap}
+use mathlib.Core.Path.{_≡_, refl, sym, _∙_, ap, subst⁻¹}
 use mathlib.Core.Bool.{Bool, true, false, not}
 use mathlib.Core.List.{List}
 use native.Mathlib.Decide.{ℕ-discrete, decLt}
@@ -14,8 +14,9 @@ use Rattle.record.specs.declared.Pending.{Pending}
 use Rattle.record.specs.declared.Pending.the-variants.{Idle, Append, NewHead, Clean, Forget}
 use Rattle.record.specs.declared.Record.{Record}
 use Rattle.starting.specs.Stores.{commitStores, stores-full}
-use Rattle.telling.specs.Next.{commitStore, fitsSlot, fitsLeft, slotStore, slotNext, pendingNext, nextStore, PendingIn}
+use Rattle.telling.specs.Next.{commitStore, fitsSlot, fitsLeft, slotStore, slotNext, headTarget, targetOf, pendingNext, nextStore, PendingIn}
 use Rattle.telling.specs.declared.NextStore.{NextStore}
+use Rattle.telling.specs.declared.Target.{Target}
 use Rattle.telling.specs.declared.NextStore.the-variants.{At, Bad}
 
 -- ---- a store of a commit at each test; m is what the code finds for the number of stores
@@ -137,34 +138,53 @@ module _ (areaLength : ℕ) (work : List ℕ) (S slot offset n first k : ℕ) wh
 
 -- ---- the next store of each pending operation
 
+module _ {p : Pending} (head end : ℕ) where
+  pub target-idle : p ≡ Idle → record { slot = 0; offset = 0; count = 0; first = 0; left = 0 } ≡ targetOf p head end
+  unfolding targetOf
+  target-idle e = ap (λ (q : Pending). targetOf q head end) (sym e)
+
+  pub target-append : {n k : ℕ} → p ≡ Append n k → record { slot = head; offset = end; count = n; first = 0; left = k } ≡ targetOf p head end
+  unfolding targetOf
+  target-append e = ap (λ (q : Pending). targetOf q head end) (sym e)
+
+  pub target-new-head : {i n k : ℕ} → p ≡ NewHead i n k → {t : Target} → t ≡ headTarget i n k → t ≡ targetOf p head end
+  unfolding targetOf
+  target-new-head e h = h ∙ ap (λ (q : Pending). targetOf q head end) (sym e)
+
+  pub target-clean : {i v n k : ℕ} → p ≡ Clean i v n k → {t : Target} → t ≡ headTarget i n k → t ≡ targetOf p head end
+  unfolding targetOf
+  target-clean e h = h ∙ ap (λ (q : Pending). targetOf q head end) (sym e)
+
+  pub target-forget : {i v n k : ℕ} → p ≡ Forget i v n k → {t : Target} → t ≡ headTarget i n k → t ≡ targetOf p head end
+  unfolding targetOf
+  target-forget e h = h ∙ ap (λ (q : Pending). targetOf q head end) (sym e)
+
+-- at most one store comes before
+first-most : (p : Pending) (head end : ℕ) → targetOf p head end .first ≤ 1
+unfolding targetOf
+first-most Idle head end = omega arith
+first-most (Append n k) head end = omega arith
+first-most (NewHead i n k) head end = omega arith
+first-most (Clean i v n k) head end = omega arith
+first-most (Forget i v n k) head end = omega arith
+
+pub target-first : (p : Pending) (head end : ℕ) {t : Target} → t ≡ targetOf p head end → t .first ≤ 1
+target-first p head end e = subst⁻¹ (λ (t : Target). t .first ≤ 1) e (first-most p head end)
+
 module _ (areaLength : ℕ) (work : List ℕ) (r : Record) where
-  pub next-idle : r .pending ≡ Idle → Bad ≡ nextStore areaLength work r
-  unfolding pendingNext
-  next-idle e = rw e
+  abbrev storeAt : Target → NextStore
+  storeAt t = slotNext areaLength work (r .size) (t .slot) (t .offset) (t .count) (t .first) (t .left)
 
-  pub next-append :
-      {n k : ℕ} → r .pending ≡ Append n k → {x : NextStore} → x ≡ slotNext areaLength work (r .size) (r .head) (r .end) n 0 k →
-      x ≡ nextStore areaLength work r
-  unfolding pendingNext
-  next-append e h = rw e h
+  target-next : (p : Pending) → storeAt (targetOf p (r .head) (r .end)) ≡ pendingNext areaLength work r p
+  unfolding targetOf pendingNext
+  target-next Idle = sym (next-unfit areaLength work (r .size) 0 0 0 0 0 {t = false} (slot-empty areaLength (length work) (r .size) 0 0 0 refl) refl)
+  target-next (Append n k) = refl
+  target-next (NewHead i n k) = refl
+  target-next (Clean i v n k) = refl
+  target-next (Forget i v n k) = refl
 
-  pub next-new-head :
-      {i n k : ℕ} → r .pending ≡ NewHead i n k → {x : NextStore} → x ≡ slotNext areaLength work (r .size) i 0 n 1 k →
-      x ≡ nextStore areaLength work r
-  unfolding pendingNext
-  next-new-head e h = rw e h
-
-  pub next-clean :
-      {i v n k : ℕ} → r .pending ≡ Clean i v n k → {x : NextStore} → x ≡ slotNext areaLength work (r .size) i 0 n 1 k →
-      x ≡ nextStore areaLength work r
-  unfolding pendingNext
-  next-clean e h = rw e h
-
-  pub next-forget :
-      {i v n k : ℕ} → r .pending ≡ Forget i v n k → {x : NextStore} → x ≡ slotNext areaLength work (r .size) i 0 n 1 k →
-      x ≡ nextStore areaLength work r
-  unfolding pendingNext
-  next-forget e h = rw e h
+  pub next-target : {t : Target} → t ≡ targetOf (r .pending) (r .head) (r .end) → {x : NextStore} → x ≡ storeAt t → x ≡ nextStore areaLength work r
+  next-target e h = h ∙ ap storeAt e ∙ target-next (r .pending)
 
 -- ---- what is known where there is a next store
 

@@ -8,3 +8,13 @@ pub enum NextStore {
     At { place: usize, byte: u8 },
     Bad,
 }
+
+// Where the bytes of an operation go: its slot and the offset in it, how many they are, the stores of 0 that it makes at the slot's byte
+// 0 before them, and the stores left. No bytes where nothing is pending.
+pub struct Target {
+    pub slot: u32,
+    pub offset: u32,
+    pub count: u32,
+    pub first: u32,
+    pub left: u32,
+}

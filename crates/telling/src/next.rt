@@ -1,5 +1,6 @@
 // Place and byte of the next store (01, "Operations, store by store"). Nothing here writes.
 use crate::NextStore;
+use crate::Target;
 use record::Pending;
 use record::Record;
 use starting::stores::commit_stores;
@@ -7,7 +8,7 @@ ghost use Prim.Native.Nat.{_+_, _*_, _≤_, _<_};
 ghost use mathlib.Core.Path.{_≡_};
 ghost use lib.ListN.{length};
 ghost use Rattle.starting.specs.Stores.{commitStores};
-ghost use Rattle.telling.specs.Next.{commitStore, fitsSlot, slotNext, nextStore};
+ghost use Rattle.telling.specs.Next.{commitStore, fitsSlot, slotNext, headTarget, targetOf, nextStore};
 
 // The store that comes after `done` others, where the first `count` bytes of the work buffer come to an offset of the slot that
 // begins at `base`.
@@ -109,64 +110,68 @@ fn slot_next(
     )
 }
 
-// Where the next store goes and what it stores: an append commits at the head's end, a new head at its start after a store of 0
-// there.
-pub fn next_store(rec: Record, area: &[u8], work: &[u8]) -> NextStore
-    ensures { λ r. ⌜ r ≡ nextStore (length (now (area .entry))) (now (work .entry)) rec ⌝ }
+// Where the bytes of a new head go.
+fn head_target(slot: u32, length: u32, left: u32) -> Target
+    ensures { λ r. ⌜ r ≡ headTarget slot length left ⌝ }
 {
-    let pending = rec.pending;
-    let size = rec.size as usize;
+    Target {
+        slot,
+        offset: 0,
+        count: length,
+        first: 1,
+        left,
+    }
+}
+
+// Where the bytes of a pending operation go: an append commits at the head's end, a new head at its start after a store of 0 there.
+fn target_of(pending: Pending, head: u32, end: u32) -> Target
+    ensures { λ r. ⌜ r ≡ targetOf pending head end ⌝ }
+{
     match pending {
-        Pending::Idle => NextStore::Bad,
-        Pending::Append { length, left } => slot_next(
-            area,
-            work,
-            size,
-            rec.head as usize,
-            rec.end as usize,
-            length as usize,
-            0,
-            left as usize,
-        ),
-        Pending::NewHead { slot, length, left } => slot_next(
-            area,
-            work,
-            size,
-            slot as usize,
-            0,
-            length as usize,
-            1,
-            left as usize,
-        ),
+        Pending::Idle => Target {
+            slot: 0,
+            offset: 0,
+            count: 0,
+            first: 0,
+            left: 0,
+        },
+        Pending::Append { length, left } => Target {
+            slot: head,
+            offset: end,
+            count: length,
+            first: 0,
+            left,
+        },
+        Pending::NewHead { slot, length, left } => head_target(slot, length, left),
         Pending::Clean {
             slot,
             victims: _,
             length,
             left,
-        } => slot_next(
-            area,
-            work,
-            size,
-            slot as usize,
-            0,
-            length as usize,
-            1,
-            left as usize,
-        ),
+        } => head_target(slot, length, left),
         Pending::Forget {
             slot,
             victims: _,
             length,
             left,
-        } => slot_next(
-            area,
-            work,
-            size,
-            slot as usize,
-            0,
-            length as usize,
-            1,
-            left as usize,
-        ),
+        } => head_target(slot, length, left),
     }
+}
+
+// Where the next store goes and what it stores.
+pub fn next_store(rec: Record, area: &[u8], work: &[u8]) -> NextStore
+    ensures { λ r. ⌜ r ≡ nextStore (length (now (area .entry))) (now (work .entry)) rec ⌝ }
+{
+    let pending = rec.pending;
+    let to = target_of(pending, rec.head, rec.end);
+    slot_next(
+        area,
+        work,
+        rec.size as usize,
+        to.slot as usize,
+        to.offset as usize,
+        to.count as usize,
+        to.first as usize,
+        to.left as usize,
+    )
 }
