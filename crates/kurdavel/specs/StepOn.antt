@@ -1,13 +1,14 @@
 -- A step that leaves stores to be done, made on the words of the record: what it promises, at each return of its code.
 use Prim.Native.Nat.{ℕ, _-_, _≤_, _<_}
 use mathlib.Core.Path.{_≡_, refl, sym, _∙_, ap, subst, subst⁻¹}
-use mathlib.Core.Bool.{Bool, true, false}
+use mathlib.Core.Bool.{Bool, true, false, not}
 use mathlib.Core.List.{List, [], _∷_, _++_}
 use native.Mathlib.Omega.{arith}
 use lib.ListN.{length, getD, take, set}
 use lib.Seq.{sets}
+use borrow.Author.Tests.{not-false}
 use Rattle.segment.specs.Layout.{edition1}
-use Rattle.record.specs.Answers.{storesLeft, stepSaid, tellSaid, withPending}
+use Rattle.record.specs.Answers.{bare, storesLeft, stepSaid, tellSaid, withPending}
 use Rattle.record.specs.Range.{fitsLent}
 use Rattle.record.specs.RangeLaws.{lent}
 use Rattle.record.specs.declared.Pending.{Pending}
@@ -19,7 +20,7 @@ use Rattle.record.specs.declared.StepAnswer.{StepAnswer}
 use Rattle.record.specs.declared.TellAnswer.{TellAnswer}
 use Rattle.model.specs.Promises.{StepPromise}
 use Rattle.laws.specs.OperationsKept.{edition1-roomy, edition1-laws}
-use Rattle.telling.specs.BareLaws.{found-bad}
+use Rattle.telling.specs.BareLaws.{found-bad, front-fits, found-front}
 use Rattle.telling.specs.Told.{foundBy, toldBy}
 use Rattle.telling.specs.ToldLaws.{told-promise}
 use Rattle.stepping.specs.Finish.{oneLess}
@@ -29,7 +30,7 @@ use Rattle.words.specs.Words.{recordWords, pendingWords, wordsOf, word, recordI
 use Rattle.words.specs.WordLaws.{too-short, counts-long, decoded-record, decoded-none, none-unfit, fits-record, pending-words, left-alone, encode-decode}
 use Rattle.words.specs.declared.Decoded.{Decoded}
 use Rattle.kurdavel.specs.Crossing.{StepCrossed, keptWords, leftTold, toldAfter, TellCrossed, placeTold, byteTold}
-use Rattle.kurdavel.specs.CrossingLaws.{kept-on, kept-off, step-crossed}
+use Rattle.kurdavel.specs.CrossingLaws.{front-says, kept-on, kept-off, step-crossed}
 
 -- ---- the words of a pending operation with one store less
 
@@ -63,6 +64,20 @@ module _ (words area work : List ℕ) where
   -- a record that does not fit is refused with 4
   unfit-found : (cells : ℕ) → fitsLent edition1 says (length area) cells ≡ false → TellAnswer.Refused BadRecord ≡ found cells
   unfit-found cells e = found-bad edition1 says area cells work {t = false} (sym e) refl
+
+  -- what the code finds: t for the test on the words, f for what they say but the present bytes
+  module _ (cells : ℕ) {t : Bool} (tested : t ≡ fitsLent edition1 says (length area) cells) where
+    pub bad-found : not t ≡ true → found cells ≡ TellAnswer.Refused BadRecord
+    bad-found e = sym (found-bad edition1 says area cells work tested e)
+
+    module _ (passed : not t ≡ false) {f : Record} (front : f ≡ bare (recordIn words)) where
+      pub front-lent : fitsLent edition1 f (length area) (f .cells) ≡ true
+      front-lent =
+          front-fits edition1 says area cells work tested (not-false t passed) (front-says words (length area) cells tested passed front)
+
+      pub front-found : {a : TellAnswer} → a ≡ toldBy edition1 f area work .answer → a ≡ found cells
+      front-found h =
+          found-front edition1 says area cells work tested (not-false t passed) (front-says words (length area) cells tested passed front) h
 
   -- a record for which a store is found fits, and the words are a record's
   found-fit : (cells p b : ℕ) → found cells ≡ TellAnswer.At p b → fitsLent edition1 says (length area) cells ≡ true
@@ -112,7 +127,7 @@ module _ (words area work : List ℕ) where
         → StepCrossed words words area area cells cells work left left version version number
     unfolding leftTold toldAfter
     on-refused c e m =
-        step-crossed {b = StepAnswer.Refused c} refl (found-refused edition1 edition1-roomy says area cells work c e) (same-words, long) refl m refl refl
+        step-crossed {b = StepAnswer.Refused c} refl (found-refused edition1 edition1-roomy says area cells work c e refl) (same-words, long) refl m refl refl
 
     pub on-stored : (p b : ℕ) {words′ : List ℕ} → found (length cells) ≡ TellAnswer.At p b → 1 < word words 16
         → words′ ≡ set words 16 (word words 16 - 1)
@@ -130,7 +145,7 @@ module _ (words area work : List ℕ) where
         ap (λ (d : Decoded). withPending (d .rec) (oneLess (d .rec .pending))) is in
         step-crossed {x = record { answer = StepAnswer.Left (word words 16 - 1); rec = after }} refl
         (found-stored edition1 edition1-roomy says area cells work p b e
-        (advance-left edition1 says (set area p b) cells k-said more refl refl)) (
+        (advance-left edition1 says (set area p b) cells k-said more refl refl) refl) (
           kept-on words words′ after (ap (λ (d : Decoded). d .ok) is)
               (w
               ∙ left-alone words are (word words 16 - 1) (oneLess (recordIn words .pending)) (less-words (recordIn words .pending) ∙ ap less five)

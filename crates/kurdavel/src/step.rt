@@ -3,7 +3,6 @@
 use crate::keep;
 use firmware::step_held;
 use record::Record;
-use record::Refusal;
 use record::StepAnswer;
 use record::TellAnswer;
 use record::number;
@@ -19,20 +18,8 @@ ghost use Prim.Native.Nat.{_≤_, _<_};
 ghost use mathlib.Core.Path.{_≡_};
 ghost use mathlib.Core.Bool.{true};
 ghost use lib.ListN.{length};
-ghost use Rattle.segment.specs.Layout.{edition1};
-ghost use Rattle.telling.specs.Told.{foundBy};
-ghost use Rattle.words.specs.Words.{recordWords, word, decoded};
+ghost use Rattle.words.specs.Words.{recordWords, word};
 ghost use Rattle.kurdavel.specs.Crossing.{StepCrossed, SteppedOn, TellCrossed, keptWords};
-
-// Place and byte of the next store of the record that the words say, or the cause that refuses it.
-fn found(words: &[u32], area: &[u8], index: usize, work: &[u8]) -> TellAnswer
-    ensures { λ r. ⌜ r ≡ foundBy edition1 (decoded (now (words .entry)) .rec) (now (area .entry)) index (now (work .entry)) ⌝ }
-{
-    if !fits(words, area.len(), index) {
-        return TellAnswer::Refused(Refusal::BadRecord);
-    }
-    store_of(front_in(words), area, work)
-}
 
 // Whether more stores than one are left, as far as the words tell.
 fn goes_on(words: &[u32]) -> bool
@@ -61,7 +48,10 @@ fn step_on(
         (now (version .exit)) r
         ⌝ }
 {
-    match found(words, area, index.len(), work) {
+    if !fits(words, area.len(), index.len()) {
+        return 4;
+    }
+    match store_of(front_in(words), area, work) {
         TellAnswer::Refused(cause) => number(cause),
         TellAnswer::At { place, byte } => {
             let rest = words[LEFT] - 1;
@@ -171,7 +161,10 @@ pub extern "C" fn kurdavel_next_store(
     if words.len() < WORDS {
         return 4;
     }
-    match found(words, area, words[CELLS] as usize, work) {
+    if !fits(words, area.len(), words[CELLS] as usize) {
+        return 4;
+    }
+    match store_of(front_in(words), area, work) {
         TellAnswer::Refused(cause) => number(cause),
         TellAnswer::At {
             place: found,

@@ -1,11 +1,16 @@
 -- The step's promise from what is found of its next store, whichever function made its tests.
-use Prim.Native.Nat.{ℕ}
-use mathlib.Core.Path.{_≡_, refl, sym, _∙_, ap, subst}
+use Prim.Native.Nat.{ℕ, _<_}
+use mathlib.Core.Bool.{Bool, true, false}
+use mathlib.Core.Path.{_≡_, refl, sym, _∙_, ap, subst⁻¹}
 use mathlib.Core.List.{List}
 use mathlib.Core.Option.{Option, none, some}
 use native.Mathlib.Omega.{arith}
 use lib.ListN.{length, set}
+use Rattle.segment.specs.Choice.{pick, pick-true, pick-false}
 use Rattle.segment.specs.Layout.{Layout}
+use Rattle.record.specs.Answers.{storesLeft}
+use Rattle.record.specs.Range.{fitsLent}
+use Rattle.record.specs.RangeLaws.{lent}
 use Rattle.record.specs.declared.Record.{Record}
 use Rattle.record.specs.declared.Refusal.{Refusal}
 use Rattle.record.specs.declared.Refusal.the-variants.{BadRecord}
@@ -15,13 +20,15 @@ use Rattle.model.specs.Causes.{firstCause}
 use Rattle.model.specs.Refused.{stepCauses}
 use Rattle.model.specs.Promises.{StepPromise, lentLengths}
 use Rattle.laws.specs.Entering.{Roomy}
-use Rattle.telling.specs.Agree.{testedStore}
-use Rattle.telling.specs.Told.{toldStore, toldUnless, foundBy}
+use Rattle.telling.specs.Agree.{agreesWith, testedStore}
+use Rattle.telling.specs.Next.{nextStore, PendingIn}
+use Rattle.telling.specs.NextLaws.{next-inside}
+use Rattle.telling.specs.Told.{toldStore, toldUnless, foundBy, toldBy}
 use Rattle.telling.specs.declared.NextStore.{NextStore}
 use Rattle.telling.specs.declared.NextStore.the-variants.{At, Bad}
 use Rattle.stepping.specs.Tested.{StepTested}
 use Rattle.stepping.specs.Finish.{refusedStep, advanced}
-use Rattle.stepping.specs.StepLaws.{refused-promise, refused-tested, bad-promise, bad-tested, stored-promise, stored-tested}
+use Rattle.stepping.specs.StepLaws.{pending-not-idle, refused-promise, refused-tested, bad-promise, bad-tested, stored-promise, stored-tested}
 
 same-refusal : {c d : Refusal} → TellAnswer.Refused d ≡ TellAnswer.Refused c → d ≡ c
 same-refusal e = cc
@@ -38,9 +45,9 @@ module _ (L : Layout) (roomy : Roomy L) (r : Record) (area cells work : List ℕ
   Unless o = toldUnless L r (length area) work o
 
   -- a refusal is the first cause, or there is no next store
-  pub found-refused : (c : Refusal) → foundBy L r area (length cells) work ≡ TellAnswer.Refused c → Kept area cells (refusedStep r c)
+  pub found-refused : (c : Refusal) → foundBy L r area (length cells) work ≡ TellAnswer.Refused c → {x : Stepped} → x ≡ refusedStep r c → Kept area cells x
   unfolding toldUnless toldStore
-  found-refused c e = go cause refl
+  found-refused c e is = subst⁻¹ (Kept area cells) is (go cause refl)
     where
       go : (o : Option Refusal) → cause ≡ o → Kept area cells (refusedStep r c)
       go (some d) f =
@@ -60,26 +67,82 @@ module _ (L : Layout) (roomy : Roomy L) (r : Record) (area cells work : List ℕ
               )
 
   -- a store that is found is made
-  pub found-stored : (p b : ℕ) → foundBy L r area (length cells) work ≡ TellAnswer.At p b → {x : Stepped}
-      → record { stepped = x; cells = cells } ≡ advanced L r (set area p b) cells → Kept (set area p b) cells x
+  pub found-stored : (p b : ℕ) → foundBy L r area (length cells) work ≡ TellAnswer.At p b → {x : Stepped} {cells′ : List ℕ}
+      → record { stepped = x; cells = cells′ } ≡ advanced L r (set area p b) cells → length cells′ ≡ length cells → Kept (set area p b) cells′ x
   unfolding toldUnless toldStore
-  found-stored p b e {x} s = go cause refl
+  found-stored p b e {x} {cells′} s same = go cause refl
     where
-      go : (o : Option Refusal) → cause ≡ o → Kept (set area p b) cells x
+      go : (o : Option Refusal) → cause ≡ o → Kept (set area p b) cells′ x
       go (some d) f =
           let w : TellAnswer.Refused d ≡ TellAnswer.At p b = sym (ap Unless f) ∙ e in
           let z : _≡_ {A = ℕ} 0 1 = cc in
           absurd (omega arith)
       go none f = by (testedStore L (length area) work r) refl
         where
-          by : (y : NextStore) → testedStore L (length area) work r ≡ y → Kept (set area p b) cells x
+          by : (y : NextStore) → testedStore L (length area) work r ≡ y → Kept (set area p b) cells′ x
           by (At q c) t =
               let w : TellAnswer.At q c ≡ TellAnswer.At p b = sym (ap Unless f ∙ ap toldStore t) ∙ e in
               let place : q ≡ p = cc in
               let byte : c ≡ b = cc in
               let at : testedStore L (length area) work r ≡ At p b = t ∙ ap (λ (n : ℕ). At n c) place ∙ ap (At p) byte in
-              (stored-promise L roomy r area cells work f p b at s refl, stored-tested L roomy r area cells work f p b at s)
+              (stored-promise L roomy r area cells work f p b at s same, stored-tested L roomy r area cells work f p b at s)
           by Bad t =
               let w : TellAnswer.Refused BadRecord ≡ TellAnswer.At p b = sym (ap Unless f ∙ ap toldStore t) ∙ e in
               let z : _≡_ {A = ℕ} 0 1 = cc in
               absurd (omega arith)
+
+-- ---- behind the test of range and lengths
+
+module _ (L : Layout) (roomy : Roomy L) (r : Record) (area cells work : List ℕ) (fit : fitsLent L r (length area) (length cells) ≡ true) where
+  own : length cells ≡ r .cells
+  own = lent L r (length area) (length cells) fit .index-own
+
+  pub fit-own : fitsLent L r (length area) (r .cells) ≡ true
+  fit-own = ap (fitsLent L r (length area)) (sym own) ∙ fit
+
+  -- what is told is what is found with this index
+  pub told-found : {a : TellAnswer} → a ≡ toldBy L r area work .answer → a ≡ foundBy L r area (length cells) work
+  told-found e = e ∙ ap (λ (i : ℕ). foundBy L r area i work) (sym own)
+
+  module _ (p b : ℕ) (e : foundBy L r area (length cells) work ≡ TellAnswer.At p b) where
+    -- what the last step may rely on
+    pub record Found : Type 0 where
+      pub left : 0 < storesLeft (r .pending)
+      pub inside : PendingIn r (r .pending)
+      pub place : p < length area
+      pub agrees : agreesWith L r (r .pending) ≡ true
+
+    pub found-known : Found
+    unfolding toldUnless toldStore testedStore
+    found-known = go (firstCause (stepCauses L r (lentLengths area cells work))) refl
+      where
+        go : (o : Option Refusal) → firstCause (stepCauses L r (lentLengths area cells work)) ≡ o → Found
+        go (some d) f =
+            let w : TellAnswer.Refused d ≡ TellAnswer.At p b = sym (ap (toldUnless L r (length area) work) f) ∙ e in
+            let z : _≡_ {A = ℕ} 0 1 = cc in
+            absurd (omega arith)
+        go none f = by (agreesWith L r (r .pending)) refl (nextStore (length area) work r) refl
+          where
+            told : toldStore (pick (agreesWith L r (r .pending)) (nextStore (length area) work r) Bad) ≡ TellAnswer.At p b
+            told = sym (ap (toldUnless L r (length area) work) f) ∙ e
+
+            by : (t : Bool) → agreesWith L r (r .pending) ≡ t → (y : NextStore) → nextStore (length area) work r ≡ y → Found
+            by false t y n =
+                let w : TellAnswer.Refused BadRecord ≡ TellAnswer.At p b = sym (ap toldStore (pick-false _ _ _ t)) ∙ told in
+                let z : _≡_ {A = ℕ} 0 1 = cc in
+                absurd (omega arith)
+            by true t Bad n =
+                let w : TellAnswer.Refused BadRecord ≡ TellAnswer.At p b = sym (ap toldStore (pick-true _ _ _ t ∙ n)) ∙ told in
+                let z : _≡_ {A = ℕ} 0 1 = cc in
+                absurd (omega arith)
+            by true t (At q c) n =
+                let w : TellAnswer.At q c ≡ TellAnswer.At p b = sym (ap toldStore (pick-true _ _ _ t ∙ n)) ∙ told in
+                let same : q ≡ p = cc in
+                let l = lent L r (length area) (length cells) fit in
+                let inside = next-inside (length area) work r q c (l .head-below) (l .area-own) (r .pending) n in
+                record {
+                  left = l .left-some (λ idle. pending-not-idle L roomy r area cells work f idle);
+                  inside = inside .0;
+                  place = omega (arith, inside .1);
+                  agrees = t;
+                }

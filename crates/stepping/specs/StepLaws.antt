@@ -216,7 +216,7 @@ module _ (L : Layout) (roomy : Roomy L) (r : Record) (area cells work : List ℕ
   work-long : r .size ≤ length work
   work-long = ltb-false (length work) (r .size) (step-passed L r (lentLengths area cells work) first .work-long)
 
-  pending-not-idle : r .pending ≡ Idle → ⊥
+  pub pending-not-idle : r .pending ≡ Idle → ⊥
   unfolding isPending
   pending-not-idle q =
       let t : isPending Idle ≡ true = ap isPending (sym q) ∙ not-false _ (step-passed L r (lentLengths area cells work) first .some-pending) in

@@ -4,11 +4,9 @@ use finish::refused;
 use record::Record;
 use record::Refusal;
 use record::Stepped;
+use record::TellAnswer;
 use record::range::fits_lent;
-use record::stores_left;
-use telling::NextStore;
-use telling::agree::agrees;
-use telling::next::next_store;
+use telling::tell::store_of;
 ghost use Rattle.segment.specs.Layout.{edition1};
 ghost use Rattle.model.specs.Promises.{StepPromise};
 ghost use Rattle.stepping.specs.Tested.{StepTested};
@@ -30,19 +28,11 @@ pub fn step(rec: Record, area: &mut [u8], index: &mut [u32], work: &[u8]) -> Ste
     if !fits_lent(rec, area.len(), index.len()) {
         return refused(rec, Refusal::BadRecord);
     }
-    if work.len() < rec.size as usize {
-        return refused(rec, Refusal::WorkShort);
+    match store_of(rec, area, work) {
+        TellAnswer::Refused(cause) => refused(rec, cause),
+        TellAnswer::At { place, byte } => {
+            area[place as usize] = byte;
+            advance(rec, area, index)
+        }
     }
-    let pending = rec.pending;
-    if stores_left(pending) == 0 {
-        return refused(rec, Refusal::NonePending);
-    }
-    if !agrees(rec) {
-        return refused(rec, Refusal::BadRecord);
-    }
-    let NextStore::At { place, byte } = next_store(rec, area, work) else {
-        return refused(rec, Refusal::BadRecord);
-    };
-    area[place] = byte;
-    advance(rec, area, index)
 }
