@@ -1,19 +1,19 @@
-// The second walk: for each slot the bytes that are kept of it, and for each other slot how many of them go where that one is a
-// victim too.
+// The second walk, over the tombstones alone: for each slot the bytes that are kept of it, and for each other slot how many of them
+// go where that one is a victim too. No key is searched for: a tombstone that is not its key's latest entry has no note.
 use crate::Share;
 use cleaning::Split;
-use index::Found;
-use index::search::search;
 use log::slots::is_named;
 use segment::Header;
 use segment::Next;
 use segment::area::cut;
 use segment::entries::next;
 use segment::layout::DIGEST_SIZE;
+use segment::layout::HEAD_SIZE;
 ghost use Prim.Native.Nat.{_+_, _*_, _≤_, _<_};
 ghost use mathlib.Core.Path.{_≡_};
 ghost use lib.ListN.{length};
 ghost use Rattle.segment.specs.Layout.{edition1};
+ghost use Rattle.cleaning.specs.Entries.{SlotsFit};
 ghost use Rattle.joining.specs.Notes.{NotesFit};
 ghost use Rattle.joining.specs.Weights.{noteShare, shareAt, Low, sharesWith, shareLength, ShareFits, Weighed, Clear, Rows};
 
@@ -30,27 +30,16 @@ fn note_share(note: u8) -> Share
     Share::Unless(note as usize - 1)
 }
 
-// What is kept of the entry at a place.
-fn share_of(area: &[u8], cells: &[u32], notes: &[u8], header: Header, place: usize) -> Share
-    requires { ⌜ length (now cells) ≤ 4096 ⌝ }
-    requires { ⌜ length (now notes) ≡ 4096 ⌝ }
+// What is kept of the entry at a place. The first walk has counted the objects.
+fn share_of(notes: &[u8], header: Header, place: usize) -> Share
+    requires { ⌜ length (now notes) ≡ 5958 ⌝ }
     requires { ⌜ place < 65536 ⌝ }
-    ensures { λ r. ⌜ r ≡ shareAt edition1 (now (area .entry)) (now (cells .entry)) (now (notes .entry)) header place ⌝ }
+    ensures { λ r. ⌜ r ≡ shareAt (now (notes .entry)) header place ⌝ }
 {
-    let key = header.key;
-    match search(area, cells, key) {
-        Found::At(i) => {
-            if cells[i] as usize != place + 1 {
-                return Share::Nothing;
-            }
-            if !header.tombstone {
-                return Share::Whole;
-            }
-            note_share(notes[i])
-        }
-        Found::Free(_) => Share::Nothing,
-        Found::Full => Share::Nothing,
+    if !header.tombstone {
+        return Share::Nothing;
     }
+    note_share(notes[place / HEAD_SIZE])
 }
 
 // The share of an entry added to its slot's numbers, which start at `base`: it answers what the slot's total grows by.
@@ -73,23 +62,16 @@ fn add_share(shares: &mut [u32], base: usize, share: Share, count: usize) -> usi
     }
 }
 
-// What is kept of a slot; its numbers hold what goes by the other victim. Damage ends a segment too.
-fn weigh_slot(
-    area: &[u8],
-    cells: &[u32],
-    notes: &[u8],
-    split: Split,
-    slot: usize,
-    shares: &mut [u32],
-) -> usize
-    requires { ⌜ NotesFit split (now area) (now cells) (now notes) ⌝ }
+// What is kept of a slot's tombstones; its numbers hold what goes by the other victim. Damage ends a segment too.
+fn weigh_slot(area: &[u8], notes: &[u8], split: Split, slot: usize, shares: &mut [u32]) -> usize
+    requires { ⌜ SlotsFit split (now area) ⌝ }
+    requires { ⌜ length (now notes) ≡ 5958 ⌝ }
     requires { ⌜ slot < split .slots ⌝ }
     requires { ⌜ length (now shares) ≡ 1024 ⌝ }
     requires { ⌜ Clear (now shares) (slot * 32) ⌝ }
     ensures { λ r.
         ⌜
-        Weighed edition1 (now (area .entry)) (now (cells .entry)) (now (notes .entry)) (split .size) slot (now (shares .entry))
-        (now (shares .exit)) r
+        Weighed edition1 (now (area .entry)) (now (notes .entry)) (split .size) slot (now (shares .entry)) (now (shares .exit)) r
         ⌝ }
 {
     let size = split.size;
@@ -100,7 +82,7 @@ fn weigh_slot(
     loop {
         match next(s, at) {
             Next::Entry(header) => {
-                let share = share_of(area, cells, notes, header, slot * size + at);
+                let share = share_of(notes, header, slot * size + at);
                 total += add_share(shares, base, share, header.length);
                 at += header.length;
             }
@@ -114,7 +96,7 @@ fn weigh_slot(
     }
 }
 
-// The same with the slot's total; nothing where the slot is not of the log.
+// The same added to the slot's total; nothing where the slot is not of the log.
 fn weigh_part(
     area: &[u8],
     cells: &[u32],
@@ -136,8 +118,8 @@ fn weigh_part(
     if !is_named(split.outside, slot) {
         return;
     }
-    let total = weigh_slot(area, cells, notes, split, slot, shares);
-    totals[slot] = total as u32;
+    let total = weigh_slot(area, notes, split, slot, shares);
+    totals[slot] = totals[slot] + total as u32;
 }
 
 // The numbers of all slots of the log.

@@ -15,13 +15,26 @@ returns : tie.Need-returns
 returns c = rows-skip edition1 _ _ _ _ _ _ _ (c .before .before .before .before .before .before .before .pre .1 .1) (sym (c .before .is-named .ensures) ∙ not-true _ (c .if1 .taken))
 
 weigh-slot-requires : tie.Need-weigh-slot-requires
-weigh-slot-requires c κs = search needs
+weigh-slot-requires c κs =
+    let s = c .before .before .before .before .before .before .before .before in
+    (s .pre .0 .slots, (s .pre .0 .notes-long, (s .pre .1 .0, (s .pre .1 .1 .shares-long, s .pre .1 .1 .clear))))
+
+mul-totals : tie.Need-mul-totals
+mul-totals c = search needs
+
+slice-read-totals : tie.Need-slice-read-totals
+slice-read-totals c = search needs
 
 cast-totals : tie.Need-cast-totals
 cast-totals c = search needs
 
-mul-totals : tie.Need-mul-totals
-mul-totals c = search needs
+add-totals : tie.Need-add-totals
+add-totals c =
+    let s = c .before .before .before .before .before .before .before .before .before .before .before .before in
+    omega (arith, s .pre .1 .1 .few (s .args .slot) (omega arith), c .before .before .before .weigh-slot .ensures .small)
+
+mul-totals-2 : tie.Need-mul-totals-2
+mul-totals-2 c = search needs
 
 slice-write-totals : tie.Need-slice-write-totals
 slice-write-totals c = search needs
@@ -33,7 +46,10 @@ same-length-2 : tie.Need-same-length-2
 same-length-2 c = search needs
 
 returns-2 : tie.Need-returns-2
-returns-2 c = rows-more edition1 _ _ _ _ _ _ _ (c .before .before .before .before .before .before .before .before .before .before .before .pre .1 .1) (omega (arith, c .before .before .before .before .before .before .before .before .before .before .before .pre .1 .0, c .before .before .before .before .before .before .before .before .before .before .before .pre .0 .slots .slots-high)) _ _ (c .before .before .weigh-slot .ensures)
+returns-2 c =
+    let s = c .before .before .before .before .before .before .before .before .before .before .before .before in
+    rows-more edition1 _ _ _ _ _ _ _ (s .pre .1 .1) (omega (arith, s .pre .1 .0, s .pre .0 .slots .slots-high)) (s .pre .1 .0)
+    (sym (c .before .before .before .before .before .before .is-named .ensures) ∙ not-false _ (c .before .before .before .before .before .if1 .left)) _ _ (c .before .before .before .weigh-slot .ensures)
 
 pub weigh-part-spec : {M : Type 1} → statement M
 weigh-part-spec =
@@ -42,8 +58,11 @@ weigh-part-spec =
     is-named-requires
     returns
     weigh-slot-requires
-    cast-totals
     mul-totals
+    slice-read-totals
+    cast-totals
+    add-totals
+    mul-totals-2
     slice-write-totals
     same-length
     same-length-2

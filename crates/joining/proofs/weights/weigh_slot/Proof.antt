@@ -13,14 +13,14 @@ use Rattle.joining.proofs.weights.weigh_slot.Statement.{statement}
 use Rattle.joining.proofs.weights.weigh_slot.Tie as tie
 
 abbrev Inv-loop : tie.InvT-loop
-Inv-loop area cells notes slot shares₀ size base s at₀ total₀ shares at total = Weighing edition1 area cells notes size slot s shares₀ shares at total
+Inv-loop area notes slot shares₀ size base s at₀ total₀ shares at total = Weighing edition1 area notes size slot s shares₀ shares at total
 
 abbrev μ-loop : tie.MeasureT-loop
-μ-loop area cells notes slot shares₀ size base s at₀ total₀ shares at total = length s - at
+μ-loop area notes slot shares₀ size base s at₀ total₀ shares at total = length s - at
 
 -- the slot's part of the area is S bytes long
-long : (c : tie.After-cut Inv-loop μ-loop) → length (now (c .cut .result)) ≡ c .before .before .before .before .before .args .split .size
-long c = slot-long (c .before .before .before .before .before .pre .0 .slots) _ (c .before .before .before .before .before .pre .1 .0) _ (c .cut .ensures)
+long : (c : tie.After-cut Inv-loop μ-loop) → length (now (c .cut .result)) ≡ c .before .before .before .before .args .split .size
+long c = slot-long (c .before .before .before .before .pre .0) _ (c .before .before .before .before .pre .1 .1 .0) _ (c .cut .ensures)
 
 -- the entry that the turn meets, and its place
 met : (c : tie.After-known-told Inv-loop μ-loop)
@@ -28,18 +28,18 @@ met : (c : tie.After-known-told Inv-loop μ-loop)
 met c = meets edition1 _ _ _ (c .before .before .before .next .ensures) _ (c .before .header .given .1)
 
 place : (c : tie.After-known-told Inv-loop μ-loop)
-    → c .before .before .before .before .before .before .before .before .before .before .args .slot * c .before .before .before .before .before .before .before .before .before .before .args .split .size + c .before .before .before .before .loop .at < 65536
-place c = place-short (c .before .before .before .before .before .before .before .before .before .before .pre .0 .slots) _ (c .before .before .before .before .before .before .before .before .before .before .pre .1 .0) _ (c .before .before .before .before .before .cut .ensures) _ _ (met c .fits) (met c .some-byte)
+    → c .before .before .before .before .before .before .before .before .before .args .slot * c .before .before .before .before .before .before .before .before .before .args .split .size + c .before .before .before .before .loop .at < 65536
+place c = place-short (c .before .before .before .before .before .before .before .before .before .pre .0) _ (c .before .before .before .before .before .before .before .before .before .pre .1 .1 .0) _ (c .before .before .before .before .before .cut .ensures) _ _ (met c .fits) (met c .some-byte)
 
 mul-base : tie.Need-mul-base Inv-loop μ-loop
-mul-base c = omega (arith, c .before .before .before .before .pre .1 .0, c .before .before .before .before .pre .0 .slots .slots-high)
+mul-base c = omega (arith, c .before .before .before .pre .1 .1 .0, c .before .before .before .pre .0 .slots-high)
 
 cut-requires : tie.Need-cut-requires Inv-loop μ-loop
-cut-requires c κs = slot-lies (c .before .before .before .before .pre .0 .slots) (c .before .before .before .before .args .slot) (c .before .before .before .before .pre .1 .0)
+cut-requires c κs = slot-lies (c .before .before .before .pre .0) (c .before .before .before .args .slot) (c .before .before .before .pre .1 .1 .0)
 
 loop-holds : tie.Need-loop-holds Inv-loop μ-loop
 unfolding edition1
-loop-holds c = weighing-start edition1 _ _ _ _ _ _ _ (c .before .before .before .before .before .pre .1 .1 .1) (omega (arith, long c, c .before .before .before .before .before .pre .0 .slots .size-low))
+loop-holds c = weighing-start edition1 _ _ _ _ _ _ (c .before .before .before .before .pre .1 .1 .1 .1) (omega (arith, long c, c .before .before .before .before .pre .0 .size-low))
 
 next-requires : tie.Need-next-requires Inv-loop μ-loop
 next-requires c κs = search needs
@@ -54,36 +54,36 @@ add-share-of : tie.Need-add-share-of Inv-loop μ-loop
 add-share-of c = omega (arith, place c)
 
 share-of-requires : tie.Need-share-of-requires Inv-loop μ-loop
-share-of-requires c κs = (c .before .before .before .before .before .before .before .before .before .before .pre .0 .cells-few, (c .before .before .before .before .before .before .before .before .before .before .pre .0 .notes-long, place c))
+share-of-requires c κs = (c .before .before .before .before .before .before .before .before .before .pre .1 .0, place c)
 
 add-share-requires : tie.Need-add-share-requires Inv-loop μ-loop
 add-share-requires c κs = (
-  c .before .before .before .before .before .before .loop .inv .same-length ∙ c .before .before .before .before .before .before .before .before .before .before .before .before .pre .1 .1 .0,
+  c .before .before .before .before .before .before .loop .inv .same-length ∙ c .before .before .before .before .before .before .before .before .before .before .before .pre .1 .1 .1 .0,
   (
-    omega (arith, c .before .before .before .before .before .before .before .before .before .before .before .before .pre .1 .0, c .before .before .before .before .before .before .before .before .before .before .before .before .pre .0 .slots .slots-high),
+    omega (arith, c .before .before .before .before .before .before .before .before .before .before .before .pre .1 .1 .0, c .before .before .before .before .before .before .before .before .before .before .before .pre .0 .slots-high),
     (
-      λ j few. omega (arith, c .before .before .before .before .before .before .loop .inv .low j few, c .before .before .before .before .before .before .loop .inv .short, c .before .before .before .before .before .before .loop .inv .inside, long (c .before .before .before .before .before .before .before), c .before .before .before .before .before .before .before .before .before .before .before .before .pre .0 .slots .size-high),
+      λ j few. omega (arith, c .before .before .before .before .before .before .loop .inv .low j few, c .before .before .before .before .before .before .loop .inv .short, c .before .before .before .before .before .before .loop .inv .inside, long (c .before .before .before .before .before .before .before), c .before .before .before .before .before .before .before .before .before .before .before .pre .0 .size-high),
       (
-        subst⁻¹ ShareFits (c .before .share-of .ensures) (share-fits edition1 _ _ _ _ _),
-        omega (arith, met (c .before .before), long (c .before .before .before .before .before .before .before), c .before .before .before .before .before .before .before .before .before .before .before .before .pre .0 .slots .size-high),
+        subst⁻¹ ShareFits (c .before .share-of .ensures) (share-fits _ _ _),
+        omega (arith, met (c .before .before), long (c .before .before .before .before .before .before .before), c .before .before .before .before .before .before .before .before .before .before .before .pre .0 .size-high),
       ),
     ),
   ),
 )
 
 add-total : tie.Need-add-total Inv-loop μ-loop
-add-total c = omega (arith, c .before .before .add-share .ensures .0, share-short (c .before .before .before .before .share-of .result) (c .before .before .before .before .before .before .header .given .0 .0 .length), met (c .before .before .before .before .before), long (c .before .before .before .before .before .before .before .before .before .before), c .before .before .before .before .before .before .before .before .before .loop .inv .short, c .before .before .before .before .before .before .before .before .before .before .before .before .before .before .before .pre .0 .slots .size-high)
+add-total c = omega (arith, c .before .before .add-share .ensures .0, share-short (c .before .before .before .before .share-of .result) (c .before .before .before .before .before .before .header .given .0 .0 .length), met (c .before .before .before .before .before), long (c .before .before .before .before .before .before .before .before .before .before), c .before .before .before .before .before .before .before .before .before .loop .inv .short, c .before .before .before .before .before .before .before .before .before .before .before .before .before .before .pre .0 .size-high)
 
 add-at : tie.Need-add-at Inv-loop μ-loop
-add-at c = omega (arith, met (c .before .before .before .before .before .before), long (c .before .before .before .before .before .before .before .before .before .before .before), c .before .before .before .before .before .before .before .before .before .before .before .before .before .before .before .before .pre .0 .slots .size-high)
+add-at c = omega (arith, met (c .before .before .before .before .before .before), long (c .before .before .before .before .before .before .before .before .before .before .before), c .before .before .before .before .before .before .before .before .before .before .before .before .before .before .before .pre .0 .size-high)
 
 loop-less : tie.Need-loop-less Inv-loop μ-loop
 loop-less c = omega (arith, met (c .before .before .before .before .before .before))
 
 loop-again : tie.Need-loop-again Inv-loop μ-loop
 loop-again c =
-    weighing-entry edition1 _ _ _ _ _ _ _ _ _ _ (c .before .before .before .before .before .before .before .before .before .before .loop .inv) (met (c .before .before .before .before .before .before)) _ (c .before .before .before .before .before .share-of .ensures)
-    (omega (arith, c .before .before .before .before .before .before .before .before .before .before .loop .inv .same-length, c .before .before .before .before .before .before .before .before .before .before .before .before .before .before .before .before .pre .1 .1 .0, c .before .before .before .before .before .before .before .before .before .before .before .before .before .before .before .before .pre .1 .0, c .before .before .before .before .before .before .before .before .before .before .before .before .before .before .before .before .pre .0 .slots .slots-high)) _ _ (c .before .before .before .add-share .ensures)
+    weighing-entry edition1 _ _ _ _ _ _ _ _ _ (c .before .before .before .before .before .before .before .before .before .before .loop .inv) (met (c .before .before .before .before .before .before)) _ (c .before .before .before .before .before .share-of .ensures)
+    (omega (arith, c .before .before .before .before .before .before .before .before .before .before .loop .inv .same-length, c .before .before .before .before .before .before .before .before .before .before .before .before .before .before .before .pre .1 .1 .1 .0, c .before .before .before .before .before .before .before .before .before .before .before .before .before .before .before .pre .1 .1 .0, c .before .before .before .before .before .before .before .before .before .before .before .before .before .before .before .pre .0 .slots-high)) _ _ (c .before .before .before .add-share .ensures)
 
 enum-told : tie.Need-enum-told Inv-loop μ-loop
 enum-told c = search needs
@@ -93,8 +93,8 @@ same-length c = c .before .before .before .loop .inv .same-length
 
 returns : tie.Need-returns Inv-loop μ-loop
 returns c =
-    weighing-stop edition1 _ _ _ _ _ _ _ _ _ _ (c .before .before .before .loop .inv) (stops-end edition1 _ _ _ (c .before .before .next .ensures) (c .enum-told .given .1))
-    (c .before .before .before .before .cut .ensures) (omega (arith, long (c .before .before .before .before), c .before .before .before .before .before .before .before .before .before .pre .0 .slots .size-high))
+    weighing-stop edition1 _ _ _ _ _ _ _ _ _ (c .before .before .before .loop .inv) (stops-end edition1 _ _ _ (c .before .before .next .ensures) (c .enum-told .given .1))
+    (c .before .before .before .before .cut .ensures) (omega (arith, long (c .before .before .before .before), c .before .before .before .before .before .before .before .before .pre .0 .size-high))
 
 enum-told-2 : tie.Need-enum-told-2 Inv-loop μ-loop
 enum-told-2 c = search needs
@@ -104,8 +104,8 @@ same-length-2 c = c .before .before .before .loop .inv .same-length
 
 returns-2 : tie.Need-returns-2 Inv-loop μ-loop
 returns-2 c =
-    weighing-stop edition1 _ _ _ _ _ _ _ _ _ _ (c .before .before .before .loop .inv) (stops-damage edition1 _ _ _ (c .before .before .next .ensures) (c .enum-told2 .given .1))
-    (c .before .before .before .before .cut .ensures) (omega (arith, long (c .before .before .before .before), c .before .before .before .before .before .before .before .before .before .pre .0 .slots .size-high))
+    weighing-stop edition1 _ _ _ _ _ _ _ _ _ (c .before .before .before .loop .inv) (stops-damage edition1 _ _ _ (c .before .before .next .ensures) (c .enum-told2 .given .1))
+    (c .before .before .before .before .cut .ensures) (omega (arith, long (c .before .before .before .before), c .before .before .before .before .before .before .before .before .pre .0 .size-high))
 
 pub weigh-slot-spec : {M : Type 1} → statement M
 weigh-slot-spec =
