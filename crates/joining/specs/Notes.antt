@@ -16,6 +16,7 @@ use Rattle.index.specs.Search.{searchFor}
 use Rattle.index.specs.declared.Found.{Found}
 use Rattle.cleaning.specs.Entries.{SlotsFit, slotItems}
 use Rattle.cleaning.specs.declared.Split.{Split}
+use Rattle.joining.specs.declared.Sums.{Sums}
 
 -- N and S within their limits and the area their product long, at most 4,096 cells, and a note for every 11 bytes.
 pub record NotesFit (split : Split) (area cells notes : List ℕ) : Type 0 where
@@ -99,8 +100,29 @@ objectsOf L area cells S (x ∷ xs) = objectAt L area cells (headerOf L (x .entr
 abbrev pub slotObjects : Layout → List ℕ → List ℕ → ℕ → ℕ → ℕ
 slotObjects L area cells S i = objectsOf L area cells S (placedIn i (slotItems L area S i))
 
--- The totals of the log slots below n.
+-- ---- the tombstones
+
+unfoldable pub deadOf : Layout → List Item → ℕ
+deadOf L [] = 0
+deadOf L (x ∷ xs) = pick (headerOf L (x .entry) .tombstone) (headerOf L (x .entry) .length) 0 + deadOf L xs
+
+-- the bytes of the tombstones of slot i
+abbrev pub slotDead : Layout → List ℕ → ℕ → ℕ → ℕ
+slotDead L area S i = deadOf L (slotItems L area S i)
+
+-- ---- the sums of the slots
+
+pub record Summed (L : Layout) (area cells : List ℕ) (S i : ℕ) (sums : Sums) : Type 0 where
+  pub objects-are : sums .objects ≡ slotObjects L area cells S i
+  pub tombstones-are : sums .tombstones ≡ slotDead L area S i
+  pub few : sums .objects + sums .tombstones ≤ 2048
+
+-- The sums of the log slots below n.
 pub record Counted (L : Layout) (area cells : List ℕ) (split : Split) (n : ℕ) (totals : List ℕ) : Type 0 where
   pub counted : (i : ℕ) → i < n → named (split .outside) i ≡ true → getD totals i 0 ≡ slotObjects L area cells (split .size) i
   pub few : (i : ℕ) → getD totals i 0 ≤ 2048
   pub totals-long : length totals ≡ 32
+
+pub record Buried (L : Layout) (area : List ℕ) (split : Split) (n : ℕ) (dead : List ℕ) : Type 0 where
+  pub buried : (i : ℕ) → i < n → named (split .outside) i ≡ true → getD dead i 0 ≡ slotDead L area (split .size) i
+  pub dead-long : length dead ≡ 32

@@ -1,8 +1,9 @@
 -- The notes at each test of the code, and what a note means.
 use Prim.Native.Nat.{ℕ, zero, suc, _+_, _*_, _-_, _≤_, _<_}
-use mathlib.Core.Path.{_≡_, refl, sym, _∙_, ap}
+use mathlib.Core.Path.{_≡_, refl, sym, _∙_, ap, subst}
 use mathlib.Core.Bool.{Bool, true, false, not}
 use mathlib.Core.List.{List, [], _∷_, List·Memᴰ·tail}
+use mathlib.Core.Option.{Option, none, some}
 use native.Mathlib.Decide.{ℕ-discrete}
 use native.Mathlib.Nat.{mul-le-mul}
 use native.Mathlib.Numerals.{add-one}
@@ -11,8 +12,9 @@ use lib.Dec.{eqb, leb, ltb}
 use lib.ListN.{length, getD, set, replicate, length-set, length-replicate}
 use lib.Seq.{getD-set-same, getD-set-other}
 use borrow.Author.Tests.{eqb-true, eqb-false, eq-eqb, ne-eqb, le-leb, lt-leb, le-ltb}
-use Rattle.segment.specs.Choice.{pick, pick-true, pick-false, both, either}
-use Rattle.segment.specs.Layout.{Layout, digestSize}
+use Rattle.segment.specs.Choice.{pick, pick-true, pick-false, both, either, isNone}
+use Rattle.segment.specs.Layout.{Layout, digestSize, entrySize}
+use Rattle.segment.specs.Entry.{bytesIn}
 use Rattle.segment.specs.Entries.{headerOf}
 use Rattle.segment.specs.declared.Header.{Header}
 use Rattle.segment.specs.declared.Key.{Key}
@@ -26,7 +28,7 @@ use Rattle.index.specs.declared.Found.{Found}
 use Rattle.cleaning.specs.Entries.{slotItems, isKeyOf, isObject, objectIn}
 use Rattle.cleaning.specs.EntriesLaws.{Meets, entries-meets}
 use Rattle.cleaning.specs.declared.Split.{Split}
-use Rattle.joining.specs.Notes.{NotesFit, noteWith, tellsBut, spotOf, cellSpot, elsewhere, noteNewest, noteCell, noteFound, noteEntry, noteItems, noteSlot, notePart, noteBelow, noteAll, foundLength, objectAt, objectsOf, slotObjects, Counted}
+use Rattle.joining.specs.Notes.{NotesFit, noteWith, tellsBut, spotOf, cellSpot, elsewhere, noteNewest, noteCell, noteFound, noteEntry, noteItems, noteSlot, notePart, noteBelow, noteAll, foundLength, objectAt, objectsOf, slotObjects, deadOf, slotDead, Summed, Counted, Buried}
 
 -- ---- one note
 
@@ -111,7 +113,7 @@ module _ (S s newest : ℕ) (notes : List ℕ) {t : Bool} (e : t ≡ elsewhere S
 module _ (L : Layout) (area cells : List ℕ) (S s : ℕ) (notes : List ℕ) where
   -- what the code gives for an object of n bytes at a place, and for any entry
   module _ (k : Key) (place n : ℕ) where
-    abbrev KeyNoted : ℕ → List ℕ → Type 0
+    abbrev pub KeyNoted : ℕ → List ℕ → Type 0
     KeyNoted m notes′ = (m ≡ foundLength cells place n (searchFor L area cells k)) × (notes′ ≡ noteFound S s cells notes (searchFor L area cells k))
 
     pub key-own : (c : ℕ) → searchFor L area cells k ≡ Found.At c → getD cells c 0 ≡ place + 1 → s * S ≤ place → place < s * S + S → KeyNoted n notes
@@ -136,18 +138,6 @@ module _ (L : Layout) (area cells : List ℕ) (S s : ℕ) (notes : List ℕ) whe
     pub key-full : searchFor L area cells k ≡ Found.Full → KeyNoted 0 notes
     unfolding foundLength noteFound
     key-full e = (sym (ap (foundLength cells place n) e), sym (ap (noteFound S s cells notes) e))
-
-  module _ (h : Header) (place : ℕ) where
-    abbrev pub EntryNoted : ℕ → List ℕ → Type 0
-    EntryNoted n notes′ = (n ≡ objectAt L area cells h place) × (notes′ ≡ noteEntry L area cells S s notes h)
-
-    pub tombstone-keeps : h .tombstone ≡ true → EntryNoted 0 notes
-    unfolding objectAt noteEntry
-    tombstone-keeps e = (sym (pick-true (h .tombstone) 0 _ e), sym (pick-true (h .tombstone) notes _ e))
-
-    pub object-notes : (n : ℕ) (notes′ : List ℕ) → h .tombstone ≡ false → KeyNoted (h .key) place (h .length) n notes′ → EntryNoted n notes′
-    unfolding objectAt noteEntry
-    object-notes n notes′ e m = (m .0 ∙ sym (pick-false (h .tombstone) 0 _ e), m .1 ∙ sym (pick-false (h .tombstone) notes _ e))
 
 -- ---- the lengths
 
@@ -180,19 +170,26 @@ module _ (L : Layout) (area cells : List ℕ) (S s : ℕ) where
   length-items (x ∷ xs) notes = length-items xs (noteEntry L area cells S s notes (headerOf L (x .entry))) ∙ length-entry notes (headerOf L (x .entry))
 
 -- an object counts with its length at most
-pub object-short : (L : Layout) (area cells : List ℕ) (h : Header) (place : ℕ) → objectAt L area cells h place ≤ h .length
-unfolding objectAt foundLength pick
-object-short L area cells h place = go (h .tombstone) (searchFor L area cells (h .key))
+pub found-short : (cells : List ℕ) (place n : ℕ) (f : Found) → foundLength cells place n f ≤ n
+unfolding foundLength pick
+found-short cells place n (Found.At c) = go (eqb (getD cells c 0) (place + 1))
   where
-    at : (b : Bool) → pick b (h .length) 0 ≤ h .length
-    at true = omega arith
-    at false = omega arith
+    go : (b : Bool) → pick b n 0 ≤ n
+    go true = omega arith
+    go false = omega arith
+found-short cells place n (Found.Free c) = omega arith
+found-short cells place n Found.Full = omega arith
 
-    go : (t : Bool) (f : Found) → pick t 0 (foundLength cells place (h .length) f) ≤ h .length
-    go true f = omega arith
-    go false (Found.At c) = at (eqb (getD cells c 0) (place + 1))
-    go false (Found.Free c) = omega arith
-    go false Found.Full = omega arith
+-- ---- a tombstone
+
+-- it is as long as the shortest entry
+pub dead-length : (L : Layout) (s : List ℕ) (at : ℕ) {h : Header} → Meets L s at h → h .tombstone ≡ true → h .length ≡ entrySize L 0
+unfolding isNone bytesIn
+dead-length L s at m t = sym (ap (λ (g : Header). g .length) (m .its)) ∙ go (m .met .value) (ap (λ (g : Header). g .tombstone) (m .its) ∙ t)
+  where
+    go : (v : Option (List ℕ)) → isNone v ≡ true → entrySize L (length (bytesIn v)) ≡ entrySize L 0
+    go none e = refl
+    go (some b) e = absurd (clash true refl (sym e))
 
 -- ---- a turn of the loop over a segment: the whole is what comes from here on
 
@@ -200,47 +197,88 @@ module _ (L : Layout) (area cells : List ℕ) (S i : ℕ) where
   abbrev objectsFrom : List ℕ → ℕ → ℕ
   objectsFrom s at = objectsOf L area cells S (placedIn i (entriesAt L s at))
 
-  pub record Noting (s notes₀ notes : List ℕ) (at total : ℕ) : Type 0 where
+  pub record Noting (s notes₀ notes : List ℕ) (at objects tombstones : ℕ) : Type 0 where
     pub noted : noteItems L area cells S i notes (entriesAt L s at) ≡ noteItems L area cells S i notes₀ (entriesAt L s (digestSize L))
-    pub counted : total + objectsFrom s at ≡ objectsFrom s (digestSize L)
+    pub counted : objects + objectsFrom s at ≡ objectsFrom s (digestSize L)
+    pub buried : tombstones + deadOf L (entriesAt L s at) ≡ deadOf L (entriesAt L s (digestSize L))
     pub same-length : length notes ≡ length notes₀
-    pub short : total ≤ at
+    pub short : objects + tombstones ≤ at
     pub inside : at ≤ length s
 
-  pub noting-start : (s notes₀ : List ℕ) → digestSize L ≤ length s → Noting s notes₀ notes₀ (digestSize L) 0
-  noting-start s notes₀ fits = record { noted = refl; counted = omega arith; same-length = refl; short = omega arith; inside = fits }
+  pub noting-start : (s notes₀ : List ℕ) → digestSize L ≤ length s → Noting s notes₀ notes₀ (digestSize L) 0 0
+  noting-start s notes₀ fits =
+      record { noted = refl; counted = omega arith; buried = omega arith; same-length = refl; short = omega arith; inside = fits }
 
-  module _ (s notes₀ notes : List ℕ) (at total : ℕ) (w : Noting s notes₀ notes at total) where
-    pub noting-entry : {h : Header} → Meets L s at h → (n : ℕ) (notes′ : List ℕ) → EntryNoted L area cells S i notes h (i * S + at) n notes′ →
-        Noting s notes₀ notes′ (at + h .length) (total + n)
-    unfolding noteItems objectsOf placedIn
-    noting-entry {h} m n notes′ made =
-        record {
+  module _ (s notes₀ notes : List ℕ) (at objects tombstones : ℕ) (w : Noting s notes₀ notes at objects tombstones) {h : Header} (m : Meets L s at h) where
+    -- the entry, and those behind it
+    notes-from : noteItems L area cells S i notes (entriesAt L s at) ≡ noteItems L area cells S i (noteEntry L area cells S i notes h) (entriesAt L s (at + h .length))
+    unfolding noteItems
+    notes-from =
+        ap (noteItems L area cells S i notes) (entries-meets L s at m)
+        ∙ ap (λ (g : Header). noteItems L area cells S i (noteEntry L area cells S i notes g) (entriesAt L s (at + h .length))) (m .its)
+
+    objects-from : objectsFrom s at ≡ objectAt L area cells h (i * S + at) + objectsFrom s (at + h .length)
+    unfolding objectsOf placedIn
+    objects-from =
+        ap (λ (is : List Item). objectsOf L area cells S (placedIn i is)) (entries-meets L s at m)
+        ∙ ap (λ (g : Header). objectAt L area cells g (i * S + at) + objectsFrom s (at + h .length)) (m .its)
+
+    dead-from : deadOf L (entriesAt L s at) ≡ pick (h .tombstone) (h .length) 0 + deadOf L (entriesAt L s (at + h .length))
+    unfolding deadOf
+    dead-from =
+        ap (deadOf L) (entries-meets L s at m)
+        ∙ ap (λ (g : Header). pick (g .tombstone) (g .length) 0 + deadOf L (entriesAt L s (at + h .length))) (m .its)
+
+    pub noting-tombstone : h .tombstone ≡ true → (n : ℕ) → h .length ≡ n → Noting s notes₀ notes (at + n) objects (tombstones + n)
+    unfolding noteEntry objectAt
+    noting-tombstone t n e =
+        subst (λ (k : ℕ). Noting s notes₀ notes (at + k) objects (tombstones + k)) e
+        (record {
           noted =
-              ap (λ (l : List ℕ). noteItems L area cells S i l (entriesAt L s (at + h .length))) (made .1 ∙ ap (noteEntry L area cells S i notes) (sym (m .its)))
-              ∙ sym (ap (noteItems L area cells S i notes) (entries-meets L s at m))
+              ap (λ (l : List ℕ). noteItems L area cells S i l (entriesAt L s (at + h .length))) (sym (pick-true (h .tombstone) notes _ t))
+              ∙ sym notes-from
               ∙ w .noted;
-          counted = omega (arith, w .counted, made .0, from);
-          same-length = ap length (made .1) ∙ length-entry L area cells S i notes h ∙ w .same-length;
-          short = omega (arith, w .short, made .0, object-short L area cells h (i * S + at));
+          counted = omega (arith, w .counted, objects-from, pick-true (h .tombstone) 0 (foundLength cells (i * S + at) (h .length) (searchFor L area cells (h .key))) t);
+          buried = omega (arith, w .buried, dead-from, pick-true (h .tombstone) (h .length) 0 t);
+          same-length = w .same-length;
+          short = omega (arith, w .short);
+          inside = m .fits;
+        })
+
+    pub noting-object : h .tombstone ≡ false → (n : ℕ) (notes′ : List ℕ) → KeyNoted L area cells S i notes (h .key) (i * S + at) (h .length) n notes′ →
+        Noting s notes₀ notes′ (at + h .length) (objects + n) tombstones
+    unfolding noteEntry objectAt
+    noting-object t n notes′ made =
+        record {
+          noted = ap (λ (l : List ℕ). noteItems L area cells S i l (entriesAt L s (at + h .length))) entry ∙ sym notes-from ∙ w .noted;
+          counted = omega (arith, w .counted, objects-from, made .0, pick-false (h .tombstone) 0 found t);
+          buried = omega (arith, w .buried, dead-from, pick-false (h .tombstone) (h .length) 0 t);
+          same-length = ap length entry ∙ length-entry L area cells S i notes h ∙ w .same-length;
+          short = omega (arith, w .short, made .0, found-short cells (i * S + at) (h .length) (searchFor L area cells (h .key)));
           inside = m .fits;
         }
       where
-        from : objectsFrom s at ≡ objectAt L area cells h (i * S + at) + objectsFrom s (at + h .length)
-        from =
-            ap (λ (is : List Item). objectsOf L area cells S (placedIn i is)) (entries-meets L s at m)
-            ∙ ap (λ (g : Header). objectAt L area cells g (i * S + at) + objectsFrom s (at + h .length)) (m .its)
+        found : ℕ
+        found = foundLength cells (i * S + at) (h .length) (searchFor L area cells (h .key))
 
-    pub noting-stop : entriesAt L s at ≡ [] → s ≡ segmentOf area S i → length s ≤ 2048 →
-        (total ≡ slotObjects L area cells S i) × (total ≤ 2048) × (notes ≡ noteSlot L area cells S notes₀ i)
-    unfolding noteItems objectsOf placedIn
-    noting-stop e own few = (
-      omega (arith, w .counted, ap (λ (is : List Item). objectsOf L area cells S (placedIn i is)) e) ∙ ap (λ (t : List ℕ). objectsFrom t (digestSize L)) own,
-      omega (arith, w .short, w .inside),
-      sym (ap (noteItems L area cells S i notes) e)
-          ∙ w .noted
-          ∙ ap (λ (t : List ℕ). noteItems L area cells S i notes₀ (entriesAt L t (digestSize L))) own,
-    )
+        entry : notes′ ≡ noteEntry L area cells S i notes h
+        entry = made .1 ∙ sym (pick-false (h .tombstone) notes _ t)
+
+  pub noting-stop : (s notes₀ notes : List ℕ) (at objects tombstones : ℕ) → Noting s notes₀ notes at objects tombstones → entriesAt L s at ≡ [] →
+      s ≡ segmentOf area S i → length s ≤ 2048 →
+      Summed L area cells S i (record { objects = objects; tombstones = tombstones }) × (notes ≡ noteSlot L area cells S notes₀ i)
+  unfolding noteItems objectsOf deadOf placedIn
+  noting-stop s notes₀ notes at objects tombstones w e own few = (
+    record {
+      objects-are =
+          omega (arith, w .counted, ap (λ (is : List Item). objectsOf L area cells S (placedIn i is)) e) ∙ ap (λ (t : List ℕ). objectsFrom t (digestSize L)) own;
+      tombstones-are = omega (arith, w .buried, ap (deadOf L) e) ∙ ap (λ (t : List ℕ). deadOf L (entriesAt L t (digestSize L))) own;
+      few = omega (arith, w .short, w .inside);
+    },
+    sym (ap (noteItems L area cells S i notes) e)
+        ∙ w .noted
+        ∙ ap (λ (t : List ℕ). noteItems L area cells S i notes₀ (entriesAt L t (digestSize L))) own,
+  )
 
 -- ---- the slots
 
@@ -280,6 +318,29 @@ module _ (L : Layout) (area cells : List ℕ) (split : Split) where
         small : (i : ℕ) → Dec (i ≡ n) → getD (set totals n total) i 0 ≤ 2048
         small i (yes q) = omega (arith, own i q)
         small i (no q) = omega (arith, getD-set-other totals n i total 0 q, w .few i)
+
+module _ (L : Layout) (area : List ℕ) (split : Split) where
+  pub buried-start : Buried L area split 0 (replicate 32 0)
+  buried-start = record { buried = λ i l. absurd (omega arith); dead-long = length-replicate {A = ℕ} 32 0 }
+
+  module _ (n : ℕ) (dead : List ℕ) (w : Buried L area split n dead) where
+    pub buried-skip : named (split .outside) n ≡ false → Buried L area split (n + 1) dead
+    buried-skip e = record { buried = λ i l p. go i l p (ℕ-discrete i n); dead-long = w .dead-long }
+      where
+        go : (i : ℕ) → i < n + 1 → named (split .outside) i ≡ true → Dec (i ≡ n) → getD dead i 0 ≡ slotDead L area (split .size) i
+        go i l p (yes q) = absurd (clash (named (split .outside) i) p (ap (named (split .outside)) q ∙ e))
+        go i l p (no q) = w .buried i (omega arith) p
+
+    pub buried-more : n < 32 → (m : ℕ) → m ≡ slotDead L area (split .size) n → Buried L area split (n + 1) (set dead n m)
+    buried-more low m is = record { buried = λ i l p. go i l p (ℕ-discrete i n); dead-long = length-set dead n m ∙ w .dead-long }
+      where
+        go : (i : ℕ) → i < n + 1 → named (split .outside) i ≡ true → Dec (i ≡ n) → getD (set dead n m) i 0 ≡ slotDead L area (split .size) i
+        go i l p (yes q) =
+            ap (λ (k : ℕ). getD (set dead n m) k 0) q
+            ∙ getD-set-same dead n m 0 (omega (arith, w .dead-long))
+            ∙ is
+            ∙ ap (slotDead L area (split .size)) (sym q)
+        go i l p (no q) = getD-set-other dead n i m 0 q ∙ w .buried i (omega arith) p
 
 module _ (L : Layout) (area cells : List ℕ) (split : Split) (notes : List ℕ) (i : ℕ) where
   pub part-noted : {notes′ : List ℕ} → named (split .outside) i ≡ true → notes′ ≡ noteSlot L area cells (split .size) notes i →

@@ -1,10 +1,10 @@
 -- The weights at each test of the code, and the numbers of the slots.
 use Prim.Native.Nat.{ℕ, zero, suc, _+_, _*_, _-_, _≤_, _<_}
-use mathlib.Core.Path.{_≡_, refl, sym, _∙_, ap}
+use mathlib.Core.Path.{_≡_, refl, sym, _∙_, ap, subst}
 use mathlib.Core.Bool.{Bool, true, false, not}
 use mathlib.Core.List.{List, [], _∷_}
 use native.Mathlib.Decide.{ℕ-discrete}
-use native.Mathlib.Nat.{mul-le-mul}
+use native.Mathlib.Nat.{mul-le-mul, add-zero}
 use native.Mathlib.Numerals.{add-one}
 use native.Mathlib.Omega.{arith}
 use lib.Dec.{eqb, leb, ltb}
@@ -13,15 +13,17 @@ use lib.Seq.{getD-set-same, getD-set-other}
 use borrow.Author.Tests.{eq-eqb, ne-eqb, lt-ltb, le-ltb, le-leb, lt-leb, eqb-true, eqb-false, leb-true, leb-false, ltb-true, ltb-false}
 use Rattle.segment.specs.Choice.{pick, pick-true, pick-false, either, both, both-true, both-false-left, both-false-right}
 use Rattle.segment.specs.Layout.{Layout, digestSize}
+use Rattle.segment.specs.Entry.{sizeOf, isTombstone}
 use Rattle.segment.specs.declared.Header.{Header}
 use Rattle.slot_map.specs.Bit.{named}
 use Rattle.model.specs.Log.{Item, segmentOf, placedIn}
 use Rattle.laws.specs.Members.{clash}
 use Rattle.index.specs.Build.{entriesAt}
+use Rattle.cleaning.specs.Entries.{slotItems}
 use Rattle.cleaning.specs.EntriesLaws.{Meets, entries-meets}
 use Rattle.cleaning.specs.declared.Split.{Split}
 use Rattle.joining.specs.declared.Share.{Share}
-use Rattle.joining.specs.Notes.{tellsBut, spotOf, Counted}
+use Rattle.joining.specs.Notes.{tellsBut, spotOf, deadOf, slotDead, Counted}
 use Rattle.joining.specs.NotesLaws.{zeros}
 use Rattle.joining.specs.Weights.{noteShare, shareAt, shareKept, weightAt, weightOf, slotTombstones, slotWeight, Low, Clear, ShareFits, shareLength, sharesWith, Weighed, Rows, numbersFit, weightsFit}
 
@@ -197,7 +199,7 @@ module _ (L : Layout) (area notes : List ℕ) (S i : ℕ) where
         }
 
     module _ (shares : List ℕ) (at total : ℕ) (w : Weighing s shares₀ shares at total) where
-      pub weighing-entry : {h : Header} → Meets L s at h → (share : Share) → share ≡ shareAt notes h (i * S + at) →
+      weighing-entry : {h : Header} → Meets L s at h → (share : Share) → share ≡ shareAt notes h (i * S + at) →
           i * 32 + 32 ≤ length shares → (n : ℕ) (shares′ : List ℕ) → (n ≡ shareLength share (h .length)) × (shares′ ≡ sharesWith shares (i * 32) share (h .length)) →
           Weighing s shares₀ shares′ (at + h .length) (total + n)
       weighing-entry {h} m share is long n shares′ made =
@@ -225,6 +227,20 @@ module _ (L : Layout) (area notes : List ℕ) (S i : ℕ) where
           other : (k : ℕ) → (i * 32 ≤ k → k < i * 32 + 32 → ⊥) → getD shares′ k 0 ≡ getD shares k 0
           other k out = ap (λ (l : List ℕ). getD l k 0) (made .1) ∙ with-other shares (i * 32) share (h .length) fits k out
 
+      pub weighing-tombstone : {h : Header} → Meets L s at h → h .tombstone ≡ true → (k : ℕ) → h .length ≡ k → (share : Share) →
+          share ≡ noteShare (getD notes (spotOf (i * S + at)) 0) → i * 32 + 32 ≤ length shares → (n : ℕ) (shares′ : List ℕ) →
+          (n ≡ shareLength share k) × (shares′ ≡ sharesWith shares (i * 32) share k) → Weighing s shares₀ shares′ (at + k) (total + n)
+      weighing-tombstone {h} m t k e share is long n shares′ made =
+          subst (λ (l : ℕ). Weighing s shares₀ shares′ (at + l) (total + n)) e
+          (weighing-entry m share (share-tombstone notes h (i * S + at) t is) long n shares′
+          (subst (λ (l : ℕ). (n ≡ shareLength share l) × (shares′ ≡ sharesWith shares (i * 32) share l)) (sym e) made))
+
+      pub weighing-object : {h : Header} → Meets L s at h → h .tombstone ≡ false → i * 32 + 32 ≤ length shares →
+          Weighing s shares₀ shares (at + h .length) total
+      weighing-object {h} m t long =
+          subst (λ (n : ℕ). Weighing s shares₀ shares (at + h .length) n) (add-zero total)
+          (weighing-entry m Share.Nothing (share-object notes h (i * S + at) t) long 0 shares (added-none shares (i * 32) (h .length) Share.Nothing refl))
+
       pub weighing-stop : entriesAt L s at ≡ [] → s ≡ segmentOf area S i → length s ≤ 2048 → Weighed L area notes S i shares₀ shares total
       weighing-stop e own few =
           record {
@@ -239,6 +255,23 @@ module _ (L : Layout) (area notes : List ℕ) (S i : ℕ) where
           whole j = ap (λ (t : List ℕ). weightFrom t (digestSize L) j) own
 
 -- ---- the slots
+
+-- of tombstones no more is kept than there is
+dead-most : (L : Layout) (notes : List ℕ) (S i j : ℕ) (is : List Item) → weightOf L notes S j (placedIn i is) ≤ deadOf L is
+unfolding weightOf deadOf placedIn shareAt shareKept pick
+dead-most L notes S i j [] = omega arith
+dead-most L notes S i j (x ∷ xs) = omega (arith, dead-most L notes S i j xs, one (isTombstone (x .entry)))
+  where
+    share : Share
+    share = noteShare (getD notes (spotOf (i * S + x .offset)) 0)
+
+    at : (b : Bool) → pick b (sizeOf L (x .entry)) 0 ≤ sizeOf L (x .entry)
+    at true = omega arith
+    at false = omega arith
+
+    one : (t : Bool) → pick (shareKept (pick t share Share.Nothing) j) (sizeOf L (x .entry)) 0 ≤ pick t (sizeOf L (x .entry)) 0
+    one true = at (shareKept share j)
+    one false = omega arith
 
 module _ (L : Layout) (area cells notes : List ℕ) (split : Split) where
   pub rows-start : (totals : List ℕ) → Counted L area cells split (split .slots) totals → Rows L area cells notes split 0 totals (replicate 1024 0)
@@ -268,6 +301,33 @@ module _ (L : Layout) (area cells notes : List ℕ) (split : Split) where
             getD shares (i * 32 + j) 0 + slotWeight L area cells notes (split .size) i j ≡ getD totals i 0
         go i l p (yes q) = absurd (clash (named (split .outside) i) p (ap (named (split .outside)) q ∙ e))
         go i l p (no q) = w .rows i (omega arith) p
+
+    -- a slot without tombstones
+    pub rows-none : n < split .slots → named (split .outside) n ≡ true → slotDead L area (split .size) n ≡ 0 → Rows L area cells notes split (n + 1) totals shares
+    rows-none below is none =
+        record {
+          rows = λ i l p. go i l p (ℕ-discrete i n);
+          rest = λ i l. w .rest i (omega arith);
+          few = λ i l. w .few i (omega arith);
+          clear = λ k h. w .clear k (omega arith);
+          shares-long = w .shares-long;
+          totals-long = w .totals-long;
+        }
+      where
+        own : (j : ℕ) → getD shares (n * 32 + j) 0 + slotWeight L area cells notes (split .size) n j ≡ getD totals n 0
+        own j =
+            omega (
+              arith,
+              w .clear (n * 32 + j) (omega arith),
+              w .rest n (omega arith) below is,
+              none,
+              dead-most L notes (split .size) n j (slotItems L area (split .size) n),
+            )
+
+        go : (i : ℕ) → i < n + 1 → named (split .outside) i ≡ true → Dec (i ≡ n) → (j : ℕ) → j < 32 →
+            getD shares (i * 32 + j) 0 + slotWeight L area cells notes (split .size) i j ≡ getD totals i 0
+        go i l p (yes q) j b = subst (λ (m : ℕ). getD shares (m * 32 + j) 0 + slotWeight L area cells notes (split .size) m j ≡ getD totals m 0) (sym q) (own j)
+        go i l p (no q) j b = w .rows i (omega arith) p j b
 
     pub rows-more : n < 32 → n < split .slots → named (split .outside) n ≡ true → (shares′ : List ℕ) (total : ℕ) →
         Weighed L area notes (split .size) n shares shares′ total →

@@ -1,5 +1,6 @@
 // The first walk, with the only search for each object: the bytes of the objects that are kept of each slot, and a byte for each
 // latest entry of a key that tells in which slots, but for its own, objects of the key stand.
+use crate::Sums;
 use cleaning::Split;
 use index::Found;
 use index::search::search;
@@ -16,7 +17,7 @@ ghost use mathlib.Core.Path.{_≡_};
 ghost use lib.ListN.{length};
 ghost use Rattle.segment.specs.Layout.{edition1};
 ghost use Rattle.index.specs.Search.{searchFor};
-ghost use Rattle.joining.specs.Notes.{noteWith, elsewhere, noteNewest, noteFound, noteEntry, noteSlot, notePart, noteAll, NotesFit, foundLength, objectAt, slotObjects, Counted};
+ghost use Rattle.joining.specs.Notes.{noteWith, elsewhere, noteNewest, noteFound, noteSlot, notePart, noteAll, NotesFit, foundLength, Summed, Counted, Buried};
 
 // More slots than one.
 const SEVERAL: u8 = 64;
@@ -102,103 +103,100 @@ fn note_key(
     }
 }
 
-// The same of any entry: a tombstone is left to the second walk.
-fn note_entry(
-    area: &[u8],
-    cells: &[u32],
-    notes: &mut [u8],
-    header: Header,
-    size: usize,
-    slot: usize,
-    place: usize,
-) -> usize
-    requires { ⌜ length (now area) ≤ 65536 ⌝ }
-    requires { ⌜ length (now notes) ≡ 5958 ⌝ }
-    requires { ⌜ slot < 32 ⌝ }
-    requires { ⌜ size ≤ 2048 ⌝ }
-    requires { ⌜ slot * size ≤ place ⌝ }
-    requires { ⌜ place < slot * size + size ⌝ }
-    ensures { λ r.
-        ⌜
-        (r ≡ objectAt edition1 (now (area .entry)) (now (cells .entry)) header place)
-        × (now (notes .exit) ≡ noteEntry edition1 (now (area .entry)) (now (cells .entry)) size slot (now (notes .entry)) header)
-        ⌝ }
-{
-    if header.tombstone {
-        return 0;
-    }
-    note_key(area, cells, notes, header, size, slot, place)
-}
-
-// The bytes kept of the objects of a slot. Damage ends a segment too.
-fn note_slot(area: &[u8], cells: &[u32], notes: &mut [u8], split: Split, slot: usize) -> usize
+// The sums of a slot. Damage ends a segment too. A tombstone's length is said, and not taken from its header: what is at the next
+// place is then looked at before the length of this one is read.
+fn note_slot(area: &[u8], cells: &[u32], notes: &mut [u8], split: Split, slot: usize) -> Sums
     requires { ⌜ NotesFit split (now area) (now cells) (now notes) ⌝ }
     requires { ⌜ slot < split .slots ⌝ }
     ensures { λ r.
         ⌜
-        (r ≡ slotObjects edition1 (now (area .entry)) (now (cells .entry)) (split .size) slot)
-        × (r ≤ 2048)
+        Summed edition1 (now (area .entry)) (now (cells .entry)) (split .size) slot r
         × (now (notes .exit) ≡ noteSlot edition1 (now (area .entry)) (now (cells .entry)) (split .size) (now (notes .entry)) slot)
         ⌝ }
 {
     let size = split.size;
     let s = cut(size, area, slot);
     let mut at = DIGEST_SIZE;
-    let mut total = 0;
+    let mut objects = 0;
+    let mut tombstones = 0;
     loop {
         match next(s, at) {
             Next::Entry(header) => {
-                total += note_entry(area, cells, notes, header, size, slot, slot * size + at);
-                at += header.length;
+                if header.tombstone {
+                    tombstones += HEAD_SIZE;
+                    at += HEAD_SIZE;
+                } else {
+                    objects += note_key(area, cells, notes, header, size, slot, slot * size + at);
+                    at += header.length;
+                }
             }
             Next::End => {
-                return total;
+                return Sums {
+                    objects,
+                    tombstones,
+                };
             }
             Next::Damage => {
-                return total;
+                return Sums {
+                    objects,
+                    tombstones,
+                };
             }
         }
     }
 }
 
-// The same with the slot's total; nothing where the slot is not of the log.
+// The same, kept for the slot; nothing where the slot is not of the log.
 fn note_part(
     area: &[u8],
     cells: &[u32],
     notes: &mut [u8],
     totals: &mut [u32],
+    dead: &mut [u32],
     split: Split,
     slot: usize,
 )
     requires { ⌜ NotesFit split (now area) (now cells) (now notes) ⌝ }
     requires { ⌜ slot < split .slots ⌝ }
     requires { ⌜ Counted edition1 (now area) (now cells) split slot (now totals) ⌝ }
+    requires { ⌜ Buried edition1 (now area) split slot (now dead) ⌝ }
     ensures { λ _.
         ⌜
         (now (notes .exit) ≡ notePart edition1 (now (area .entry)) (now (cells .entry)) split (now (notes .entry)) slot)
         × Counted edition1 (now (area .entry)) (now (cells .entry)) split (slot + 1) (now (totals .exit))
+        × Buried edition1 (now (area .entry)) split (slot + 1) (now (dead .exit))
         ⌝ }
 {
     if !is_named(split.outside, slot) {
         return;
     }
-    let total = note_slot(area, cells, notes, split, slot);
-    totals[slot] = total as u32;
+    let sums = note_slot(area, cells, notes, split, slot);
+    totals[slot] = sums.objects as u32;
+    dead[slot] = sums.tombstones as u32;
 }
 
-// The notes and the objects' totals of the whole log.
-pub fn note_all(area: &[u8], cells: &[u32], notes: &mut [u8], totals: &mut [u32], split: Split)
+// The notes and the sums of the whole log.
+pub fn note_all(
+    area: &[u8],
+    cells: &[u32],
+    notes: &mut [u8],
+    totals: &mut [u32],
+    dead: &mut [u32],
+    split: Split,
+)
     requires { ⌜ NotesFit split (now area) (now cells) (now notes) ⌝ }
     requires { ⌜ Counted edition1 (now area) (now cells) split 0 (now totals) ⌝ }
+    requires { ⌜ Buried edition1 (now area) split 0 (now dead) ⌝ }
     ensures { λ _.
         ⌜
         (now (notes .exit) ≡ noteAll edition1 (now (area .entry)) (now (cells .entry)) split (now (notes .entry)))
         × Counted edition1 (now (area .entry)) (now (cells .entry)) split (split .slots) (now (totals .exit))
+        × Buried edition1 (now (area .entry)) split (split .slots) (now (dead .exit))
         ⌝ }
 {
     let mut i = 0;
     while i < split.slots {
-        note_part(area, cells, notes, totals, split, i);
+        note_part(area, cells, notes, totals, dead, split, i);
         i += 1;
     }
 }

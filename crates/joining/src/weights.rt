@@ -3,7 +3,6 @@
 use crate::Share;
 use cleaning::Split;
 use log::slots::is_named;
-use segment::Header;
 use segment::Next;
 use segment::area::cut;
 use segment::entries::next;
@@ -14,8 +13,8 @@ ghost use mathlib.Core.Path.{_≡_};
 ghost use lib.ListN.{length};
 ghost use Rattle.segment.specs.Layout.{edition1};
 ghost use Rattle.cleaning.specs.Entries.{SlotsFit};
-ghost use Rattle.joining.specs.Notes.{NotesFit};
-ghost use Rattle.joining.specs.Weights.{noteShare, shareAt, Low, sharesWith, shareLength, ShareFits, Weighed, Clear, Rows};
+ghost use Rattle.joining.specs.Notes.{NotesFit, Buried};
+ghost use Rattle.joining.specs.Weights.{noteShare, Low, sharesWith, shareLength, ShareFits, Weighed, Clear, Rows};
 
 // What a note of the objects of its key leaves of a tombstone.
 fn note_share(note: u8) -> Share
@@ -30,19 +29,7 @@ fn note_share(note: u8) -> Share
     Share::Unless(note as usize - 1)
 }
 
-// What is kept of the entry at a place. The first walk has counted the objects.
-fn share_of(notes: &[u8], header: Header, place: usize) -> Share
-    requires { ⌜ length (now notes) ≡ 5958 ⌝ }
-    requires { ⌜ place < 65536 ⌝ }
-    ensures { λ r. ⌜ r ≡ shareAt (now (notes .entry)) header place ⌝ }
-{
-    if !header.tombstone {
-        return Share::Nothing;
-    }
-    note_share(notes[place / HEAD_SIZE])
-}
-
-// The share of an entry added to its slot's numbers, which start at `base`: it answers what the slot's total grows by.
+// The share of a tombstone added to its slot's numbers, which start at `base`: it answers what the slot's total grows by.
 fn add_share(shares: &mut [u32], base: usize, share: Share, count: usize) -> usize
     requires { ⌜ length (now shares) ≡ 1024 ⌝ }
     requires { ⌜ base ≤ 992 ⌝ }
@@ -82,9 +69,13 @@ fn weigh_slot(area: &[u8], notes: &[u8], split: Split, slot: usize, shares: &mut
     loop {
         match next(s, at) {
             Next::Entry(header) => {
-                let share = share_of(notes, header, slot * size + at);
-                total += add_share(shares, base, share, header.length);
-                at += header.length;
+                if header.tombstone {
+                    let share = note_share(notes[(slot * size + at) / HEAD_SIZE]);
+                    total += add_share(shares, base, share, HEAD_SIZE);
+                    at += HEAD_SIZE;
+                } else {
+                    at += header.length;
+                }
             }
             Next::End => {
                 return total;
@@ -96,11 +87,12 @@ fn weigh_slot(area: &[u8], notes: &[u8], split: Split, slot: usize, shares: &mut
     }
 }
 
-// The same added to the slot's total; nothing where the slot is not of the log.
+// The same added to the slot's total; nothing where the slot is not of the log or has no tombstones.
 fn weigh_part(
     area: &[u8],
     cells: &[u32],
     notes: &[u8],
+    dead: &[u32],
     split: Split,
     slot: usize,
     totals: &mut [u32],
@@ -108,6 +100,7 @@ fn weigh_part(
 )
     requires { ⌜ NotesFit split (now area) (now cells) (now notes) ⌝ }
     requires { ⌜ slot < split .slots ⌝ }
+    requires { ⌜ Buried edition1 (now area) split (split .slots) (now dead) ⌝ }
     requires { ⌜ Rows edition1 (now area) (now cells) (now notes) split slot (now totals) (now shares) ⌝ }
     ensures { λ _.
         ⌜
@@ -116,6 +109,9 @@ fn weigh_part(
         ⌝ }
 {
     if !is_named(split.outside, slot) {
+        return;
+    }
+    if dead[slot] == 0 {
         return;
     }
     let total = weigh_slot(area, notes, split, slot, shares);
@@ -127,11 +123,13 @@ pub fn weigh_all(
     area: &[u8],
     cells: &[u32],
     notes: &[u8],
+    dead: &[u32],
     split: Split,
     totals: &mut [u32],
     shares: &mut [u32],
 )
     requires { ⌜ NotesFit split (now area) (now cells) (now notes) ⌝ }
+    requires { ⌜ Buried edition1 (now area) split (split .slots) (now dead) ⌝ }
     requires { ⌜ Rows edition1 (now area) (now cells) (now notes) split 0 (now totals) (now shares) ⌝ }
     ensures { λ _.
         ⌜
@@ -141,7 +139,7 @@ pub fn weigh_all(
 {
     let mut i = 0;
     while i < split.slots {
-        weigh_part(area, cells, notes, split, i, totals, shares);
+        weigh_part(area, cells, notes, dead, split, i, totals, shares);
         i += 1;
     }
 }

@@ -1,6 +1,6 @@
 -- `joining::join::choose` meets its contract.
 use Rattle.segment.specs.Layout.{edition1}
-use Rattle.joining.specs.NotesLaws.{counted-start, fits-noted}
+use Rattle.joining.specs.NotesLaws.{counted-start, buried-start, fits-noted}
 use Rattle.joining.specs.WeightsLaws.{rows-start}
 use Rattle.joining.specs.JoinLaws.{chosen-same}
 use borrow.Author.Needs.{needs}
@@ -13,8 +13,11 @@ slice-aggregate-note-all c = search needs
 slice-aggregate-note-all-2 : tie.Need-slice-aggregate-note-all-2
 slice-aggregate-note-all-2 c = search needs
 
+slice-aggregate-note-all-3 : tie.Need-slice-aggregate-note-all-3
+slice-aggregate-note-all-3 c = search needs
+
 note-all-requires : tie.Need-note-all-requires
-note-all-requires c κs = (c .before .before .before .before .pre, counted-start edition1 _ _ _)
+note-all-requires c κs = (c .before .before .before .before .before .pre, (counted-start edition1 _ _ _, buried-start edition1 _ _))
 
 slice-aggregate-weigh-all : tie.Need-slice-aggregate-weigh-all
 slice-aggregate-weigh-all c = search needs
@@ -25,10 +28,13 @@ slice-aggregate-weigh-all-2 c = search needs
 slice-aggregate-weigh-all-3 : tie.Need-slice-aggregate-weigh-all-3
 slice-aggregate-weigh-all-3 c = search needs
 
+slice-aggregate-weigh-all-4 : tie.Need-slice-aggregate-weigh-all-4
+slice-aggregate-weigh-all-4 c = search needs
+
 weigh-all-requires : tie.Need-weigh-all-requires
 weigh-all-requires c κs =
-    let made = c .before .before .before .before .before .note-all .ensures in
-    (fits-noted edition1 _ (c .before .before .before .before .before .before .before .before .before .before .pre) (made .0), rows-start edition1 _ _ _ _ _ (made .1))
+    let made = c .before .before .before .before .before .before .before .note-all .ensures in
+    (fits-noted edition1 _ (c .before .before .before .before .before .before .before .before .before .before .before .before .before .pre) (made .0), (made .2, rows-start edition1 _ _ _ _ _ (made .1)))
 
 slice-aggregate-lowest-pair : tie.Need-slice-aggregate-lowest-pair
 slice-aggregate-lowest-pair c = search needs
@@ -40,7 +46,7 @@ lowest-pair-requires : tie.Need-lowest-pair-requires
 lowest-pair-requires c κs = search needs
 
 returns : tie.Need-returns
-returns c = chosen-same edition1 _ _ _ _ _ _ _ (c .before .before .before .before .before .before .before .before .before .before .before .before .before .before .before .before .pre .slots .slots-high) (c .before .before .before .before .before .before .before .before .before .before .before .note-all .ensures .0) (c .before .before .before .before .before .weigh-all .ensures) (c .lowest-pair .ensures)
+returns c = chosen-same edition1 _ _ _ _ _ _ _ (c .before .before .before .before .before .before .before .before .before .before .before .before .before .before .before .before .before .before .before .pre .slots .slots-high) (c .before .before .before .before .before .before .before .before .before .before .before .before .before .note-all .ensures .0) (c .before .before .before .before .before .weigh-all .ensures) (c .lowest-pair .ensures)
 
 pub choose-spec : {M : Type 1} → statement M
 choose-spec =
@@ -48,10 +54,12 @@ choose-spec =
     (tie.spec
     slice-aggregate-note-all
     slice-aggregate-note-all-2
+    slice-aggregate-note-all-3
     note-all-requires
     slice-aggregate-weigh-all
     slice-aggregate-weigh-all-2
     slice-aggregate-weigh-all-3
+    slice-aggregate-weigh-all-4
     weigh-all-requires
     slice-aggregate-lowest-pair
     slice-aggregate-lowest-pair-2
