@@ -60,7 +60,7 @@ fn choose(area: &[u8], index: &[u32], split: Split) -> Chosen
     let mut totals = [0u32; 32];
     let mut dead = [0u32; 32];
     note_all(area, index, &mut notes, &mut totals, &mut dead, split);
-    let mut shares = [0u32; 1024];
+    let mut shares = [0u16; 1024];
     weigh_all(area, index, &notes, &dead, split, &mut totals, &mut shares);
     lowest_pair(&totals, &shares, split)
 }

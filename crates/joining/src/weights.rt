@@ -30,12 +30,12 @@ fn note_share(note: u8) -> Share
 }
 
 // The share of a tombstone added to its slot's numbers, which start at `base`: it answers what the slot's total grows by.
-fn add_share(shares: &mut [u32], base: usize, share: Share, count: usize) -> usize
+fn add_share(shares: &mut [u16], base: usize, share: Share, count: usize) -> usize
     requires { ⌜ length (now shares) ≡ 1024 ⌝ }
     requires { ⌜ base ≤ 992 ⌝ }
-    requires { ⌜ Low (now shares) base 65536 ⌝ }
+    requires { ⌜ Low (now shares) base 2048 ⌝ }
     requires { ⌜ ShareFits share ⌝ }
-    requires { ⌜ count ≤ 65536 ⌝ }
+    requires { ⌜ count ≤ 2048 ⌝ }
     ensures { λ r. ⌜ (r ≡ shareLength share count) × (now (shares .exit) ≡ sharesWith (now (shares .entry)) base share count) ⌝ }
 {
     match share {
@@ -43,14 +43,14 @@ fn add_share(shares: &mut [u32], base: usize, share: Share, count: usize) -> usi
         Share::Whole => count,
         Share::Unless(p) => {
             let at = base + p;
-            shares[at] = shares[at] + count as u32;
+            shares[at] = shares[at] + count as u16;
             count
         }
     }
 }
 
 // What is kept of a slot's tombstones; its numbers hold what goes by the other victim. Damage ends a segment too.
-fn weigh_slot(area: &[u8], notes: &[u8], split: Split, slot: usize, shares: &mut [u32]) -> usize
+fn weigh_slot(area: &[u8], notes: &[u8], split: Split, slot: usize, shares: &mut [u16]) -> usize
     requires { ⌜ SlotsFit split (now area) ⌝ }
     requires { ⌜ length (now notes) ≡ 5958 ⌝ }
     requires { ⌜ slot < split .slots ⌝ }
@@ -96,7 +96,7 @@ fn weigh_part(
     split: Split,
     slot: usize,
     totals: &mut [u32],
-    shares: &mut [u32],
+    shares: &mut [u16],
 )
     requires { ⌜ NotesFit split (now area) (now cells) (now notes) ⌝ }
     requires { ⌜ slot < split .slots ⌝ }
@@ -126,7 +126,7 @@ pub fn weigh_all(
     dead: &[u32],
     split: Split,
     totals: &mut [u32],
-    shares: &mut [u32],
+    shares: &mut [u16],
 )
     requires { ⌜ NotesFit split (now area) (now cells) (now notes) ⌝ }
     requires { ⌜ Buried edition1 (now area) split (split .slots) (now dead) ⌝ }
