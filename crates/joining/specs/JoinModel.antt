@@ -2,22 +2,21 @@
 use Prim.Native.Nat.{ℕ, zero, suc, _+_, _*_, _^_, _≤_, _<_}
 use mathlib.Core.Path.{_≡_, refl, sym, _∙_, ap, subst}
 use mathlib.Core.Bool.{Bool, true, false, not}
-use mathlib.Core.Logic.{_⊎_, inl, inr}
 use mathlib.Core.Option.{Option, some}
-use mathlib.Core.List.{List, [], _∷_, _++_, List·Memᴰ·head, List·Memᴰ·tail, List·Memᴰ·not-nil}
+use mathlib.Core.List.{List, [], _∷_, List·Memᴰ·head, List·Memᴰ·tail, List·Memᴰ·not-nil}
 use native.Mathlib.Decide.{ℕ-discrete}
 use native.Mathlib.Nat.{zero-add}
 use native.Mathlib.Omega.{arith}
 use lib.Dec.{eqb, leb, ltb}
 use lib.ListN.{length, getD, replicate, length-append, length-replicate}
-use borrow.Author.Tests.{eq-eqb, ne-eqb, eqb-true, eqb-false, le-leb, lt-leb, le-ltb, lt-ltb, ltb-true, ltb-false}
+use borrow.Author.Tests.{eq-eqb, ne-eqb, eqb-true, le-leb, lt-leb, le-ltb, lt-ltb, ltb-true, ltb-false}
 use Rattle.segment.specs.Choice.{pick, pick-true, pick-false, both, both-false-left, both-false-right, either, either-true-left, either-true-right}
 use Rattle.segment.specs.Layout.{Layout, digestSize, entrySize}
 use Rattle.segment.specs.Entries.{headerOf}
 use Rattle.segment.specs.Entry.{Entry, encoded, sizeOf, keyOf, isTombstone}
 use Rattle.segment.specs.EntryLaws.{length-encoded}
 use Rattle.segment.specs.declared.Key.{Key}
-use Rattle.slot_map.specs.Bit.{bit, named, less}
+use Rattle.slot_map.specs.Bit.{bit, named}
 use Rattle.slot_map.specs.BitLaws.{bit-pow-same, bit-pow-other, bit-add-same, bit-add-other, set-named, clear-named}
 use Rattle.record.specs.declared.Record.{Record}
 use Rattle.model.specs.Log.{View, Item, Placed, placeOf, segmentOf, viewsOf, scan, itemsOf, placedIn, logOf, sameKeys, sameKey, latest}
@@ -39,7 +38,7 @@ use Rattle.cleaning.specs.KeptModel.{splitOf, encoded-append, kept-front, kept-
 use Rattle.cleaning.specs.declared.Split.{Split}
 use Rattle.joining.specs.declared.Share.{Share}
 use Rattle.joining.specs.Notes.{tellsBut, spotOf, cellSpot, elsewhere, noteAll, foundLength, objectAt, objectsOf}
-use Rattle.joining.specs.NotesLaws.{zeros, Misses, below-misses, Leads, below-note, counts, standsIn}
+use Rattle.joining.specs.NotesLaws.{zeros, Misses, below-misses, Leads, below-note, standsIn}
 use Rattle.joining.specs.Weights.{noteShare, shareAt, shareKept, weightAt, weightOf, slotWeight, weightsFit}
 use Rattle.joining.specs.WeightsLaws.{note-kept}
 use Rattle.joining.specs.PairLaws.{pair-same}

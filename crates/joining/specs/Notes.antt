@@ -102,27 +102,27 @@ slotObjects L area cells S i = objectsOf L area cells S (placedIn i (slotItems L
 
 -- ---- the tombstones
 
-unfoldable pub deadOf : Layout → List Item → ℕ
-deadOf L [] = 0
-deadOf L (x ∷ xs) = pick (headerOf L (x .entry) .tombstone) (headerOf L (x .entry) .length) 0 + deadOf L xs
+unfoldable pub tombstonesOf : Layout → List Item → ℕ
+tombstonesOf L [] = 0
+tombstonesOf L (x ∷ xs) = pick (headerOf L (x .entry) .tombstone) (headerOf L (x .entry) .length) 0 + tombstonesOf L xs
 
 -- the bytes of the tombstones of slot i
-abbrev pub slotDead : Layout → List ℕ → ℕ → ℕ → ℕ
-slotDead L area S i = deadOf L (slotItems L area S i)
+abbrev pub tombstonesIn : Layout → List ℕ → ℕ → ℕ → ℕ
+tombstonesIn L area S i = tombstonesOf L (slotItems L area S i)
 
 -- ---- the sums of the slots
 
 pub record Summed (L : Layout) (area cells : List ℕ) (S i : ℕ) (sums : Sums) : Type 0 where
   pub objects-are : sums .objects ≡ slotObjects L area cells S i
-  pub tombstones-are : sums .tombstones ≡ slotDead L area S i
+  pub tombstones-are : sums .tombstones ≡ tombstonesIn L area S i
   pub few : sums .objects + sums .tombstones ≤ 2048
 
 -- The sums of the log slots below n.
-pub record Counted (L : Layout) (area cells : List ℕ) (split : Split) (n : ℕ) (totals : List ℕ) : Type 0 where
+pub record ObjectsCounted (L : Layout) (area cells : List ℕ) (split : Split) (n : ℕ) (totals : List ℕ) : Type 0 where
   pub counted : (i : ℕ) → i < n → named (split .outside) i ≡ true → getD totals i 0 ≡ slotObjects L area cells (split .size) i
   pub few : (i : ℕ) → getD totals i 0 ≤ 2048
   pub totals-long : length totals ≡ 32
 
-pub record Buried (L : Layout) (area : List ℕ) (split : Split) (n : ℕ) (dead : List ℕ) : Type 0 where
-  pub buried : (i : ℕ) → i < n → named (split .outside) i ≡ true → getD dead i 0 ≡ slotDead L area (split .size) i
-  pub dead-long : length dead ≡ 32
+pub record TombstonesCounted (L : Layout) (area : List ℕ) (split : Split) (n : ℕ) (tombstones : List ℕ) : Type 0 where
+  pub tombstones-are : (i : ℕ) → i < n → named (split .outside) i ≡ true → getD tombstones i 0 ≡ tombstonesIn L area (split .size) i
+  pub tombstones-long : length tombstones ≡ 32

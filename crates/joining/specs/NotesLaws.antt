@@ -28,7 +28,7 @@ use Rattle.index.specs.declared.Found.{Found}
 use Rattle.cleaning.specs.Entries.{slotItems, isKeyOf, isObject, objectIn}
 use Rattle.cleaning.specs.EntriesLaws.{Meets, entries-meets}
 use Rattle.cleaning.specs.declared.Split.{Split}
-use Rattle.joining.specs.Notes.{NotesFit, noteWith, tellsBut, spotOf, cellSpot, elsewhere, noteNewest, noteCell, noteFound, noteEntry, noteItems, noteSlot, notePart, noteBelow, noteAll, foundLength, objectAt, objectsOf, slotObjects, deadOf, slotDead, Summed, Counted, Buried}
+use Rattle.joining.specs.Notes.{NotesFit, noteWith, tellsBut, spotOf, cellSpot, elsewhere, noteNewest, noteCell, noteFound, noteEntry, noteItems, noteSlot, notePart, noteBelow, noteAll, foundLength, objectAt, objectsOf, slotObjects, tombstonesOf, tombstonesIn, Summed, ObjectsCounted, TombstonesCounted}
 
 -- ---- one note
 
@@ -183,9 +183,9 @@ found-short cells place n Found.Full = omega arith
 -- ---- a tombstone
 
 -- it is as long as the shortest entry
-pub dead-length : (L : Layout) (s : List ℕ) (at : ℕ) {h : Header} → Meets L s at h → h .tombstone ≡ true → h .length ≡ entrySize L 0
+pub tombstone-length : (L : Layout) (s : List ℕ) (at : ℕ) {h : Header} → Meets L s at h → h .tombstone ≡ true → h .length ≡ entrySize L 0
 unfolding isNone bytesIn
-dead-length L s at m t = sym (ap (λ (g : Header). g .length) (m .its)) ∙ go (m .met .value) (ap (λ (g : Header). g .tombstone) (m .its) ∙ t)
+tombstone-length L s at m t = sym (ap (λ (g : Header). g .length) (m .its)) ∙ go (m .met .value) (ap (λ (g : Header). g .tombstone) (m .its) ∙ t)
   where
     go : (v : Option (List ℕ)) → isNone v ≡ true → entrySize L (length (bytesIn v)) ≡ entrySize L 0
     go none e = refl
@@ -200,14 +200,14 @@ module _ (L : Layout) (area cells : List ℕ) (S i : ℕ) where
   pub record Noting (s notes₀ notes : List ℕ) (at objects tombstones : ℕ) : Type 0 where
     pub noted : noteItems L area cells S i notes (entriesAt L s at) ≡ noteItems L area cells S i notes₀ (entriesAt L s (digestSize L))
     pub counted : objects + objectsFrom s at ≡ objectsFrom s (digestSize L)
-    pub buried : tombstones + deadOf L (entriesAt L s at) ≡ deadOf L (entriesAt L s (digestSize L))
+    pub tombstones-are : tombstones + tombstonesOf L (entriesAt L s at) ≡ tombstonesOf L (entriesAt L s (digestSize L))
     pub same-length : length notes ≡ length notes₀
     pub short : objects + tombstones ≤ at
     pub inside : at ≤ length s
 
   pub noting-start : (s notes₀ : List ℕ) → digestSize L ≤ length s → Noting s notes₀ notes₀ (digestSize L) 0 0
   noting-start s notes₀ fits =
-      record { noted = refl; counted = omega arith; buried = omega arith; same-length = refl; short = omega arith; inside = fits }
+      record { noted = refl; counted = omega arith; tombstones-are = omega arith; same-length = refl; short = omega arith; inside = fits }
 
   module _ (s notes₀ notes : List ℕ) (at objects tombstones : ℕ) (w : Noting s notes₀ notes at objects tombstones) {h : Header} (m : Meets L s at h) where
     -- the entry, and those behind it
@@ -223,11 +223,11 @@ module _ (L : Layout) (area cells : List ℕ) (S i : ℕ) where
         ap (λ (is : List Item). objectsOf L area cells S (placedIn i is)) (entries-meets L s at m)
         ∙ ap (λ (g : Header). objectAt L area cells g (i * S + at) + objectsFrom s (at + h .length)) (m .its)
 
-    dead-from : deadOf L (entriesAt L s at) ≡ pick (h .tombstone) (h .length) 0 + deadOf L (entriesAt L s (at + h .length))
-    unfolding deadOf
-    dead-from =
-        ap (deadOf L) (entries-meets L s at m)
-        ∙ ap (λ (g : Header). pick (g .tombstone) (g .length) 0 + deadOf L (entriesAt L s (at + h .length))) (m .its)
+    tombstones-from : tombstonesOf L (entriesAt L s at) ≡ pick (h .tombstone) (h .length) 0 + tombstonesOf L (entriesAt L s (at + h .length))
+    unfolding tombstonesOf
+    tombstones-from =
+        ap (tombstonesOf L) (entries-meets L s at m)
+        ∙ ap (λ (g : Header). pick (g .tombstone) (g .length) 0 + tombstonesOf L (entriesAt L s (at + h .length))) (m .its)
 
     pub noting-tombstone : h .tombstone ≡ true → (n : ℕ) → h .length ≡ n → Noting s notes₀ notes (at + n) objects (tombstones + n)
     unfolding noteEntry objectAt
@@ -239,7 +239,7 @@ module _ (L : Layout) (area cells : List ℕ) (S i : ℕ) where
               ∙ sym notes-from
               ∙ w .noted;
           counted = omega (arith, w .counted, objects-from, pick-true (h .tombstone) 0 (foundLength cells (i * S + at) (h .length) (searchFor L area cells (h .key))) t);
-          buried = omega (arith, w .buried, dead-from, pick-true (h .tombstone) (h .length) 0 t);
+          tombstones-are = omega (arith, w .tombstones-are, tombstones-from, pick-true (h .tombstone) (h .length) 0 t);
           same-length = w .same-length;
           short = omega (arith, w .short);
           inside = m .fits;
@@ -252,7 +252,7 @@ module _ (L : Layout) (area cells : List ℕ) (S i : ℕ) where
         record {
           noted = ap (λ (l : List ℕ). noteItems L area cells S i l (entriesAt L s (at + h .length))) entry ∙ sym notes-from ∙ w .noted;
           counted = omega (arith, w .counted, objects-from, made .0, pick-false (h .tombstone) 0 found t);
-          buried = omega (arith, w .buried, dead-from, pick-false (h .tombstone) (h .length) 0 t);
+          tombstones-are = omega (arith, w .tombstones-are, tombstones-from, pick-false (h .tombstone) (h .length) 0 t);
           same-length = ap length entry ∙ length-entry L area cells S i notes h ∙ w .same-length;
           short = omega (arith, w .short, made .0, found-short cells (i * S + at) (h .length) (searchFor L area cells (h .key)));
           inside = m .fits;
@@ -267,12 +267,12 @@ module _ (L : Layout) (area cells : List ℕ) (S i : ℕ) where
   pub noting-stop : (s notes₀ notes : List ℕ) (at objects tombstones : ℕ) → Noting s notes₀ notes at objects tombstones → entriesAt L s at ≡ [] →
       s ≡ segmentOf area S i → length s ≤ 2048 →
       Summed L area cells S i (record { objects = objects; tombstones = tombstones }) × (notes ≡ noteSlot L area cells S notes₀ i)
-  unfolding noteItems objectsOf deadOf placedIn
+  unfolding noteItems objectsOf tombstonesOf placedIn
   noting-stop s notes₀ notes at objects tombstones w e own few = (
     record {
       objects-are =
           omega (arith, w .counted, ap (λ (is : List Item). objectsOf L area cells S (placedIn i is)) e) ∙ ap (λ (t : List ℕ). objectsFrom t (digestSize L)) own;
-      tombstones-are = omega (arith, w .buried, ap (deadOf L) e) ∙ ap (λ (t : List ℕ). deadOf L (entriesAt L t (digestSize L))) own;
+      tombstones-are = omega (arith, w .tombstones-are, ap (tombstonesOf L) e) ∙ ap (λ (t : List ℕ). tombstonesOf L (entriesAt L t (digestSize L))) own;
       few = omega (arith, w .short, w .inside);
     },
     sym (ap (noteItems L area cells S i notes) e)
@@ -288,11 +288,11 @@ zeros (suc n) zero = refl
 zeros (suc n) (suc k) = zeros n k
 
 module _ (L : Layout) (area cells : List ℕ) (split : Split) where
-  pub counted-start : Counted L area cells split 0 (replicate 32 0)
+  pub counted-start : ObjectsCounted L area cells split 0 (replicate 32 0)
   counted-start = record { counted = λ i l. absurd (omega arith); few = λ i. omega (arith, zeros 32 i); totals-long = length-replicate {A = ℕ} 32 0 }
 
-  module _ (n : ℕ) (totals : List ℕ) (w : Counted L area cells split n totals) where
-    pub counted-skip : named (split .outside) n ≡ false → Counted L area cells split (n + 1) totals
+  module _ (n : ℕ) (totals : List ℕ) (w : ObjectsCounted L area cells split n totals) where
+    pub counted-skip : named (split .outside) n ≡ false → ObjectsCounted L area cells split (n + 1) totals
     counted-skip e = record { counted = λ i l p. go i l p (ℕ-discrete i n); few = w .few; totals-long = w .totals-long }
       where
         go : (i : ℕ) → i < n + 1 → named (split .outside) i ≡ true → Dec (i ≡ n) → getD totals i 0 ≡ slotObjects L area cells (split .size) i
@@ -300,7 +300,7 @@ module _ (L : Layout) (area cells : List ℕ) (split : Split) where
         go i l p (no q) = w .counted i (omega arith) p
 
     pub counted-more : n < 32 → (total : ℕ) → total ≡ slotObjects L area cells (split .size) n → total ≤ 2048 →
-        Counted L area cells split (n + 1) (set totals n total)
+        ObjectsCounted L area cells split (n + 1) (set totals n total)
     counted-more low total is high =
         record {
           counted = λ i l p. go i l p (ℕ-discrete i n);
@@ -320,27 +320,27 @@ module _ (L : Layout) (area cells : List ℕ) (split : Split) where
         small i (no q) = omega (arith, getD-set-other totals n i total 0 q, w .few i)
 
 module _ (L : Layout) (area : List ℕ) (split : Split) where
-  pub buried-start : Buried L area split 0 (replicate 32 0)
-  buried-start = record { buried = λ i l. absurd (omega arith); dead-long = length-replicate {A = ℕ} 32 0 }
+  pub tombstones-start : TombstonesCounted L area split 0 (replicate 32 0)
+  tombstones-start = record { tombstones-are = λ i l. absurd (omega arith); tombstones-long = length-replicate {A = ℕ} 32 0 }
 
-  module _ (n : ℕ) (dead : List ℕ) (w : Buried L area split n dead) where
-    pub buried-skip : named (split .outside) n ≡ false → Buried L area split (n + 1) dead
-    buried-skip e = record { buried = λ i l p. go i l p (ℕ-discrete i n); dead-long = w .dead-long }
+  module _ (n : ℕ) (tombstones : List ℕ) (w : TombstonesCounted L area split n tombstones) where
+    pub tombstones-skip : named (split .outside) n ≡ false → TombstonesCounted L area split (n + 1) tombstones
+    tombstones-skip e = record { tombstones-are = λ i l p. go i l p (ℕ-discrete i n); tombstones-long = w .tombstones-long }
       where
-        go : (i : ℕ) → i < n + 1 → named (split .outside) i ≡ true → Dec (i ≡ n) → getD dead i 0 ≡ slotDead L area (split .size) i
+        go : (i : ℕ) → i < n + 1 → named (split .outside) i ≡ true → Dec (i ≡ n) → getD tombstones i 0 ≡ tombstonesIn L area (split .size) i
         go i l p (yes q) = absurd (clash (named (split .outside) i) p (ap (named (split .outside)) q ∙ e))
-        go i l p (no q) = w .buried i (omega arith) p
+        go i l p (no q) = w .tombstones-are i (omega arith) p
 
-    pub buried-more : n < 32 → (m : ℕ) → m ≡ slotDead L area (split .size) n → Buried L area split (n + 1) (set dead n m)
-    buried-more low m is = record { buried = λ i l p. go i l p (ℕ-discrete i n); dead-long = length-set dead n m ∙ w .dead-long }
+    pub tombstones-more : n < 32 → (m : ℕ) → m ≡ tombstonesIn L area (split .size) n → TombstonesCounted L area split (n + 1) (set tombstones n m)
+    tombstones-more low m is = record { tombstones-are = λ i l p. go i l p (ℕ-discrete i n); tombstones-long = length-set tombstones n m ∙ w .tombstones-long }
       where
-        go : (i : ℕ) → i < n + 1 → named (split .outside) i ≡ true → Dec (i ≡ n) → getD (set dead n m) i 0 ≡ slotDead L area (split .size) i
+        go : (i : ℕ) → i < n + 1 → named (split .outside) i ≡ true → Dec (i ≡ n) → getD (set tombstones n m) i 0 ≡ tombstonesIn L area (split .size) i
         go i l p (yes q) =
-            ap (λ (k : ℕ). getD (set dead n m) k 0) q
-            ∙ getD-set-same dead n m 0 (omega (arith, w .dead-long))
+            ap (λ (k : ℕ). getD (set tombstones n m) k 0) q
+            ∙ getD-set-same tombstones n m 0 (omega (arith, w .tombstones-long))
             ∙ is
-            ∙ ap (slotDead L area (split .size)) (sym q)
-        go i l p (no q) = getD-set-other dead n i m 0 q ∙ w .buried i (omega arith) p
+            ∙ ap (tombstonesIn L area (split .size)) (sym q)
+        go i l p (no q) = getD-set-other tombstones n i m 0 q ∙ w .tombstones-are i (omega arith) p
 
 module _ (L : Layout) (area cells : List ℕ) (split : Split) (notes : List ℕ) (i : ℕ) where
   pub part-noted : {notes′ : List ℕ} → named (split .outside) i ≡ true → notes′ ≡ noteSlot L area cells (split .size) notes i →

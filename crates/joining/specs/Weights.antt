@@ -1,6 +1,6 @@
 -- The second walk, over any area and any notes: what is kept of a tombstone by the other victim, and the numbers that a slot comes to
 -- have.
-use Prim.Native.Nat.{ℕ, zero, suc, _+_, _*_, _-_, _≤_, _<_}
+use Prim.Native.Nat.{ℕ, _+_, _*_, _-_, _≤_, _<_}
 use mathlib.Core.Path.{_≡_}
 use mathlib.Core.Bool.{Bool, true, false, not}
 use mathlib.Core.List.{List, [], _∷_}
@@ -12,6 +12,7 @@ use Rattle.segment.specs.Entries.{headerOf}
 use Rattle.segment.specs.declared.Header.{Header}
 use Rattle.slot_map.specs.Bit.{named}
 use Rattle.model.specs.Log.{Placed, placeOf, placedIn}
+use Rattle.index.specs.Build.{entriesAt}
 use Rattle.cleaning.specs.Entries.{slotItems}
 use Rattle.cleaning.specs.declared.Split.{Split}
 use Rattle.joining.specs.declared.Share.{Share}
@@ -49,6 +50,12 @@ slotTombstones L area notes S i j = weightOf L notes S j (placedIn i (slotItems 
 -- and of all its entries
 abbrev pub slotWeight : Layout → List ℕ → List ℕ → List ℕ → ℕ → ℕ → ℕ → ℕ
 slotWeight L area cells notes S i j = slotObjects L area cells S i + slotTombstones L area notes S i j
+
+-- Where a walk from one offset of a segment has come to another, it has passed over no tombstone.
+pub record Passed (L : Layout) (s : List ℕ) (from to : ℕ) : Type 0 where
+  pub same : (notes : List ℕ) (S i j : ℕ) → weightOf L notes S j (placedIn i (entriesAt L s from)) ≡ weightOf L notes S j (placedIn i (entriesAt L s to))
+  pub forward : from ≤ to
+  pub inside : to ≤ length s
 
 -- ---- the numbers of the slots: for slot i and the other victim j the number at 32 i + j
 

@@ -1,17 +1,16 @@
 -- The weights at each test of the code, and the numbers of the slots.
-use Prim.Native.Nat.{ℕ, zero, suc, _+_, _*_, _-_, _≤_, _<_}
+use Prim.Native.Nat.{ℕ, _+_, _*_, _-_, _≤_, _<_}
 use mathlib.Core.Path.{_≡_, refl, sym, _∙_, ap, subst}
 use mathlib.Core.Bool.{Bool, true, false, not}
 use mathlib.Core.List.{List, [], _∷_}
 use native.Mathlib.Decide.{ℕ-discrete}
-use native.Mathlib.Nat.{mul-le-mul, add-zero}
-use native.Mathlib.Numerals.{add-one}
+use native.Mathlib.Nat.{add-zero, zero-add}
 use native.Mathlib.Omega.{arith}
 use lib.Dec.{eqb, leb, ltb}
 use lib.ListN.{length, getD, set, replicate, length-set, length-replicate}
 use lib.Seq.{getD-set-same, getD-set-other}
 use borrow.Author.Tests.{eq-eqb, ne-eqb, lt-ltb, le-ltb, le-leb, lt-leb, eqb-true, eqb-false, leb-true, leb-false, ltb-true, ltb-false}
-use Rattle.segment.specs.Choice.{pick, pick-true, pick-false, either, both, both-true, both-false-left, both-false-right}
+use Rattle.segment.specs.Choice.{pick, pick-true, pick-false, either, both, both-false-left, both-false-right}
 use Rattle.segment.specs.Layout.{Layout, digestSize}
 use Rattle.segment.specs.Entry.{sizeOf, isTombstone}
 use Rattle.segment.specs.declared.Header.{Header}
@@ -23,9 +22,9 @@ use Rattle.cleaning.specs.Entries.{slotItems}
 use Rattle.cleaning.specs.EntriesLaws.{Meets, entries-meets}
 use Rattle.cleaning.specs.declared.Split.{Split}
 use Rattle.joining.specs.declared.Share.{Share}
-use Rattle.joining.specs.Notes.{tellsBut, spotOf, deadOf, slotDead, Counted}
+use Rattle.joining.specs.Notes.{tellsBut, spotOf, tombstonesOf, tombstonesIn, ObjectsCounted}
 use Rattle.joining.specs.NotesLaws.{zeros}
-use Rattle.joining.specs.Weights.{noteShare, shareAt, shareKept, weightAt, weightOf, slotTombstones, slotWeight, Low, Clear, ShareFits, shareLength, sharesWith, Weighed, Rows, numbersFit, weightsFit}
+use Rattle.joining.specs.Weights.{noteShare, shareAt, shareKept, weightAt, weightOf, slotTombstones, slotWeight, Low, Clear, ShareFits, shareLength, sharesWith, Weighed, Rows, Passed, numbersFit, weightsFit}
 
 -- ---- the share of a note
 
@@ -241,6 +240,18 @@ module _ (L : Layout) (area notes : List ℕ) (S i : ℕ) where
           subst (λ (n : ℕ). Weighing s shares₀ shares (at + h .length) n) (add-zero total)
           (weighing-entry m Share.Nothing (share-object notes h (i * S + at) t) long 0 shares (added-none shares (i * 32) (h .length) Share.Nothing refl))
 
+      pub weighing-passed : (to : ℕ) → Passed L s at to → Weighing s shares₀ shares to total
+      weighing-passed to p =
+          record {
+            row = λ j few. omega (arith, w .row j few, p .same notes S i j);
+            low = w .low;
+            below = w .below;
+            above = w .above;
+            same-length = w .same-length;
+            short = omega (arith, w .short, p .forward);
+            inside = p .inside;
+          }
+
       pub weighing-stop : entriesAt L s at ≡ [] → s ≡ segmentOf area S i → length s ≤ 2048 → Weighed L area notes S i shares₀ shares total
       weighing-stop e own few =
           record {
@@ -254,13 +265,34 @@ module _ (L : Layout) (area notes : List ℕ) (S i : ℕ) where
           whole : (j : ℕ) → weightFrom s (digestSize L) j ≡ slotTombstones L area notes S i j
           whole j = ap (λ (t : List ℕ). weightFrom t (digestSize L) j) own
 
+-- ---- objects passed over
+
+module _ (L : Layout) (s : List ℕ) (from : ℕ) where
+  pub passed-start : from ≤ length s → Passed L s from from
+  passed-start h = record { same = λ notes S i j. refl; forward = omega arith; inside = h }
+
+  pub passed-object : (at : ℕ) → Passed L s from at → {h : Header} → Meets L s at h → h .tombstone ≡ false → (n : ℕ) → h .length ≡ n →
+      Passed L s from (at + n)
+  unfolding shareKept
+  passed-object at w {h} m t n e =
+      subst (λ (k : ℕ). Passed L s from (at + k)) e
+      (record {
+        same = λ notes S i j. w .same notes S i j ∙ from-entry L [] notes S i s at j m ∙ ap (λ (k : ℕ). k + weightFrom L [] notes S i s (at + h .length) j) (none notes S i j) ∙ zero-add _;
+        forward = omega (arith, w .forward);
+        inside = m .fits;
+      })
+    where
+      none : (notes : List ℕ) (S i j : ℕ) → weightAt notes j h (i * S + at) ≡ 0
+      none notes S i j =
+          ap (λ (x : Share). pick (shareKept x j) (h .length) 0) (sym (share-object notes h (i * S + at) t)) ∙ pick-false false (h .length) 0 refl
+
 -- ---- the slots
 
 -- of tombstones no more is kept than there is
-dead-most : (L : Layout) (notes : List ℕ) (S i j : ℕ) (is : List Item) → weightOf L notes S j (placedIn i is) ≤ deadOf L is
-unfolding weightOf deadOf placedIn shareAt shareKept pick
-dead-most L notes S i j [] = omega arith
-dead-most L notes S i j (x ∷ xs) = omega (arith, dead-most L notes S i j xs, one (isTombstone (x .entry)))
+tombstones-most : (L : Layout) (notes : List ℕ) (S i j : ℕ) (is : List Item) → weightOf L notes S j (placedIn i is) ≤ tombstonesOf L is
+unfolding weightOf tombstonesOf placedIn shareAt shareKept pick
+tombstones-most L notes S i j [] = omega arith
+tombstones-most L notes S i j (x ∷ xs) = omega (arith, tombstones-most L notes S i j xs, one (isTombstone (x .entry)))
   where
     share : Share
     share = noteShare (getD notes (spotOf (i * S + x .offset)) 0)
@@ -274,7 +306,7 @@ dead-most L notes S i j (x ∷ xs) = omega (arith, dead-most L notes S i j xs, o
     one false = omega arith
 
 module _ (L : Layout) (area cells notes : List ℕ) (split : Split) where
-  pub rows-start : (totals : List ℕ) → Counted L area cells split (split .slots) totals → Rows L area cells notes split 0 totals (replicate 1024 0)
+  pub rows-start : (totals : List ℕ) → ObjectsCounted L area cells split (split .slots) totals → Rows L area cells notes split 0 totals (replicate 1024 0)
   rows-start totals w =
       record {
         rows = λ i l. absurd (omega arith);
@@ -303,7 +335,7 @@ module _ (L : Layout) (area cells notes : List ℕ) (split : Split) where
         go i l p (no q) = w .rows i (omega arith) p
 
     -- a slot without tombstones
-    pub rows-none : n < split .slots → named (split .outside) n ≡ true → slotDead L area (split .size) n ≡ 0 → Rows L area cells notes split (n + 1) totals shares
+    pub rows-none : n < split .slots → named (split .outside) n ≡ true → tombstonesIn L area (split .size) n ≡ 0 → Rows L area cells notes split (n + 1) totals shares
     rows-none below is none =
         record {
           rows = λ i l p. go i l p (ℕ-discrete i n);
@@ -321,7 +353,7 @@ module _ (L : Layout) (area cells notes : List ℕ) (split : Split) where
               w .clear (n * 32 + j) (omega arith),
               w .rest n (omega arith) below is,
               none,
-              dead-most L notes (split .size) n j (slotItems L area (split .size) n),
+              tombstones-most L notes (split .size) n j (slotItems L area (split .size) n),
             )
 
         go : (i : ℕ) → i < n + 1 → named (split .outside) i ≡ true → Dec (i ≡ n) → (j : ℕ) → j < 32 →

@@ -58,10 +58,18 @@ fn choose(area: &[u8], index: &[u32], split: Split) -> Chosen
 {
     let mut notes = [0u8; 5958];
     let mut totals = [0u32; 32];
-    let mut dead = [0u32; 32];
-    note_all(area, index, &mut notes, &mut totals, &mut dead, split);
+    let mut tombstones = [0u32; 32];
+    note_all(area, index, &mut notes, &mut totals, &mut tombstones, split);
     let mut shares = [0u16; 1024];
-    weigh_all(area, index, &notes, &dead, split, &mut totals, &mut shares);
+    weigh_all(
+        area,
+        index,
+        &notes,
+        &tombstones,
+        split,
+        &mut totals,
+        &mut shares,
+    );
     lowest_pair(&totals, &shares, split)
 }
 

@@ -17,7 +17,7 @@ ghost use mathlib.Core.Path.{_≡_};
 ghost use lib.ListN.{length};
 ghost use Rattle.segment.specs.Layout.{edition1};
 ghost use Rattle.index.specs.Search.{searchFor};
-ghost use Rattle.joining.specs.Notes.{noteWith, elsewhere, noteNewest, noteFound, noteSlot, notePart, noteAll, NotesFit, foundLength, Summed, Counted, Buried};
+ghost use Rattle.joining.specs.Notes.{noteWith, elsewhere, noteNewest, noteFound, noteSlot, notePart, noteAll, NotesFit, foundLength, Summed, ObjectsCounted, TombstonesCounted};
 
 // More slots than one.
 const SEVERAL: u8 = 64;
@@ -103,8 +103,8 @@ fn note_key(
     }
 }
 
-// The sums of a slot. Damage ends a segment too. A tombstone's length is said, and not taken from its header: what is at the next
-// place is then looked at before the length of this one is read.
+// The sums of a slot. Damage ends a segment too. A tombstone's length is not taken from its header, so that no turn waits until
+// the turn before has read a length.
 fn note_slot(area: &[u8], cells: &[u32], notes: &mut [u8], split: Split, slot: usize) -> Sums
     requires { ⌜ NotesFit split (now area) (now cells) (now notes) ⌝ }
     requires { ⌜ slot < split .slots ⌝ }
@@ -152,19 +152,19 @@ fn note_part(
     cells: &[u32],
     notes: &mut [u8],
     totals: &mut [u32],
-    dead: &mut [u32],
+    tombstones: &mut [u32],
     split: Split,
     slot: usize,
 )
     requires { ⌜ NotesFit split (now area) (now cells) (now notes) ⌝ }
     requires { ⌜ slot < split .slots ⌝ }
-    requires { ⌜ Counted edition1 (now area) (now cells) split slot (now totals) ⌝ }
-    requires { ⌜ Buried edition1 (now area) split slot (now dead) ⌝ }
+    requires { ⌜ ObjectsCounted edition1 (now area) (now cells) split slot (now totals) ⌝ }
+    requires { ⌜ TombstonesCounted edition1 (now area) split slot (now tombstones) ⌝ }
     ensures { λ _.
         ⌜
         (now (notes .exit) ≡ notePart edition1 (now (area .entry)) (now (cells .entry)) split (now (notes .entry)) slot)
-        × Counted edition1 (now (area .entry)) (now (cells .entry)) split (slot + 1) (now (totals .exit))
-        × Buried edition1 (now (area .entry)) split (slot + 1) (now (dead .exit))
+        × ObjectsCounted edition1 (now (area .entry)) (now (cells .entry)) split (slot + 1) (now (totals .exit))
+        × TombstonesCounted edition1 (now (area .entry)) split (slot + 1) (now (tombstones .exit))
         ⌝ }
 {
     if !is_named(split.outside, slot) {
@@ -172,7 +172,7 @@ fn note_part(
     }
     let sums = note_slot(area, cells, notes, split, slot);
     totals[slot] = sums.objects as u32;
-    dead[slot] = sums.tombstones as u32;
+    tombstones[slot] = sums.tombstones as u32;
 }
 
 // The notes and the sums of the whole log.
@@ -181,22 +181,22 @@ pub fn note_all(
     cells: &[u32],
     notes: &mut [u8],
     totals: &mut [u32],
-    dead: &mut [u32],
+    tombstones: &mut [u32],
     split: Split,
 )
     requires { ⌜ NotesFit split (now area) (now cells) (now notes) ⌝ }
-    requires { ⌜ Counted edition1 (now area) (now cells) split 0 (now totals) ⌝ }
-    requires { ⌜ Buried edition1 (now area) split 0 (now dead) ⌝ }
+    requires { ⌜ ObjectsCounted edition1 (now area) (now cells) split 0 (now totals) ⌝ }
+    requires { ⌜ TombstonesCounted edition1 (now area) split 0 (now tombstones) ⌝ }
     ensures { λ _.
         ⌜
         (now (notes .exit) ≡ noteAll edition1 (now (area .entry)) (now (cells .entry)) split (now (notes .entry)))
-        × Counted edition1 (now (area .entry)) (now (cells .entry)) split (split .slots) (now (totals .exit))
-        × Buried edition1 (now (area .entry)) split (split .slots) (now (dead .exit))
+        × ObjectsCounted edition1 (now (area .entry)) (now (cells .entry)) split (split .slots) (now (totals .exit))
+        × TombstonesCounted edition1 (now (area .entry)) split (split .slots) (now (tombstones .exit))
         ⌝ }
 {
     let mut i = 0;
     while i < split.slots {
-        note_part(area, cells, notes, totals, dead, split, i);
+        note_part(area, cells, notes, totals, tombstones, split, i);
         i += 1;
     }
 }

@@ -13,8 +13,8 @@ ghost use mathlib.Core.Path.{_≡_};
 ghost use lib.ListN.{length};
 ghost use Rattle.segment.specs.Layout.{edition1};
 ghost use Rattle.cleaning.specs.Entries.{SlotsFit};
-ghost use Rattle.joining.specs.Notes.{NotesFit, Buried};
-ghost use Rattle.joining.specs.Weights.{noteShare, Low, sharesWith, shareLength, ShareFits, Weighed, Clear, Rows};
+ghost use Rattle.joining.specs.Notes.{NotesFit, TombstonesCounted};
+ghost use Rattle.joining.specs.Weights.{noteShare, Low, sharesWith, shareLength, ShareFits, Weighed, Clear, Rows, Passed};
 
 // What a note of the objects of its key leaves of a tombstone.
 fn note_share(note: u8) -> Share
@@ -49,6 +49,35 @@ fn add_share(shares: &mut [u16], base: usize, share: Share, count: usize) -> usi
     }
 }
 
+// The place behind the objects of that length that stand from a place on, one behind the other. Their length is given, and not
+// taken from each header, so that no turn waits until the turn before has read a length.
+fn behind(s: &[u8], from: usize, count: usize) -> usize
+    requires { ⌜ from ≤ length (now s) ⌝ }
+    requires { ⌜ length (now s) ≤ 2048 ⌝ }
+    ensures { λ r. ⌜ Passed edition1 (now (s .entry)) from r ⌝ }
+{
+    let mut at = from;
+    loop {
+        match next(s, at) {
+            Next::Entry(header) => {
+                if header.tombstone {
+                    return at;
+                }
+                if header.length != count {
+                    return at;
+                }
+                at += count;
+            }
+            Next::End => {
+                return at;
+            }
+            Next::Damage => {
+                return at;
+            }
+        }
+    }
+}
+
 // What is kept of a slot's tombstones; its numbers hold what goes by the other victim. Damage ends a segment too.
 fn weigh_slot(area: &[u8], notes: &[u8], split: Split, slot: usize, shares: &mut [u16]) -> usize
     requires { ⌜ SlotsFit split (now area) ⌝ }
@@ -74,7 +103,7 @@ fn weigh_slot(area: &[u8], notes: &[u8], split: Split, slot: usize, shares: &mut
                     total += add_share(shares, base, share, HEAD_SIZE);
                     at += HEAD_SIZE;
                 } else {
-                    at += header.length;
+                    at = behind(s, at + header.length, header.length);
                 }
             }
             Next::End => {
@@ -92,7 +121,7 @@ fn weigh_part(
     area: &[u8],
     cells: &[u32],
     notes: &[u8],
-    dead: &[u32],
+    tombstones: &[u32],
     split: Split,
     slot: usize,
     totals: &mut [u32],
@@ -100,7 +129,7 @@ fn weigh_part(
 )
     requires { ⌜ NotesFit split (now area) (now cells) (now notes) ⌝ }
     requires { ⌜ slot < split .slots ⌝ }
-    requires { ⌜ Buried edition1 (now area) split (split .slots) (now dead) ⌝ }
+    requires { ⌜ TombstonesCounted edition1 (now area) split (split .slots) (now tombstones) ⌝ }
     requires { ⌜ Rows edition1 (now area) (now cells) (now notes) split slot (now totals) (now shares) ⌝ }
     ensures { λ _.
         ⌜
@@ -111,7 +140,7 @@ fn weigh_part(
     if !is_named(split.outside, slot) {
         return;
     }
-    if dead[slot] == 0 {
+    if tombstones[slot] == 0 {
         return;
     }
     let total = weigh_slot(area, notes, split, slot, shares);
@@ -123,13 +152,13 @@ pub fn weigh_all(
     area: &[u8],
     cells: &[u32],
     notes: &[u8],
-    dead: &[u32],
+    tombstones: &[u32],
     split: Split,
     totals: &mut [u32],
     shares: &mut [u16],
 )
     requires { ⌜ NotesFit split (now area) (now cells) (now notes) ⌝ }
-    requires { ⌜ Buried edition1 (now area) split (split .slots) (now dead) ⌝ }
+    requires { ⌜ TombstonesCounted edition1 (now area) split (split .slots) (now tombstones) ⌝ }
     requires { ⌜ Rows edition1 (now area) (now cells) (now notes) split 0 (now totals) (now shares) ⌝ }
     ensures { λ _.
         ⌜
@@ -139,7 +168,7 @@ pub fn weigh_all(
 {
     let mut i = 0;
     while i < split.slots {
-        weigh_part(area, cells, notes, dead, split, i, totals, shares);
+        weigh_part(area, cells, notes, tombstones, split, i, totals, shares);
         i += 1;
     }
 }

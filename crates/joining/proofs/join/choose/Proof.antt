@@ -1,6 +1,6 @@
 -- `joining::join::choose` meets its contract.
 use Rattle.segment.specs.Layout.{edition1}
-use Rattle.joining.specs.NotesLaws.{counted-start, buried-start, fits-noted}
+use Rattle.joining.specs.NotesLaws.{counted-start, tombstones-start, fits-noted}
 use Rattle.joining.specs.WeightsLaws.{rows-start}
 use Rattle.joining.specs.JoinLaws.{chosen-same}
 use borrow.Author.Needs.{needs}
@@ -17,7 +17,7 @@ slice-aggregate-note-all-3 : tie.Need-slice-aggregate-note-all-3
 slice-aggregate-note-all-3 c = search needs
 
 note-all-requires : tie.Need-note-all-requires
-note-all-requires c κs = (c .before .before .before .before .before .pre, (counted-start edition1 _ _ _, buried-start edition1 _ _))
+note-all-requires c κs = (c .before .before .before .before .before .pre, (counted-start edition1 _ _ _, tombstones-start edition1 _ _))
 
 slice-aggregate-weigh-all : tie.Need-slice-aggregate-weigh-all
 slice-aggregate-weigh-all c = search needs

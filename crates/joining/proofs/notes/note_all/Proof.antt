@@ -5,20 +5,20 @@ use native.Mathlib.Omega.{arith}
 use lib.ListN.{length}
 use denote.Ref.{now}
 use Rattle.segment.specs.Layout.{edition1}
-use Rattle.joining.specs.Notes.{noteBelow, Counted, Buried}
+use Rattle.joining.specs.Notes.{noteBelow, ObjectsCounted, TombstonesCounted}
 use Rattle.joining.specs.NotesLaws.{notes-none, notes-more, length-below, fits-again}
 use Rattle.joining.proofs.notes.note_all.Statement.{statement}
 use Rattle.joining.proofs.notes.note_all.Tie as tie
 
 abbrev Inv-loop : tie.InvT-loop
-Inv-loop area cells notes₀ totals₀ dead₀ split i₀ notes totals dead i =
+Inv-loop area cells notes₀ totals₀ tombstones₀ split i₀ notes totals tombstones i =
     (i ≤ split .slots)
     × (notes ≡ noteBelow edition1 area cells split notes₀ i)
-    × Counted edition1 area cells split i totals
-    × Buried edition1 area split i dead
+    × ObjectsCounted edition1 area cells split i totals
+    × TombstonesCounted edition1 area split i tombstones
 
 abbrev μ-loop : tie.MeasureT-loop
-μ-loop area cells notes₀ totals₀ dead₀ split i₀ notes totals dead i = split .slots - i
+μ-loop area cells notes₀ totals₀ tombstones₀ split i₀ notes totals tombstones i = split .slots - i
 
 loop-holds : tie.Need-loop-holds Inv-loop μ-loop
 loop-holds c = (omega arith, notes-none edition1 _ _ _ _, c .before .before .before .before .before .pre .1 .0, c .before .before .before .before .before .pre .1 .1)
@@ -47,7 +47,7 @@ same-length-2 : tie.Need-same-length-2 Inv-loop μ-loop
 same-length-2 c = c .before .before .loop .inv .2 .totals-long ∙ sym (c .before .before .before .before .before .before .before .before .pre .1 .0 .totals-long)
 
 same-length-3 : tie.Need-same-length-3 Inv-loop μ-loop
-same-length-3 c = c .before .before .loop .inv .3 .dead-long ∙ sym (c .before .before .before .before .before .before .before .before .pre .1 .1 .dead-long)
+same-length-3 c = c .before .before .loop .inv .3 .tombstones-long ∙ sym (c .before .before .before .before .before .before .before .before .pre .1 .1 .tombstones-long)
 
 returns : tie.Need-returns Inv-loop μ-loop
 returns c =
@@ -55,8 +55,8 @@ returns c =
     let l = c .before .before .loop .inv in
     let e : c .before .before .loop .i ≡ a .split .slots = omega (arith, c .if1 .left, l .0) in (
       l .1 ∙ ap (noteBelow edition1 (now (a .area)) (now (a .cells)) (a .split) (now (a .notes))) e,
-      subst (λ n. Counted edition1 (now (a .area)) (now (a .cells)) (a .split) n (c .before .before .loop .totals)) e (l .2),
-      subst (λ n. Buried edition1 (now (a .area)) (a .split) n (c .before .before .loop .dead)) e (l .3),
+      subst (λ n. ObjectsCounted edition1 (now (a .area)) (now (a .cells)) (a .split) n (c .before .before .loop .totals)) e (l .2),
+      subst (λ n. TombstonesCounted edition1 (now (a .area)) (a .split) n (c .before .before .loop .tombstones)) e (l .3),
     )
 
 pub note-all-spec : {M : Type 1} → statement M

@@ -5,7 +5,7 @@ use native.Mathlib.Omega.{arith}
 use borrow.Author.Needs.{needs}
 use borrow.Author.Tests.{not-true, not-false}
 use Rattle.segment.specs.Layout.{edition1}
-use Rattle.joining.specs.NotesLaws.{part-noted, part-keeps, counted-skip, counted-more, buried-skip, buried-more}
+use Rattle.joining.specs.NotesLaws.{part-noted, part-keeps, counted-skip, counted-more, tombstones-skip, tombstones-more}
 use Rattle.joining.proofs.notes.note_part.Statement.{statement}
 use Rattle.joining.proofs.notes.note_part.Tie as tie
 
@@ -16,7 +16,7 @@ returns : tie.Need-returns
 returns c =
     let s = c .before .before .before .before .before .before .before in
     let other = sym (c .before .is-named .ensures) ∙ not-true _ (c .if1 .taken) in
-    (part-keeps edition1 _ _ _ _ _ other, counted-skip edition1 _ _ _ _ _ (s .pre .1 .1 .0) other, buried-skip edition1 _ _ _ _ (s .pre .1 .1 .1) other)
+    (part-keeps edition1 _ _ _ _ _ other, counted-skip edition1 _ _ _ _ _ (s .pre .1 .1 .0) other, tombstones-skip edition1 _ _ _ _ (s .pre .1 .1 .1) other)
 
 note-slot-requires : tie.Need-note-slot-requires
 note-slot-requires c κs = search needs
@@ -30,14 +30,14 @@ mul-totals c = search needs
 slice-write-totals : tie.Need-slice-write-totals
 slice-write-totals c = search needs
 
-cast-dead : tie.Need-cast-dead
-cast-dead c = search needs
+cast-tombstones : tie.Need-cast-tombstones
+cast-tombstones c = search needs
 
-mul-dead : tie.Need-mul-dead
-mul-dead c = search needs
+mul-tombstones : tie.Need-mul-tombstones
+mul-tombstones c = search needs
 
-slice-write-dead : tie.Need-slice-write-dead
-slice-write-dead c = search needs
+slice-write-tombstones : tie.Need-slice-write-tombstones
+slice-write-tombstones c = search needs
 
 same-length : tie.Need-same-length
 same-length c = search needs
@@ -55,7 +55,7 @@ returns-2 c =
     let low : s .args .slot < 32 = omega (arith, s .pre .1 .0, s .pre .0 .slots .slots-high) in (
       part-noted edition1 _ _ _ _ _ (sym (c .before .before .before .before .before .before .before .is-named .ensures) ∙ not-false _ (c .before .before .before .before .before .before .if1 .left)) (w .1),
       counted-more edition1 _ _ _ _ _ (s .pre .1 .1 .0) low _ (w .0 .objects-are) (omega (arith, w .0 .few)),
-      buried-more edition1 _ _ _ _ (s .pre .1 .1 .1) low _ (w .0 .tombstones-are),
+      tombstones-more edition1 _ _ _ _ (s .pre .1 .1 .1) low _ (w .0 .tombstones-are),
     )
 
 pub note-part-spec : {M : Type 1} → statement M
@@ -68,9 +68,9 @@ note-part-spec =
     cast-totals
     mul-totals
     slice-write-totals
-    cast-dead
-    mul-dead
-    slice-write-dead
+    cast-tombstones
+    mul-tombstones
+    slice-write-tombstones
     same-length
     same-length-2
     same-length-3

@@ -9,7 +9,7 @@ use denote.Ref.{now}
 use Rattle.segment.specs.Layout.{edition1}
 use Rattle.index.specs.Search.{searchFor}
 use Rattle.cleaning.specs.EntriesLaws.{Meets, meets, stops-end, stops-damage, slot-lies, slot-long, place-short}
-use Rattle.joining.specs.NotesLaws.{Noting, noting-start, noting-tombstone, noting-object, noting-stop, found-short, dead-length}
+use Rattle.joining.specs.NotesLaws.{Noting, noting-start, noting-tombstone, noting-object, noting-stop, found-short, tombstone-length}
 use borrow.Author.Needs.{needs}
 use Rattle.joining.proofs.notes.note_slot.Statement.{statement}
 use Rattle.joining.proofs.notes.note_slot.Tie as tie
@@ -32,9 +32,9 @@ place : (c : tie.After-known-told Inv-loop μ-loop) → c .before .before .befor
 place c = let s = c .before .before .before .before .before .before .before .before .before in place-short (s .pre .0 .slots) _ (s .pre .1) _ (c .before .before .before .before .before .cut .ensures) _ _ (met c .fits) (met c .some-byte)
 
 -- a tombstone is 11 bytes long
-dead : (c : tie.After-known-told Inv-loop μ-loop) → c .before .header .given .0 .0 .tombstone ≡ true → c .before .header .given .0 .0 .length ≡ 11
+tombstone-long : (c : tie.After-known-told Inv-loop μ-loop) → c .before .header .given .0 .0 .tombstone ≡ true → c .before .header .given .0 .0 .length ≡ 11
 unfolding edition1
-dead c t = dead-length edition1 _ _ (met c) t
+tombstone-long c t = tombstone-length edition1 _ _ (met c) t
 
 cut-requires : tie.Need-cut-requires Inv-loop μ-loop
 cut-requires c κs = let s = c .before .before .before in slot-lies (s .pre .0 .slots) (s .args .slot) (s .pre .1)
@@ -56,10 +56,10 @@ add-at : tie.Need-add-at Inv-loop μ-loop
 add-at c = omega (arith, c .before .before .before .before .before .loop .inv .inside, long (c .before .before .before .before .before .before), c .before .before .before .before .before .before .before .before .before .before .pre .0 .slots .size-high)
 
 loop-less : tie.Need-loop-less Inv-loop μ-loop
-loop-less c = omega (arith, dead (c .before) (c .if1 .taken), met (c .before) .fits)
+loop-less c = omega (arith, tombstone-long (c .before) (c .if1 .taken), met (c .before) .fits)
 
 loop-again : tie.Need-loop-again Inv-loop μ-loop
-loop-again c = noting-tombstone edition1 _ _ _ _ _ _ _ _ _ _ (c .before .before .before .before .before .loop .inv) (met (c .before)) (c .if1 .taken) _ (dead (c .before) (c .if1 .taken))
+loop-again c = noting-tombstone edition1 _ _ _ _ _ _ _ _ _ _ (c .before .before .before .before .before .loop .inv) (met (c .before)) (c .if1 .taken) _ (tombstone-long (c .before) (c .if1 .taken))
 
 mul-note-key : tie.Need-mul-note-key Inv-loop μ-loop
 mul-note-key c = omega (arith, place (c .before .before))

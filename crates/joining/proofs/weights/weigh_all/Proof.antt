@@ -9,10 +9,10 @@ use Rattle.joining.proofs.weights.weigh_all.Statement.{statement}
 use Rattle.joining.proofs.weights.weigh_all.Tie as tie
 
 abbrev Inv-loop : tie.InvT-loop
-Inv-loop area cells notes dead split totals₀ shares₀ i₀ totals shares i = (i ≤ split .slots) × Rows edition1 area cells notes split i totals shares
+Inv-loop area cells notes tombstones split totals₀ shares₀ i₀ totals shares i = (i ≤ split .slots) × Rows edition1 area cells notes split i totals shares
 
 abbrev μ-loop : tie.MeasureT-loop
-μ-loop area cells notes dead split totals₀ shares₀ i₀ totals shares i = split .slots - i
+μ-loop area cells notes tombstones split totals₀ shares₀ i₀ totals shares i = split .slots - i
 
 loop-holds : tie.Need-loop-holds Inv-loop μ-loop
 loop-holds c = (omega arith, c .before .before .before .before .before .before .pre .1 .1)

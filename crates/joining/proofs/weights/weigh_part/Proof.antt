@@ -24,7 +24,7 @@ returns-2 : tie.Need-returns-2
 returns-2 c =
     let s = c .before .before .before .before .before .before .before .before .before .before in
     let own = sym (c .before .before .before .is-named .ensures) ∙ not-false _ (c .before .before .if1 .left) in
-    rows-none edition1 _ _ _ _ _ _ _ (s .pre .1 .1 .1) (s .pre .1 .0) own (sym (s .pre .1 .1 .0 .buried _ (s .pre .1 .0) own) ∙ c .if2 .taken)
+    rows-none edition1 _ _ _ _ _ _ _ (s .pre .1 .1 .1) (s .pre .1 .0) own (sym (s .pre .1 .1 .0 .tombstones-are _ (s .pre .1 .0) own) ∙ c .if2 .taken)
 
 weigh-slot-requires : tie.Need-weigh-slot-requires
 weigh-slot-requires c κs =

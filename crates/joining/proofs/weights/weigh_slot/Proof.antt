@@ -1,15 +1,15 @@
 -- `joining::weights::weigh_slot` meets its contract.
 use Prim.Native.Nat.{_+_, _*_, _-_, _≤_, _<_}
 use mathlib.Core.Bool.{true}
-use mathlib.Core.Path.{_≡_, _∙_, sym, subst⁻¹}
+use mathlib.Core.Path.{_≡_, _∙_, subst⁻¹}
 use native.Mathlib.Omega.{arith}
 use lib.ListN.{length}
 use denote.Ref.{now}
 use Rattle.segment.specs.Layout.{edition1}
 use Rattle.cleaning.specs.EntriesLaws.{Meets, meets, stops-end, stops-damage, slot-lies, slot-long, place-short}
 use Rattle.joining.specs.Weights.{ShareFits}
-use Rattle.joining.specs.NotesLaws.{dead-length}
-use Rattle.joining.specs.WeightsLaws.{Weighing, weighing-start, weighing-tombstone, weighing-object, weighing-stop, note-fits, share-short}
+use Rattle.joining.specs.NotesLaws.{tombstone-length}
+use Rattle.joining.specs.WeightsLaws.{Weighing, weighing-start, weighing-tombstone, weighing-object, weighing-passed, weighing-stop, note-fits, share-short}
 use borrow.Author.Needs.{needs}
 use Rattle.joining.proofs.weights.weigh_slot.Statement.{statement}
 use Rattle.joining.proofs.weights.weigh_slot.Tie as tie
@@ -32,9 +32,9 @@ place : (c : tie.After-known-told Inv-loop μ-loop) → c .before .before .befor
 place c = let s = c .before .before .before .before .before .before .before .before .before in place-short (s .pre .0) _ (s .pre .1 .1 .0) _ (c .before .before .before .before .before .cut .ensures) _ _ (met c .fits) (met c .some-byte)
 
 -- a tombstone is 11 bytes long
-dead : (c : tie.After-known-told Inv-loop μ-loop) → c .before .header .given .0 .0 .tombstone ≡ true → c .before .header .given .0 .0 .length ≡ 11
+tombstone-long : (c : tie.After-known-told Inv-loop μ-loop) → c .before .header .given .0 .0 .tombstone ≡ true → c .before .header .given .0 .0 .length ≡ 11
 unfolding edition1
-dead c t = dead-length edition1 _ _ (met c) t
+tombstone-long c t = tombstone-length edition1 _ _ (met c) t
 
 -- the slot's numbers are within the list
 row : (c : tie.At-loop Inv-loop μ-loop) → c .before .before .before .before .before .args .slot * 32 + 32 ≤ length (c .loop .shares)
@@ -91,21 +91,26 @@ add-at : tie.Need-add-at Inv-loop μ-loop
 add-at c = omega (arith, c .before .before .before .before .before .before .before .before .before .before .before .loop .inv .inside, long (c .before .before .before .before .before .before .before .before .before .before .before .before), c .before .before .before .before .before .before .before .before .before .before .before .before .before .before .before .before .pre .0 .size-high)
 
 loop-less : tie.Need-loop-less Inv-loop μ-loop
-loop-less c = omega (arith, dead (c .before .before .before .before .before .before .before) (c .before .before .before .before .before .before .if1 .taken), met (c .before .before .before .before .before .before .before) .fits)
+loop-less c = omega (arith, tombstone-long (c .before .before .before .before .before .before .before) (c .before .before .before .before .before .before .if1 .taken), met (c .before .before .before .before .before .before .before) .fits)
 
 loop-again : tie.Need-loop-again Inv-loop μ-loop
 loop-again c =
-    weighing-tombstone edition1 _ _ _ _ _ _ _ _ _ (c .before .before .before .before .before .before .before .before .before .before .before .loop .inv) (met (c .before .before .before .before .before .before .before)) (c .before .before .before .before .before .before .if1 .taken) _ (dead (c .before .before .before .before .before .before .before) (c .before .before .before .before .before .before .if1 .taken)) _
+    weighing-tombstone edition1 _ _ _ _ _ _ _ _ _ (c .before .before .before .before .before .before .before .before .before .before .before .loop .inv) (met (c .before .before .before .before .before .before .before)) (c .before .before .before .before .before .before .if1 .taken) _ (tombstone-long (c .before .before .before .before .before .before .before) (c .before .before .before .before .before .before .if1 .taken)) _
     (c .before .before .before .before .note-share .ensures) (row (c .before .before .before .before .before .before .before .before .before .before .before)) _ _ (c .before .before .add-share .ensures)
 
-add-at-2 : tie.Need-add-at-2 Inv-loop μ-loop
-add-at-2 c = omega (arith, met (c .before .before) .fits, long (c .before .before .before .before .before .before .before), c .before .before .before .before .before .before .before .before .before .before .before .pre .0 .size-high)
+add-behind : tie.Need-add-behind Inv-loop μ-loop
+add-behind c = omega (arith, met (c .before .before) .fits, long (c .before .before .before .before .before .before .before), c .before .before .before .before .before .before .before .before .before .before .before .pre .0 .size-high)
+
+behind-requires : tie.Need-behind-requires Inv-loop μ-loop
+behind-requires c κs = (met (c .before .before) .fits, omega (arith, long (c .before .before .before .before .before .before .before), c .before .before .before .before .before .before .before .before .before .before .before .pre .0 .size-high))
 
 loop-less-2 : tie.Need-loop-less-2 Inv-loop μ-loop
-loop-less-2 c = omega (arith, met (c .before .before))
+loop-less-2 c = omega (arith, met (c .before .before .before), c .behind .ensures .forward, c .behind .ensures .inside)
 
 loop-again-2 : tie.Need-loop-again-2 Inv-loop μ-loop
-loop-again-2 c = weighing-object edition1 _ _ _ _ _ _ _ _ _ (c .before .before .before .before .before .before .loop .inv) (met (c .before .before)) (c .before .if1 .left) (row (c .before .before .before .before .before .before))
+loop-again-2 c =
+    weighing-passed edition1 _ _ _ _ _ _ _ _ _
+    (weighing-object edition1 _ _ _ _ _ _ _ _ _ (c .before .before .before .before .before .before .before .loop .inv) (met (c .before .before .before)) (c .before .before .if1 .left) (row (c .before .before .before .before .before .before .before))) _ (c .behind .ensures)
 
 enum-told : tie.Need-enum-told Inv-loop μ-loop
 enum-told c = search needs
@@ -151,7 +156,8 @@ weigh-slot-spec =
     add-at
     loop-less
     loop-again
-    add-at-2
+    add-behind
+    behind-requires
     loop-less-2
     loop-again-2
     enum-told
