@@ -5,12 +5,13 @@ use mathlib.Core.Bool.{Bool, true, false, not}
 use mathlib.Core.Logic.{_⊎_, inl, inr}
 use mathlib.Core.Option.{Option, none, some}
 use mathlib.Core.List.{List, [], _∷_}
+use native.Mathlib.Nat.{mul-le-mul}
 use native.Mathlib.Omega.{arith}
 use lib.Dec.{ltb}
 use lib.ListN.{length, replicate, length-replicate}
 use borrow.Author.Tests.{le-ltb, not-false, not-true}
 use Rattle.segment.specs.Choice.{isNone}
-use Rattle.segment.specs.Layout.{Layout, digestSize}
+use Rattle.segment.specs.Layout.{Layout, digestSize, entrySize}
 use Rattle.record.specs.Range.{fitsLent}
 use Rattle.record.specs.RangeLaws.{Lent, lent}
 use Rattle.record.specs.Pairs.{PairSaid, noneSaid, joinSaid}
@@ -56,9 +57,9 @@ module _ (L : Layout) (r : Record) (l : Lengths) {t : Bool} (e : t ≡ fitsLent 
 -- by the numbers it is the pair by what is kept
 pub chosen-same :
     (L : Layout) (area cells notes : List ℕ) (split : Split) (totals shares : List ℕ) (chosen : Chosen) → split .slots ≤ 32 →
-    notes ≡ noteAll L area cells split (replicate 4096 0) → Rows L area cells notes split (split .slots) totals shares →
+    notes ≡ noteAll L area cells split (replicate 5958 0) → Rows L area cells notes split (split .slots) totals shares →
     chosen ≡ chosenIs (lowestPair (numbersFit totals shares split (digestSize L)) (split .slots)) →
-    chosen ≡ chosenIs (lowestPair (weightsFit L area cells (noteAll L area cells split (replicate 4096 0)) split) (split .slots))
+    chosen ≡ chosenIs (lowestPair (weightsFit L area cells (noteAll L area cells split (replicate 5958 0)) split) (split .slots))
 chosen-same L area cells notes split totals shares chosen most is w e =
     e
     ∙ ap chosenIs
@@ -99,7 +100,7 @@ module _ (L : Layout) (area cells : List ℕ) (r : Record) where
 
   -- the pair by the code's weights
   abbrev pub codePair : Option SlotPair
-  codePair = lowestPair (weightsFit L area cells (noteAll L area cells (logSplit r) (replicate 4096 0)) (logSplit r)) (r .slots)
+  codePair = lowestPair (weightsFit L area cells (noteAll L area cells (logSplit r) (replicate 5958 0)) (logSplit r)) (r .slots)
 
   early-first : (p : Option SlotPair) (c : Refusal) → firstCause (joinEarly L r l) ≡ some c → firstCause (joinCauses L r l p) ≡ some c
   early-first p c e = first-some (joinEarly L r l) (when (isNone p) NoPair ∷ []) c e
@@ -108,19 +109,19 @@ module _ (L : Layout) (area cells : List ℕ) (r : Record) where
   in-range : firstCause (joinEarly L r l) ≡ none → Lent L r (length area) (length cells)
   in-range e = lent L r (length area) (length cells) (not-false _ (cause-false (when (recordBad L r l) BadRecord) _ e))
 
-  pub fits-notes : Check.Passed ≡ checked (firstCause (joinEarly L r l)) → (split : Split) → split ≡ logSplit r → NotesFit split area cells (replicate 4096 0)
+  pub fits-notes : Check.Passed ≡ checked (firstCause (joinEarly L r l)) → (split : Split) → split ≡ logSplit r → NotesFit split area cells (replicate 5958 0)
   fits-notes e split is =
       let f = in-range (checked-none _ e) in
       rw is
       (record {
         slots = record { slots-high = f .slots-high; size-low = f .size-low; size-high = f .size-high; whole = f .area-own };
         cells-few = omega (arith, f .cells-high, f .index-own);
-        notes-long = length-replicate {A = ℕ} 4096 0;
+        notes-long = length-replicate {A = ℕ} 5958 0;
       })
 
-  promise : (a : Joined) → a .rec ≡ r → a .answer ≡ joinAnswer (firstCause (joinCauses L r l codePair)) codePair → JoinPromise L r area cells a
+  promise : 11 ≤ entrySize L 0 → (a : Joined) → a .rec ≡ r → a .answer ≡ joinAnswer (firstCause (joinCauses L r l codePair)) codePair → JoinPromise L r area cells a
   unfolding joinAnswer pairSaidBy
-  promise a back e =
+  promise wide a back e =
       record {
         hands-back = back;
         early = early;
@@ -145,39 +146,39 @@ module _ (L : Layout) (area cells : List ℕ) (r : Record) where
           go none q =
               let f = in-range q in
               ap (λ (p : Option SlotPair). joinAnswer (firstCause (joinCauses L r l p)) p)
-              (pair-model L area cells r g (omega (arith, f .cells-high, f .index-own)) (f .slots-high))
+              (pair-model L wide area cells (omega (arith, f .area-own, mul-le-mul (f .slots-high) (f .size-high))) r g (omega (arith, f .cells-high, f .index-own)) (f .slots-high))
 
       says : Settled L area r cells (joinEarly L r l) → joinSaid (a .answer) ≡ pairSaidBy (firstCause (joinCauses L r l model)) model
       says (inl (c, q)) = ap joinSaid (early c q) ∙ sym (ap (λ (d : Option Refusal). pairSaidBy d model) (early-first model c q))
       says (inr g) = ap joinSaid (exact g) ∙ answer-said (firstCause (joinCauses L r l model)) model
 
-  pub join-refused : (c : Refusal) → Check.Refused c ≡ checked (firstCause (joinEarly L r l)) → JoinPromise L r area cells (record { answer = JoinAnswer.Refused c; rec = r })
+  pub join-refused : 11 ≤ entrySize L 0 → (c : Refusal) → Check.Refused c ≡ checked (firstCause (joinEarly L r l)) → JoinPromise L r area cells (record { answer = JoinAnswer.Refused c; rec = r })
   unfolding joinAnswer
-  join-refused c e =
-      promise (record { answer = JoinAnswer.Refused c; rec = r }) refl
+  join-refused wide c e =
+      promise wide (record { answer = JoinAnswer.Refused c; rec = r }) refl
       (sym (ap (λ (d : Option Refusal). joinAnswer d codePair) (early-first codePair c (checked-some _ c e))))
 
   module _ (e : Check.Passed ≡ checked (firstCause (joinEarly L r l))) (split : Split) (is : split ≡ logSplit r) (chosen : Chosen)
-      (its : chosen ≡ chosenIs (lowestPair (weightsFit L area cells (noteAll L area cells split (replicate 4096 0)) split) (split .slots))) where
+      (its : chosen ≡ chosenIs (lowestPair (weightsFit L area cells (noteAll L area cells split (replicate 5958 0)) split) (split .slots))) where
     code : chosen ≡ chosenIs codePair
-    code = its ∙ ap (λ (s : Split). chosenIs (lowestPair (weightsFit L area cells (noteAll L area cells s (replicate 4096 0)) s) (s .slots))) is
+    code = its ∙ ap (λ (s : Split). chosenIs (lowestPair (weightsFit L area cells (noteAll L area cells s (replicate 5958 0)) s) (s .slots))) is
 
     only : firstCause (joinCauses L r l codePair) ≡ firstCause (when (isNone codePair) NoPair ∷ [])
     only = first-none (joinEarly L r l) (when (isNone codePair) NoPair ∷ []) (checked-none _ e)
 
-    pub join-pair : (i j : ℕ) → chosen ≡ Chosen.Pair i j → JoinPromise L r area cells (record { answer = JoinAnswer.Pair i j; rec = r })
+    pub join-pair : 11 ≤ entrySize L 0 → (i j : ℕ) → chosen ≡ Chosen.Pair i j → JoinPromise L r area cells (record { answer = JoinAnswer.Pair i j; rec = r })
     unfolding joinAnswer pairAnswer isNone firstCause
-    join-pair i j p =
+    join-pair wide i j p =
         let q : codePair ≡ some (record { first = i; second = j }) = was-pair codePair i j (sym p ∙ code) in
-        promise (record { answer = JoinAnswer.Pair i j; rec = r }) refl
+        promise wide (record { answer = JoinAnswer.Pair i j; rec = r }) refl
         (sym
         (ap (λ (d : Option Refusal). joinAnswer d codePair) (only ∙ cause-none (when (isNone codePair) NoPair) [] (ap (λ (o : Option SlotPair). isNone o) q) refl)
         ∙ ap pairAnswer q))
 
-    pub join-none : chosen ≡ Chosen.Nothing → JoinPromise L r area cells (record { answer = JoinAnswer.Refused NoPair; rec = r })
+    pub join-none : 11 ≤ entrySize L 0 → chosen ≡ Chosen.Nothing → JoinPromise L r area cells (record { answer = JoinAnswer.Refused NoPair; rec = r })
     unfolding joinAnswer isNone
-    join-none p =
-        promise (record { answer = JoinAnswer.Refused NoPair; rec = r }) refl
+    join-none wide p =
+        promise wide (record { answer = JoinAnswer.Refused NoPair; rec = r }) refl
         (sym
         (ap (λ (d : Option Refusal). joinAnswer d codePair)
         (only ∙ cause-first (when (isNone codePair) NoPair) [] (ap (λ (o : Option SlotPair). isNone o) (was-nothing codePair (sym p ∙ code))))))

@@ -2,41 +2,44 @@
 use Prim.Native.Nat.{ℕ, zero, suc, _+_, _*_, _^_, _≤_, _<_}
 use mathlib.Core.Path.{_≡_, refl, sym, _∙_, ap, subst}
 use mathlib.Core.Bool.{Bool, true, false, not}
-use mathlib.Core.Logic.{_⊎_, inl, inr}
-use mathlib.Core.Option.{some}
-use mathlib.Core.List.{List, [], _∷_, _++_, List·Memᴰ·tail, List·Memᴰ·not-nil}
+use mathlib.Core.Option.{Option, some}
+use mathlib.Core.List.{List, [], _∷_, List·Memᴰ·head, List·Memᴰ·tail, List·Memᴰ·not-nil}
 use native.Mathlib.Decide.{ℕ-discrete}
+use native.Mathlib.Nat.{zero-add}
 use native.Mathlib.Omega.{arith}
 use lib.Dec.{eqb, leb, ltb}
-use lib.ListN.{length, getD, replicate, length-append, length-replicate, getD-replicate}
-use borrow.Author.Tests.{eq-eqb, ne-eqb, eqb-true, eqb-false, le-leb, lt-leb, le-ltb, lt-ltb, ltb-true, ltb-false}
+use lib.ListN.{length, getD, replicate, length-append, length-replicate}
+use borrow.Author.Tests.{eq-eqb, ne-eqb, eqb-true, le-leb, lt-leb, le-ltb, lt-ltb, ltb-true, ltb-false}
 use Rattle.segment.specs.Choice.{pick, pick-true, pick-false, both, both-false-left, both-false-right, either, either-true-left, either-true-right}
-use Rattle.segment.specs.Layout.{Layout, digestSize}
+use Rattle.segment.specs.Layout.{Layout, digestSize, entrySize}
 use Rattle.segment.specs.Entries.{headerOf}
 use Rattle.segment.specs.Entry.{Entry, encoded, sizeOf, keyOf, isTombstone}
 use Rattle.segment.specs.EntryLaws.{length-encoded}
 use Rattle.segment.specs.declared.Key.{Key}
-use Rattle.slot_map.specs.Bit.{bit, named, less}
+use Rattle.slot_map.specs.Bit.{bit, named}
 use Rattle.slot_map.specs.BitLaws.{bit-pow-same, bit-pow-other, bit-add-same, bit-add-other, set-named, clear-named}
 use Rattle.record.specs.declared.Record.{Record}
-use Rattle.model.specs.Log.{View, Item, Placed, placeOf, viewsOf, itemsOf, placedIn, logOf}
-use Rattle.model.specs.Operations.{logNow, isHighest, objectOutside, isKept, keptOf, kept, allEncoded}
+use Rattle.model.specs.Log.{View, Item, Placed, placeOf, segmentOf, viewsOf, scan, itemsOf, placedIn, logOf, sameKeys, sameKey, latest}
+use Rattle.model.specs.Operations.{logNow, isVersion, isHighest, objectOutside, isKept, keptOf, kept, allEncoded}
 use Rattle.model.specs.Refused.{keptTooLong, keptLength}
 use Rattle.model.specs.Promises.{Genuine}
 use Rattle.model.specs.Joining.{pairOf, joinFits, joinPair, lowestPair}
-use Rattle.laws.specs.Members.{In, first, Within}
-use Rattle.laws.specs.LogLaws.{anyBelow, partOf, part-picked, part-passed, mem-placed, in-log, itemOf, log-in}
-use Rattle.laws.specs.Latest.{latest-some}
+use Rattle.laws.specs.Members.{clash, In, first, Within}
+use Rattle.laws.specs.LogLaws.{anyBelow, partOf, part-picked, part-passed, placedAt, mem-placed, in-log, itemOf, log-in, scan-whole}
+use Rattle.laws.specs.Latest.{Newest, own-key, same-key, latest-some}
+use Rattle.laws.specs.Scans.{Scans, more, scan-scans}
 use Rattle.laws.specs.Stores.{slots-apart}
+use Rattle.index.specs.Search.{searchFor}
+use Rattle.index.specs.SearchLaws.{search-inside}
 use Rattle.index.specs.declared.Found.{Found}
 use Rattle.cleaning.specs.Entries.{slotItems, slotHolds, objectIn}
 use Rattle.cleaning.specs.Outside.{outside-named, slot-items, object-same}
-use Rattle.cleaning.specs.KeptModel.{splitOf, encoded-append, kept-front, kept-behind, kept-append, kept-none, scans, inside, place-one, KeyCell, key-cell, cell-highest, tells-in}
+use Rattle.cleaning.specs.KeptModel.{splitOf, encoded-append, kept-front, kept-behind, kept-append, kept-none, scans, inside, place-one, KeyCell, key-cell, cell-highest}
 use Rattle.cleaning.specs.declared.Split.{Split}
 use Rattle.joining.specs.declared.Share.{Share}
-use Rattle.joining.specs.Notes.{tellsBut, elsewhere, noteAll}
-use Rattle.joining.specs.NotesLaws.{below-note, counts, standsIn}
-use Rattle.joining.specs.Weights.{noteShare, cellShare, shareAt, shareKept, weightAt, weightOf, slotWeight, weightsFit}
+use Rattle.joining.specs.Notes.{tellsBut, spotOf, cellSpot, elsewhere, noteAll, foundLength, objectAt, objectsOf}
+use Rattle.joining.specs.NotesLaws.{zeros, Misses, below-misses, Leads, below-note, standsIn}
+use Rattle.joining.specs.Weights.{noteShare, shareAt, shareKept, weightAt, weightOf, slotWeight, weightsFit}
 use Rattle.joining.specs.WeightsLaws.{note-kept}
 use Rattle.joining.specs.PairLaws.{pair-same}
 
@@ -102,9 +105,25 @@ module _ (w : ℕ → ℕ) where
       go (yes p) ih = omega (arith, sum-one i n (omega arith) (λ s b q. h s (omega arith) q (λ e. omega arith)), ap w p)
       go (no p) ih = omega (arith, ih (omega arith), h n (omega arith) (λ e. omega arith) (λ e. p (sym e)))
 
+-- ---- the items of a scan
+
+scans-above : {L : Layout} {s : List ℕ} {at e : ℕ} {is : List Item} {i : Item} → Scans L s at is e → In i is → at ≤ i .offset
+scans-above (more x p r) (List·Memᴰ·head q) = omega (arith, ap (λ (j : Item). j .offset) q)
+scans-above (more x p r) (List·Memᴰ·tail m) = omega (arith, scans-above r m)
+
+-- of two items the one behind starts where the other one ends, or later
+scans-apart : {L : Layout} {s : List ℕ} {at e : ℕ} {is : List Item} {i j : Item} → Scans L s at is e → In i is → In j is → i .offset < j .offset →
+    i .offset + entrySize L 0 ≤ j .offset
+scans-apart (more x p r) (List·Memᴰ·head a) (List·Memᴰ·head b) l =
+    absurd (omega (arith, ap (λ (k : Item). k .offset) a, ap (λ (k : Item). k .offset) b))
+scans-apart (more x p r) (List·Memᴰ·head a) (List·Memᴰ·tail n) l = omega (arith, ap (λ (k : Item). k .offset) a, scans-above r n)
+scans-apart (more x p r) (List·Memᴰ·tail m) (List·Memᴰ·head b) l = absurd (omega (arith, ap (λ (k : Item). k .offset) b, scans-above r m))
+scans-apart (more x p r) (List·Memᴰ·tail m) (List·Memᴰ·tail n) l = scans-apart r m n l
+
 -- ---- a genuine store
 
-module _ (L : Layout) (area cells : List ℕ) (r : Record) (g : Genuine L area r cells) (few : length cells ≤ 4096) where
+module _ (L : Layout) (wide : 11 ≤ entrySize L 0) (area cells : List ℕ) (short : length area ≤ 65536) (r : Record) (g : Genuine L area r cells)
+    (few : length cells ≤ 4096) where
   abbrev v : ℕ → View
   v = viewsOf L area (r .size)
 
@@ -112,7 +131,85 @@ module _ (L : Layout) (area cells : List ℕ) (r : Record) (g : Genuine L area r
   log = logNow L area r
 
   abbrev pub notes : List ℕ
-  notes = noteAll L area cells (logSplit r) (replicate 4096 0)
+  notes = noteAll L area cells (logSplit r) (replicate 5958 0)
+
+  -- ---- the note of an entry
+
+  -- of two entries of the log the one behind starts where the other one ends, or later
+  behind : (x y : Placed) → In x log → In y log → placeOf (r .size) x < placeOf (r .size) y → placeOf (r .size) x + 11 ≤ placeOf (r .size) y
+  behind x y mx my l = go (ℕ-discrete (x .slot) (y .slot))
+    where
+      go : Dec (x .slot ≡ y .slot) → placeOf (r .size) x + 11 ≤ placeOf (r .size) y
+      go (yes e) =
+          let wx = log-in v (named (r .map)) (r .slots) x mx in
+          let wy = log-in v (named (r .map)) (r .slots) y my in
+          let seg : List ℕ = segmentOf area (r .size) (x .slot) in
+          let own : In (itemOf y) (itemsOf (v (x .slot) .scan)) = subst (λ (s : ℕ). In (itemOf y) (itemsOf (v s .scan))) (sym e) (wy .item) in
+          let all = scan-scans L seg (scan-whole (scan L seg) (scans L area cells r g (x .slot) (wx .below) (wx .picked))) in
+          let same : x .slot * r .size ≡ y .slot * r .size = ap (λ (s : ℕ). s * r .size) e in
+          omega (arith, same, wide, scans-apart all (wx .item) own (omega (arith, same)))
+      go (no n) = at (ltb (x .slot) (y .slot)) refl
+        where
+          at : (t : Bool) → ltb (x .slot) (y .slot) ≡ t → placeOf (r .size) x + 11 ≤ placeOf (r .size) y
+          at true p = omega (arith, wide, slots-apart (r .size) (ltb-true (x .slot) (y .slot) p), inside L area cells r g x mx)
+          at false p =
+              let above : y .slot < x .slot = omega (arith, ltb-false (x .slot) (y .slot) p) in
+              absurd (omega (arith, slots-apart (r .size) above, inside L area cells r g y my))
+
+  -- no two entries have the same note
+  spot-one : (x y : Placed) → In x log → In y log → spotOf (placeOf (r .size) x) ≡ spotOf (placeOf (r .size) y) → x ≡ y
+  spot-one x y mx my e = place-one L area cells r g x y mx my (same (ltb p q) refl (ltb q p) refl)
+    where
+      p : ℕ
+      p = placeOf (r .size) x
+
+      q : ℕ
+      q = placeOf (r .size) y
+
+      same : (a : Bool) → ltb p q ≡ a → (b : Bool) → ltb q p ≡ b → p ≡ q
+      same true h b k = absurd (omega (arith, e, behind x y mx my (ltb-true p q h)))
+      same false h true k = absurd (omega (arith, e, behind y x my mx (ltb-true q p k)))
+      same false h false k = omega (arith, ltb-false p q h, ltb-false q p k)
+
+  -- the entry of a log slot's item
+  item-in : (s : ℕ) → s < r .slots → named (r .map) s ≡ true → (y : Item) → In y (slotItems L area (r .size) s) → In (placedAt s y) log
+  item-in s h e y m =
+      in-log v (named (r .map)) (r .slots) (placedAt s y)
+      (record {
+        below = h;
+        picked = e;
+        item = subst (λ (is : List Item). In y is) (slot-items L area (r .size) (r .map) (r .slots) (scans L area cells r g) s h e) m;
+      })
+
+  -- the search for the key of an entry leads to the note of the key's latest entry, and to no other
+  misses : (x : Placed) → In x log → (y : Placed) → In y log → (latest log (keyOf (y .entry)) ≡ some x → ⊥) →
+      Misses L area cells (r .size) (spotOf (placeOf (r .size) x)) (headerOf L (y .entry))
+  misses x mx y my n =
+      let c = key-cell L area cells r g few y my in (
+        c .cell .cell,
+        c .finds,
+        λ e.
+            let same : spotOf (placeOf (r .size) (c .top)) ≡ spotOf (placeOf (r .size) x) = spot-of c ∙ e in
+            n (c .is ∙ ap some (spot-one (c .top) x (latest-some log (keyOf (y .entry)) (c .top) (c .is) .member) mx same)),
+      )
+    where
+      spot-of : (c : KeyCell L area cells r g (keyOf (y .entry))) → spotOf (placeOf (r .size) (c .top)) ≡ cellSpot cells (c .cell .cell)
+      spot-of c = omega (arith, c .cell .holds)
+
+  -- an entry that is not its key's latest has no note
+  no-note : (x : Placed) → In x log → isHighest log (x .entry) ≡ false → getD notes (spotOf (placeOf (r .size) x)) 0 ≡ 0
+  unfolding isVersion
+  no-note x mx h =
+      below-misses L area cells (r .size) (spotOf (placeOf (r .size) x)) (logSplit r) refl (replicate 5958 0)
+      (λ s l e y m. misses x mx (placedAt s y) (item-in s l e y m) (not-latest (y .entry))) (r .slots) (omega arith)
+      ∙ zeros 5958 (spotOf (placeOf (r .size) x))
+    where
+      not-latest : (e : Entry) → latest log (keyOf e) ≡ some x → ⊥
+      not-latest e q =
+          let key : keyOf e ≡ keyOf (x .entry) = same-key (keyOf e) (x .entry) (latest-some log (keyOf e) x q .of-key) in
+          let own : latest log (keyOf (x .entry)) ≡ some x = ap (latest log) (sym key) ∙ q in
+          clash (isHighest log (x .entry))
+          (ap (λ (o : Option Placed). isVersion o (x .entry .version)) own ∙ eq-eqb (x .entry .version) (x .entry .version) refl) h
 
   -- the slot of a cell's entry
   cell-slot : (k : Key) (c : KeyCell L area cells r g k) (s : ℕ) → elsewhere (r .size) s (getD cells (c .cell .cell) 0) ≡ not (eqb s (c .top .slot))
@@ -147,19 +244,50 @@ module _ (L : Layout) (area cells : List ℕ) (r : Record) (g : Genuine L area r
               let high : x .slot * r .size + r .size ≤ s * r .size = slots-apart (r .size) above in
               either-true-left (leb cell (s * r .size)) (ltb (s * r .size + r .size) cell) (le-leb cell (s * r .size) (omega (arith, c .cell .holds, high, lies))) ∙ sym (ap not (ne-eqb s (x .slot) p))
 
+  -- the search for the key of an entry of a log slot tells it from another key
+  leads : (k : Key) (c : KeyCell L area cells r g k) (j : ℕ) (low : cellSpot cells (c .cell .cell) < 5958) (b : j < 32) (s : ℕ) → s < r .slots →
+      named (r .map) s ≡ true → (y : Item) → In y (slotItems L area (r .size) s) →
+      Leads L area cells k (c .cell .cell) (c .top .slot) j low b (r .size) (cell-slot k c) (headerOf L (y .entry))
+  unfolding sameKey sameKeys
+  leads k c j low b s h e y m =
+      record {
+        own = λ p. sym (ap (searchFor L area cells) (same-key k (y .entry) p)) ∙ c .finds;
+        other =
+            λ p.
+            subst (λ (q : ℕ). Misses L area cells (r .size) q (headerOf L (y .entry))) spot
+            (misses (c .top) (top .member) (placedAt s y) (item-in s h e y m)
+            (λ q. clash (sameKey k (y .entry)) (ap (λ (i : Key). sameKey i (y .entry)) (key q) ∙ own-key (y .entry)) p));
+      }
+    where
+      top : Newest log k (c .top)
+      top = latest-some log k (c .top) (c .is)
+
+      spot : spotOf (placeOf (r .size) (c .top)) ≡ cellSpot cells (c .cell .cell)
+      spot = omega (arith, c .cell .holds)
+
+      key : latest log (keyOf (y .entry)) ≡ some (c .top) → k ≡ keyOf (y .entry)
+      key q =
+          same-key k (c .top .entry) (top .of-key)
+          ∙ sym (same-key (keyOf (y .entry)) (c .top .entry) (latest-some log (keyOf (y .entry)) (c .top) q .of-key))
+
+  spot-low : (k : Key) (c : KeyCell L area cells r g k) → cellSpot cells (c .cell .cell) < 5958
+  spot-low k c =
+      let w = search-inside L area cells k (c .cell .cell) (c .finds) in
+      omega (arith, w .taken, w .fits, wide, short)
+
   -- A note tells of a slot other than j exactly if an object of the key stands outside j and the slot of the key's latest entry.
   note-means : (k : Key) (c : KeyCell L area cells r g k) (j : ℕ) → j < 32 → (c .top .slot ≡ j → ⊥) →
-      tellsBut (getD notes (c .cell .cell) 0) j ≡ objectOutside (pairOf (c .top .slot) j) log k
+      tellsBut (getD notes (cellSpot cells (c .cell .cell)) 0) j ≡ objectOutside (pairOf (c .top .slot) j) log k
   unfolding tellsBut either both
   note-means k c j low apart =
-      below-note L area cells k (c .cell .cell) (c .top .slot) j (omega (arith, c .cell .below)) low (r .size) (cell-slot k c) (logSplit r) refl
-      (replicate 4096 0) (length-replicate {A = ℕ} 4096 0) clear (tells-in L area cells r g few k c) (r .slots) (omega arith)
-      ∙ any-same (standsIn L area cells k (c .cell .cell) (c .top .slot) j (omega (arith, c .cell .below)) low (r .size) (cell-slot k c) (logSplit r) refl (replicate 4096 0) (length-replicate {A = ℕ} 4096 0) clear (tells-in L area cells r g few k c))
+      below-note L area cells k (c .cell .cell) (c .top .slot) j (spot-low k c) low (r .size) (cell-slot k c) (logSplit r) refl
+      (replicate 5958 0) (length-replicate {A = ℕ} 5958 0) clear (leads k c j (spot-low k c) low) (r .slots) (omega arith)
+      ∙ any-same (standsIn L area cells k (c .cell .cell) (c .top .slot) j (spot-low k c) low (r .size) (cell-slot k c) (logSplit r) refl (replicate 5958 0) (length-replicate {A = ℕ} 5958 0) clear (leads k c j (spot-low k c) low))
       (slotHolds L area (splitOf r (pairOf (c .top .slot) j)) k) (r .slots) slot-same
       ∙ object-same L area (r .size) (r .map) (pairOf (c .top .slot) j) (r .slots) (scans L area cells r g) k
     where
-      clear : tellsBut (getD (replicate 4096 0) (c .cell .cell) 0) j ≡ false
-      clear = ap (λ (n : ℕ). tellsBut n j) (getD-replicate 4096 (c .cell .cell) 0 0 (omega (arith, c .cell .below)))
+      clear : tellsBut (getD (replicate 5958 0) (cellSpot cells (c .cell .cell)) 0) j ≡ false
+      clear = ap (λ (n : ℕ). tellsBut n j) (zeros 5958 (cellSpot cells (c .cell .cell)))
 
       regroup : (a p q o : Bool) → both a (both (both (not p) (not q)) o) ≡ both (both a (not (either p q))) o
       regroup true true q o = refl
@@ -180,56 +308,79 @@ module _ (L : Layout) (area cells : List ℕ) (r : Record) (g : Genuine L area r
     own-victim : named (pairOf i j) i ≡ true
     own-victim = pair-named i j apart i ∙ either-true-left (eqb i i) (eqb i j) (eq-eqb i i refl)
 
-    -- an entry's share is the model's test
-    share-same : (x : Placed) → In x log → x .slot ≡ i →
-        shareKept (shareAt L area cells notes (headerOf L (x .entry)) (placeOf (r .size) x)) j ≡ isKept (pairOf i j) log x
-    unfolding shareAt cellShare shareKept both either pick
-    share-same x m own =
-        ap (λ (f : Found). shareKept (cellShare cells notes (isTombstone (x .entry)) (placeOf (r .size) x) f) j) (c .finds)
-        ∙ ap (λ (t : Bool). shareKept (pick t (pick (isTombstone (x .entry)) (noteShare n) Share.Whole) Share.Nothing) j) (cell-highest L area cells r g x m c)
+    -- what the two walks count of an entry is its length, if the model keeps it
+    entry-same : (x : Placed) → In x log → x .slot ≡ i →
+        objectAt L area cells (headerOf L (x .entry)) (placeOf (r .size) x) + weightAt notes j (headerOf L (x .entry)) (placeOf (r .size) x)
+        ≡ pick (isKept (pairOf i j) log x) (sizeOf L (x .entry)) 0
+    unfolding objectAt foundLength shareAt shareKept noteShare both either pick
+    entry-same x m own =
+        ap (λ (f : Found). pick (isTombstone (x .entry)) 0 (foundLength cells (placeOf (r .size) x) size f) + kept (isTombstone (x .entry))) (c .finds)
+        ∙ ap (λ (b : Bool). pick (isTombstone (x .entry)) 0 (pick b size 0) + kept (isTombstone (x .entry))) (cell-highest L area cells r g x m c)
         ∙ go (isHighest log (x .entry)) refl (isTombstone (x .entry))
-        ∙ sym (ap (λ (t : Bool). both t (both (isHighest log (x .entry)) (either (not (isTombstone (x .entry))) outside))) (ap (named (pairOf i j)) own ∙ own-victim))
+        ∙ sym
+        (ap (λ (b : Bool). pick (both b (both (isHighest log (x .entry)) (either (not (isTombstone (x .entry))) outside))) size 0)
+        (ap (named (pairOf i j)) own ∙ own-victim))
       where
         c : KeyCell L area cells r g (keyOf (x .entry))
         c = key-cell L area cells r g few x m
 
+        size : ℕ
+        size = sizeOf L (x .entry)
+
         n : ℕ
-        n = getD notes (c .cell .cell) 0
+        n = getD notes (spotOf (placeOf (r .size) x)) 0
+
+        kept : Bool → ℕ
+        kept t = pick (shareKept (pick t (noteShare n) Share.Nothing) j) size 0
 
         outside : Bool
         outside = objectOutside (pairOf i j) log (keyOf (x .entry))
 
+        place : isHighest log (x .entry) ≡ true → getD cells (c .cell .cell) 0 ≡ placeOf (r .size) x + 1
+        place h = eqb-true (getD cells (c .cell .cell) 0) (placeOf (r .size) x + 1) (cell-highest L area cells r g x m c ∙ h)
+
         top-slot : isHighest log (x .entry) ≡ true → c .top .slot ≡ i
         top-slot h =
-            let held : getD cells (c .cell .cell) 0 ≡ placeOf (r .size) x + 1 =
-            eqb-true (getD cells (c .cell .cell) 0) (placeOf (r .size) x + 1) (cell-highest L area cells r g x m c ∙ h) in
-            let place : placeOf (r .size) (c .top) ≡ placeOf (r .size) x = omega (arith, c .cell .holds, held) in
-            ap (λ (y : Placed). y .slot) (place-one L area cells r g (c .top) x (latest-some log (keyOf (x .entry)) (c .top) (c .is) .member) m place) ∙ own
+            let same : placeOf (r .size) (c .top) ≡ placeOf (r .size) x = omega (arith, c .cell .holds, place h) in
+            ap (λ (y : Placed). y .slot) (place-one L area cells r g (c .top) x (latest-some log (keyOf (x .entry)) (c .top) (c .is) .member) m same) ∙ own
 
         told : isHighest log (x .entry) ≡ true → shareKept (noteShare n) j ≡ outside
         told h =
             let at = top-slot h in
+            let spot : spotOf (placeOf (r .size) x) ≡ cellSpot cells (c .cell .cell) = omega (arith, place h) in
             note-kept n j low
+            ∙ ap (λ (q : ℕ). tellsBut (getD notes q 0) j) spot
             ∙ note-means (keyOf (x .entry)) c j low (λ e. apart (sym at ∙ e))
             ∙ ap (λ (s : ℕ). objectOutside (pairOf s j) log (keyOf (x .entry))) at
 
+        untold : isHighest log (x .entry) ≡ false → shareKept (noteShare n) j ≡ false
+        untold h = ap (λ (k : ℕ). shareKept (noteShare k) j) (no-note x m h)
+
         go : (h : Bool) → isHighest log (x .entry) ≡ h → (t : Bool) →
-            shareKept (pick h (pick t (noteShare n) Share.Whole) Share.Nothing) j ≡ both true (both h (either (not t) outside))
-        go false p t = refl
-        go true p true = told p
-        go true p false = refl
+            pick t 0 (pick h size 0) + kept t ≡ pick (both true (both h (either (not t) outside))) size 0
+        go false p true = zero-add _ ∙ ap (λ (b : Bool). pick b size 0) (untold p)
+        go false p false = refl
+        go true p true = zero-add _ ∙ ap (λ (b : Bool). pick b size 0) (told p)
+        go true p false = omega arith
 
     weight-same : (xs : List Placed) → Within xs log → ((x : Placed) → In x xs → x .slot ≡ i) →
-        weightOf L area cells notes (r .size) j xs ≡ length (allEncoded L (keptOf (pairOf i j) log xs))
-    unfolding weightOf allEncoded keptOf
+        objectsOf L area cells (r .size) xs + weightOf L notes (r .size) j xs ≡ length (allEncoded L (keptOf (pairOf i j) log xs))
+    unfolding objectsOf weightOf allEncoded keptOf
     weight-same [] w f = refl
     weight-same (x ∷ xs) w f = go (isKept (pairOf i j) log x) refl (weight-same xs (λ y m. w y (List·Memᴰ·tail m)) (λ y m. f y (List·Memᴰ·tail m)))
       where
-        one : (t : Bool) → isKept (pairOf i j) log x ≡ t → weightAt L area cells notes j (headerOf L (x .entry)) (placeOf (r .size) x) ≡ pick t (sizeOf L (x .entry)) 0
-        one t e = ap (λ (b : Bool). pick b (sizeOf L (x .entry)) 0) (share-same x (w x first) (f x first) ∙ e)
+        object : ℕ
+        object = objectAt L area cells (headerOf L (x .entry)) (placeOf (r .size) x)
 
-        go : (t : Bool) → isKept (pairOf i j) log x ≡ t → weightOf L area cells notes (r .size) j xs ≡ length (allEncoded L (keptOf (pairOf i j) log xs)) →
-            weightAt L area cells notes j (headerOf L (x .entry)) (placeOf (r .size) x) + weightOf L area cells notes (r .size) j xs
+        tombstone : ℕ
+        tombstone = weightAt notes j (headerOf L (x .entry)) (placeOf (r .size) x)
+
+        one : (t : Bool) → isKept (pairOf i j) log x ≡ t → object + tombstone ≡ pick t (sizeOf L (x .entry)) 0
+        one t e = entry-same x (w x first) (f x first) ∙ ap (λ (b : Bool). pick b (sizeOf L (x .entry)) 0) e
+
+        go : (t : Bool) → isKept (pairOf i j) log x ≡ t →
+            objectsOf L area cells (r .size) xs + weightOf L notes (r .size) j xs ≡ length (allEncoded L (keptOf (pairOf i j) log xs)) →
+            object + objectsOf L area cells (r .size) xs + (tombstone + weightOf L notes (r .size) j xs)
             ≡ length (allEncoded L (keptOf (pairOf i j) log (x ∷ xs)))
         go true e ih =
             omega (
@@ -270,7 +421,7 @@ module _ (L : Layout) (area cells : List ℕ) (r : Record) (g : Genuine L area r
   slot-weight : (i j : ℕ) → (i ≡ j → ⊥) → j < 32 → i < r .slots → named (r .map) i ≡ true →
       slotWeight L area cells notes (r .size) i j ≡ partLength (pairOf i j) i
   slot-weight i j apart low h e =
-      ap (weightOf L area cells notes (r .size) j)
+      ap (λ (xs : List Placed). objectsOf L area cells (r .size) xs + weightOf L notes (r .size) j xs)
       (ap (placedIn i) (slot-items L area (r .size) (r .map) (r .slots) (scans L area cells r g) i h e) ∙ sym (part-picked v (named (r .map)) i e))
       ∙ weight-same i j apart low (partOf v (named (r .map)) i) (part-in i h e) (part-slot i)
 

@@ -1,8 +1,8 @@
--- The first walk, as total functions of any area and any cells: for each cell of the index a note of the slots in which objects of the
--- cell's key stand, other than the slot of the key's latest entry.
-use Prim.Native.Nat.{ℕ, zero, suc, _+_, _*_, _≤_}
+-- The first walk, as total functions of any area and any cells: for each latest entry of a key a note of the slots in which objects of
+-- the key stand, other than the entry's own, and the bytes of the objects that are kept.
+use Prim.Native.Nat.{ℕ, zero, suc, _+_, _*_, _-_, _/_, _≤_, _<_}
 use mathlib.Core.Path.{_≡_}
-use mathlib.Core.Bool.{Bool, not}
+use mathlib.Core.Bool.{Bool, true, not}
 use mathlib.Core.List.{List, [], _∷_}
 use lib.Dec.{eqb, leb, ltb}
 use lib.ListN.{length, getD, set}
@@ -11,19 +11,28 @@ use Rattle.segment.specs.Layout.{Layout}
 use Rattle.segment.specs.Entries.{headerOf}
 use Rattle.segment.specs.declared.Header.{Header}
 use Rattle.slot_map.specs.Bit.{named}
-use Rattle.model.specs.Log.{Item}
+use Rattle.model.specs.Log.{Item, Placed, placeOf, placedIn}
 use Rattle.index.specs.Search.{searchFor}
 use Rattle.index.specs.declared.Found.{Found}
 use Rattle.cleaning.specs.Entries.{SlotsFit, slotItems}
 use Rattle.cleaning.specs.declared.Split.{Split}
+use Rattle.joining.specs.declared.Sums.{Sums}
 
--- N and S within their limits and the area their product long, at most 4,096 cells, and a note for each.
+-- N and S within their limits and the area their product long, at most 4,096 cells, and a note for every 11 bytes.
 pub record NotesFit (split : Split) (area cells notes : List ℕ) : Type 0 where
   pub slots : SlotsFit split area
   pub cells-few : length cells ≤ 4096
-  pub notes-long : length notes ≡ 4096
+  pub notes-long : length notes ≡ 5958
 
 -- ---- a note: 0 for no slot, s + 1 for the slot s alone, 64 for several
+
+-- The note of the entry at a place. No entry is shorter than 11 bytes, so that no two have the same.
+abbrev pub spotOf : ℕ → ℕ
+spotOf place = place / 11
+
+-- that of the entry of a cell
+abbrev pub cellSpot : List ℕ → ℕ → ℕ
+cellSpot cells c = spotOf (getD cells c 0 - 1)
 
 unfoldable pub noteWith : ℕ → ℕ → ℕ
 noteWith n s = pick (eqb n 0) (s + 1) (pick (eqb n (s + 1)) n 64)
@@ -38,8 +47,12 @@ elsewhere S s c = either (leb c (s * S)) (ltb (s * S + S) c)
 
 -- ---- the walk
 
-unfoldable pub noteCell : ℕ → ℕ → List ℕ → List ℕ → ℕ → List ℕ
-noteCell S s cells notes c = pick (elsewhere S s (getD cells c 0)) (set notes c (noteWith (getD notes c 0) s)) notes
+-- for the entry that a cell has
+unfoldable pub noteNewest : ℕ → ℕ → ℕ → List ℕ → List ℕ
+noteNewest S s newest notes = pick (elsewhere S s newest) (set notes (spotOf (newest - 1)) (noteWith (getD notes (spotOf (newest - 1)) 0) s)) notes
+
+abbrev pub noteCell : ℕ → ℕ → List ℕ → List ℕ → ℕ → List ℕ
+noteCell S s cells notes c = noteNewest S s (getD cells c 0) notes
 
 unfoldable pub noteFound : ℕ → ℕ → List ℕ → List ℕ → Found → List ℕ
 noteFound S s cells notes (Found.At c) = noteCell S s cells notes c
@@ -67,3 +80,49 @@ noteBelow L area cells split notes (suc n) = notePart L area cells split (noteBe
 
 abbrev pub noteAll : Layout → List ℕ → List ℕ → Split → List ℕ → List ℕ
 noteAll L area cells split notes = noteBelow L area cells split notes (split .slots)
+
+-- ---- the objects that are kept
+
+-- the bytes of an object at a place, whose key a search found there: it is kept if the cell has its place
+unfoldable pub foundLength : List ℕ → ℕ → ℕ → Found → ℕ
+foundLength cells place n (Found.At c) = pick (eqb (getD cells c 0) (place + 1)) n 0
+foundLength cells place n (Found.Free c) = 0
+foundLength cells place n Found.Full = 0
+
+unfoldable pub objectAt : Layout → List ℕ → List ℕ → Header → ℕ → ℕ
+objectAt L area cells h place = pick (h .tombstone) 0 (foundLength cells place (h .length) (searchFor L area cells (h .key)))
+
+unfoldable pub objectsOf : Layout → List ℕ → List ℕ → ℕ → List Placed → ℕ
+objectsOf L area cells S [] = 0
+objectsOf L area cells S (x ∷ xs) = objectAt L area cells (headerOf L (x .entry)) (placeOf S x) + objectsOf L area cells S xs
+
+-- the bytes kept of the objects of slot i
+abbrev pub slotObjects : Layout → List ℕ → List ℕ → ℕ → ℕ → ℕ
+slotObjects L area cells S i = objectsOf L area cells S (placedIn i (slotItems L area S i))
+
+-- ---- the tombstones
+
+unfoldable pub tombstonesOf : Layout → List Item → ℕ
+tombstonesOf L [] = 0
+tombstonesOf L (x ∷ xs) = pick (headerOf L (x .entry) .tombstone) (headerOf L (x .entry) .length) 0 + tombstonesOf L xs
+
+-- the bytes of the tombstones of slot i
+abbrev pub tombstonesIn : Layout → List ℕ → ℕ → ℕ → ℕ
+tombstonesIn L area S i = tombstonesOf L (slotItems L area S i)
+
+-- ---- the sums of the slots
+
+pub record Summed (L : Layout) (area cells : List ℕ) (S i : ℕ) (sums : Sums) : Type 0 where
+  pub objects-are : sums .objects ≡ slotObjects L area cells S i
+  pub tombstones-are : sums .tombstones ≡ tombstonesIn L area S i
+  pub few : sums .objects + sums .tombstones ≤ 2048
+
+-- The sums of the log slots below n.
+pub record ObjectsCounted (L : Layout) (area cells : List ℕ) (split : Split) (n : ℕ) (totals : List ℕ) : Type 0 where
+  pub counted : (i : ℕ) → i < n → named (split .outside) i ≡ true → getD totals i 0 ≡ slotObjects L area cells (split .size) i
+  pub few : (i : ℕ) → getD totals i 0 ≤ 2048
+  pub totals-long : length totals ≡ 32
+
+pub record TombstonesCounted (L : Layout) (area : List ℕ) (split : Split) (n : ℕ) (tombstones : List ℕ) : Type 0 where
+  pub tombstones-are : (i : ℕ) → i < n → named (split .outside) i ≡ true → getD tombstones i 0 ≡ tombstonesIn L area (split .size) i
+  pub tombstones-long : length tombstones ≡ 32

@@ -1,32 +1,34 @@
 -- The notes at each test of the code, and what a note means.
-use Prim.Native.Nat.{ℕ, zero, suc, _+_, _*_, _≤_, _<_}
-use mathlib.Core.Path.{_≡_, refl, sym, _∙_, ap}
+use Prim.Native.Nat.{ℕ, zero, suc, _+_, _*_, _-_, _≤_, _<_}
+use mathlib.Core.Path.{_≡_, refl, sym, _∙_, ap, subst}
 use mathlib.Core.Bool.{Bool, true, false, not}
 use mathlib.Core.List.{List, [], _∷_, List·Memᴰ·tail}
+use mathlib.Core.Option.{Option, none, some}
+use native.Mathlib.Decide.{ℕ-discrete}
 use native.Mathlib.Nat.{mul-le-mul}
 use native.Mathlib.Numerals.{add-one}
 use native.Mathlib.Omega.{arith}
 use lib.Dec.{eqb, leb, ltb}
-use lib.ListN.{length, getD, set, length-set}
+use lib.ListN.{length, getD, set, replicate, length-set, length-replicate}
 use lib.Seq.{getD-set-same, getD-set-other}
-use borrow.Author.Tests.{eqb-true, eqb-false, eq-eqb, ne-eqb, le-leb, lt-leb}
-use Rattle.segment.specs.Choice.{pick, pick-true, pick-false, both, either}
-use Rattle.segment.specs.Layout.{Layout, digestSize}
+use borrow.Author.Tests.{eqb-true, eqb-false, eq-eqb, ne-eqb, le-leb, lt-leb, le-ltb}
+use Rattle.segment.specs.Choice.{pick, pick-true, pick-false, both, either, isNone}
+use Rattle.segment.specs.Layout.{Layout, digestSize, entrySize}
+use Rattle.segment.specs.Entry.{bytesIn}
 use Rattle.segment.specs.Entries.{headerOf}
 use Rattle.segment.specs.declared.Header.{Header}
 use Rattle.segment.specs.declared.Key.{Key}
 use Rattle.slot_map.specs.Bit.{named}
-use Rattle.model.specs.Log.{Item, segmentOf}
-use Rattle.laws.specs.Members.{In, first}
+use Rattle.model.specs.Log.{Item, segmentOf, placedIn}
+use Rattle.laws.specs.Members.{clash, In, first}
 use Rattle.laws.specs.LogLaws.{anyBelow}
 use Rattle.index.specs.Build.{entriesAt}
 use Rattle.index.specs.Search.{searchFor}
 use Rattle.index.specs.declared.Found.{Found}
 use Rattle.cleaning.specs.Entries.{slotItems, isKeyOf, isObject, objectIn}
 use Rattle.cleaning.specs.EntriesLaws.{Meets, entries-meets}
-use Rattle.cleaning.specs.MarksLaws.{Tells}
 use Rattle.cleaning.specs.declared.Split.{Split}
-use Rattle.joining.specs.Notes.{NotesFit, noteWith, tellsBut, elsewhere, noteCell, noteFound, noteEntry, noteItems, noteSlot, notePart, noteBelow}
+use Rattle.joining.specs.Notes.{NotesFit, noteWith, tellsBut, spotOf, cellSpot, elsewhere, noteNewest, noteCell, noteFound, noteEntry, noteItems, noteSlot, notePart, noteBelow, noteAll, foundLength, objectAt, objectsOf, slotObjects, tombstonesOf, tombstonesIn, Summed, ObjectsCounted, TombstonesCounted}
 
 -- ---- one note
 
@@ -91,58 +93,254 @@ module _ (S s c : ℕ) where
   unfolding elsewhere either
   lies-on h e = rw (lt-leb c (s * S) h) e
 
+-- the place of an entry of the slot, one higher
+lies-own : (S s c : ℕ) → s * S < c → c ≤ s * S + S → elsewhere S s c ≡ false
+unfolding elsewhere either
+lies-own S s c l h = rw (lt-leb c (s * S) l, le-ltb (s * S + S) c h)
+
 -- ---- the walk at each test of the code
 
-module _ (S s : ℕ) (cells notes : List ℕ) (c : ℕ) {t : Bool} (e : t ≡ elsewhere S s (getD cells c 0)) where
-  pub cell-stays : t ≡ false → notes ≡ noteCell S s cells notes c
-  unfolding noteCell
-  cell-stays h = sym (pick-false _ _ _ (sym e ∙ h))
+module _ (S s newest : ℕ) (notes : List ℕ) {t : Bool} (e : t ≡ elsewhere S s newest) where
+  pub newest-stays : t ≡ false → notes ≡ noteNewest S s newest notes
+  unfolding noteNewest
+  newest-stays h = sym (pick-false _ _ _ (sym e ∙ h))
 
-  pub cell-noted : (n : ℕ) → t ≡ true → n ≡ noteWith (getD notes c 0) s → set notes c n ≡ noteCell S s cells notes c
-  unfolding noteCell
-  cell-noted n h w = ap (set notes c) w ∙ sym (pick-true _ _ _ (sym e ∙ h))
+  pub newest-noted : (n : ℕ) → t ≡ true → n ≡ noteWith (getD notes (spotOf (newest - 1)) 0) s →
+      set notes (spotOf (newest - 1)) n ≡ noteNewest S s newest notes
+  unfolding noteNewest
+  newest-noted n h w = ap (set notes (spotOf (newest - 1))) w ∙ sym (pick-true _ _ _ (sym e ∙ h))
 
 module _ (L : Layout) (area cells : List ℕ) (S s : ℕ) (notes : List ℕ) where
-  module _ (k : Key) where
-    pub found-notes : (c : ℕ) (notes′ : List ℕ) → searchFor L area cells k ≡ Found.At c → notes′ ≡ noteCell S s cells notes c →
-        notes′ ≡ noteFound S s cells notes (searchFor L area cells k)
-    unfolding noteFound
-    found-notes c notes′ e h = h ∙ sym (ap (noteFound S s cells notes) e)
+  -- what the code gives for an object of n bytes at a place, and for any entry
+  module _ (k : Key) (place n : ℕ) where
+    abbrev pub KeyNoted : ℕ → List ℕ → Type 0
+    KeyNoted m notes′ = (m ≡ foundLength cells place n (searchFor L area cells k)) × (notes′ ≡ noteFound S s cells notes (searchFor L area cells k))
 
-    pub free-keeps : (c : ℕ) → searchFor L area cells k ≡ Found.Free c → notes ≡ noteFound S s cells notes (searchFor L area cells k)
-    unfolding noteFound
-    free-keeps c e = sym (ap (noteFound S s cells notes) e)
+    pub key-own : (c : ℕ) → searchFor L area cells k ≡ Found.At c → getD cells c 0 ≡ place + 1 → s * S ≤ place → place < s * S + S → KeyNoted n notes
+    unfolding foundLength noteFound
+    key-own c e own low high = (
+      sym (ap (foundLength cells place n) e ∙ pick-true _ _ _ (eq-eqb (getD cells c 0) (place + 1) own)),
+      newest-stays S s (getD cells c 0) notes (sym (lies-own S s (getD cells c 0) (omega arith) (omega arith))) refl ∙ sym (ap (noteFound S s cells notes) e),
+    )
 
-    pub full-keeps : searchFor L area cells k ≡ Found.Full → notes ≡ noteFound S s cells notes (searchFor L area cells k)
-    unfolding noteFound
-    full-keeps e = sym (ap (noteFound S s cells notes) e)
+    pub key-older : (c : ℕ) (notes′ : List ℕ) → searchFor L area cells k ≡ Found.At c → (getD cells c 0 ≡ place + 1 → ⊥) → notes′ ≡ noteCell S s cells notes c →
+        KeyNoted 0 notes′
+    unfolding foundLength noteFound
+    key-older c notes′ e other h = (
+      sym (ap (foundLength cells place n) e ∙ pick-false _ _ _ (ne-eqb (getD cells c 0) (place + 1) other)),
+      h ∙ sym (ap (noteFound S s cells notes) e),
+    )
 
-  module _ (h : Header) where
-    pub tombstone-keeps : h .tombstone ≡ true → notes ≡ noteEntry L area cells S s notes h
-    unfolding noteEntry
-    tombstone-keeps e = sym (pick-true (h .tombstone) notes _ e)
+    pub key-free : (c : ℕ) → searchFor L area cells k ≡ Found.Free c → KeyNoted 0 notes
+    unfolding foundLength noteFound
+    key-free c e = (sym (ap (foundLength cells place n) e), sym (ap (noteFound S s cells notes) e))
 
-    pub object-notes : {notes′ : List ℕ} → h .tombstone ≡ false → notes′ ≡ noteFound S s cells notes (searchFor L area cells (h .key)) →
-        notes′ ≡ noteEntry L area cells S s notes h
-    unfolding noteEntry
-    object-notes e m = m ∙ sym (pick-false (h .tombstone) notes _ e)
+    pub key-full : searchFor L area cells k ≡ Found.Full → KeyNoted 0 notes
+    unfolding foundLength noteFound
+    key-full e = (sym (ap (foundLength cells place n) e), sym (ap (noteFound S s cells notes) e))
 
-  -- a turn of the loop over a segment: the whole is what comes from here on
-  module _ (g : List ℕ) (at : ℕ) (whole : List ℕ) (from : noteItems L area cells S s notes (entriesAt L g at) ≡ whole) where
-    pub notes-stop : entriesAt L g at ≡ [] → notes ≡ whole
+-- ---- the lengths
+
+module _ (L : Layout) (area cells : List ℕ) (S s : ℕ) where
+  length-cell : (notes : List ℕ) (c : ℕ) → length (noteCell S s cells notes c) ≡ length notes
+  unfolding noteNewest pick
+  length-cell notes c = go (elsewhere S s (getD cells c 0))
+    where
+      go : (t : Bool) → length (pick t (set notes (cellSpot cells c) (noteWith (getD notes (cellSpot cells c) 0) s)) notes) ≡ length notes
+      go true = length-set notes (cellSpot cells c) (noteWith (getD notes (cellSpot cells c) 0) s)
+      go false = refl
+
+  length-found : (notes : List ℕ) (f : Found) → length (noteFound S s cells notes f) ≡ length notes
+  unfolding noteFound
+  length-found notes (Found.At c) = length-cell notes c
+  length-found notes (Found.Free c) = refl
+  length-found notes Found.Full = refl
+
+  pub length-entry : (notes : List ℕ) (h : Header) → length (noteEntry L area cells S s notes h) ≡ length notes
+  unfolding noteEntry pick
+  length-entry notes h = go (h .tombstone)
+    where
+      go : (t : Bool) → length (pick t notes (noteFound S s cells notes (searchFor L area cells (h .key)))) ≡ length notes
+      go true = refl
+      go false = length-found notes (searchFor L area cells (h .key))
+
+  pub length-items : (is : List Item) (notes : List ℕ) → length (noteItems L area cells S s notes is) ≡ length notes
+  unfolding noteItems
+  length-items [] notes = refl
+  length-items (x ∷ xs) notes = length-items xs (noteEntry L area cells S s notes (headerOf L (x .entry))) ∙ length-entry notes (headerOf L (x .entry))
+
+-- an object counts with its length at most
+pub found-short : (cells : List ℕ) (place n : ℕ) (f : Found) → foundLength cells place n f ≤ n
+unfolding foundLength pick
+found-short cells place n (Found.At c) = go (eqb (getD cells c 0) (place + 1))
+  where
+    go : (b : Bool) → pick b n 0 ≤ n
+    go true = omega arith
+    go false = omega arith
+found-short cells place n (Found.Free c) = omega arith
+found-short cells place n Found.Full = omega arith
+
+-- ---- a tombstone
+
+-- it is as long as the shortest entry
+pub tombstone-length : (L : Layout) (s : List ℕ) (at : ℕ) {h : Header} → Meets L s at h → h .tombstone ≡ true → h .length ≡ entrySize L 0
+unfolding isNone bytesIn
+tombstone-length L s at m t = sym (ap (λ (g : Header). g .length) (m .its)) ∙ go (m .met .value) (ap (λ (g : Header). g .tombstone) (m .its) ∙ t)
+  where
+    go : (v : Option (List ℕ)) → isNone v ≡ true → entrySize L (length (bytesIn v)) ≡ entrySize L 0
+    go none e = refl
+    go (some b) e = absurd (clash true refl (sym e))
+
+-- ---- a turn of the loop over a segment: the whole is what comes from here on
+
+module _ (L : Layout) (area cells : List ℕ) (S i : ℕ) where
+  abbrev objectsFrom : List ℕ → ℕ → ℕ
+  objectsFrom s at = objectsOf L area cells S (placedIn i (entriesAt L s at))
+
+  pub record Noting (s notes₀ notes : List ℕ) (at objects tombstones : ℕ) : Type 0 where
+    pub noted : noteItems L area cells S i notes (entriesAt L s at) ≡ noteItems L area cells S i notes₀ (entriesAt L s (digestSize L))
+    pub counted : objects + objectsFrom s at ≡ objectsFrom s (digestSize L)
+    pub tombstones-are : tombstones + tombstonesOf L (entriesAt L s at) ≡ tombstonesOf L (entriesAt L s (digestSize L))
+    pub same-length : length notes ≡ length notes₀
+    pub short : objects + tombstones ≤ at
+    pub inside : at ≤ length s
+
+  pub noting-start : (s notes₀ : List ℕ) → digestSize L ≤ length s → Noting s notes₀ notes₀ (digestSize L) 0 0
+  noting-start s notes₀ fits =
+      record { noted = refl; counted = omega arith; tombstones-are = omega arith; same-length = refl; short = omega arith; inside = fits }
+
+  module _ (s notes₀ notes : List ℕ) (at objects tombstones : ℕ) (w : Noting s notes₀ notes at objects tombstones) {h : Header} (m : Meets L s at h) where
+    -- the entry, and those behind it
+    notes-from : noteItems L area cells S i notes (entriesAt L s at) ≡ noteItems L area cells S i (noteEntry L area cells S i notes h) (entriesAt L s (at + h .length))
     unfolding noteItems
-    notes-stop e = sym (ap (noteItems L area cells S s notes) e) ∙ from
+    notes-from =
+        ap (noteItems L area cells S i notes) (entries-meets L s at m)
+        ∙ ap (λ (g : Header). noteItems L area cells S i (noteEntry L area cells S i notes g) (entriesAt L s (at + h .length))) (m .its)
 
-    pub notes-entry : {h : Header} → Meets L g at h → (notes′ : List ℕ) → notes′ ≡ noteEntry L area cells S s notes h →
-        noteItems L area cells S s notes′ (entriesAt L g (at + h .length)) ≡ whole
-    unfolding noteItems
-    notes-entry {h} m notes′ e =
-        ap (λ (l : List ℕ). noteItems L area cells S s l (entriesAt L g (at + h .length))) (e ∙ ap (noteEntry L area cells S s notes) (sym (m .its)))
-        ∙ sym (ap (noteItems L area cells S s notes) (entries-meets L g at m))
-        ∙ from
+    objects-from : objectsFrom s at ≡ objectAt L area cells h (i * S + at) + objectsFrom s (at + h .length)
+    unfolding objectsOf placedIn
+    objects-from =
+        ap (λ (is : List Item). objectsOf L area cells S (placedIn i is)) (entries-meets L s at m)
+        ∙ ap (λ (g : Header). objectAt L area cells g (i * S + at) + objectsFrom s (at + h .length)) (m .its)
 
-  pub slot-whole : (g : List ℕ) → g ≡ segmentOf area S s → noteItems L area cells S s notes (entriesAt L g (digestSize L)) ≡ noteSlot L area cells S notes s
-  slot-whole g e = ap (λ (t : List ℕ). noteItems L area cells S s notes (entriesAt L t (digestSize L))) e
+    tombstones-from : tombstonesOf L (entriesAt L s at) ≡ pick (h .tombstone) (h .length) 0 + tombstonesOf L (entriesAt L s (at + h .length))
+    unfolding tombstonesOf
+    tombstones-from =
+        ap (tombstonesOf L) (entries-meets L s at m)
+        ∙ ap (λ (g : Header). pick (g .tombstone) (g .length) 0 + tombstonesOf L (entriesAt L s (at + h .length))) (m .its)
+
+    pub noting-tombstone : h .tombstone ≡ true → (n : ℕ) → h .length ≡ n → Noting s notes₀ notes (at + n) objects (tombstones + n)
+    unfolding noteEntry objectAt
+    noting-tombstone t n e =
+        subst (λ (k : ℕ). Noting s notes₀ notes (at + k) objects (tombstones + k)) e
+        (record {
+          noted =
+              ap (λ (l : List ℕ). noteItems L area cells S i l (entriesAt L s (at + h .length))) (sym (pick-true (h .tombstone) notes _ t))
+              ∙ sym notes-from
+              ∙ w .noted;
+          counted = omega (arith, w .counted, objects-from, pick-true (h .tombstone) 0 (foundLength cells (i * S + at) (h .length) (searchFor L area cells (h .key))) t);
+          tombstones-are = omega (arith, w .tombstones-are, tombstones-from, pick-true (h .tombstone) (h .length) 0 t);
+          same-length = w .same-length;
+          short = omega (arith, w .short);
+          inside = m .fits;
+        })
+
+    pub noting-object : h .tombstone ≡ false → (n : ℕ) (notes′ : List ℕ) → KeyNoted L area cells S i notes (h .key) (i * S + at) (h .length) n notes′ →
+        Noting s notes₀ notes′ (at + h .length) (objects + n) tombstones
+    unfolding noteEntry objectAt
+    noting-object t n notes′ made =
+        record {
+          noted = ap (λ (l : List ℕ). noteItems L area cells S i l (entriesAt L s (at + h .length))) entry ∙ sym notes-from ∙ w .noted;
+          counted = omega (arith, w .counted, objects-from, made .0, pick-false (h .tombstone) 0 found t);
+          tombstones-are = omega (arith, w .tombstones-are, tombstones-from, pick-false (h .tombstone) (h .length) 0 t);
+          same-length = ap length entry ∙ length-entry L area cells S i notes h ∙ w .same-length;
+          short = omega (arith, w .short, made .0, found-short cells (i * S + at) (h .length) (searchFor L area cells (h .key)));
+          inside = m .fits;
+        }
+      where
+        found : ℕ
+        found = foundLength cells (i * S + at) (h .length) (searchFor L area cells (h .key))
+
+        entry : notes′ ≡ noteEntry L area cells S i notes h
+        entry = made .1 ∙ sym (pick-false (h .tombstone) notes _ t)
+
+  pub noting-stop : (s notes₀ notes : List ℕ) (at objects tombstones : ℕ) → Noting s notes₀ notes at objects tombstones → entriesAt L s at ≡ [] →
+      s ≡ segmentOf area S i → length s ≤ 2048 →
+      Summed L area cells S i (record { objects = objects; tombstones = tombstones }) × (notes ≡ noteSlot L area cells S notes₀ i)
+  unfolding noteItems objectsOf tombstonesOf placedIn
+  noting-stop s notes₀ notes at objects tombstones w e own few = (
+    record {
+      objects-are =
+          omega (arith, w .counted, ap (λ (is : List Item). objectsOf L area cells S (placedIn i is)) e) ∙ ap (λ (t : List ℕ). objectsFrom t (digestSize L)) own;
+      tombstones-are = omega (arith, w .tombstones-are, ap (tombstonesOf L) e) ∙ ap (λ (t : List ℕ). tombstonesOf L (entriesAt L t (digestSize L))) own;
+      few = omega (arith, w .short, w .inside);
+    },
+    sym (ap (noteItems L area cells S i notes) e)
+        ∙ w .noted
+        ∙ ap (λ (t : List ℕ). noteItems L area cells S i notes₀ (entriesAt L t (digestSize L))) own,
+  )
+
+-- ---- the slots
+
+pub zeros : (n k : ℕ) → getD {A = ℕ} (replicate n 0) k 0 ≡ 0
+zeros zero k = refl
+zeros (suc n) zero = refl
+zeros (suc n) (suc k) = zeros n k
+
+module _ (L : Layout) (area cells : List ℕ) (split : Split) where
+  pub counted-start : ObjectsCounted L area cells split 0 (replicate 32 0)
+  counted-start = record { counted = λ i l. absurd (omega arith); few = λ i. omega (arith, zeros 32 i); totals-long = length-replicate {A = ℕ} 32 0 }
+
+  module _ (n : ℕ) (totals : List ℕ) (w : ObjectsCounted L area cells split n totals) where
+    pub counted-skip : named (split .outside) n ≡ false → ObjectsCounted L area cells split (n + 1) totals
+    counted-skip e = record { counted = λ i l p. go i l p (ℕ-discrete i n); few = w .few; totals-long = w .totals-long }
+      where
+        go : (i : ℕ) → i < n + 1 → named (split .outside) i ≡ true → Dec (i ≡ n) → getD totals i 0 ≡ slotObjects L area cells (split .size) i
+        go i l p (yes q) = absurd (clash (named (split .outside) i) p (ap (named (split .outside)) q ∙ e))
+        go i l p (no q) = w .counted i (omega arith) p
+
+    pub counted-more : n < 32 → (total : ℕ) → total ≡ slotObjects L area cells (split .size) n → total ≤ 2048 →
+        ObjectsCounted L area cells split (n + 1) (set totals n total)
+    counted-more low total is high =
+        record {
+          counted = λ i l p. go i l p (ℕ-discrete i n);
+          few = λ i. small i (ℕ-discrete i n);
+          totals-long = length-set totals n total ∙ w .totals-long;
+        }
+      where
+        own : (i : ℕ) → i ≡ n → getD (set totals n total) i 0 ≡ total
+        own i q = ap (λ (m : ℕ). getD (set totals n total) m 0) q ∙ getD-set-same totals n total 0 (omega (arith, w .totals-long))
+
+        go : (i : ℕ) → i < n + 1 → named (split .outside) i ≡ true → Dec (i ≡ n) → getD (set totals n total) i 0 ≡ slotObjects L area cells (split .size) i
+        go i l p (yes q) = own i q ∙ is ∙ ap (slotObjects L area cells (split .size)) (sym q)
+        go i l p (no q) = getD-set-other totals n i total 0 q ∙ w .counted i (omega arith) p
+
+        small : (i : ℕ) → Dec (i ≡ n) → getD (set totals n total) i 0 ≤ 2048
+        small i (yes q) = omega (arith, own i q)
+        small i (no q) = omega (arith, getD-set-other totals n i total 0 q, w .few i)
+
+module _ (L : Layout) (area : List ℕ) (split : Split) where
+  pub tombstones-start : TombstonesCounted L area split 0 (replicate 32 0)
+  tombstones-start = record { tombstones-are = λ i l. absurd (omega arith); tombstones-long = length-replicate {A = ℕ} 32 0 }
+
+  module _ (n : ℕ) (tombstones : List ℕ) (w : TombstonesCounted L area split n tombstones) where
+    pub tombstones-skip : named (split .outside) n ≡ false → TombstonesCounted L area split (n + 1) tombstones
+    tombstones-skip e = record { tombstones-are = λ i l p. go i l p (ℕ-discrete i n); tombstones-long = w .tombstones-long }
+      where
+        go : (i : ℕ) → i < n + 1 → named (split .outside) i ≡ true → Dec (i ≡ n) → getD tombstones i 0 ≡ tombstonesIn L area (split .size) i
+        go i l p (yes q) = absurd (clash (named (split .outside) i) p (ap (named (split .outside)) q ∙ e))
+        go i l p (no q) = w .tombstones-are i (omega arith) p
+
+    pub tombstones-more : n < 32 → (m : ℕ) → m ≡ tombstonesIn L area (split .size) n → TombstonesCounted L area split (n + 1) (set tombstones n m)
+    tombstones-more low m is = record { tombstones-are = λ i l p. go i l p (ℕ-discrete i n); tombstones-long = length-set tombstones n m ∙ w .tombstones-long }
+      where
+        go : (i : ℕ) → i < n + 1 → named (split .outside) i ≡ true → Dec (i ≡ n) → getD (set tombstones n m) i 0 ≡ tombstonesIn L area (split .size) i
+        go i l p (yes q) =
+            ap (λ (k : ℕ). getD (set tombstones n m) k 0) q
+            ∙ getD-set-same tombstones n m 0 (omega (arith, w .tombstones-long))
+            ∙ is
+            ∙ ap (tombstonesIn L area (split .size)) (sym q)
+        go i l p (no q) = getD-set-other tombstones n i m 0 q ∙ w .tombstones-are i (omega arith) p
 
 module _ (L : Layout) (area cells : List ℕ) (split : Split) (notes : List ℕ) (i : ℕ) where
   pub part-noted : {notes′ : List ℕ} → named (split .outside) i ≡ true → notes′ ≡ noteSlot L area cells (split .size) notes i →
@@ -169,36 +367,6 @@ pub fits-again : {split : Split} {area cells notes : List ℕ} (notes′ : List 
     NotesFit split area cells notes′
 fits-again notes′ f e = record { slots = f .slots; cells-few = f .cells-few; notes-long = e ∙ f .notes-long }
 
--- ---- the lengths
-
-module _ (L : Layout) (area cells : List ℕ) (S s : ℕ) where
-  length-cell : (notes : List ℕ) (c : ℕ) → length (noteCell S s cells notes c) ≡ length notes
-  unfolding noteCell pick
-  length-cell notes c = go (elsewhere S s (getD cells c 0))
-    where
-      go : (t : Bool) → length (pick t (set notes c (noteWith (getD notes c 0) s)) notes) ≡ length notes
-      go true = length-set notes c (noteWith (getD notes c 0) s)
-      go false = refl
-
-  length-found : (notes : List ℕ) (f : Found) → length (noteFound S s cells notes f) ≡ length notes
-  unfolding noteFound
-  length-found notes (Found.At c) = length-cell notes c
-  length-found notes (Found.Free c) = refl
-  length-found notes Found.Full = refl
-
-  pub length-entry : (notes : List ℕ) (h : Header) → length (noteEntry L area cells S s notes h) ≡ length notes
-  unfolding noteEntry pick
-  length-entry notes h = go (h .tombstone)
-    where
-      go : (t : Bool) → length (pick t notes (noteFound S s cells notes (searchFor L area cells (h .key)))) ≡ length notes
-      go true = refl
-      go false = length-found notes (searchFor L area cells (h .key))
-
-  pub length-items : (is : List Item) (notes : List ℕ) → length (noteItems L area cells S s notes is) ≡ length notes
-  unfolding noteItems
-  length-items [] notes = refl
-  length-items (x ∷ xs) notes = length-items xs (noteEntry L area cells S s notes (headerOf L (x .entry))) ∙ length-entry notes (headerOf L (x .entry))
-
 module _ (L : Layout) (area cells : List ℕ) (split : Split) where
   pub length-part : (i : ℕ) (notes : List ℕ) → length (notePart L area cells split notes i) ≡ length notes
   unfolding notePart pick
@@ -212,6 +380,10 @@ module _ (L : Layout) (area cells : List ℕ) (split : Split) where
   unfolding noteBelow
   length-below notes zero = refl
   length-below notes (suc n) = length-part n (noteBelow L area cells split notes n) ∙ length-below notes n
+
+pub fits-noted : (L : Layout) {split : Split} {area cells notes : List ℕ} (notes′ : List ℕ) → NotesFit split area cells notes →
+    notes′ ≡ noteAll L area cells split notes → NotesFit split area cells notes′
+fits-noted L {split} {area} {cells} {notes} notes′ f e = fits-again notes′ f (ap length e ∙ length-below L area cells split notes (split .slots))
 
 -- ---- what a note means
 
@@ -240,36 +412,83 @@ unfolding both either
 both-parts true b d = refl
 both-parts false b d = refl
 
+-- A note that no object's search leads to stays as it is.
+module _ (L : Layout) (area cells : List ℕ) (S q : ℕ) where
+  -- the search for the key of an entry leads to another note
+  abbrev pub Misses : Header → Type 0
+  Misses h = (d : ℕ) × (searchFor L area cells (h .key) ≡ Found.At d) × (cellSpot cells d ≡ q → ⊥)
+
+  cell-misses : (s : ℕ) (notes : List ℕ) (d : ℕ) → (cellSpot cells d ≡ q → ⊥) → getD (noteCell S s cells notes d) q 0 ≡ getD notes q 0
+  unfolding noteNewest pick
+  cell-misses s notes d apart = go (elsewhere S s (getD cells d 0))
+    where
+      go : (t : Bool) → getD (pick t (set notes (cellSpot cells d) (noteWith (getD notes (cellSpot cells d) 0) s)) notes) q 0 ≡ getD notes q 0
+      go true = getD-set-other notes (cellSpot cells d) q (noteWith (getD notes (cellSpot cells d) 0) s) 0 (λ e. apart (sym e))
+      go false = refl
+
+  entry-misses : (s : ℕ) (notes : List ℕ) (h : Header) → Misses h → getD (noteEntry L area cells S s notes h) q 0 ≡ getD notes q 0
+  unfolding noteEntry noteFound pick
+  entry-misses s notes h (d, e, apart) = go (h .tombstone)
+    where
+      go : (t : Bool) → getD (pick t notes (noteFound S s cells notes (searchFor L area cells (h .key)))) q 0 ≡ getD notes q 0
+      go true = refl
+      go false = ap (λ (f : Found). getD (noteFound S s cells notes f) q 0) e ∙ cell-misses s notes d apart
+
+  items-misses : (s : ℕ) (is : List Item) (notes : List ℕ) → ((y : Item) → In y is → Misses (headerOf L (y .entry))) →
+      getD (noteItems L area cells S s notes is) q 0 ≡ getD notes q 0
+  unfolding noteItems
+  items-misses s [] notes f = refl
+  items-misses s (x ∷ xs) notes f =
+      items-misses s xs (noteEntry L area cells S s notes (headerOf L (x .entry))) (λ y m. f y (List·Memᴰ·tail m))
+      ∙ entry-misses s notes (headerOf L (x .entry)) (f x first)
+
+  module _ (split : Split) (is : split .size ≡ S) (notes : List ℕ)
+      (f : (s : ℕ) → s < split .slots → named (split .outside) s ≡ true → (y : Item) → In y (slotItems L area (split .size) s) → Misses (headerOf L (y .entry))) where
+    pub below-misses : (n : ℕ) → n ≤ split .slots → getD (noteBelow L area cells split notes n) q 0 ≡ getD notes q 0
+    unfolding noteBelow notePart pick
+    below-misses zero h = refl
+    below-misses (suc n) h = go (named (split .outside) n) refl ∙ below-misses n (omega arith)
+      where
+        so-far : List ℕ
+        so-far = noteBelow L area cells split notes n
+
+        go : (t : Bool) → named (split .outside) n ≡ t → getD (pick t (noteSlot L area cells (split .size) so-far n) so-far) q 0 ≡ getD so-far q 0
+        go true e =
+            ap (λ (z : ℕ). getD (noteItems L area cells z n so-far (slotItems L area (split .size) n)) q 0) is
+            ∙ items-misses n (slotItems L area (split .size) n) so-far (f n h e)
+        go false e = refl
+
 -- The cell c is that of key k, whose latest entry stands in slot i; j is the other victim.
-module _ (L : Layout) (area cells : List ℕ) (k : Key) (c i j : ℕ) (low : c < 4096) (few : j < 32) (S : ℕ)
+module _ (L : Layout) (area cells : List ℕ) (k : Key) (c i j : ℕ) (low : cellSpot cells c < 5958) (few : j < 32) (S : ℕ)
     (own-slot : (s : ℕ) → elsewhere S s (getD cells c 0) ≡ not (eqb s i)) where
+  -- the search for the key of an entry tells it from another key
+  pub record Leads (h : Header) : Type 0 where
+    pub own : isKeyOf k h ≡ true → searchFor L area cells (h .key) ≡ Found.At c
+    pub other : isKeyOf k h ≡ false → Misses L area cells S (cellSpot cells c) h
+
   -- an object of slot s counts
   abbrev pub counts : ℕ → Bool
   counts s = both (not (eqb s i)) (not (eqb s j))
 
-  -- the note of the cell tells of a slot other than j
+  -- the note of the cell's entry tells of a slot other than j
   abbrev pub noted : List ℕ → Bool
-  noted notes = tellsBut (getD notes c 0) j
+  noted notes = tellsBut (getD notes (cellSpot cells c) 0) j
 
-  own-note : (s : ℕ) (notes : List ℕ) → length notes ≡ 4096 → noted (noteCell S s cells notes c) ≡ either (noted notes) (counts s)
-  unfolding noteCell pick both
-  own-note s notes long = ap (λ (t : Bool). noted (pick t (set notes c (noteWith (getD notes c 0) s)) notes)) (own-slot s) ∙ go (not (eqb s i))
+  own-note : (s : ℕ) (notes : List ℕ) → length notes ≡ 5958 → noted (noteCell S s cells notes c) ≡ either (noted notes) (counts s)
+  unfolding noteNewest pick both
+  own-note s notes long =
+      ap (λ (t : Bool). noted (pick t (set notes (cellSpot cells c) (noteWith (getD notes (cellSpot cells c) 0) s)) notes)) (own-slot s)
+      ∙ go (not (eqb s i))
     where
-      go : (t : Bool) → noted (pick t (set notes c (noteWith (getD notes c 0) s)) notes) ≡ either (noted notes) (both t (not (eqb s j)))
+      go : (t : Bool) → noted (pick t (set notes (cellSpot cells c) (noteWith (getD notes (cellSpot cells c) 0) s)) notes) ≡
+          either (noted notes) (both t (not (eqb s j)))
       go true =
-          ap (λ (n : ℕ). tellsBut n j) (getD-set-same notes c (noteWith (getD notes c 0) s) 0 (omega arith))
-          ∙ note-adds (getD notes c 0) s j few
+          ap (λ (n : ℕ). tellsBut n j)
+          (getD-set-same notes (cellSpot cells c) (noteWith (getD notes (cellSpot cells c) 0) s) 0 (omega (arith, low, long)))
+          ∙ note-adds (getD notes (cellSpot cells c) 0) s j few
       go false = either-none (noted notes)
 
-  other-note : (s : ℕ) (notes : List ℕ) (d : ℕ) → (d ≡ c → ⊥) → noted (noteCell S s cells notes d) ≡ noted notes
-  unfolding noteCell pick
-  other-note s notes d apart = go (elsewhere S s (getD cells d 0))
-    where
-      go : (t : Bool) → noted (pick t (set notes d (noteWith (getD notes d 0) s)) notes) ≡ noted notes
-      go true = ap (λ (n : ℕ). tellsBut n j) (getD-set-other notes d c (noteWith (getD notes d 0) s) 0 (λ e. apart (sym e)))
-      go false = refl
-
-  entry-note : (s : ℕ) (notes : List ℕ) (h : Header) → length notes ≡ 4096 → Tells L area cells k c h →
+  entry-note : (s : ℕ) (notes : List ℕ) (h : Header) → length notes ≡ 5958 → Leads h →
       noted (noteEntry L area cells S s notes h) ≡ either (noted notes) (both (counts s) (isObject k h))
   unfolding noteEntry noteFound isObject pick both
   entry-note s notes h long t = go (h .tombstone) (isKeyOf k h) refl
@@ -282,14 +501,14 @@ module _ (L : Layout) (area cells : List ℕ) (k : Key) (c i j : ℕ) (low : c <
           ∙ own-note s notes long
           ∙ ap (either (noted notes)) (sym (both-all (counts s)))
       go false false p =
-          let w = t .other p in
-          ap (λ (f : Found). noted (noteFound S s cells notes f)) (w .3)
-          ∙ other-note s notes (w .0) (w .2)
+          let (d, e, apart) = t .other p in
+          ap (λ (f : Found). noted (noteFound S s cells notes f)) e
+          ∙ ap (λ (n : ℕ). tellsBut n j) (cell-misses L area cells S (cellSpot cells c) s notes d apart)
           ∙ either-none (noted notes)
           ∙ ap (either (noted notes)) (sym (both-none (counts s)))
 
-  items-note : (s : ℕ) (is : List Item) (notes : List ℕ) → length notes ≡ 4096 →
-      ((y : Item) → In y is → Tells L area cells k c (headerOf L (y .entry))) →
+  items-note : (s : ℕ) (is : List Item) (notes : List ℕ) → length notes ≡ 5958 →
+      ((y : Item) → In y is → Leads (headerOf L (y .entry))) →
       noted (noteItems L area cells S s notes is) ≡ either (noted notes) (both (counts s) (objectIn L k is))
   unfolding noteItems objectIn
   items-note s [] notes long f = either-none (noted notes) ∙ ap (either (noted notes)) (sym (both-none (counts s)))
@@ -300,14 +519,14 @@ module _ (L : Layout) (area cells : List ℕ) (k : Key) (c i j : ℕ) (low : c <
       ∙ either-joins (noted notes) (both (counts s) (isObject k (headerOf L (x .entry)))) (both (counts s) (objectIn L k xs))
       ∙ ap (either (noted notes)) (both-parts (counts s) (isObject k (headerOf L (x .entry))) (objectIn L k xs))
 
-  module _ (split : Split) (is : split .size ≡ S) (notes : List ℕ) (long : length notes ≡ 4096) (clear : noted notes ≡ false)
+  module _ (split : Split) (is : split .size ≡ S) (notes : List ℕ) (long : length notes ≡ 5958) (clear : noted notes ≡ false)
       (f : (s : ℕ) → s < split .slots → named (split .outside) s ≡ true → (y : Item) → In y (slotItems L area (split .size) s) →
-      Tells L area cells k c (headerOf L (y .entry))) where
+      Leads (headerOf L (y .entry))) where
     -- an object of the key stands in log slot s, which counts
     abbrev pub standsIn : ℕ → Bool
     standsIn s = both (named (split .outside) s) (both (counts s) (objectIn L k (slotItems L area (split .size) s)))
 
-    part-note : (s : ℕ) → s < split .slots → (now : List ℕ) → length now ≡ 4096 →
+    part-note : (s : ℕ) → s < split .slots → (now : List ℕ) → length now ≡ 5958 →
         noted (notePart L area cells split now s) ≡ either (noted now) (standsIn s)
     unfolding notePart pick both
     part-note s l now long′ = go (named (split .outside) s) refl

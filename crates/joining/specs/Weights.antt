@@ -1,6 +1,6 @@
--- The second walk, over any area, any cells and any notes: what is kept of an entry by the other victim, and the numbers that a slot
--- comes to have.
-use Prim.Native.Nat.{ℕ, zero, suc, _+_, _*_, _-_, _≤_, _<_}
+-- The second walk, over any area and any notes: what is kept of a tombstone by the other victim, and the numbers that a slot comes to
+-- have.
+use Prim.Native.Nat.{ℕ, _+_, _*_, _-_, _≤_, _<_}
 use mathlib.Core.Path.{_≡_}
 use mathlib.Core.Bool.{Bool, true, false, not}
 use mathlib.Core.List.{List, [], _∷_}
@@ -12,27 +12,21 @@ use Rattle.segment.specs.Entries.{headerOf}
 use Rattle.segment.specs.declared.Header.{Header}
 use Rattle.slot_map.specs.Bit.{named}
 use Rattle.model.specs.Log.{Placed, placeOf, placedIn}
-use Rattle.index.specs.Search.{searchFor}
-use Rattle.index.specs.declared.Found.{Found}
+use Rattle.index.specs.Build.{entriesAt}
 use Rattle.cleaning.specs.Entries.{slotItems}
 use Rattle.cleaning.specs.declared.Split.{Split}
 use Rattle.joining.specs.declared.Share.{Share}
+use Rattle.joining.specs.Notes.{spotOf, slotObjects}
 
 -- ---- the share of an entry
 
--- of a tombstone, by the note of its cell
+-- of a tombstone, by its note
 unfoldable pub noteShare : ℕ → Share
 noteShare n = pick (eqb n 0) Share.Nothing (pick (ltb 32 n) Share.Whole (Share.Unless (n - 1)))
 
--- an entry that the index does not have for its key is not kept, and an object that it has always is
-unfoldable pub cellShare : List ℕ → List ℕ → Bool → ℕ → Found → Share
-cellShare cells notes tombstone place (Found.At c) =
-    pick (eqb (getD cells c 0) (place + 1)) (pick tombstone (noteShare (getD notes c 0)) Share.Whole) Share.Nothing
-cellShare cells notes tombstone place (Found.Free c) = Share.Nothing
-cellShare cells notes tombstone place Found.Full = Share.Nothing
-
-unfoldable pub shareAt : Layout → List ℕ → List ℕ → List ℕ → Header → ℕ → Share
-shareAt L area cells notes h place = cellShare cells notes (h .tombstone) place (searchFor L area cells (h .key))
+-- the first walk has counted the objects
+unfoldable pub shareAt : List ℕ → Header → ℕ → Share
+shareAt notes h place = pick (h .tombstone) (noteShare (getD notes (spotOf place) 0)) Share.Nothing
 
 -- it is kept where the other victim is slot j
 unfoldable pub shareKept : Share → ℕ → Bool
@@ -42,17 +36,26 @@ shareKept (Share.Unless p) j = not (eqb p j)
 
 -- ---- what is kept of a slot
 
-abbrev pub weightAt : Layout → List ℕ → List ℕ → List ℕ → ℕ → Header → ℕ → ℕ
-weightAt L area cells notes j h place = pick (shareKept (shareAt L area cells notes h place) j) (h .length) 0
+abbrev pub weightAt : List ℕ → ℕ → Header → ℕ → ℕ
+weightAt notes j h place = pick (shareKept (shareAt notes h place) j) (h .length) 0
 
-unfoldable pub weightOf : Layout → List ℕ → List ℕ → List ℕ → ℕ → ℕ → List Placed → ℕ
-weightOf L area cells notes S j [] = 0
-weightOf L area cells notes S j (x ∷ xs) =
-    weightAt L area cells notes j (headerOf L (x .entry)) (placeOf S x) + weightOf L area cells notes S j xs
+unfoldable pub weightOf : Layout → List ℕ → ℕ → ℕ → List Placed → ℕ
+weightOf L notes S j [] = 0
+weightOf L notes S j (x ∷ xs) = weightAt notes j (headerOf L (x .entry)) (placeOf S x) + weightOf L notes S j xs
 
--- the bytes kept of slot i where the other victim is slot j
+-- the bytes kept of the tombstones of slot i where the other victim is slot j
+abbrev pub slotTombstones : Layout → List ℕ → List ℕ → ℕ → ℕ → ℕ → ℕ
+slotTombstones L area notes S i j = weightOf L notes S j (placedIn i (slotItems L area S i))
+
+-- and of all its entries
 abbrev pub slotWeight : Layout → List ℕ → List ℕ → List ℕ → ℕ → ℕ → ℕ → ℕ
-slotWeight L area cells notes S i j = weightOf L area cells notes S j (placedIn i (slotItems L area S i))
+slotWeight L area cells notes S i j = slotObjects L area cells S i + slotTombstones L area notes S i j
+
+-- Where a walk from one offset of a segment has come to another, it has passed over no tombstone.
+pub record Passed (L : Layout) (s : List ℕ) (from to : ℕ) : Type 0 where
+  pub same : (notes : List ℕ) (S i j : ℕ) → weightOf L notes S j (placedIn i (entriesAt L s from)) ≡ weightOf L notes S j (placedIn i (entriesAt L s to))
+  pub forward : from ≤ to
+  pub inside : to ≤ length s
 
 -- ---- the numbers of the slots: for slot i and the other victim j the number at 32 i + j
 
@@ -78,18 +81,20 @@ sharesWith shares base Share.Nothing n = shares
 sharesWith shares base Share.Whole n = shares
 sharesWith shares base (Share.Unless p) n = set shares (base + p) (getD shares (base + p) 0 + n)
 
--- A slot's numbers are what its total has more than is kept by the other victim; those of other slots stay.
-pub record Weighed (L : Layout) (area cells notes : List ℕ) (S i : ℕ) (shares shares′ : List ℕ) (total : ℕ) : Type 0 where
-  pub row : (j : ℕ) → j < 32 → getD shares′ (i * 32 + j) 0 + slotWeight L area cells notes S i j ≡ total
+-- A slot's numbers are what the total of its tombstones has more than is kept of them by the other victim; those of other slots stay.
+pub record Weighed (L : Layout) (area notes : List ℕ) (S i : ℕ) (shares shares′ : List ℕ) (total : ℕ) : Type 0 where
+  pub row : (j : ℕ) → j < 32 → getD shares′ (i * 32 + j) 0 + slotTombstones L area notes S i j ≡ total
   pub below : (k : ℕ) → k < i * 32 → getD shares′ k 0 ≡ getD shares k 0
   pub above : (k : ℕ) → i * 32 + 32 ≤ k → getD shares′ k 0 ≡ getD shares k 0
   pub same-length : length shares′ ≡ length shares
   pub small : total ≤ 2048
 
--- The numbers of the log slots below n, and the others not yet made.
+-- The numbers of the log slots below n; the totals of the others are those of the first walk.
 pub record Rows (L : Layout) (area cells notes : List ℕ) (split : Split) (n : ℕ) (totals shares : List ℕ) : Type 0 where
   pub rows : (i : ℕ) → i < n → named (split .outside) i ≡ true → (j : ℕ) → j < 32 →
       getD shares (i * 32 + j) 0 + slotWeight L area cells notes (split .size) i j ≡ getD totals i 0
+  pub rest : (i : ℕ) → n ≤ i → i < split .slots → named (split .outside) i ≡ true → getD totals i 0 ≡ slotObjects L area cells (split .size) i
+  pub few : (i : ℕ) → n ≤ i → getD totals i 0 ≤ 2048
   pub clear : Clear shares (n * 32)
   pub shares-long : length shares ≡ 1024
   pub totals-long : length totals ≡ 32

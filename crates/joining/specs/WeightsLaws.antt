@@ -1,31 +1,30 @@
 -- The weights at each test of the code, and the numbers of the slots.
-use Prim.Native.Nat.{ℕ, zero, suc, _+_, _*_, _-_, _≤_, _<_}
-use mathlib.Core.Path.{_≡_, refl, sym, _∙_, ap}
+use Prim.Native.Nat.{ℕ, _+_, _*_, _-_, _≤_, _<_}
+use mathlib.Core.Path.{_≡_, refl, sym, _∙_, ap, subst}
 use mathlib.Core.Bool.{Bool, true, false, not}
 use mathlib.Core.List.{List, [], _∷_}
 use native.Mathlib.Decide.{ℕ-discrete}
-use native.Mathlib.Nat.{mul-le-mul}
-use native.Mathlib.Numerals.{add-one}
+use native.Mathlib.Nat.{add-zero, zero-add}
 use native.Mathlib.Omega.{arith}
 use lib.Dec.{eqb, leb, ltb}
 use lib.ListN.{length, getD, set, replicate, length-set, length-replicate}
 use lib.Seq.{getD-set-same, getD-set-other}
 use borrow.Author.Tests.{eq-eqb, ne-eqb, lt-ltb, le-ltb, le-leb, lt-leb, eqb-true, eqb-false, leb-true, leb-false, ltb-true, ltb-false}
-use Rattle.segment.specs.Choice.{pick, pick-true, pick-false, either, both, both-true, both-false-left, both-false-right}
+use Rattle.segment.specs.Choice.{pick, pick-true, pick-false, either, both, both-false-left, both-false-right}
 use Rattle.segment.specs.Layout.{Layout, digestSize}
+use Rattle.segment.specs.Entry.{sizeOf, isTombstone}
 use Rattle.segment.specs.declared.Header.{Header}
-use Rattle.segment.specs.declared.Key.{Key}
 use Rattle.slot_map.specs.Bit.{named}
 use Rattle.model.specs.Log.{Item, segmentOf, placedIn}
 use Rattle.laws.specs.Members.{clash}
 use Rattle.index.specs.Build.{entriesAt}
-use Rattle.index.specs.Search.{searchFor}
-use Rattle.index.specs.declared.Found.{Found}
+use Rattle.cleaning.specs.Entries.{slotItems}
 use Rattle.cleaning.specs.EntriesLaws.{Meets, entries-meets}
 use Rattle.cleaning.specs.declared.Split.{Split}
 use Rattle.joining.specs.declared.Share.{Share}
-use Rattle.joining.specs.Notes.{tellsBut}
-use Rattle.joining.specs.Weights.{noteShare, cellShare, shareAt, shareKept, weightAt, weightOf, slotWeight, Low, Clear, ShareFits, shareLength, sharesWith, Weighed, Rows, numbersFit, weightsFit}
+use Rattle.joining.specs.Notes.{tellsBut, spotOf, tombstonesOf, tombstonesIn, ObjectsCounted}
+use Rattle.joining.specs.NotesLaws.{zeros}
+use Rattle.joining.specs.Weights.{noteShare, shareAt, shareKept, weightAt, weightOf, slotTombstones, slotWeight, Low, Clear, ShareFits, shareLength, sharesWith, Weighed, Rows, Passed, numbersFit, weightsFit}
 
 -- ---- the share of a note
 
@@ -69,51 +68,22 @@ note-fits n = go (eqb n 0) refl (ltb 32 n) refl
 
 -- ---- the share of an entry
 
-module _ (L : Layout) (area cells notes : List ℕ) (h : Header) (place c : ℕ) (e : searchFor L area cells (h .key) ≡ Found.At c) where
-  pub share-older : (getD cells c 0 ≡ place + 1 → ⊥) → Share.Nothing ≡ shareAt L area cells notes h place
-  unfolding shareAt cellShare
-  share-older n = sym (ap (cellShare cells notes (h .tombstone) place) e ∙ pick-false _ _ _ (ne-eqb (getD cells c 0) (place + 1) n))
+module _ (notes : List ℕ) (h : Header) (place : ℕ) where
+  pub share-object : h .tombstone ≡ false → Share.Nothing ≡ shareAt notes h place
+  unfolding shareAt
+  share-object t = sym (pick-false (h .tombstone) _ Share.Nothing t)
 
-  module _ (own : getD cells c 0 ≡ place + 1) where
-    pub share-object : h .tombstone ≡ false → Share.Whole ≡ shareAt L area cells notes h place
-    unfolding shareAt cellShare
-    share-object t =
-        sym
-        (ap (cellShare cells notes (h .tombstone) place) e
-        ∙ pick-true _ _ _ (eq-eqb (getD cells c 0) (place + 1) own)
-        ∙ pick-false (h .tombstone) (noteShare (getD notes c 0)) Share.Whole t)
+  pub share-tombstone : {s : Share} → h .tombstone ≡ true → s ≡ noteShare (getD notes (spotOf place) 0) → s ≡ shareAt notes h place
+  unfolding shareAt
+  share-tombstone t m = m ∙ sym (pick-true (h .tombstone) _ Share.Nothing t)
 
-    pub share-tombstone : {s : Share} → h .tombstone ≡ true → s ≡ noteShare (getD notes c 0) → s ≡ shareAt L area cells notes h place
-    unfolding shareAt cellShare
-    share-tombstone t m =
-        m
-        ∙ sym
-        (ap (cellShare cells notes (h .tombstone) place) e
-        ∙ pick-true _ _ _ (eq-eqb (getD cells c 0) (place + 1) own)
-        ∙ pick-true (h .tombstone) (noteShare (getD notes c 0)) Share.Whole t)
-
-module _ (L : Layout) (area cells notes : List ℕ) (h : Header) (place : ℕ) where
-  pub share-free : (c : ℕ) → searchFor L area cells (h .key) ≡ Found.Free c → Share.Nothing ≡ shareAt L area cells notes h place
-  unfolding shareAt cellShare
-  share-free c e = sym (ap (cellShare cells notes (h .tombstone) place) e)
-
-  pub share-full : searchFor L area cells (h .key) ≡ Found.Full → Share.Nothing ≡ shareAt L area cells notes h place
-  unfolding shareAt cellShare
-  share-full e = sym (ap (cellShare cells notes (h .tombstone) place) e)
-
-  pub share-fits : ShareFits (shareAt L area cells notes h place)
-  unfolding shareAt cellShare pick
-  share-fits = go (searchFor L area cells (h .key))
+  pub share-fits : ShareFits (shareAt notes h place)
+  unfolding shareAt pick
+  share-fits = go (h .tombstone)
     where
-      at : (b t : Bool) (n : ℕ) → ShareFits (pick b (pick t (noteShare n) Share.Whole) Share.Nothing)
-      at true true n = note-fits n
-      at true false n = tt
-      at false t n = tt
-
-      go : (f : Found) → ShareFits (cellShare cells notes (h .tombstone) place f)
-      go (Found.At c) = at (eqb (getD cells c 0) (place + 1)) (h .tombstone) (getD notes c 0)
-      go (Found.Free c) = tt
-      go Found.Full = tt
+      go : (t : Bool) → ShareFits (pick t (noteShare (getD notes (spotOf place) 0)) Share.Nothing)
+      go true = note-fits (getD notes (spotOf place) 0)
+      go false = tt
 
 -- ---- a share added
 
@@ -188,21 +158,21 @@ added-unless shares shares′ base n s p e w = rw e (refl, w)
 
 -- ---- a turn of the loop over a segment
 
-module _ (L : Layout) (area cells notes : List ℕ) (S i : ℕ) where
-  -- what is kept of slot i, of the bytes s, from an offset on, where the other victim is j
+module _ (L : Layout) (area notes : List ℕ) (S i : ℕ) where
+  -- what is kept of the tombstones of slot i, of the bytes s, from an offset on, where the other victim is j
   abbrev pub weightFrom : List ℕ → ℕ → ℕ → ℕ
-  weightFrom s at j = weightOf L area cells notes S j (placedIn i (entriesAt L s at))
+  weightFrom s at j = weightOf L notes S j (placedIn i (entriesAt L s at))
 
   module _ (s : List ℕ) (at : ℕ) (j : ℕ) where
     pub from-stop : entriesAt L s at ≡ [] → weightFrom s at j ≡ 0
     unfolding weightOf placedIn
-    from-stop e = ap (λ (is : List Item). weightOf L area cells notes S j (placedIn i is)) e
+    from-stop e = ap (λ (is : List Item). weightOf L notes S j (placedIn i is)) e
 
-    pub from-entry : {h : Header} → Meets L s at h → weightFrom s at j ≡ weightAt L area cells notes j h (i * S + at) + weightFrom s (at + h .length) j
+    pub from-entry : {h : Header} → Meets L s at h → weightFrom s at j ≡ weightAt notes j h (i * S + at) + weightFrom s (at + h .length) j
     unfolding weightOf placedIn
     from-entry {h} m =
-        ap (λ (is : List Item). weightOf L area cells notes S j (placedIn i is)) (entries-meets L s at m)
-        ∙ ap (λ (g : Header). weightAt L area cells notes j g (i * S + at) + weightFrom s (at + h .length) j) (m .its)
+        ap (λ (is : List Item). weightOf L notes S j (placedIn i is)) (entries-meets L s at m)
+        ∙ ap (λ (g : Header). weightAt notes j g (i * S + at) + weightFrom s (at + h .length) j) (m .its)
 
   -- The numbers so far: `shares₀` at the start, `total` is what the entries so far add up to.
   pub record Weighing (s shares₀ shares : List ℕ) (at total : ℕ) : Type 0 where
@@ -228,7 +198,7 @@ module _ (L : Layout) (area cells notes : List ℕ) (S i : ℕ) where
         }
 
     module _ (shares : List ℕ) (at total : ℕ) (w : Weighing s shares₀ shares at total) where
-      pub weighing-entry : {h : Header} → Meets L s at h → (share : Share) → share ≡ shareAt L area cells notes h (i * S + at) →
+      weighing-entry : {h : Header} → Meets L s at h → (share : Share) → share ≡ shareAt notes h (i * S + at) →
           i * 32 + 32 ≤ length shares → (n : ℕ) (shares′ : List ℕ) → (n ≡ shareLength share (h .length)) × (shares′ ≡ sharesWith shares (i * 32) share (h .length)) →
           Weighing s shares₀ shares′ (at + h .length) (total + n)
       weighing-entry {h} m share is long n shares′ made =
@@ -243,20 +213,46 @@ module _ (L : Layout) (area cells notes : List ℕ) (S i : ℕ) where
           }
         where
           fits : ShareFits share
-          fits = rw is (share-fits L area cells notes h (i * S + at))
+          fits = rw is (share-fits notes h (i * S + at))
 
           one : (j : ℕ) → j < 32 → getD shares′ (i * 32 + j) 0 + pick (shareKept share j) (h .length) 0 ≡ getD shares (i * 32 + j) 0 + shareLength share (h .length)
           one j few =
               ap (λ (l : List ℕ). getD l (i * 32 + j) 0 + pick (shareKept share j) (h .length) 0) (made .1)
               ∙ with-row shares (i * 32) share (h .length) long fits j few
 
-          weight : (j : ℕ) → weightAt L area cells notes j h (i * S + at) ≡ pick (shareKept share j) (h .length) 0
+          weight : (j : ℕ) → weightAt notes j h (i * S + at) ≡ pick (shareKept share j) (h .length) 0
           weight j = ap (λ (x : Share). pick (shareKept x j) (h .length) 0) (sym is)
 
           other : (k : ℕ) → (i * 32 ≤ k → k < i * 32 + 32 → ⊥) → getD shares′ k 0 ≡ getD shares k 0
           other k out = ap (λ (l : List ℕ). getD l k 0) (made .1) ∙ with-other shares (i * 32) share (h .length) fits k out
 
-      pub weighing-stop : entriesAt L s at ≡ [] → s ≡ segmentOf area S i → length s ≤ 2048 → Weighed L area cells notes S i shares₀ shares total
+      pub weighing-tombstone : {h : Header} → Meets L s at h → h .tombstone ≡ true → (k : ℕ) → h .length ≡ k → (share : Share) →
+          share ≡ noteShare (getD notes (spotOf (i * S + at)) 0) → i * 32 + 32 ≤ length shares → (n : ℕ) (shares′ : List ℕ) →
+          (n ≡ shareLength share k) × (shares′ ≡ sharesWith shares (i * 32) share k) → Weighing s shares₀ shares′ (at + k) (total + n)
+      weighing-tombstone {h} m t k e share is long n shares′ made =
+          subst (λ (l : ℕ). Weighing s shares₀ shares′ (at + l) (total + n)) e
+          (weighing-entry m share (share-tombstone notes h (i * S + at) t is) long n shares′
+          (subst (λ (l : ℕ). (n ≡ shareLength share l) × (shares′ ≡ sharesWith shares (i * 32) share l)) (sym e) made))
+
+      pub weighing-object : {h : Header} → Meets L s at h → h .tombstone ≡ false → i * 32 + 32 ≤ length shares →
+          Weighing s shares₀ shares (at + h .length) total
+      weighing-object {h} m t long =
+          subst (λ (n : ℕ). Weighing s shares₀ shares (at + h .length) n) (add-zero total)
+          (weighing-entry m Share.Nothing (share-object notes h (i * S + at) t) long 0 shares (added-none shares (i * 32) (h .length) Share.Nothing refl))
+
+      pub weighing-passed : (to : ℕ) → Passed L s at to → Weighing s shares₀ shares to total
+      weighing-passed to p =
+          record {
+            row = λ j few. omega (arith, w .row j few, p .same notes S i j);
+            low = w .low;
+            below = w .below;
+            above = w .above;
+            same-length = w .same-length;
+            short = omega (arith, w .short, p .forward);
+            inside = p .inside;
+          }
+
+      pub weighing-stop : entriesAt L s at ≡ [] → s ≡ segmentOf area S i → length s ≤ 2048 → Weighed L area notes S i shares₀ shares total
       weighing-stop e own few =
           record {
             row = λ j l. omega (arith, w .row j l, from-stop s at j e, whole j);
@@ -266,24 +262,59 @@ module _ (L : Layout) (area cells notes : List ℕ) (S i : ℕ) where
             small = omega (arith, w .short, w .inside);
           }
         where
-          whole : (j : ℕ) → weightFrom s (digestSize L) j ≡ slotWeight L area cells notes S i j
+          whole : (j : ℕ) → weightFrom s (digestSize L) j ≡ slotTombstones L area notes S i j
           whole j = ap (λ (t : List ℕ). weightFrom t (digestSize L) j) own
+
+-- ---- objects passed over
+
+module _ (L : Layout) (s : List ℕ) (from : ℕ) where
+  pub passed-start : from ≤ length s → Passed L s from from
+  passed-start h = record { same = λ notes S i j. refl; forward = omega arith; inside = h }
+
+  pub passed-object : (at : ℕ) → Passed L s from at → {h : Header} → Meets L s at h → h .tombstone ≡ false → (n : ℕ) → h .length ≡ n →
+      Passed L s from (at + n)
+  unfolding shareKept
+  passed-object at w {h} m t n e =
+      subst (λ (k : ℕ). Passed L s from (at + k)) e
+      (record {
+        same = λ notes S i j. w .same notes S i j ∙ from-entry L [] notes S i s at j m ∙ ap (λ (k : ℕ). k + weightFrom L [] notes S i s (at + h .length) j) (none notes S i j) ∙ zero-add _;
+        forward = omega (arith, w .forward);
+        inside = m .fits;
+      })
+    where
+      none : (notes : List ℕ) (S i j : ℕ) → weightAt notes j h (i * S + at) ≡ 0
+      none notes S i j =
+          ap (λ (x : Share). pick (shareKept x j) (h .length) 0) (sym (share-object notes h (i * S + at) t)) ∙ pick-false false (h .length) 0 refl
 
 -- ---- the slots
 
-zeros : (n k : ℕ) → getD {A = ℕ} (replicate n 0) k 0 ≡ 0
-zeros zero k = refl
-zeros (suc n) zero = refl
-zeros (suc n) (suc k) = zeros n k
+-- of tombstones no more is kept than there is
+tombstones-most : (L : Layout) (notes : List ℕ) (S i j : ℕ) (is : List Item) → weightOf L notes S j (placedIn i is) ≤ tombstonesOf L is
+unfolding weightOf tombstonesOf placedIn shareAt shareKept pick
+tombstones-most L notes S i j [] = omega arith
+tombstones-most L notes S i j (x ∷ xs) = omega (arith, tombstones-most L notes S i j xs, one (isTombstone (x .entry)))
+  where
+    share : Share
+    share = noteShare (getD notes (spotOf (i * S + x .offset)) 0)
+
+    at : (b : Bool) → pick b (sizeOf L (x .entry)) 0 ≤ sizeOf L (x .entry)
+    at true = omega arith
+    at false = omega arith
+
+    one : (t : Bool) → pick (shareKept (pick t share Share.Nothing) j) (sizeOf L (x .entry)) 0 ≤ pick t (sizeOf L (x .entry)) 0
+    one true = at (shareKept share j)
+    one false = omega arith
 
 module _ (L : Layout) (area cells notes : List ℕ) (split : Split) where
-  pub rows-start : Rows L area cells notes split 0 (replicate 32 0) (replicate 1024 0)
-  rows-start =
+  pub rows-start : (totals : List ℕ) → ObjectsCounted L area cells split (split .slots) totals → Rows L area cells notes split 0 totals (replicate 1024 0)
+  rows-start totals w =
       record {
         rows = λ i l. absurd (omega arith);
+        rest = λ i l. w .counted i;
+        few = λ i l. w .few i;
         clear = λ k h. zeros 1024 k;
         shares-long = length-replicate {A = ℕ} 1024 0;
-        totals-long = length-replicate {A = ℕ} 32 0;
+        totals-long = w .totals-long;
       }
 
   module _ (n : ℕ) (totals shares : List ℕ) (w : Rows L area cells notes split n totals shares) where
@@ -291,6 +322,8 @@ module _ (L : Layout) (area cells notes : List ℕ) (split : Split) where
     rows-skip e =
         record {
           rows = λ i l p. go i l p (ℕ-discrete i n);
+          rest = λ i l. w .rest i (omega arith);
+          few = λ i l. w .few i (omega arith);
           clear = λ k h. w .clear k (omega arith);
           shares-long = w .shares-long;
           totals-long = w .totals-long;
@@ -301,28 +334,67 @@ module _ (L : Layout) (area cells notes : List ℕ) (split : Split) where
         go i l p (yes q) = absurd (clash (named (split .outside) i) p (ap (named (split .outside)) q ∙ e))
         go i l p (no q) = w .rows i (omega arith) p
 
-    pub rows-more : n < 32 → (shares′ : List ℕ) (total : ℕ) → Weighed L area cells notes (split .size) n shares shares′ total →
-        Rows L area cells notes split (n + 1) (set totals n total) shares′
-    rows-more few shares′ total h =
+    -- a slot without tombstones
+    pub rows-none : n < split .slots → named (split .outside) n ≡ true → tombstonesIn L area (split .size) n ≡ 0 → Rows L area cells notes split (n + 1) totals shares
+    rows-none below is none =
         record {
           rows = λ i l p. go i l p (ℕ-discrete i n);
-          clear = λ k b. h .above k (omega arith) ∙ w .clear k (omega arith);
-          shares-long = h .same-length ∙ w .shares-long;
-          totals-long = length-set totals n total ∙ w .totals-long;
+          rest = λ i l. w .rest i (omega arith);
+          few = λ i l. w .few i (omega arith);
+          clear = λ k h. w .clear k (omega arith);
+          shares-long = w .shares-long;
+          totals-long = w .totals-long;
         }
       where
+        own : (j : ℕ) → getD shares (n * 32 + j) 0 + slotWeight L area cells notes (split .size) n j ≡ getD totals n 0
+        own j =
+            omega (
+              arith,
+              w .clear (n * 32 + j) (omega arith),
+              w .rest n (omega arith) below is,
+              none,
+              tombstones-most L notes (split .size) n j (slotItems L area (split .size) n),
+            )
+
         go : (i : ℕ) → i < n + 1 → named (split .outside) i ≡ true → Dec (i ≡ n) → (j : ℕ) → j < 32 →
-            getD shares′ (i * 32 + j) 0 + slotWeight L area cells notes (split .size) i j ≡ getD (set totals n total) i 0
+            getD shares (i * 32 + j) 0 + slotWeight L area cells notes (split .size) i j ≡ getD totals i 0
+        go i l p (yes q) j b = subst (λ (m : ℕ). getD shares (m * 32 + j) 0 + slotWeight L area cells notes (split .size) m j ≡ getD totals m 0) (sym q) (own j)
+        go i l p (no q) j b = w .rows i (omega arith) p j b
+
+    pub rows-more : n < 32 → n < split .slots → named (split .outside) n ≡ true → (shares′ : List ℕ) (total : ℕ) →
+        Weighed L area notes (split .size) n shares shares′ total →
+        Rows L area cells notes split (n + 1) (set totals n (getD totals n 0 + total)) shares′
+    rows-more low below is shares′ total h =
+        record {
+          rows = λ i l p. go i l p (ℕ-discrete i n);
+          rest = λ i l b p. other i (λ q. omega arith) ∙ w .rest i (omega arith) b p;
+          few = λ i l. omega (arith, other i (λ q. omega arith), w .few i (omega arith));
+          clear = λ k b. h .above k (omega arith) ∙ w .clear k (omega arith);
+          shares-long = h .same-length ∙ w .shares-long;
+          totals-long = length-set totals n sum ∙ w .totals-long;
+        }
+      where
+        sum : ℕ
+        sum = getD totals n 0 + total
+
+        other : (i : ℕ) → (i ≡ n → ⊥) → getD (set totals n sum) i 0 ≡ getD totals i 0
+        other i q = getD-set-other totals n i sum 0 q
+
+        own : (j : ℕ) → j < 32 → getD shares′ (n * 32 + j) 0 + slotWeight L area cells notes (split .size) n j ≡ sum
+        own j b = omega (arith, h .row j b, w .rest n (omega arith) below is)
+
+        go : (i : ℕ) → i < n + 1 → named (split .outside) i ≡ true → Dec (i ≡ n) → (j : ℕ) → j < 32 →
+            getD shares′ (i * 32 + j) 0 + slotWeight L area cells notes (split .size) i j ≡ getD (set totals n sum) i 0
         go i l p (yes q) j b =
             ap (λ (m : ℕ). getD shares′ (m * 32 + j) 0 + slotWeight L area cells notes (split .size) m j) q
-            ∙ h .row j b
-            ∙ sym (getD-set-same totals n total 0 (omega (arith, w .totals-long)))
-            ∙ ap (λ (m : ℕ). getD (set totals n total) m 0) (sym q)
+            ∙ own j b
+            ∙ sym (getD-set-same totals n sum 0 (omega (arith, w .totals-long)))
+            ∙ ap (λ (m : ℕ). getD (set totals n sum) m 0) (sym q)
         go i l p (no q) j b =
             let l′ : i < n = omega arith in
             ap (λ (m : ℕ). m + slotWeight L area cells notes (split .size) i j) (h .below (i * 32 + j) (omega (arith, l′, b)))
             ∙ w .rows i l′ p j b
-            ∙ sym (getD-set-other totals n i total 0 q)
+            ∙ sym (other i q)
 
 -- ---- the test of a pair
 

@@ -47,20 +47,29 @@ fn check(rec: Record, area: usize, index: usize) -> Check
 
 // The lowest pair of the log.
 fn choose(area: &[u8], index: &[u32], split: Split) -> Chosen
-    requires { ⌜ NotesFit split (now area) (now index) (replicate 4096 0) ⌝ }
+    requires { ⌜ NotesFit split (now area) (now index) (replicate 5958 0) ⌝ }
     ensures { λ r.
         ⌜
         r ≡ chosenIs
         (lowestPair
-        (weightsFit edition1 (now (area .entry)) (now (index .entry)) (noteAll edition1 (now (area .entry)) (now (index .entry)) split (replicate 4096 0)) split)
+        (weightsFit edition1 (now (area .entry)) (now (index .entry)) (noteAll edition1 (now (area .entry)) (now (index .entry)) split (replicate 5958 0)) split)
         (split .slots))
         ⌝ }
 {
-    let mut notes = [0u8; 4096];
-    note_all(area, index, &mut notes, split);
+    let mut notes = [0u8; 5958];
     let mut totals = [0u32; 32];
-    let mut shares = [0u32; 1024];
-    weigh_all(area, index, &notes, split, &mut totals, &mut shares);
+    let mut tombstones = [0u32; 32];
+    note_all(area, index, &mut notes, &mut totals, &mut tombstones, split);
+    let mut shares = [0u16; 1024];
+    weigh_all(
+        area,
+        index,
+        &notes,
+        &tombstones,
+        split,
+        &mut totals,
+        &mut shares,
+    );
     lowest_pair(&totals, &shares, split)
 }
 

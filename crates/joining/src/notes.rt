@@ -1,5 +1,6 @@
-// The first walk: a byte for each cell of the index tells in which slots, but for that of the key's latest entry, objects of the
-// key stand.
+// The first walk, with the only search for each object: the bytes of the objects that are kept of each slot, and a byte for each
+// latest entry of a key that tells in which slots, but for its own, objects of the key stand.
+use crate::Sums;
 use cleaning::Split;
 use index::Found;
 use index::search::search;
@@ -10,12 +11,13 @@ use segment::Next;
 use segment::area::cut;
 use segment::entries::next;
 use segment::layout::DIGEST_SIZE;
-ghost use Prim.Native.Nat.{_≤_, _<_};
+use segment::layout::HEAD_SIZE;
+ghost use Prim.Native.Nat.{_+_, _*_, _≤_, _<_};
 ghost use mathlib.Core.Path.{_≡_};
 ghost use lib.ListN.{length};
 ghost use Rattle.segment.specs.Layout.{edition1};
 ghost use Rattle.index.specs.Search.{searchFor};
-ghost use Rattle.joining.specs.Notes.{noteWith, elsewhere, noteCell, noteFound, noteEntry, noteSlot, notePart, noteAll, NotesFit};
+ghost use Rattle.joining.specs.Notes.{noteWith, elsewhere, noteNewest, noteFound, noteSlot, notePart, noteAll, NotesFit, foundLength, Summed, ObjectsCounted, TombstonesCounted};
 
 // More slots than one.
 const SEVERAL: u8 = 64;
@@ -48,110 +50,153 @@ fn is_elsewhere(cell: usize, size: usize, slot: usize) -> bool
     low + size < cell
 }
 
-// Notes a slot in a cell, if the cell's entry stands in another one.
-fn note_cell(cells: &[u32], notes: &mut [u8], cell: usize, size: usize, slot: usize)
-    requires { ⌜ cell < length (now cells) ⌝ }
-    requires { ⌜ length (now cells) ≤ 4096 ⌝ }
-    requires { ⌜ length (now notes) ≡ 4096 ⌝ }
+// Notes a slot for the entry of a cell, if that stands in another one.
+fn note_cell(notes: &mut [u8], newest: usize, size: usize, slot: usize)
+    requires { ⌜ 0 < newest ⌝ }
+    requires { ⌜ newest ≤ 65536 ⌝ }
+    requires { ⌜ length (now notes) ≡ 5958 ⌝ }
     requires { ⌜ slot < 32 ⌝ }
     requires { ⌜ size ≤ 2048 ⌝ }
-    ensures { λ _. ⌜ now (notes .exit) ≡ noteCell size slot (now (cells .entry)) (now (notes .entry)) cell ⌝ }
+    ensures { λ _. ⌜ now (notes .exit) ≡ noteNewest size slot newest (now (notes .entry)) ⌝ }
 {
-    if !is_elsewhere(cells[cell] as usize, size, slot) {
+    if !is_elsewhere(newest, size, slot) {
         return;
     }
-    notes[cell] = note_with(notes[cell], slot);
+    let at = (newest - 1) / HEAD_SIZE;
+    notes[at] = note_with(notes[at], slot);
 }
 
-// Notes a slot in the cell of a key.
-fn note_key(area: &[u8], cells: &[u32], notes: &mut [u8], key: Key, size: usize, slot: usize)
-    requires { ⌜ length (now cells) ≤ 4096 ⌝ }
-    requires { ⌜ length (now notes) ≡ 4096 ⌝ }
-    requires { ⌜ slot < 32 ⌝ }
-    requires { ⌜ size ≤ 2048 ⌝ }
-    ensures { λ _.
-        ⌜
-        now (notes .exit)
-        ≡ noteFound size slot (now (cells .entry)) (now (notes .entry)) (searchFor edition1 (now (area .entry)) (now (cells .entry)) key)
-        ⌝ }
-{
-    match search(area, cells, key) {
-        Found::At(i) => note_cell(cells, notes, i, size, slot),
-        Found::Free(_) => {}
-        Found::Full => {}
-    }
-}
-
-// Notes the slot of an object in the cell of its key.
-fn note_entry(
+// The bytes kept of an object of a slot, by one search for its key. One that is not its key's latest entry is noted.
+fn note_key(
     area: &[u8],
     cells: &[u32],
     notes: &mut [u8],
     header: Header,
     size: usize,
     slot: usize,
-)
-    requires { ⌜ length (now cells) ≤ 4096 ⌝ }
-    requires { ⌜ length (now notes) ≡ 4096 ⌝ }
+    place: usize,
+) -> usize
+    requires { ⌜ length (now area) ≤ 65536 ⌝ }
+    requires { ⌜ length (now notes) ≡ 5958 ⌝ }
     requires { ⌜ slot < 32 ⌝ }
     requires { ⌜ size ≤ 2048 ⌝ }
-    ensures { λ _.
-        ⌜ now (notes .exit) ≡ noteEntry edition1 (now (area .entry)) (now (cells .entry)) size slot (now (notes .entry)) header ⌝ }
+    requires { ⌜ slot * size ≤ place ⌝ }
+    requires { ⌜ place < slot * size + size ⌝ }
+    ensures { λ r.
+        ⌜
+        (r ≡ foundLength (now (cells .entry)) place (header .length) (searchFor edition1 (now (area .entry)) (now (cells .entry)) (header .key)))
+        × (now (notes .exit)
+        ≡ noteFound size slot (now (cells .entry)) (now (notes .entry)) (searchFor edition1 (now (area .entry)) (now (cells .entry)) (header .key)))
+        ⌝ }
 {
-    if header.tombstone {
-        return;
+    match search(area, cells, header.key) {
+        Found::At(i) => {
+            let newest = cells[i] as usize;
+            if newest == place + 1 {
+                return header.length;
+            }
+            note_cell(notes, newest, size, slot);
+            0
+        }
+        Found::Free(_) => 0,
+        Found::Full => 0,
     }
-    note_key(area, cells, notes, header.key, size, slot);
 }
 
-// Notes a slot in the cells of the keys of its objects. Damage ends a segment too.
-fn note_slot(area: &[u8], cells: &[u32], notes: &mut [u8], split: Split, slot: usize)
+// The sums of a slot. Damage ends a segment too. A tombstone's length is not taken from its header, so that no turn waits until
+// the turn before has read a length.
+fn note_slot(area: &[u8], cells: &[u32], notes: &mut [u8], split: Split, slot: usize) -> Sums
     requires { ⌜ NotesFit split (now area) (now cells) (now notes) ⌝ }
     requires { ⌜ slot < split .slots ⌝ }
-    ensures { λ _.
-        ⌜ now (notes .exit) ≡ noteSlot edition1 (now (area .entry)) (now (cells .entry)) (split .size) (now (notes .entry)) slot ⌝ }
+    ensures { λ r.
+        ⌜
+        Summed edition1 (now (area .entry)) (now (cells .entry)) (split .size) slot r
+        × (now (notes .exit) ≡ noteSlot edition1 (now (area .entry)) (now (cells .entry)) (split .size) (now (notes .entry)) slot)
+        ⌝ }
 {
     let size = split.size;
     let s = cut(size, area, slot);
     let mut at = DIGEST_SIZE;
+    let mut objects = 0;
+    let mut tombstones = 0;
     loop {
         match next(s, at) {
             Next::Entry(header) => {
-                note_entry(area, cells, notes, header, size, slot);
-                at += header.length;
+                if header.tombstone {
+                    tombstones += HEAD_SIZE;
+                    at += HEAD_SIZE;
+                } else {
+                    objects += note_key(area, cells, notes, header, size, slot, slot * size + at);
+                    at += header.length;
+                }
             }
             Next::End => {
-                return;
+                return Sums {
+                    objects,
+                    tombstones,
+                };
             }
             Next::Damage => {
-                return;
+                return Sums {
+                    objects,
+                    tombstones,
+                };
             }
         }
     }
 }
 
-// The same, nothing where the slot is not of the log.
-fn note_part(area: &[u8], cells: &[u32], notes: &mut [u8], split: Split, slot: usize)
+// The same, kept for the slot; nothing where the slot is not of the log.
+fn note_part(
+    area: &[u8],
+    cells: &[u32],
+    notes: &mut [u8],
+    totals: &mut [u32],
+    tombstones: &mut [u32],
+    split: Split,
+    slot: usize,
+)
     requires { ⌜ NotesFit split (now area) (now cells) (now notes) ⌝ }
     requires { ⌜ slot < split .slots ⌝ }
+    requires { ⌜ ObjectsCounted edition1 (now area) (now cells) split slot (now totals) ⌝ }
+    requires { ⌜ TombstonesCounted edition1 (now area) split slot (now tombstones) ⌝ }
     ensures { λ _.
-        ⌜ now (notes .exit) ≡ notePart edition1 (now (area .entry)) (now (cells .entry)) split (now (notes .entry)) slot ⌝ }
+        ⌜
+        (now (notes .exit) ≡ notePart edition1 (now (area .entry)) (now (cells .entry)) split (now (notes .entry)) slot)
+        × ObjectsCounted edition1 (now (area .entry)) (now (cells .entry)) split (slot + 1) (now (totals .exit))
+        × TombstonesCounted edition1 (now (area .entry)) split (slot + 1) (now (tombstones .exit))
+        ⌝ }
 {
     if !is_named(split.outside, slot) {
         return;
     }
-    note_slot(area, cells, notes, split, slot);
+    let sums = note_slot(area, cells, notes, split, slot);
+    totals[slot] = sums.objects as u32;
+    tombstones[slot] = sums.tombstones as u32;
 }
 
-// The notes of the whole log.
-pub fn note_all(area: &[u8], cells: &[u32], notes: &mut [u8], split: Split)
+// The notes and the sums of the whole log.
+pub fn note_all(
+    area: &[u8],
+    cells: &[u32],
+    notes: &mut [u8],
+    totals: &mut [u32],
+    tombstones: &mut [u32],
+    split: Split,
+)
     requires { ⌜ NotesFit split (now area) (now cells) (now notes) ⌝ }
+    requires { ⌜ ObjectsCounted edition1 (now area) (now cells) split 0 (now totals) ⌝ }
+    requires { ⌜ TombstonesCounted edition1 (now area) split 0 (now tombstones) ⌝ }
     ensures { λ _.
-        ⌜ now (notes .exit) ≡ noteAll edition1 (now (area .entry)) (now (cells .entry)) split (now (notes .entry)) ⌝ }
+        ⌜
+        (now (notes .exit) ≡ noteAll edition1 (now (area .entry)) (now (cells .entry)) split (now (notes .entry)))
+        × ObjectsCounted edition1 (now (area .entry)) (now (cells .entry)) split (split .slots) (now (totals .exit))
+        × TombstonesCounted edition1 (now (area .entry)) split (split .slots) (now (tombstones .exit))
+        ⌝ }
 {
     let mut i = 0;
     while i < split.slots {
-        note_part(area, cells, notes, split, i);
+        note_part(area, cells, notes, totals, tombstones, split, i);
         i += 1;
     }
 }

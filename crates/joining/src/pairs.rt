@@ -15,7 +15,7 @@ ghost use Rattle.joining.specs.Weights.{numbersFit};
 ghost use Rattle.joining.specs.PairLaws.{PairsFit, partnerIs, chosenIs};
 
 // Whether two slots, the lower one first, are of the log and fit one new head.
-fn pair_fits(totals: &[u32], shares: &[u32], split: Split, i: usize, j: usize) -> bool
+fn pair_fits(totals: &[u32], shares: &[u16], split: Split, i: usize, j: usize) -> bool
     requires { ⌜ PairsFit split (now totals) (now shares) ⌝ }
     requires { ⌜ i < split .slots ⌝ }
     requires { ⌜ j < split .slots ⌝ }
@@ -38,7 +38,7 @@ fn pair_fits(totals: &[u32], shares: &[u32], split: Split, i: usize, j: usize) -
 }
 
 // The lowest slot above i that can be joined with it.
-fn partner(totals: &[u32], shares: &[u32], split: Split, i: usize) -> Partner
+fn partner(totals: &[u32], shares: &[u16], split: Split, i: usize) -> Partner
     requires { ⌜ PairsFit split (now totals) (now shares) ⌝ }
     requires { ⌜ i < split .slots ⌝ }
     ensures { λ r.
@@ -57,7 +57,7 @@ fn partner(totals: &[u32], shares: &[u32], split: Split, i: usize) -> Partner
 }
 
 // The lowest pair: its lower slot decides first.
-pub fn lowest_pair(totals: &[u32], shares: &[u32], split: Split) -> Chosen
+pub fn lowest_pair(totals: &[u32], shares: &[u16], split: Split) -> Chosen
     requires { ⌜ PairsFit split (now totals) (now shares) ⌝ }
     ensures { λ r.
         ⌜

@@ -1,21 +1,20 @@
-// The second walk: for each slot the bytes that are kept of it, and for each other slot how many of them go where that one is a
-// victim too.
+// The second walk, over the tombstones alone: for each slot the bytes that are kept of it, and for each other slot how many of them
+// go where that one is a victim too. No key is searched for: a tombstone that is not its key's latest entry has no note.
 use crate::Share;
 use cleaning::Split;
-use index::Found;
-use index::search::search;
 use log::slots::is_named;
-use segment::Header;
 use segment::Next;
 use segment::area::cut;
 use segment::entries::next;
 use segment::layout::DIGEST_SIZE;
+use segment::layout::HEAD_SIZE;
 ghost use Prim.Native.Nat.{_+_, _*_, _≤_, _<_};
 ghost use mathlib.Core.Path.{_≡_};
 ghost use lib.ListN.{length};
 ghost use Rattle.segment.specs.Layout.{edition1};
-ghost use Rattle.joining.specs.Notes.{NotesFit};
-ghost use Rattle.joining.specs.Weights.{noteShare, shareAt, Low, sharesWith, shareLength, ShareFits, Weighed, Clear, Rows};
+ghost use Rattle.cleaning.specs.Entries.{SlotsFit};
+ghost use Rattle.joining.specs.Notes.{NotesFit, TombstonesCounted};
+ghost use Rattle.joining.specs.Weights.{noteShare, Low, sharesWith, shareLength, ShareFits, Weighed, Clear, Rows, Passed};
 
 // What a note of the objects of its key leaves of a tombstone.
 fn note_share(note: u8) -> Share
@@ -30,36 +29,13 @@ fn note_share(note: u8) -> Share
     Share::Unless(note as usize - 1)
 }
 
-// What is kept of the entry at a place.
-fn share_of(area: &[u8], cells: &[u32], notes: &[u8], header: Header, place: usize) -> Share
-    requires { ⌜ length (now cells) ≤ 4096 ⌝ }
-    requires { ⌜ length (now notes) ≡ 4096 ⌝ }
-    requires { ⌜ place < 65536 ⌝ }
-    ensures { λ r. ⌜ r ≡ shareAt edition1 (now (area .entry)) (now (cells .entry)) (now (notes .entry)) header place ⌝ }
-{
-    let key = header.key;
-    match search(area, cells, key) {
-        Found::At(i) => {
-            if cells[i] as usize != place + 1 {
-                return Share::Nothing;
-            }
-            if !header.tombstone {
-                return Share::Whole;
-            }
-            note_share(notes[i])
-        }
-        Found::Free(_) => Share::Nothing,
-        Found::Full => Share::Nothing,
-    }
-}
-
-// The share of an entry added to its slot's numbers, which start at `base`: it answers what the slot's total grows by.
-fn add_share(shares: &mut [u32], base: usize, share: Share, count: usize) -> usize
+// The share of a tombstone added to its slot's numbers, which start at `base`: it answers what the slot's total grows by.
+fn add_share(shares: &mut [u16], base: usize, share: Share, count: usize) -> usize
     requires { ⌜ length (now shares) ≡ 1024 ⌝ }
     requires { ⌜ base ≤ 992 ⌝ }
-    requires { ⌜ Low (now shares) base 65536 ⌝ }
+    requires { ⌜ Low (now shares) base 2048 ⌝ }
     requires { ⌜ ShareFits share ⌝ }
-    requires { ⌜ count ≤ 65536 ⌝ }
+    requires { ⌜ count ≤ 2048 ⌝ }
     ensures { λ r. ⌜ (r ≡ shareLength share count) × (now (shares .exit) ≡ sharesWith (now (shares .entry)) base share count) ⌝ }
 {
     match share {
@@ -67,29 +43,51 @@ fn add_share(shares: &mut [u32], base: usize, share: Share, count: usize) -> usi
         Share::Whole => count,
         Share::Unless(p) => {
             let at = base + p;
-            shares[at] = shares[at] + count as u32;
+            shares[at] = shares[at] + count as u16;
             count
         }
     }
 }
 
-// What is kept of a slot; its numbers hold what goes by the other victim. Damage ends a segment too.
-fn weigh_slot(
-    area: &[u8],
-    cells: &[u32],
-    notes: &[u8],
-    split: Split,
-    slot: usize,
-    shares: &mut [u32],
-) -> usize
-    requires { ⌜ NotesFit split (now area) (now cells) (now notes) ⌝ }
+// The place behind the objects of that length that stand from a place on, one behind the other. Their length is given, and not
+// taken from each header, so that no turn waits until the turn before has read a length.
+fn behind(s: &[u8], from: usize, count: usize) -> usize
+    requires { ⌜ from ≤ length (now s) ⌝ }
+    requires { ⌜ length (now s) ≤ 2048 ⌝ }
+    ensures { λ r. ⌜ Passed edition1 (now (s .entry)) from r ⌝ }
+{
+    let mut at = from;
+    loop {
+        match next(s, at) {
+            Next::Entry(header) => {
+                if header.tombstone {
+                    return at;
+                }
+                if header.length != count {
+                    return at;
+                }
+                at += count;
+            }
+            Next::End => {
+                return at;
+            }
+            Next::Damage => {
+                return at;
+            }
+        }
+    }
+}
+
+// What is kept of a slot's tombstones; its numbers hold what goes by the other victim. Damage ends a segment too.
+fn weigh_slot(area: &[u8], notes: &[u8], split: Split, slot: usize, shares: &mut [u16]) -> usize
+    requires { ⌜ SlotsFit split (now area) ⌝ }
+    requires { ⌜ length (now notes) ≡ 5958 ⌝ }
     requires { ⌜ slot < split .slots ⌝ }
     requires { ⌜ length (now shares) ≡ 1024 ⌝ }
     requires { ⌜ Clear (now shares) (slot * 32) ⌝ }
     ensures { λ r.
         ⌜
-        Weighed edition1 (now (area .entry)) (now (cells .entry)) (now (notes .entry)) (split .size) slot (now (shares .entry))
-        (now (shares .exit)) r
+        Weighed edition1 (now (area .entry)) (now (notes .entry)) (split .size) slot (now (shares .entry)) (now (shares .exit)) r
         ⌝ }
 {
     let size = split.size;
@@ -100,9 +98,13 @@ fn weigh_slot(
     loop {
         match next(s, at) {
             Next::Entry(header) => {
-                let share = share_of(area, cells, notes, header, slot * size + at);
-                total += add_share(shares, base, share, header.length);
-                at += header.length;
+                if header.tombstone {
+                    let share = note_share(notes[(slot * size + at) / HEAD_SIZE]);
+                    total += add_share(shares, base, share, HEAD_SIZE);
+                    at += HEAD_SIZE;
+                } else {
+                    at = behind(s, at + header.length, header.length);
+                }
             }
             Next::End => {
                 return total;
@@ -114,18 +116,20 @@ fn weigh_slot(
     }
 }
 
-// The same with the slot's total; nothing where the slot is not of the log.
+// The same added to the slot's total; nothing where the slot is not of the log or has no tombstones.
 fn weigh_part(
     area: &[u8],
     cells: &[u32],
     notes: &[u8],
+    tombstones: &[u32],
     split: Split,
     slot: usize,
     totals: &mut [u32],
-    shares: &mut [u32],
+    shares: &mut [u16],
 )
     requires { ⌜ NotesFit split (now area) (now cells) (now notes) ⌝ }
     requires { ⌜ slot < split .slots ⌝ }
+    requires { ⌜ TombstonesCounted edition1 (now area) split (split .slots) (now tombstones) ⌝ }
     requires { ⌜ Rows edition1 (now area) (now cells) (now notes) split slot (now totals) (now shares) ⌝ }
     ensures { λ _.
         ⌜
@@ -136,8 +140,11 @@ fn weigh_part(
     if !is_named(split.outside, slot) {
         return;
     }
-    let total = weigh_slot(area, cells, notes, split, slot, shares);
-    totals[slot] = total as u32;
+    if tombstones[slot] == 0 {
+        return;
+    }
+    let total = weigh_slot(area, notes, split, slot, shares);
+    totals[slot] = totals[slot] + total as u32;
 }
 
 // The numbers of all slots of the log.
@@ -145,11 +152,13 @@ pub fn weigh_all(
     area: &[u8],
     cells: &[u32],
     notes: &[u8],
+    tombstones: &[u32],
     split: Split,
     totals: &mut [u32],
-    shares: &mut [u32],
+    shares: &mut [u16],
 )
     requires { ⌜ NotesFit split (now area) (now cells) (now notes) ⌝ }
+    requires { ⌜ TombstonesCounted edition1 (now area) split (split .slots) (now tombstones) ⌝ }
     requires { ⌜ Rows edition1 (now area) (now cells) (now notes) split 0 (now totals) (now shares) ⌝ }
     ensures { λ _.
         ⌜
@@ -159,7 +168,7 @@ pub fn weigh_all(
 {
     let mut i = 0;
     while i < split.slots {
-        weigh_part(area, cells, notes, split, i, totals, shares);
+        weigh_part(area, cells, notes, tombstones, split, i, totals, shares);
         i += 1;
     }
 }

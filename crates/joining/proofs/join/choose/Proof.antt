@@ -1,11 +1,6 @@
 -- `joining::join::choose` meets its contract.
-use Prim.Native.Nat.{ℕ}
-use mathlib.Core.Path.{_≡_, _∙_, ap}
-use native.Mathlib.Omega.{arith}
-use lib.ListN.{length, length-replicate}
-use denote.Ref.{now}
 use Rattle.segment.specs.Layout.{edition1}
-use Rattle.joining.specs.NotesLaws.{length-below, fits-again}
+use Rattle.joining.specs.NotesLaws.{counted-start, tombstones-start, fits-noted}
 use Rattle.joining.specs.WeightsLaws.{rows-start}
 use Rattle.joining.specs.JoinLaws.{chosen-same}
 use borrow.Author.Needs.{needs}
@@ -15,8 +10,14 @@ use Rattle.joining.proofs.join.choose.Tie as tie
 slice-aggregate-note-all : tie.Need-slice-aggregate-note-all
 slice-aggregate-note-all c = search needs
 
+slice-aggregate-note-all-2 : tie.Need-slice-aggregate-note-all-2
+slice-aggregate-note-all-2 c = search needs
+
+slice-aggregate-note-all-3 : tie.Need-slice-aggregate-note-all-3
+slice-aggregate-note-all-3 c = search needs
+
 note-all-requires : tie.Need-note-all-requires
-note-all-requires c κs = c .before .before .before .pre
+note-all-requires c κs = (c .before .before .before .before .before .pre, (counted-start edition1 _ _ _, tombstones-start edition1 _ _))
 
 slice-aggregate-weigh-all : tie.Need-slice-aggregate-weigh-all
 slice-aggregate-weigh-all c = search needs
@@ -27,8 +28,13 @@ slice-aggregate-weigh-all-2 c = search needs
 slice-aggregate-weigh-all-3 : tie.Need-slice-aggregate-weigh-all-3
 slice-aggregate-weigh-all-3 c = search needs
 
+slice-aggregate-weigh-all-4 : tie.Need-slice-aggregate-weigh-all-4
+slice-aggregate-weigh-all-4 c = search needs
+
 weigh-all-requires : tie.Need-weigh-all-requires
-weigh-all-requires c κs = (fits-again _ (c .before .before .before .before .before .before .before .before .pre) (ap length (c .before .before .before .before .note-all .ensures) ∙ length-below edition1 _ _ _ _ _), rows-start edition1 _ _ _ _)
+weigh-all-requires c κs =
+    let made = c .before .before .before .before .before .before .before .note-all .ensures in
+    (fits-noted edition1 _ (c .before .before .before .before .before .before .before .before .before .before .before .before .before .pre) (made .0), (made .2, rows-start edition1 _ _ _ _ _ (made .1)))
 
 slice-aggregate-lowest-pair : tie.Need-slice-aggregate-lowest-pair
 slice-aggregate-lowest-pair c = search needs
@@ -37,20 +43,23 @@ slice-aggregate-lowest-pair-2 : tie.Need-slice-aggregate-lowest-pair-2
 slice-aggregate-lowest-pair-2 c = search needs
 
 lowest-pair-requires : tie.Need-lowest-pair-requires
-lowest-pair-requires c κs = record { slots-high = c .before .before .before .before .before .before .before .before .before .before .before .before .before .pre .slots .slots-high; size-high = c .before .before .before .before .before .before .before .before .before .before .before .before .before .pre .slots .size-high; totals-long = c .before .before .before .before .weigh-all .ensures .totals-long; shares-long = c .before .before .before .before .weigh-all .ensures .shares-long }
+lowest-pair-requires c κs = search needs
 
 returns : tie.Need-returns
-returns c = chosen-same edition1 _ _ _ _ _ _ _ (c .before .before .before .before .before .before .before .before .before .before .before .before .before .before .pre .slots .slots-high) (c .before .before .before .before .before .before .before .before .before .before .note-all .ensures) (c .before .before .before .before .before .weigh-all .ensures) (c .lowest-pair .ensures)
+returns c = chosen-same edition1 _ _ _ _ _ _ _ (c .before .before .before .before .before .before .before .before .before .before .before .before .before .before .before .before .before .before .before .pre .slots .slots-high) (c .before .before .before .before .before .before .before .before .before .before .before .before .before .note-all .ensures .0) (c .before .before .before .before .before .weigh-all .ensures) (c .lowest-pair .ensures)
 
 pub choose-spec : {M : Type 1} → statement M
 choose-spec =
     tie.close
     (tie.spec
     slice-aggregate-note-all
+    slice-aggregate-note-all-2
+    slice-aggregate-note-all-3
     note-all-requires
     slice-aggregate-weigh-all
     slice-aggregate-weigh-all-2
     slice-aggregate-weigh-all-3
+    slice-aggregate-weigh-all-4
     weigh-all-requires
     slice-aggregate-lowest-pair
     slice-aggregate-lowest-pair-2

@@ -1,12 +1,20 @@
 -- `joining::notes::note_key` meets its contract.
 use mathlib.Core.Path.{_≡_, sym, _∙_}
+use native.Mathlib.Omega.{arith}
 use denote.Ref.{now}
-use borrow.Author.Needs.{needs}
+use borrow.Author.Needs.{needs, scaled-fits}
 use Rattle.segment.specs.Layout.{edition1}
+use Rattle.index.specs.declared.Found.{Found}
+use Rattle.index.specs.Search.{searchFor}
 use Rattle.index.specs.SearchLaws.{search-inside}
-use Rattle.joining.specs.NotesLaws.{found-notes, free-keeps, full-keeps}
+use Rattle.joining.specs.NotesLaws.{slot-low, key-own, key-older, key-free, key-full}
 use Rattle.joining.proofs.notes.note_key.Statement.{statement}
 use Rattle.joining.proofs.notes.note_key.Tie as tie
+
+-- what the search found
+is-at : (c : tie.After-i)
+    → searchFor edition1 (now (c .before .before .before .before .before .before .args .area)) (now (c .before .before .before .before .before .before .args .cells)) (c .before .before .before .before .before .before .args .header .key) ≡ Found.At (c .i .given .0 .0)
+is-at c = sym (c .before .before .search .ensures) ∙ c .i .given .1
 
 search-requires : tie.Need-search-requires
 search-requires c κs = search needs
@@ -14,10 +22,29 @@ search-requires c κs = search needs
 enum-known-i : tie.Need-enum-known-i
 enum-known-i c = search needs
 
+mul-newest : tie.Need-mul-newest
+mul-newest c = scaled-fits _ _ 4 (search-inside edition1 _ _ _ _ (is-at (c .before)) .below) (c .before .before .before .before .before .before .before .good .1 .0 .1)
+
+shared-slice-read-newest : tie.Need-shared-slice-read-newest
+shared-slice-read-newest c = search-inside edition1 _ _ _ _ (is-at (c .before .before)) .below
+
+cast-newest : tie.Need-cast-newest
+cast-newest c = omega (arith, c .shared-slice-known3 .given (c .before .before .i .given .0 .0))
+
+add-if1 : tie.Need-add-if1
+add-if1 c = let s = c .before .before .before .before .before .before .before .before in omega (arith, slot-low (s .args .slot) (s .args .size) (s .pre .1 .1 .0) (s .pre .1 .1 .1 .0), s .pre .1 .1 .1 .1 .1)
+
+returns : tie.Need-returns
+returns c =
+    let s = c .before .before .before .before .before .before .before .before .before in
+    key-own edition1 _ _ _ _ _ _ _ _ _ (is-at (c .before .before .before)) (c .if1 .taken) (s .pre .1 .1 .1 .1 .0) (s .pre .1 .1 .1 .1 .1)
+
 note-cell-requires : tie.Need-note-cell-requires
+unfolding edition1
 note-cell-requires c κs =
-    let a = c .before .before .before .before .before .before .before .before in
-    (search-inside edition1 _ _ _ _ (sym (c .before .before .before .before .search .ensures) ∙ c .before .before .i .given .1) .below, a .pre)
+    let s = c .before .before .before .before .before .before .before .before .before .before in
+    let w = search-inside edition1 _ _ _ _ (is-at (c .before .before .before .before)) in
+    (w .taken, (omega (arith, w .fits, s .pre .0), (s .pre .1 .0, (s .pre .1 .1 .0, s .pre .1 .1 .1 .0))))
 
 enum-told : tie.Need-enum-told
 enum-told c = search needs
@@ -28,16 +55,14 @@ enum-told-2 c = search needs
 same-length : tie.Need-same-length
 same-length c = search needs
 
-returns : tie.Need-returns
-returns c =
-    let i = c .before .before .before .before .before in
-    found-notes edition1 _ _ _ _ _ _ _ _ (sym (i .before .before .search .ensures) ∙ i .i .given .1) (c .before .before .note-cell .ensures)
-
 returns-2 : tie.Need-returns-2
-returns-2 c = free-keeps edition1 _ _ _ _ _ _ _ (sym (c .before .before .search .ensures) ∙ c .enum-told .given .1)
+returns-2 c = key-older edition1 _ _ _ _ _ _ _ _ _ _ (is-at (c .before .before .before .before .before .before .before)) (c .before .before .before .before .if1 .left) (c .before .before .note-cell .ensures)
 
 returns-3 : tie.Need-returns-3
-returns-3 c = full-keeps edition1 _ _ _ _ _ _ (sym (c .before .before .search .ensures) ∙ c .enum-told2 .given .1)
+returns-3 c = key-free edition1 _ _ _ _ _ _ _ _ _ (sym (c .before .before .search .ensures) ∙ c .enum-told .given .1)
+
+returns-4 : tie.Need-returns-4
+returns-4 c = key-full edition1 _ _ _ _ _ _ _ _ (sym (c .before .before .search .ensures) ∙ c .enum-told2 .given .1)
 
 pub note-key-spec : {M : Type 1} → statement M
 note-key-spec =
@@ -45,10 +70,15 @@ note-key-spec =
     (tie.spec
     search-requires
     enum-known-i
+    mul-newest
+    shared-slice-read-newest
+    cast-newest
+    add-if1
+    returns
     note-cell-requires
     enum-told
     enum-told-2
     same-length
-    returns
     returns-2
-    returns-3)
+    returns-3
+    returns-4)

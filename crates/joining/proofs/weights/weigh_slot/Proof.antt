@@ -1,45 +1,54 @@
 -- `joining::weights::weigh_slot` meets its contract.
 use Prim.Native.Nat.{_+_, _*_, _-_, _≤_, _<_}
-use mathlib.Core.Path.{_≡_, _∙_, sym, subst⁻¹}
+use mathlib.Core.Bool.{true}
+use mathlib.Core.Path.{_≡_, _∙_, subst⁻¹}
 use native.Mathlib.Omega.{arith}
 use lib.ListN.{length}
 use denote.Ref.{now}
 use Rattle.segment.specs.Layout.{edition1}
 use Rattle.cleaning.specs.EntriesLaws.{Meets, meets, stops-end, stops-damage, slot-lies, slot-long, place-short}
 use Rattle.joining.specs.Weights.{ShareFits}
-use Rattle.joining.specs.WeightsLaws.{Weighing, weighing-start, weighing-entry, weighing-stop, share-fits, share-short}
+use Rattle.joining.specs.NotesLaws.{tombstone-length}
+use Rattle.joining.specs.WeightsLaws.{Weighing, weighing-start, weighing-tombstone, weighing-object, weighing-passed, weighing-stop, note-fits, share-short}
 use borrow.Author.Needs.{needs}
 use Rattle.joining.proofs.weights.weigh_slot.Statement.{statement}
 use Rattle.joining.proofs.weights.weigh_slot.Tie as tie
 
 abbrev Inv-loop : tie.InvT-loop
-Inv-loop area cells notes slot shares₀ size base s at₀ total₀ shares at total = Weighing edition1 area cells notes size slot s shares₀ shares at total
+Inv-loop area notes slot shares₀ size base s at₀ total₀ shares at total = Weighing edition1 area notes size slot s shares₀ shares at total
 
 abbrev μ-loop : tie.MeasureT-loop
-μ-loop area cells notes slot shares₀ size base s at₀ total₀ shares at total = length s - at
+μ-loop area notes slot shares₀ size base s at₀ total₀ shares at total = length s - at
 
 -- the slot's part of the area is S bytes long
-long : (c : tie.After-cut Inv-loop μ-loop) → length (now (c .cut .result)) ≡ c .before .before .before .before .before .args .split .size
-long c = slot-long (c .before .before .before .before .before .pre .0 .slots) _ (c .before .before .before .before .before .pre .1 .0) _ (c .cut .ensures)
+long : (c : tie.After-cut Inv-loop μ-loop) → length (now (c .cut .result)) ≡ c .before .before .before .before .args .split .size
+long c = let s = c .before .before .before .before in slot-long (s .pre .0) _ (s .pre .1 .1 .0) _ (c .cut .ensures)
 
 -- the entry that the turn meets, and its place
-met : (c : tie.After-known-told Inv-loop μ-loop)
-    → Meets edition1 (now (c .before .before .before .before .before .cut .result)) (c .before .before .before .before .loop .at) (c .before .header .given .0 .0)
+met : (c : tie.After-known-told Inv-loop μ-loop) → Meets edition1 (now (c .before .before .before .before .before .cut .result)) (c .before .before .before .before .loop .at) (c .before .header .given .0 .0)
 met c = meets edition1 _ _ _ (c .before .before .before .next .ensures) _ (c .before .header .given .1)
 
-place : (c : tie.After-known-told Inv-loop μ-loop)
-    → c .before .before .before .before .before .before .before .before .before .before .args .slot * c .before .before .before .before .before .before .before .before .before .before .args .split .size + c .before .before .before .before .loop .at < 65536
-place c = place-short (c .before .before .before .before .before .before .before .before .before .before .pre .0 .slots) _ (c .before .before .before .before .before .before .before .before .before .before .pre .1 .0) _ (c .before .before .before .before .before .cut .ensures) _ _ (met c .fits) (met c .some-byte)
+place : (c : tie.After-known-told Inv-loop μ-loop) → c .before .before .before .before .before .before .before .before .before .args .slot * c .before .before .before .before .before .before .before .before .before .args .split .size + c .before .before .before .before .loop .at < 65536
+place c = let s = c .before .before .before .before .before .before .before .before .before in place-short (s .pre .0) _ (s .pre .1 .1 .0) _ (c .before .before .before .before .before .cut .ensures) _ _ (met c .fits) (met c .some-byte)
+
+-- a tombstone is 11 bytes long
+tombstone-long : (c : tie.After-known-told Inv-loop μ-loop) → c .before .header .given .0 .0 .tombstone ≡ true → c .before .header .given .0 .0 .length ≡ 11
+unfolding edition1
+tombstone-long c t = tombstone-length edition1 _ _ (met c) t
+
+-- the slot's numbers are within the list
+row : (c : tie.At-loop Inv-loop μ-loop) → c .before .before .before .before .before .args .slot * 32 + 32 ≤ length (c .loop .shares)
+row c = let s = c .before .before .before .before .before in omega (arith, c .loop .inv .same-length, s .pre .1 .1 .1 .0, s .pre .1 .1 .0, s .pre .0 .slots-high)
 
 mul-base : tie.Need-mul-base Inv-loop μ-loop
-mul-base c = omega (arith, c .before .before .before .before .pre .1 .0, c .before .before .before .before .pre .0 .slots .slots-high)
+mul-base c = omega (arith, c .before .before .before .pre .1 .1 .0, c .before .before .before .pre .0 .slots-high)
 
 cut-requires : tie.Need-cut-requires Inv-loop μ-loop
-cut-requires c κs = slot-lies (c .before .before .before .before .pre .0 .slots) (c .before .before .before .before .args .slot) (c .before .before .before .before .pre .1 .0)
+cut-requires c κs = let s = c .before .before .before in slot-lies (s .pre .0) (s .args .slot) (s .pre .1 .1 .0)
 
 loop-holds : tie.Need-loop-holds Inv-loop μ-loop
 unfolding edition1
-loop-holds c = weighing-start edition1 _ _ _ _ _ _ _ (c .before .before .before .before .before .pre .1 .1 .1) (omega (arith, long c, c .before .before .before .before .before .pre .0 .slots .size-low))
+loop-holds c = weighing-start edition1 _ _ _ _ _ _ (c .before .before .before .before .pre .1 .1 .1 .1) (omega (arith, long c, c .before .before .before .before .pre .0 .size-low))
 
 next-requires : tie.Need-next-requires Inv-loop μ-loop
 next-requires c κs = search needs
@@ -47,43 +56,61 @@ next-requires c κs = search needs
 enum-known-header : tie.Need-enum-known-header Inv-loop μ-loop
 enum-known-header c = search needs
 
-mul-share-of : tie.Need-mul-share-of Inv-loop μ-loop
-mul-share-of c = omega (arith, place c)
+mul-note-share : tie.Need-mul-note-share Inv-loop μ-loop
+mul-note-share c = omega (arith, place (c .before))
 
-add-share-of : tie.Need-add-share-of Inv-loop μ-loop
-add-share-of c = omega (arith, place c)
+add-note-share : tie.Need-add-note-share Inv-loop μ-loop
+add-note-share c = omega (arith, place (c .before))
 
-share-of-requires : tie.Need-share-of-requires Inv-loop μ-loop
-share-of-requires c κs = (c .before .before .before .before .before .before .before .before .before .before .pre .0 .cells-few, (c .before .before .before .before .before .before .before .before .before .before .pre .0 .notes-long, place c))
+shared-slice-read-note-share : tie.Need-shared-slice-read-note-share Inv-loop μ-loop
+shared-slice-read-note-share c = omega (arith, place (c .before .before), c .before .before .before .before .before .before .before .before .before .before .before .pre .1 .0)
+
+note-share-requires : tie.Need-note-share-requires Inv-loop μ-loop
+note-share-requires c κs = search needs
 
 add-share-requires : tie.Need-add-share-requires Inv-loop μ-loop
-add-share-requires c κs = (
-  c .before .before .before .before .before .before .loop .inv .same-length ∙ c .before .before .before .before .before .before .before .before .before .before .before .before .pre .1 .1 .0,
-  (
-    omega (arith, c .before .before .before .before .before .before .before .before .before .before .before .before .pre .1 .0, c .before .before .before .before .before .before .before .before .before .before .before .before .pre .0 .slots .slots-high),
-    (
-      λ j few. omega (arith, c .before .before .before .before .before .before .loop .inv .low j few, c .before .before .before .before .before .before .loop .inv .short, c .before .before .before .before .before .before .loop .inv .inside, long (c .before .before .before .before .before .before .before), c .before .before .before .before .before .before .before .before .before .before .before .before .pre .0 .slots .size-high),
+add-share-requires c κs =
+    let s = c .before .before .before .before .before .before .before .before .before .before .before .before .before in
+    let l = c .before .before .before .before .before .before .before .before .loop .inv in (
+      l .same-length ∙ s .pre .1 .1 .1 .0,
       (
-        subst⁻¹ ShareFits (c .before .share-of .ensures) (share-fits edition1 _ _ _ _ _),
-        omega (arith, met (c .before .before), long (c .before .before .before .before .before .before .before), c .before .before .before .before .before .before .before .before .before .before .before .before .pre .0 .slots .size-high),
+        omega (arith, s .pre .1 .1 .0, s .pre .0 .slots-high),
+        (
+          λ j few. omega (arith, l .low j few, l .short, l .inside, long (c .before .before .before .before .before .before .before .before .before), s .pre .0 .size-high),
+          (subst⁻¹ ShareFits (c .before .note-share .ensures) (note-fits _), omega arith),
+        ),
       ),
-    ),
-  ),
-)
+    )
 
 add-total : tie.Need-add-total Inv-loop μ-loop
-add-total c = omega (arith, c .before .before .add-share .ensures .0, share-short (c .before .before .before .before .share-of .result) (c .before .before .before .before .before .before .header .given .0 .0 .length), met (c .before .before .before .before .before), long (c .before .before .before .before .before .before .before .before .before .before), c .before .before .before .before .before .before .before .before .before .loop .inv .short, c .before .before .before .before .before .before .before .before .before .before .before .before .before .before .before .pre .0 .slots .size-high)
+add-total c =
+    let l = c .before .before .before .before .before .before .before .before .before .before .before .loop .inv in
+    omega (arith, c .before .before .add-share .ensures .0, share-short (c .before .before .before .before .note-share .result) 11, l .short, l .inside, long (c .before .before .before .before .before .before .before .before .before .before .before .before), c .before .before .before .before .before .before .before .before .before .before .before .before .before .before .before .before .pre .0 .size-high)
 
 add-at : tie.Need-add-at Inv-loop μ-loop
-add-at c = omega (arith, met (c .before .before .before .before .before .before), long (c .before .before .before .before .before .before .before .before .before .before .before), c .before .before .before .before .before .before .before .before .before .before .before .before .before .before .before .before .pre .0 .slots .size-high)
+add-at c = omega (arith, c .before .before .before .before .before .before .before .before .before .before .before .loop .inv .inside, long (c .before .before .before .before .before .before .before .before .before .before .before .before), c .before .before .before .before .before .before .before .before .before .before .before .before .before .before .before .before .pre .0 .size-high)
 
 loop-less : tie.Need-loop-less Inv-loop μ-loop
-loop-less c = omega (arith, met (c .before .before .before .before .before .before))
+loop-less c = omega (arith, tombstone-long (c .before .before .before .before .before .before .before) (c .before .before .before .before .before .before .if1 .taken), met (c .before .before .before .before .before .before .before) .fits)
 
 loop-again : tie.Need-loop-again Inv-loop μ-loop
 loop-again c =
-    weighing-entry edition1 _ _ _ _ _ _ _ _ _ _ (c .before .before .before .before .before .before .before .before .before .before .loop .inv) (met (c .before .before .before .before .before .before)) _ (c .before .before .before .before .before .share-of .ensures)
-    (omega (arith, c .before .before .before .before .before .before .before .before .before .before .loop .inv .same-length, c .before .before .before .before .before .before .before .before .before .before .before .before .before .before .before .before .pre .1 .1 .0, c .before .before .before .before .before .before .before .before .before .before .before .before .before .before .before .before .pre .1 .0, c .before .before .before .before .before .before .before .before .before .before .before .before .before .before .before .before .pre .0 .slots .slots-high)) _ _ (c .before .before .before .add-share .ensures)
+    weighing-tombstone edition1 _ _ _ _ _ _ _ _ _ (c .before .before .before .before .before .before .before .before .before .before .before .loop .inv) (met (c .before .before .before .before .before .before .before)) (c .before .before .before .before .before .before .if1 .taken) _ (tombstone-long (c .before .before .before .before .before .before .before) (c .before .before .before .before .before .before .if1 .taken)) _
+    (c .before .before .before .before .note-share .ensures) (row (c .before .before .before .before .before .before .before .before .before .before .before)) _ _ (c .before .before .add-share .ensures)
+
+add-behind : tie.Need-add-behind Inv-loop μ-loop
+add-behind c = omega (arith, met (c .before .before) .fits, long (c .before .before .before .before .before .before .before), c .before .before .before .before .before .before .before .before .before .before .before .pre .0 .size-high)
+
+behind-requires : tie.Need-behind-requires Inv-loop μ-loop
+behind-requires c κs = (met (c .before .before) .fits, omega (arith, long (c .before .before .before .before .before .before .before), c .before .before .before .before .before .before .before .before .before .before .before .pre .0 .size-high))
+
+loop-less-2 : tie.Need-loop-less-2 Inv-loop μ-loop
+loop-less-2 c = omega (arith, met (c .before .before .before), c .behind .ensures .forward, c .behind .ensures .inside)
+
+loop-again-2 : tie.Need-loop-again-2 Inv-loop μ-loop
+loop-again-2 c =
+    weighing-passed edition1 _ _ _ _ _ _ _ _ _
+    (weighing-object edition1 _ _ _ _ _ _ _ _ _ (c .before .before .before .before .before .before .before .loop .inv) (met (c .before .before .before)) (c .before .before .if1 .left) (row (c .before .before .before .before .before .before .before))) _ (c .behind .ensures)
 
 enum-told : tie.Need-enum-told Inv-loop μ-loop
 enum-told c = search needs
@@ -93,8 +120,9 @@ same-length c = c .before .before .before .loop .inv .same-length
 
 returns : tie.Need-returns Inv-loop μ-loop
 returns c =
-    weighing-stop edition1 _ _ _ _ _ _ _ _ _ _ (c .before .before .before .loop .inv) (stops-end edition1 _ _ _ (c .before .before .next .ensures) (c .enum-told .given .1))
-    (c .before .before .before .before .cut .ensures) (omega (arith, long (c .before .before .before .before), c .before .before .before .before .before .before .before .before .before .pre .0 .slots .size-high))
+    let k = c .before .before .before .before in
+    weighing-stop edition1 _ _ _ _ _ _ _ _ _ (c .before .before .before .loop .inv) (stops-end edition1 _ _ _ (c .before .before .next .ensures) (c .enum-told .given .1))
+    (k .cut .ensures) (omega (arith, long k, k .before .before .before .before .pre .0 .size-high))
 
 enum-told-2 : tie.Need-enum-told-2 Inv-loop μ-loop
 enum-told-2 c = search needs
@@ -104,8 +132,9 @@ same-length-2 c = c .before .before .before .loop .inv .same-length
 
 returns-2 : tie.Need-returns-2 Inv-loop μ-loop
 returns-2 c =
-    weighing-stop edition1 _ _ _ _ _ _ _ _ _ _ (c .before .before .before .loop .inv) (stops-damage edition1 _ _ _ (c .before .before .next .ensures) (c .enum-told2 .given .1))
-    (c .before .before .before .before .cut .ensures) (omega (arith, long (c .before .before .before .before), c .before .before .before .before .before .before .before .before .before .pre .0 .slots .size-high))
+    let k = c .before .before .before .before in
+    weighing-stop edition1 _ _ _ _ _ _ _ _ _ (c .before .before .before .loop .inv) (stops-damage edition1 _ _ _ (c .before .before .next .ensures) (c .enum-told2 .given .1))
+    (k .cut .ensures) (omega (arith, long k, k .before .before .before .before .pre .0 .size-high))
 
 pub weigh-slot-spec : {M : Type 1} → statement M
 weigh-slot-spec =
@@ -118,14 +147,19 @@ weigh-slot-spec =
     loop-holds
     next-requires
     enum-known-header
-    mul-share-of
-    add-share-of
-    share-of-requires
+    mul-note-share
+    add-note-share
+    shared-slice-read-note-share
+    note-share-requires
     add-share-requires
     add-total
     add-at
     loop-less
     loop-again
+    add-behind
+    behind-requires
+    loop-less-2
+    loop-again-2
     enum-told
     same-length
     returns
