@@ -42,7 +42,7 @@ slice-aggregate-filter-slot : tie.Need-slice-aggregate-filter-slot Inv-loop μ-l
 slice-aggregate-filter-slot c = sym (c .before .before .before .before .loop .inv .1)
 
 slice-aggregate-filter-slot-2 : tie.Need-slice-aggregate-filter-slot-2 Inv-loop μ-loop
-slice-aggregate-filter-slot-2 c = sym (c .before .before .before .before .before .loop .inv .2 .suspects .size)
+slice-aggregate-filter-slot-2 c = sym (c .before .before .before .before .before .loop .inv .2 .suspects .sorted .size)
 
 filter-slot-requires : tie.Need-filter-slot-requires Inv-loop μ-loop
 filter-slot-requires c κs = (
@@ -64,7 +64,7 @@ loop-again-2 c = (
 )
 
 slice-aggregate-suspect-shared : tie.Need-slice-aggregate-suspect-shared Inv-loop μ-loop
-slice-aggregate-suspect-shared c = sym (c .before .before .loop .inv .2 .suspects .size)
+slice-aggregate-suspect-shared c = sym (c .before .before .loop .inv .2 .suspects .sorted .size)
 
 suspect-shared-requires : tie.Need-suspect-shared-requires Inv-loop μ-loop
 suspect-shared-requires c κs = (c .before .before .before .before .pre .0, c .before .before .loop .inv .2 .suspects)

@@ -1,0 +1,88 @@
+// The table of suspects: 192 cells in ascending order, the empty ones (0) first, so that a search by halves finds a version and no
+// choice of versions leaves cells unused.
+use segment::Version;
+ghost use Prim.Native.Nat.{_<_};
+ghost use mathlib.Core.Path.{_≡_};
+ghost use lib.ListN.{length, getD};
+ghost use Rattle.segment.specs.Choice.{pick};
+ghost use Rattle.log.specs.Tables.{holds, occupied, Empty, Sorted, Between, Put};
+
+// 1 for true, 0 for false.
+pub fn one(told: bool) -> usize
+    ensures { λ r. ⌜ r ≡ pick told 1 0 ⌝ }
+{
+    if told { 1 } else { 0 }
+}
+
+// How many cells are not empty.
+pub fn occupied(table: &[u32]) -> usize
+    ensures { λ r. ⌜ r ≡ occupied (now (table .entry)) ⌝ }
+{
+    let mut count = 0;
+    let mut i = 0;
+    while i < table.len() {
+        count += one(0 < table[i]);
+        i += 1;
+    }
+    count
+}
+
+// Empties the table.
+pub fn clear(table: &mut [u32])
+    requires { ⌜ length (now table) ≡ 192 ⌝ }
+    ensures { λ _. ⌜ Empty (now (table .exit)) ⌝ }
+{
+    let mut i = 0;
+    while i < table.len() {
+        table[i] = 0;
+        i += 1;
+    }
+}
+
+// How many cells are below a version: by halves.
+pub fn search(table: &[u32], version: Version) -> usize
+    requires { ⌜ Sorted (now table) ⌝ }
+    ensures { λ r. ⌜ Between (now (table .entry)) (version .0) r r ⌝ }
+{
+    let mut low = 0;
+    let mut high = table.len();
+    while low < high {
+        let middle = low + (high - low) / 2;
+        if table[middle] < version.0 {
+            low = middle + 1;
+        } else {
+            high = middle;
+        }
+    }
+    low
+}
+
+// Whether the version stands in the table, and then where the search for it ended.
+pub fn stands_at(table: &[u32], version: Version, at: usize) -> bool
+    requires { ⌜ Sorted (now table) ⌝ }
+    requires { ⌜ Between (now table) (version .0) at at ⌝ }
+    ensures { λ r. ⌜ r ≡ holds (now (table .entry)) (version .0) ⌝ }
+{
+    if at < table.len() {
+        return table[at] == version.0;
+    }
+    false
+}
+
+// Puts a version in where the search for it ended: those below it go down by a cell, to the first that is empty.
+pub fn insert(table: &mut [u32], version: Version, at: usize)
+    requires { ⌜ Sorted (now table) ⌝ }
+    requires { ⌜ Between (now table) (version .0) at at ⌝ }
+    requires { ⌜ 0 < version .0 ⌝ }
+    requires { ⌜ getD (now table) 0 0 ≡ 0 ⌝ }
+    ensures { λ _. ⌜ Put (now (table .entry)) (version .0) (now (table .exit)) ⌝ }
+{
+    let mut carried = version.0;
+    let mut cell = at;
+    while carried != 0 {
+        cell -= 1;
+        let old = table[cell];
+        table[cell] = carried;
+        carried = old;
+    }
+}
