@@ -9,7 +9,7 @@ use lib.Dec.{eqb, ltb}
 use lib.ListN.{length, getD, replicate, length-set}
 use borrow.Author.Tests.{eq-eqb, eqb-true, eqb-false}
 use Rattle.segment.specs.Choice.{pick, pick-true, pick-false}
-use Rattle.segment.specs.Layout.{Layout, digestSize}
+use Rattle.segment.specs.Layout.{Layout, digestSize, versionLimit}
 use Rattle.segment.specs.Entry.{end, damage, entryAt}
 use Rattle.slot_map.specs.Bit.{withBit}
 use Rattle.model.specs.Log.{View, Item, scanned, scan, itemsOf, endOf, isDamaged, placedIn, Placed, viewsOf, logOf, versionShared}
@@ -20,8 +20,8 @@ use Rattle.laws.specs.Versions.{counted, count, count-append, count-shared}
 use Rattle.laws.specs.LogLaws.{scan-whole}
 use Rattle.log.specs.Extents.{Meets, restOf, rest-whole, rest-entry, rest-end, rest-damage, log-take, log-skip, damaged-slot}
 use Rattle.log.specs.Marks.{bitIn, setIn, set-own, set-keeps}
-use Rattle.log.specs.Tables.{holds, occupied, empty-new}
-use Rattle.log.specs.Suspects.{hits, log-positive, Suspects, suspects-none, Suspecting, look-shared, look-alone}
+use Rattle.log.specs.Tables.{vacant, holds, occupied, empty-new}
+use Rattle.log.specs.Suspects.{hits, log-below, Suspects, suspects-none, Suspecting, look-shared, look-alone}
 
 -- ---- the bit of a version
 
@@ -54,14 +54,14 @@ pub record Filtered (log past : List Placed) (filter table : List ℕ) : Type 0 
   pub marks : (v : ℕ) → 1 ≤ count v past → isMarked filter v ≡ true
   pub suspects : Suspects log table
 
-pub filtered-none : (L : Layout) (area : List ℕ) (s : ℕ) (p : ℕ → Bool) (n : ℕ) (filter : List ℕ)
-    → Filtered (logOf (viewsOf L area s) p n) (logOf (viewsOf L area s) p 0) filter (replicate 192 0)
+pub filtered-none : (L : Layout) → versionLimit L ≤ vacant → (area : List ℕ) (s : ℕ) (p : ℕ → Bool) (n : ℕ) (filter : List ℕ)
+    → Filtered (logOf (viewsOf L area s) p n) (logOf (viewsOf L area s) p 0) filter (replicate 192 vacant)
 unfolding logOf total
-filtered-none L area s p n filter =
+filtered-none L limit area s p n filter =
     record {
       once = λ u e. omega arith;
       marks = λ u h. absurd (omega arith);
-      suspects = suspects-none (logOf (viewsOf L area s) p n) (log-positive L area s p n) (replicate 192 0) empty-new;
+      suspects = suspects-none (logOf (viewsOf L area s) p n) (log-below L limit area s p n) (replicate 192 vacant) empty-new;
     }
 
 pub count-more : (log : List Placed) (x : Placed) (u : ℕ) → count u (log ++ (x ∷ [])) ≡ count u log + counted u (x .entry)

@@ -8,15 +8,15 @@ use native.Mathlib.Decide.{decLe}
 use lib.Dec.{eqb, ltb}
 use borrow.Author.Tests.{eqb-true, eqb-false, ltb-true, ltb-false}
 use Rattle.segment.specs.Choice.{pick, pick-true, pick-false}
-use Rattle.segment.specs.Layout.{Layout}
+use Rattle.segment.specs.Layout.{Layout, versionLimit}
 use Rattle.segment.specs.Entry.{Entry}
-use Rattle.segment.specs.EntryLaws.{found-positive}
+use Rattle.segment.specs.EntryLaws.{found-below}
 use Rattle.model.specs.Log.{Placed, Scan, damaged, scanned, scan, itemsOf, segmentOf, viewsOf, logOf, versionShared}
 use Rattle.laws.specs.Members.{clash, In, first, entriesOf, entries-append, total, total-append}
 use Rattle.laws.specs.Scans.{scan-scans, scans-found}
 use Rattle.laws.specs.LogLaws.{log-in}
 use Rattle.laws.specs.Versions.{counted, count, count-found, shared-count}
-use Rattle.log.specs.Tables.{holds, occupied, Empty, empty-occupied, empty-holds, Sorted, empty-sorted, Put, put-has, put-others, put-occupied}
+use Rattle.log.specs.Tables.{vacant, holds, occupied, Empty, empty-occupied, empty-holds, Sorted, empty-sorted, Put, put-has, put-others, put-occupied}
 
 -- ---- one suspect more
 
@@ -25,10 +25,10 @@ pub record Adds (table : List ℕ) (v : ℕ) (more : List ℕ) : Type 0 where
   pub sorted : Sorted more
   pub fresh : holds table v ≡ false
   pub has : holds more v ≡ true
-  pub others : (u : ℕ) → 0 < u → (u ≡ v → ⊥) → holds more u ≡ holds table u
+  pub others : (u : ℕ) → u < vacant → (u ≡ v → ⊥) → holds more u ≡ holds table u
   pub one-more : occupied more ≡ occupied table + 1
 
-put-adds : (table : List ℕ) (v : ℕ) → 0 < v → holds table v ≡ false → (more : List ℕ) → Put table v more → Adds table v more
+put-adds : (table : List ℕ) (v : ℕ) → v < vacant → holds table v ≡ false → (more : List ℕ) → Put table v more → Adds table v more
 put-adds table v p new more put =
     record {
       sorted = put .sorted;
@@ -49,29 +49,31 @@ hits table log = total (hit table) (entriesOf log)
 pub hits-append : (table : List ℕ) (a b : List Placed) → hits table (a ++ b) ≡ hits table a + hits table b
 hits-append table a b = rw (entries-append a b) (total-append (hit table) (entriesOf a) (entriesOf b))
 
-abbrev pub Positive : List Placed → Type 0
-Positive log = (x : Placed) → In x log → 0 < x .entry .version
+-- no entry's version is that of an empty cell
+abbrev pub Below : List Placed → Type 0
+Below log = (x : Placed) → In x log → x .entry .version < vacant
 
-pub log-positive : (L : Layout) (area : List ℕ) (S : ℕ) (p : ℕ → Bool) (n : ℕ) → Positive (logOf (viewsOf L area S) p n)
+pub log-below : (L : Layout) → versionLimit L ≤ vacant → (area : List ℕ) (S : ℕ) (p : ℕ → Bool) (n : ℕ) → Below (logOf (viewsOf L area S) p n)
 unfolding itemsOf
-log-positive L area S p n x m =
+log-below L limit area S p n x m =
     let w = log-in (viewsOf L area S) p n x m in
     go (scan L (segmentOf area S (x .slot))) refl (w .item)
   where
-    go : (r : Scan) → scan L (segmentOf area S (x .slot)) ≡ r → In (record { offset = x .offset; entry = x .entry }) (itemsOf r) → 0 < x .entry .version
+    go : (r : Scan) → scan L (segmentOf area S (x .slot)) ≡ r → In (record { offset = x .offset; entry = x .entry }) (itemsOf r) → x .entry .version < vacant
     go damaged e i = absurd (List·Memᴰ·not-nil i)
     go (scanned is k) e i =
         let s : List ℕ = segmentOf area S (x .slot) in
-        found-positive L s (x .offset) (x .entry) (scans-found (scan-scans L s e) i)
+        let l = found-below L s (x .offset) (x .entry) (scans-found (scan-scans L s e) i) in
+        omega arith
 
-count-zero : (log : List Placed) → Positive log → count 0 log ≡ 0
-count-zero log h = go (decLe 1 (count 0 log))
+count-none : (log : List Placed) → Below log → (u : ℕ) → vacant ≤ u → count u log ≡ 0
+count-none log h u q = go (decLe 1 (count u log))
   where
-    go : Dec (1 ≤ count 0 log) → count 0 log ≡ 0
-    go (yes l) = let w = count-found 0 log l in absurd (omega (arith, h (w .0) (w .1), w .2))
+    go : Dec (1 ≤ count u log) → count u log ≡ 0
+    go (yes l) = let w = count-found u log l in absurd (omega (arith, h (w .0) (w .1), w .2))
     go (no l) = omega arith
 
-empty-hits : (table : List ℕ) → Empty table → (log : List Placed) → Positive log → hits table log ≡ 0
+empty-hits : (table : List ℕ) → Empty table → (log : List Placed) → Below log → hits table log ≡ 0
 unfolding total hit
 empty-hits table h [] p = refl
 empty-hits table h (x ∷ xs) p =
@@ -82,7 +84,7 @@ empty-hits table h (x ∷ xs) p =
     )
 
 module _ (table : List ℕ) (v : ℕ) (more : List ℕ) (adds : Adds table v more) where
-  hit-more : (e : Entry) → 0 < e .version → hit more e ≡ hit table e + counted v e
+  hit-more : (e : Entry) → e .version < vacant → hit more e ≡ hit table e + counted v e
   unfolding hit counted
   hit-more e p = go (eqb (e .version) v) refl
     where
@@ -102,7 +104,7 @@ module _ (table : List ℕ) (v : ℕ) (more : List ℕ) (adds : Adds table v mor
             pick-false {A = ℕ} (eqb (e .version) v) 1 0 q,
           )
 
-  hits-more : (log : List Placed) → Positive log → hits more log ≡ hits table log + count v log
+  hits-more : (log : List Placed) → Below log → hits more log ≡ hits table log + count v log
   unfolding total
   hits-more [] p = refl
   hits-more (x ∷ xs) p = omega (arith, hit-more (x .entry) (p x first), hits-more xs (λ y m. p y (List·Memᴰ·tail m)))
@@ -113,7 +115,7 @@ module _ (table : List ℕ) (v : ℕ) (more : List ℕ) (adds : Adds table v mor
 -- once, and if more, one is shared.
 pub record Suspects (log : List Placed) (table : List ℕ) : Type 0 where
   pub sorted : Sorted table
-  pub positive : Positive log
+  pub below : Below log
   pub none : occupied table ≡ 0 → hits table log ≡ 0
   pub least : occupied table ≤ hits table log
   pub alone : hits table log ≡ occupied table → (u : ℕ) → holds table u ≡ true → count u log ≤ 1
@@ -126,43 +128,39 @@ twice-shared log v h = go (versionShared log) refl
     go true p = p
     go false p = absurd (omega (arith, shared-count log p v))
 
-pub suspects-none : (log : List Placed) → Positive log → (table : List ℕ) → Empty table → Suspects log table
+pub suspects-none : (log : List Placed) → Below log → (table : List ℕ) → Empty table → Suspects log table
 suspects-none log p table h =
     let k = empty-occupied table h in
     let t = empty-hits table h log p in
     record {
       sorted = empty-sorted table h;
-      positive = p;
+      below = p;
       none = λ e. t;
       least = omega arith;
-      alone = λ e u q. alone u q (decLe 1 u);
+      alone = λ e u q. alone u q (decLe vacant u);
       shared = λ l. absurd (omega arith);
     }
   where
-    alone : (u : ℕ) → holds table u ≡ true → Dec (1 ≤ u) → count u log ≤ 1
-    alone u q (yes l) = absurd (clash (holds table u) q (empty-holds table h u l))
-    alone u q (no l) =
-        let e : u ≡ 0 = omega arith in
-        omega (arith, ap (λ (w : ℕ). count w log) e, count-zero log p)
+    alone : (u : ℕ) → holds table u ≡ true → Dec (vacant ≤ u) → count u log ≤ 1
+    alone u q (yes l) = omega (arith, count-none log p u l)
+    alone u q (no l) = absurd (clash (holds table u) q (empty-holds table h u (omega arith)))
 
 pub suspects-more : (log : List Placed) (table : List ℕ) → Suspects log table → (v : ℕ) → 1 ≤ count v log → (more : List ℕ) → Adds table v more → Suspects log more
 suspects-more log table h v stands more adds =
-    let t = hits-more table v more adds log (h .positive) in
+    let t = hits-more table v more adds log (h .below) in
     record {
       sorted = adds .sorted;
-      positive = h .positive;
+      below = h .below;
       none = λ e. absurd (omega (arith, adds .one-more));
       least = omega (arith, adds .one-more, h .least);
-      alone = λ e u q. alone u q (eqb u v) refl (decLe 1 u) (omega (arith, adds .one-more, h .least)) (omega (arith, adds .one-more, h .least));
+      alone = λ e u q. alone u q (eqb u v) refl (decLe vacant u) (omega (arith, adds .one-more, h .least)) (omega (arith, adds .one-more, h .least));
       shared = λ l. shared (decLe 2 (count v log)) (λ i. h .shared (omega (arith, adds .one-more)));
     }
   where
-    alone : (u : ℕ) → holds more u ≡ true → (t : Bool) → eqb u v ≡ t → Dec (1 ≤ u) → hits table log ≡ occupied table → count v log ≤ 1 → count u log ≤ 1
+    alone : (u : ℕ) → holds more u ≡ true → (t : Bool) → eqb u v ≡ t → Dec (vacant ≤ u) → hits table log ≡ occupied table → count v log ≤ 1 → count u log ≤ 1
     alone u q true e d same few = omega (arith, ap (λ (w : ℕ). count w log) (eqb-true u v e))
-    alone u q false e (yes d) same few = h .alone same u (sym (adds .others u d (eqb-false u v e)) ∙ q)
-    alone u q false e (no d) same few =
-        let z : u ≡ 0 = omega arith in
-        omega (arith, ap (λ (w : ℕ). count w log) z, count-zero log (h .positive))
+    alone u q false e (yes d) same few = omega (arith, count-none log (h .below) u d)
+    alone u q false e (no d) same few = h .alone same u (sym (adds .others u (omega arith) (eqb-false u v e)) ∙ q)
 
     shared : Dec (2 ≤ count v log) → ((count v log ≤ 1) → versionShared log ≡ true) → versionShared log ≡ true
     shared (yes l) f = twice-shared log v l
@@ -213,34 +211,32 @@ module _ (log : List Placed) (table : List ℕ) (h : Suspects log table) (w : �
       }
 
   module _ (stands : 1 ≤ count w log) where
-    pub w-positive : 0 < w
-    w-positive = let x = count-found w log stands in omega (arith, h .positive (x .0) (x .1), x .2)
+    pub w-below : w < vacant
+    w-below = let x = count-found w log stands in omega (arith, h .below (x .0) (x .1), x .2)
 
     pub suspect-put : holds table w ≡ false → (more : List ℕ) → Put table w more → Suspecting log table w true false more
     suspect-put new more put =
-        let adds = put-adds table w w-positive new more put in
+        let adds = put-adds table w w-below new more put in
         record {
           shared = λ e. absurd (clash false e refl);
           has = λ e b. adds .has;
           suspects = λ e. suspects-more log table h w stands more adds;
-          let-go = λ e u p q. go adds u p q (eqb u w) refl (decLe 1 u);
+          let-go = λ e u p q. go adds u p q (eqb u w) refl (decLe vacant u);
         }
       where
-        go : Adds table w more → (u : ℕ) → holds more u ≡ false → holds table u ≡ true → (t : Bool) → eqb u w ≡ t → Dec (1 ≤ u) → count u log ≤ 1
+        go : Adds table w more → (u : ℕ) → holds more u ≡ false → holds table u ≡ true → (t : Bool) → eqb u w ≡ t → Dec (vacant ≤ u) → count u log ≤ 1
         go adds u p q true e d = absurd (clash (holds more w) (adds .has) (ap (holds more) (sym (eqb-true u w e)) ∙ p))
-        go adds u p q false e (yes d) = absurd (clash (holds more u) (adds .others u d (eqb-false u w e) ∙ q) p)
-        go adds u p q false e (no d) =
-            let z : u ≡ 0 = omega arith in
-            omega (arith, ap (λ (k : ℕ). count k log) z, count-zero log (h .positive))
+        go adds u p q false e (yes d) = omega (arith, count-none log (h .below) u d)
+        go adds u p q false e (no d) = absurd (clash (holds more u) (adds .others u (omega arith) (eqb-false u w e) ∙ q) p)
 
     pub suspect-anew : ((u : ℕ) → holds table u ≡ true → count u log ≤ 1) → (cleared : List ℕ) → Empty cleared → (more : List ℕ) → Put cleared w more
         → Suspecting log table w true false more
     suspect-anew alone cleared e more put =
-        let adds = put-adds cleared w w-positive (empty-holds cleared e w w-positive) more put in
+        let adds = put-adds cleared w w-below (empty-holds cleared e w w-below) more put in
         record {
           shared = λ q. absurd (clash false q refl);
           has = λ q b. adds .has;
-          suspects = λ q. suspects-more log cleared (suspects-none log (h .positive) cleared e) w stands more adds;
+          suspects = λ q. suspects-more log cleared (suspects-none log (h .below) cleared e) w stands more adds;
           let-go = λ q u p. alone u;
         }
 

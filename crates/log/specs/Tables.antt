@@ -1,16 +1,20 @@
--- A table of numbers in ascending order, its empty cells (0) first: what it holds, the search by halves, and a number put in.
-use Prim.Native.Nat.{ℕ, zero, suc, _+_, _-_, _≤_, _<_}
-use mathlib.Core.Path.{_≡_, refl, sym, _∙_, ap, subst}
+-- A table of numbers in ascending order, its empty cells last: what it holds, the search by halves, and a number put in.
+use Prim.Native.Nat.{ℕ, zero, suc, _+_, _≤_, _<_}
+use mathlib.Core.Path.{_≡_, refl, sym, _∙_, ap}
 use mathlib.Core.Bool.{Bool, true, false}
 use mathlib.Core.List.{List, [], _∷_}
 use native.Mathlib.Omega.{arith}
 use native.Mathlib.Decide.{decLe}
 use lib.Dec.{eqb, ltb}
-use lib.ListN.{length, getD, set, drop, replicate, length-set, getD-replicate, List·getD-eq-default, drop-of-length-le}
+use lib.ListN.{length, getD, set, drop, replicate, length-set, getD-replicate, drop-of-length-le}
 use lib.Seq.{getD-set-same, getD-set-other, drop-cons}
 use borrow.Author.Tests.{eq-eqb, ne-eqb, eqb-true, eqb-false, lt-ltb, le-ltb, ltb-true, ltb-false}
 use native.Mathlib.Numerals.{add-one}
 use Rattle.segment.specs.Choice.{pick, pick-true, pick-false}
+
+-- What an empty cell has: the version limit, above the version of any entry.
+abbrev pub vacant : ℕ
+vacant = 4294967295
 
 -- ---- what a table holds
 
@@ -40,15 +44,15 @@ held-other u x n = pick-false (eqb x u) 1 0 (ne-eqb x u n)
 
 -- 1 for a cell that is not empty, else 0
 unfoldable pub filled : ℕ → ℕ
-filled x = pick (ltb 0 x) 1 0
+filled x = pick (ltb x vacant) 1 0
 
-filled-some : (x : ℕ) → 0 < x → filled x ≡ 1
+filled-some : (x : ℕ) → x < vacant → filled x ≡ 1
 unfolding filled
-filled-some x p = pick-true (ltb 0 x) 1 0 (lt-ltb 0 x p)
+filled-some x p = pick-true (ltb x vacant) 1 0 (lt-ltb x vacant p)
 
-filled-none : (x : ℕ) → x ≡ 0 → filled x ≡ 0
+filled-none : (x : ℕ) → x ≡ vacant → filled x ≡ 0
 unfolding filled
-filled-none x e = pick-false (ltb 0 x) 1 0 (le-ltb 0 x (omega arith))
+filled-none x e = pick-false (ltb x vacant) 1 0 (le-ltb x vacant (omega arith))
 
 abbrev pub occupied : List ℕ → ℕ
 occupied table = over filled table
@@ -98,12 +102,12 @@ unfolding pick
 one-few true d e = omega arith
 one-few false d e = omega arith
 
-pub occupied-turn : (table : List ℕ) (i k d : ℕ) → i < length table → k + occupied (drop i table) ≡ occupied table → d ≡ pick (ltb 0 (getD table i 0)) 1 0
+pub occupied-turn : (table : List ℕ) (i k d : ℕ) → i < length table → k + occupied (drop i table) ≡ occupied table → d ≡ pick (ltb (getD table i 0) vacant) 1 0
     → k + d + occupied (drop (i + 1) table) ≡ occupied table
 unfolding over filled
 occupied-turn table i k d h e q =
-    let rest : occupied (drop i table) ≡ pick (ltb 0 (getD table i 0)) 1 0 + occupied (drop (i + 1) table) =
-    ap occupied (drop-cons table i 0 h) ∙ ap (λ (j : ℕ). pick (ltb 0 (getD table i 0)) 1 0 + occupied (drop j table)) (sym (add-one i)) in
+    let rest : occupied (drop i table) ≡ pick (ltb (getD table i 0) vacant) 1 0 + occupied (drop (i + 1) table) =
+    ap occupied (drop-cons table i 0 h) ∙ ap (λ (j : ℕ). pick (ltb (getD table i 0) vacant) 1 0 + occupied (drop j table)) (sym (add-one i)) in
     omega arith
 
 pub occupied-end : (table : List ℕ) (i k : ℕ) → length table ≤ i → k + occupied (drop i table) ≡ occupied table → k ≡ occupied table
@@ -116,46 +120,39 @@ occupied-end table i k h e =
 
 pub record Empty (table : List ℕ) : Type 0 where
   pub size : length table ≡ 192
-  pub zeros : (c : ℕ) → getD table c 0 ≡ 0
+  pub cells : (c : ℕ) → c < 192 → getD table c 0 ≡ vacant
 
-pub empty-new : Empty (replicate 192 0)
-empty-new = record { size = refl; zeros = λ c. go c (decLe 192 c) }
-  where
-    go : (c : ℕ) → Dec (192 ≤ c) → _≡_ {A = ℕ} (getD (replicate 192 0) c 0) 0
-    go c (yes h) = List·getD-eq-default (replicate 192 0) 0 h
-    go c (no h) = getD-replicate 192 c 0 0 (omega arith)
+pub empty-new : Empty (replicate 192 vacant)
+empty-new = record { size = refl; cells = λ c l. getD-replicate 192 c vacant 0 l }
 
 -- the cells before i are empty
 abbrev pub ClearedTo : ℕ → List ℕ → Type 0
-ClearedTo i table = (c : ℕ) → c < i → getD table c 0 ≡ 0
+ClearedTo i table = (c : ℕ) → c < i → getD table c 0 ≡ vacant
 
-pub clear-turn : (i : ℕ) (table : List ℕ) → ClearedTo i table → i < length table → ClearedTo (i + 1) (set table i 0)
+pub clear-turn : (i : ℕ) (table : List ℕ) → ClearedTo i table → i < length table → ClearedTo (i + 1) (set table i vacant)
 clear-turn i table h l c below = go (eqb c i) refl
   where
-    go : (t : Bool) → eqb c i ≡ t → getD (set table i 0) c 0 ≡ 0
-    go true e = ap (λ (k : ℕ). getD (set table i 0) k 0) (eqb-true c i e) ∙ getD-set-same table i 0 0 l
+    go : (t : Bool) → eqb c i ≡ t → getD (set table i vacant) c 0 ≡ vacant
+    go true e = ap (λ (k : ℕ). getD (set table i vacant) k 0) (eqb-true c i e) ∙ getD-set-same table i vacant 0 l
     go false e =
         let apart = eqb-false c i e in
-        getD-set-other table i c 0 0 apart ∙ h c (omega arith)
+        getD-set-other table i c vacant 0 apart ∙ h c (omega arith)
 
 pub clear-end : (i : ℕ) (table : List ℕ) → ClearedTo i table → length table ≡ 192 → length table ≤ i → Empty table
-clear-end i table h size l = record { size = size; zeros = λ c. go c (decLe (length table) c) }
-  where
-    go : (c : ℕ) → Dec (length table ≤ c) → getD table c 0 ≡ 0
-    go c (yes q) = List·getD-eq-default table 0 q
-    go c (no q) = h c (omega arith)
+clear-end i table h size l = record { size = size; cells = λ c k. h c (omega arith) }
 
-zeros-occupied : (table : List ℕ) → ((c : ℕ) → getD table c 0 ≡ 0) → occupied table ≡ 0
+vacant-occupied : (table : List ℕ) → ((c : ℕ) → c < length table → getD table c 0 ≡ vacant) → occupied table ≡ 0
 unfolding over
-zeros-occupied [] h = refl
-zeros-occupied (x ∷ xs) h = omega (arith, filled-none x (h 0), zeros-occupied xs (λ c. h (suc c)))
+vacant-occupied [] h = refl
+vacant-occupied (x ∷ xs) h =
+    omega (arith, filled-none x (h 0 (omega arith)), vacant-occupied xs (λ c l. h (suc c) (omega arith)))
 
 module _ (table : List ℕ) (h : Empty table) where
   pub empty-occupied : occupied table ≡ 0
-  empty-occupied = zeros-occupied table (h .zeros)
+  empty-occupied = vacant-occupied table (λ c l. h .cells c (omega (arith, h .size)))
 
-  pub empty-holds : (u : ℕ) → 0 < u → holds table u ≡ false
-  empty-holds u p = holds-not table u (λ i l e. omega (arith, h .zeros i))
+  pub empty-holds : (u : ℕ) → u < vacant → holds table u ≡ false
+  empty-holds u p = holds-not table u (λ i l e. omega (arith, h .cells i (omega (arith, h .size))))
 
 -- ---- the search by halves
 
@@ -167,7 +164,11 @@ pub record Sorted (table : List ℕ) : Type 0 where
   pub ascending : Ascending table
 
 pub empty-sorted : (table : List ℕ) → Empty table → Sorted table
-empty-sorted table h = record { size = h .size; ascending = λ i j l k. omega (arith, h .zeros i, h .zeros j) }
+empty-sorted table h =
+    record {
+      size = h .size;
+      ascending = λ i j l k. omega (arith, h .cells i (omega (arith, h .size)), h .cells j (omega (arith, h .size)));
+    }
 
 -- The cells before low are below x, and those from high on are not.
 pub record Between (table : List ℕ) (x low high : ℕ) : Type 0 where
@@ -180,13 +181,13 @@ pub between-all : (table : List ℕ) (x high : ℕ) → high ≡ length table �
 between-all table x high e =
     record { ordered = omega arith; within = omega arith; below = λ i h. absurd (omega arith); above = λ i l h. absurd (omega arith) }
 
-pub empty-between : (table : List ℕ) → Empty table → (x : ℕ) → 0 < x → Between table x 192 192
+pub empty-between : (table : List ℕ) → Empty table → (x : ℕ) → x < vacant → Between table x 0 0
 empty-between table h x p =
     record {
       ordered = omega arith;
-      within = omega (arith, h .size);
-      below = λ i l. omega (arith, h .zeros i);
-      above = λ i l k. absurd (omega (arith, h .size));
+      within = omega arith;
+      below = λ i l. absurd (omega arith);
+      above = λ i l k. omega (arith, h .cells i (omega (arith, h .size)));
     }
 
 module _ (table : List ℕ) (sorted : Sorted table) (x low high : ℕ) (so-far : Between table x low high) (middle : ℕ) where
@@ -234,20 +235,20 @@ module _ (table : List ℕ) (x at : ℕ) (here : Between table x at at) where
 -- What it means that more is the table with v put in for an empty cell: whatever is summed over the cells.
 pub record Put (table : List ℕ) (v : ℕ) (more : List ℕ) : Type 0 where
   pub sorted : Sorted more
-  pub sums : (f : ℕ → ℕ) → over f more + f 0 ≡ over f table + f v
+  pub sums : (f : ℕ → ℕ) → over f more + f vacant ≡ over f table + f v
 
--- The numbers below v go one cell down, each carried to the cell before its own until an empty one is met: x is carried, and the
--- cell before at is next.
+-- The numbers above v go one cell up, each carried to the cell after its own until an empty one is met: x is carried, and the
+-- cell at is next.
 pub record Putting (table : List ℕ) (v : ℕ) (now : List ℕ) (at x : ℕ) : Type 0 where
   pub sorted : Sorted now
   pub within : at ≤ 192
   pub below : (i : ℕ) → i < at → getD now i 0 ≤ x
   pub above : (i : ℕ) → at ≤ i → i < 192 → x ≤ getD now i 0
   pub sums : (f : ℕ → ℕ) → over f now + f x ≡ over f table + f v
-  pub room : 0 < at → getD now 0 0 ≡ 0
-  pub front : at ≡ 0 → x ≡ 0
+  pub room : at < 192 → getD now 191 0 ≡ vacant
+  pub last : at ≡ 192 → x ≡ vacant
 
-pub put-start : (table : List ℕ) → Sorted table → (v at : ℕ) → 0 < v → Between table v at at → getD table 0 0 ≡ 0 → Putting table v table at v
+pub put-start : (table : List ℕ) → Sorted table → (v at : ℕ) → v < vacant → Between table v at at → getD table 191 0 ≡ vacant → Putting table v table at v
 put-start table sorted v at p here empty =
     record {
       sorted = sorted;
@@ -256,24 +257,24 @@ put-start table sorted v at p here empty =
       above = λ i l k. here .above i l (omega (arith, sorted .size));
       sums = λ f. refl;
       room = λ l. empty;
-      front = λ e. absurd (omega (arith, here .above 0 (omega arith) (omega (arith, sorted .size))));
+      last = λ e. absurd (omega (arith, here .below 191 (omega arith)));
     }
 
-module _ (table : List ℕ) (v : ℕ) (now : List ℕ) (at x : ℕ) (so-far : Putting table v now at x) where
-  pub put-some : (x ≡ 0 → ⊥) → 0 < at
-  put-some n = go (decLe 1 at)
+module _ (table : List ℕ) (v : ℕ) (now : List ℕ) (c x : ℕ) (so-far : Putting table v now c x) where
+  pub put-some : (x ≡ vacant → ⊥) → c < 192
+  put-some n = go (decLe 192 c)
     where
-      go : Dec (1 ≤ at) → 0 < at
-      go (yes h) = h
-      go (no h) = absurd (n (so-far .front (omega arith)))
+      go : Dec (192 ≤ c) → c < 192
+      go (yes h) = absurd (n (so-far .last (omega (arith, so-far .within))))
+      go (no h) = omega arith
 
-  pub put-end : x ≡ 0 → Put table v now
+  pub put-end : x ≡ vacant → Put table v now
   put-end e = record { sorted = so-far .sorted; sums = λ f. ap (λ (k : ℕ). over f now + f k) (sym e) ∙ so-far .sums f }
 
-  module _ (c : ℕ) (next : c + 1 ≡ at) where
+  module _ (inside : c < 192) where
     -- the cells after the exchange
     own : getD (set now c x) c 0 ≡ x
-    own = getD-set-same now c x 0 (omega (arith, so-far .within, so-far .sorted .size))
+    own = getD-set-same now c x 0 (omega (arith, so-far .sorted .size))
 
     other : (i : ℕ) → (i ≡ c → ⊥) → getD (set now c x) i 0 ≡ getD now i 0
     other i n = getD-set-other now c i x 0 n
@@ -283,7 +284,7 @@ module _ (table : List ℕ) (v : ℕ) (now : List ℕ) (at x : ℕ) (so-far : Pu
       where
         go : (t : Bool) → eqb i c ≡ t → x ≤ getD (set now c x) i 0
         go true e = omega (arith, ap (λ (j : ℕ). getD (set now c x) j 0) (eqb-true i c e), own)
-        go false e = let apart = eqb-false i c e in omega (arith, other i apart, so-far .above i (omega arith) k)
+        go false e = let apart = eqb-false i c e in omega (arith, other i apart, so-far .above i l k)
 
     lower : (i : ℕ) → i ≤ c → getD (set now c x) i 0 ≤ x
     lower i l = go (eqb i c) refl
@@ -295,45 +296,45 @@ module _ (table : List ℕ) (v : ℕ) (now : List ℕ) (at x : ℕ) (so-far : Pu
     ascends : Ascending (set now c x)
     ascends i j l k = go (decLe i c) (decLe c j)
       where
-        inside : j < 192
-        inside = omega (arith, length-set now c x, so-far .sorted .size)
+        short : j < 192
+        short = omega (arith, length-set now c x, so-far .sorted .size)
 
         go : Dec (i ≤ c) → Dec (c ≤ j) → getD (set now c x) i 0 ≤ getD (set now c x) j 0
-        go (yes p) (yes q) = omega (arith, lower i p, upper j q inside)
+        go (yes p) (yes q) = omega (arith, lower i p, upper j q short)
         go (yes p) (no q) =
-            omega (arith, other i (λ e. omega arith), other j (λ e. omega arith), so-far .sorted .ascending i j l (omega (arith, so-far .sorted .size, inside)))
+            omega (arith, other i (λ e. omega arith), other j (λ e. omega arith), so-far .sorted .ascending i j l (omega (arith, so-far .sorted .size, short)))
         go (no p) q =
-            omega (arith, other i (λ e. omega arith), other j (λ e. omega arith), so-far .sorted .ascending i j l (omega (arith, so-far .sorted .size, inside)))
+            omega (arith, other i (λ e. omega arith), other j (λ e. omega arith), so-far .sorted .ascending i j l (omega (arith, so-far .sorted .size, short)))
 
-    pub put-turn : Putting table v (set now c x) c (getD now c 0)
+    pub put-turn : Putting table v (set now c x) (c + 1) (getD now c 0)
     put-turn =
         record {
           sorted = record { size = length-set now c x ∙ so-far .sorted .size; ascending = ascends };
-          within = omega (arith, so-far .within);
-          below =
-              λ i l. omega (
+          within = omega arith;
+          below = λ i l. omega (arith, lower i (omega arith), so-far .above c (omega arith) inside);
+          above =
+              λ i l k. omega (
                 arith,
                 other i (λ e. omega arith),
-                so-far .sorted .ascending i c (omega arith) (omega (arith, so-far .within, so-far .sorted .size)),
+                so-far .sorted .ascending c i (omega arith) (omega (arith, so-far .sorted .size)),
               );
-          above = λ i l k. omega (arith, upper i l k, so-far .below c (omega arith));
-          sums = λ f. over-set f now c x (omega (arith, so-far .within, so-far .sorted .size)) ∙ so-far .sums f;
-          room = λ l. other 0 (λ e. omega arith) ∙ so-far .room (omega arith);
-          front = λ e. ap (λ (j : ℕ). getD now j 0) e ∙ so-far .room (omega arith);
+          sums = λ f. over-set f now c x (omega (arith, so-far .sorted .size)) ∙ so-far .sums f;
+          room = λ l. other 191 (λ e. omega arith) ∙ so-far .room inside;
+          last = λ e. let z : c ≡ 191 = omega arith in ap (λ (j : ℕ). getD now j 0) z ∙ so-far .room inside;
         }
 
 -- What has been put in is held, no other number more than before.
-module _ (table : List ℕ) (v : ℕ) (positive : 0 < v) (more : List ℕ) (put : Put table v more) where
+module _ (table : List ℕ) (v : ℕ) (below : v < vacant) (more : List ℕ) (put : Put table v more) where
   pub put-has : holds more v ≡ true
   unfolding holds
-  put-has = lt-ltb 0 (over (held v) more) (omega (arith, put .sums (held v), held-own v v refl, held-other v 0 (λ e. omega arith)))
+  put-has = lt-ltb 0 (over (held v) more) (omega (arith, put .sums (held v), held-own v v refl, held-other v vacant (λ e. omega arith)))
 
-  pub put-others : (u : ℕ) → 0 < u → (u ≡ v → ⊥) → holds more u ≡ holds table u
+  pub put-others : (u : ℕ) → u < vacant → (u ≡ v → ⊥) → holds more u ≡ holds table u
   unfolding holds
   put-others u p n =
       let same : over (held u) more ≡ over (held u) table =
-      omega (arith, put .sums (held u), held-other u v (λ e. n (sym e)), held-other u 0 (λ e. omega arith)) in
+      omega (arith, put .sums (held u), held-other u v (λ e. n (sym e)), held-other u vacant (λ e. omega arith)) in
       ap (ltb 0) same
 
   pub put-occupied : occupied more ≡ occupied table + 1
-  put-occupied = omega (arith, put .sums filled, filled-some v positive, filled-none 0 refl)
+  put-occupied = omega (arith, put .sums filled, filled-some v below, filled-none vacant refl)

@@ -15,6 +15,7 @@ use segment::Version;
 use segment::area::cut;
 use segment::entries::next;
 use segment::layout::DIGEST_SIZE;
+use segment::layout::VERSION_LIMIT;
 ghost use Prim.Native.Nat.{_≤_};
 ghost use mathlib.Core.Path.{_≡_};
 ghost use mathlib.Core.Bool.{true};
@@ -109,7 +110,7 @@ pub fn suspect(
     if stands_at(table, version, at) {
         return false;
     }
-    if table[0] == 0 {
+    if table[191] == VERSION_LIMIT {
         insert(table, version, at);
         return false;
     }
@@ -117,6 +118,6 @@ pub fn suspect(
         return true;
     }
     clear(table);
-    insert(table, version, 192);
+    insert(table, version, 0);
     false
 }

@@ -1,11 +1,12 @@
-// The table of suspects: 192 cells in ascending order, the empty ones (0) first, so that a search by halves finds a version and no
-// choice of versions leaves cells unused.
+// The table of suspects: 192 cells in ascending order, so that a search by halves finds a version and no choice of versions leaves
+// cells unused. The empty ones are last and have the version limit, which no entry has.
 use segment::Version;
+use segment::layout::VERSION_LIMIT;
 ghost use Prim.Native.Nat.{_<_};
 ghost use mathlib.Core.Path.{_≡_};
 ghost use lib.ListN.{length, getD};
 ghost use Rattle.segment.specs.Choice.{pick};
-ghost use Rattle.log.specs.Tables.{holds, occupied, Empty, Sorted, Between, Put};
+ghost use Rattle.log.specs.Tables.{vacant, holds, occupied, Empty, Sorted, Between, Put};
 
 // 1 for true, 0 for false.
 pub fn one(told: bool) -> usize
@@ -21,7 +22,7 @@ pub fn occupied(table: &[u32]) -> usize
     let mut count = 0;
     let mut i = 0;
     while i < table.len() {
-        count += one(0 < table[i]);
+        count += one(table[i] < VERSION_LIMIT);
         i += 1;
     }
     count
@@ -34,7 +35,7 @@ pub fn clear(table: &mut [u32])
 {
     let mut i = 0;
     while i < table.len() {
-        table[i] = 0;
+        table[i] = VERSION_LIMIT;
         i += 1;
     }
 }
@@ -69,20 +70,20 @@ pub fn stands_at(table: &[u32], version: Version, at: usize) -> bool
     false
 }
 
-// Puts a version in where the search for it ended: those below it go down by a cell, to the first that is empty.
+// Puts a version in where the search for it ended: those above it go up by a cell, to the first that is empty.
 pub fn insert(table: &mut [u32], version: Version, at: usize)
     requires { ⌜ Sorted (now table) ⌝ }
     requires { ⌜ Between (now table) (version .0) at at ⌝ }
-    requires { ⌜ 0 < version .0 ⌝ }
-    requires { ⌜ getD (now table) 0 0 ≡ 0 ⌝ }
+    requires { ⌜ version .0 < vacant ⌝ }
+    requires { ⌜ getD (now table) 191 0 ≡ vacant ⌝ }
     ensures { λ _. ⌜ Put (now (table .entry)) (version .0) (now (table .exit)) ⌝ }
 {
     let mut carried = version.0;
     let mut cell = at;
-    while carried != 0 {
-        cell -= 1;
+    while carried != VERSION_LIMIT {
         let old = table[cell];
         table[cell] = carried;
         carried = old;
+        cell += 1;
     }
 }

@@ -11,6 +11,7 @@ use segment::Version;
 use segment::area::cut;
 use segment::entries::next;
 use segment::layout::DIGEST_SIZE;
+use segment::layout::VERSION_LIMIT;
 ghost use Prim.Native.Nat.{_≤_};
 ghost use mathlib.Core.Path.{_≡_};
 ghost use mathlib.Core.Bool.{true, false};
@@ -91,7 +92,7 @@ fn search_shared(n: usize, s: usize, area: &[u8], map: u32) -> bool
     ensures { λ r. ⌜ r ≡ versionShared (logOf (viewsOf edition1 (now (area .entry)) s) (named map) n) ⌝ }
 {
     let mut filter = [0u32; 512];
-    let mut table = [0u32; 192];
+    let mut table = [VERSION_LIMIT; 192];
     let mut i = 0;
     while i < n {
         let slot = i;

@@ -2,13 +2,14 @@
 use Prim.Native.Nat.{_≤_, _<_}
 use mathlib.Core.Path.{_≡_, refl, sym, _∙_}
 use mathlib.Core.List.{List}
+use native.Mathlib.Omega.{arith}
 use borrow.Author.Needs.{needs}
 use Rattle.segment.specs.Layout.{edition1}
 use Rattle.slot_map.specs.Bit.{named}
 use Rattle.model.specs.Log.{Placed, viewsOf, logOf}
 use Rattle.laws.specs.Versions.{count}
-use Rattle.log.specs.Tables.{empty-sorted, empty-between}
-use Rattle.log.specs.Suspects.{Suspects, suspect-kept, suspect-told, suspect-put, suspect-anew, look-shared, look-alone, w-positive}
+use Rattle.log.specs.Tables.{vacant, empty-sorted, empty-between}
+use Rattle.log.specs.Suspects.{Suspects, suspect-kept, suspect-told, suspect-put, suspect-anew, look-shared, look-alone, w-below}
 use Rattle.log.proofs.suspects.suspect.Statement.{statement}
 use Rattle.log.proofs.suspects.suspect.Tie as tie
 
@@ -22,8 +23,8 @@ held c = c .pre .1 .0
 stands : (c : tie.Start) → 1 ≤ count (c .args .version .0) (log c)
 stands c = c .pre .1 .1
 
-some : (c : tie.Start) → 0 < c .args .version .0
-some c = w-positive _ _ (held c) _ (stands c)
+below : (c : tie.Start) → c .args .version .0 < vacant
+below c = w-below _ _ (held c) _ (stands c)
 
 search-requires : tie.Need-search-requires
 search-requires c κs = search needs
@@ -41,7 +42,7 @@ slice-read-if2 : tie.Need-slice-read-if2
 slice-read-if2 c = search needs
 
 insert-requires : tie.Need-insert-requires
-insert-requires c κs = (held (c .before .before .before .before .before .before .before .before .before .before) .sorted, (c .before .before .before .before .before .before .search .ensures, (some (c .before .before .before .before .before .before .before .before .before .before), c .before .if2 .taken)))
+insert-requires c κs = (held (c .before .before .before .before .before .before .before .before .before .before) .sorted, (c .before .before .before .before .before .before .search .ensures, (below (c .before .before .before .before .before .before .before .before .before .before), c .before .if2 .taken)))
 
 same-length-2 : tie.Need-same-length-2
 same-length-2 c = search needs
@@ -64,8 +65,8 @@ clear-requires c κs = search needs
 insert-requires-2 : tie.Need-insert-requires-2
 insert-requires-2 c κs =
     let e = c .before .before .before .clear .ensures in
-    let p = some (c .before .before .before .before .before .before .before .before .before .before .before .before .before .before .before .before .before) in
-    (empty-sorted _ e, (empty-between _ e _ p, (p, e .zeros 0)))
+    let p = below (c .before .before .before .before .before .before .before .before .before .before .before .before .before .before .before .before .before) in
+    (empty-sorted _ e, (empty-between _ e _ p, (p, e .cells 191 (omega arith))))
 
 same-length-4 : tie.Need-same-length-4
 same-length-4 c = search needs
