@@ -1,5 +1,5 @@
 -- A table of numbers in ascending order, its empty cells last: what it holds, the search by halves, and a number put in.
-use Prim.Native.Nat.{ℕ, zero, suc, _+_, _≤_, _<_}
+use Prim.Native.Nat.{ℕ, zero, suc, _+_, _-_, _*_, _≤_, _<_}
 use mathlib.Core.Path.{_≡_, refl, sym, _∙_, ap}
 use mathlib.Core.Bool.{Bool, true, false}
 use mathlib.Core.List.{List, [], _∷_}
@@ -208,6 +208,65 @@ module _ (table : List ℕ) (sorted : Sorted table) (x low high : ℕ) (so-far :
         below = so-far .below;
         above = λ i a k. omega (arith, sorted .ascending middle i a k);
       }
+
+-- What it means that r is low, or size cells further if these are below x: where keep more were in question, keep are left.
+pub record Halved (table : List ℕ) (x low size r : ℕ) : Type 0 where
+  pub left : (keep high : ℕ) → size ≤ keep + 1 → high ≡ low + size + keep → Between table x low high → Between table x r (r + keep)
+
+module _ (size : ℕ) (t : Bool) (d : ℕ) (e : d ≡ pick t 1 0) where
+  pub times-one : size * d ≡ pick t size 0
+  times-one = go t e
+    where
+      once : size * 1 ≡ size
+      once = omega arith
+
+      never : size * 0 ≡ 0
+      never = omega arith
+
+      go : (t : Bool) → d ≡ pick t 1 0 → size * d ≡ pick t size 0
+      go true q = ap (λ (k : ℕ). size * k) (q ∙ pick-true true 1 0 refl) ∙ once ∙ sym (pick-true true size 0 refl)
+      go false q = ap (λ (k : ℕ). size * k) (q ∙ pick-false false 1 0 refl) ∙ never ∙ sym (pick-false false size 0 refl)
+
+  pub times-few : size * d ≤ size
+  times-few = go t times-one
+    where
+      go : (t : Bool) → size * d ≡ pick t size 0 → size * d ≤ size
+      go true q = omega (arith, q, pick-true {A = ℕ} true size 0 refl)
+      go false q = omega (arith, q, pick-false {A = ℕ} false size 0 refl)
+
+module _ (table : List ℕ) (sorted : Sorted table) (x low size : ℕ) (some : 0 < size) (inside : low + size ≤ 192) where
+  pub halves : (d : ℕ) → d ≡ pick (ltb (getD table (low + size - 1) 0) x) 1 0 → Halved table x low size (low + size * d)
+  halves d e =
+      record { left = λ keep high h w b. go keep high h w b (ltb (getD table (low + size - 1) 0) x) refl (times-one size (ltb (getD table (low + size - 1) 0) x) d e) }
+    where
+      go : (keep high : ℕ) → size ≤ keep + 1 → high ≡ low + size + keep → Between table x low high → (t : Bool) → ltb (getD table (low + size - 1) 0) x ≡ t → size * d ≡ pick t size 0
+          → Between table x (low + size * d) (low + size * d + keep)
+      go keep high h w b true q m =
+          let l = ltb-true (getD table (low + size - 1) 0) x q in
+          let r : size * d ≡ size = m ∙ pick-true true size 0 refl in
+          record {
+            ordered = omega arith;
+            within = omega (arith, b .within);
+            below =
+                λ i k. omega (
+                  arith,
+                  sorted .ascending i (low + size - 1) (omega arith) (omega (arith, sorted .size)),
+                );
+            above = λ i k. b .above i (omega arith);
+          }
+      go keep high h w b false q m =
+          let l = ltb-false (getD table (low + size - 1) 0) x q in
+          let r : size * d ≡ 0 = m ∙ pick-false false size 0 refl in
+          record {
+            ordered = omega arith;
+            within = omega (arith, b .within);
+            below = λ i k. b .below i (omega arith);
+            above = λ i k n. omega (arith, sorted .ascending (low + size - 1) i (omega arith) n);
+          }
+
+pub between-done : (table : List ℕ) (x r : ℕ) → Between table x r (r + 0) → Between table x r r
+between-done table x r b =
+    record { ordered = omega arith; within = omega (arith, b .within); below = b .below; above = λ i l. b .above i (omega arith) }
 
 -- Where the search ends, the number stands there or nowhere.
 module _ (table : List ℕ) (x at : ℕ) (here : Between table x at at) where

@@ -1,6 +1,6 @@
 // Marks of the suspects: 2,048 bits, of which each suspect has one, by a hash that scatters versions with one bit in the filter.
 // They spare most entries the search among the suspects.
-use crate::table::search;
+use crate::table::search_steps;
 use crate::table::stands_at;
 use segment::Version;
 ghost use Prim.Native.Nat.{_<_};
@@ -58,5 +58,5 @@ pub fn is_suspect(marks: &[u32], table: &[u32], version: Version) -> bool
     if !has_mark(marks, version) {
         return false;
     }
-    stands_at(table, version, search(table, version))
+    stands_at(table, version, search_steps(table, version))
 }

@@ -12,8 +12,8 @@ has-mark-requires c κs = search needs
 returns : tie.Need-returns
 returns c = unmarked _ _ (c .before .before .before .before .pre .1) _ (sym (c .before .has-mark .ensures) ∙ not-true _ (c .if1 .taken))
 
-search-requires : tie.Need-search-requires
-search-requires c κs = search needs
+search-steps-requires : tie.Need-search-steps-requires
+search-steps-requires c κs = search needs
 
 stands-at-requires : tie.Need-stands-at-requires
 stands-at-requires c κs = search needs
@@ -23,4 +23,4 @@ returns-2 c = search needs
 
 pub is-suspect-spec : {M : Type 1} → statement M
 is-suspect-spec =
-    tie.close (tie.spec has-mark-requires returns search-requires stands-at-requires returns-2)
+    tie.close (tie.spec has-mark-requires returns search-steps-requires stands-at-requires returns-2)
