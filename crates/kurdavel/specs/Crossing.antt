@@ -9,7 +9,7 @@ use lib.ListN.{length}
 use lib.Seq.{sets}
 use Rattle.segment.specs.Layout.{edition1}
 use Rattle.segment.specs.declared.Key.{Key}
-use Rattle.record.specs.Answers.{formatSaid, recoverSaid, readSaid, startSaid, stepSaid, tellSaid, fewestSaid, withPending}
+use Rattle.record.specs.Answers.{formatSaid, recoverSaid, readSaid, startSaid, stepSaid, tellSaid, fewestSaid}
 use Rattle.record.specs.declared.Record.{Record}
 use Rattle.record.specs.declared.FormatAnswer.{FormatAnswer}
 use Rattle.record.specs.declared.Recovery.{Recovery}
@@ -146,12 +146,6 @@ pub record StepCrossed (words words′ area area′ cells cells′ work : List �
   pub version-told : version′ ≡ toldAfter (stepped .answer) version
   pub says : words′ ≡ keptWords (decoded words .ok) words (stepped .rec)
   pub long : decoded words .ok ≡ true → length (stepped .rec .counts) ≡ 32
-
--- what is known of a record after a step, given the words before it: they are a record's, and while stores are left it is that record
--- but for its pending operation
-pub record SteppedOn (ok : Bool) (words : List ℕ) (answer : StepAnswer) (r : Record) : Type 0 where
-  pub are-record : ok ≡ true → isRecord words ≡ true
-  pub goes-on : ok ≡ true → (k : ℕ) → answer ≡ StepAnswer.Left k → r ≡ withPending (recordIn words) (r .pending)
 
 -- ---- the next store told
 

@@ -45,7 +45,7 @@ use Rattle.recovery.specs.declared.Lookup.{Lookup}
 use Rattle.words.specs.Words.{recordWords, pendingWords, wordsOf, word, recordIn, isRecord, decoded}
 use Rattle.words.specs.WordLaws.{record-long, counts-long, decoded-record, decoded-none, pending-alone, fits-record, fits-decoded}
 use Rattle.words.specs.declared.Decoded.{Decoded}
-use Rattle.kurdavel.specs.Crossing.{FormatCrossed, RecoverCrossed, wordsAfter, ReadCrossed, ValueCrossed, Handed, storesAfter, StartCrossed, keptWords, StepCrossed, SteppedOn, leftTold, toldAfter, placeTold, byteTold, TellCrossed, slotTold, FewestCrossed, ScanCrossed, ScanValueCrossed}
+use Rattle.kurdavel.specs.Crossing.{FormatCrossed, RecoverCrossed, wordsAfter, ReadCrossed, ValueCrossed, Handed, storesAfter, StartCrossed, keptWords, StepCrossed, leftTold, toldAfter, slotTold, FewestCrossed, ScanCrossed, ScanValueCrossed}
 use Rattle.model.specs.Scanned.{ScanValue}
 use Rattle.scanning.specs.Seeking.{sought, answerOf, partFor}
 use Rattle.scanning.specs.SeekingLaws.{scan-promise, scan-value}
@@ -289,46 +289,6 @@ step-crossed {words = words} {left = left} {version = version} {x = x} f p w e m
       version-told = v ∙ ap (λ (a : StepAnswer). toldAfter a version) (sym e);
       says = w .0 ∙ ap (λ (a : Decoded). keptWords (a .ok) words (x .rec)) f;
       long = λ ok. w .1 (ap (λ (a : Decoded). a .ok) f ∙ ok);
-    }
-
--- the words that a step goes by are a record's, and that record goes on while stores are left
-pub steps-on : {words area area′ cells cells′ work : List ℕ} {d : Decoded} {x : Stepped} → d ≡ decoded words
-    → StepTested edition1 (d .rec) area area′ cells cells′ work x → SteppedOn (d .ok) words (x .answer) (x .rec)
-steps-on {words} {d = d} {x = x} f t =
-    record {
-      are-record = ok-record words f;
-      goes-on =
-          λ ok k e.
-          t .goes-on k e
-          ∙ ap (λ (r : Record). withPending r (x .rec .pending))
-          (ap (λ (a : Decoded). a .rec) (f ∙ decoded-record words (ok-record words f ok)));
-    }
-
--- the words of the pending operation alone
-pub kept-pending : (words words′ : List ℕ) {ok : Bool} (r : Record) {k : ℕ} {a : StepAnswer} → SteppedOn ok words a r → ok ≡ true → a ≡ StepAnswer.Left k
-    → words′ ≡ sets words 12 (pendingWords (r .pending)) → words′ ≡ keptWords ok words r
-kept-pending words words′ r {k} h ok e w =
-    kept-on words words′ r ok
-    (w ∙ pending-alone words (h .are-record ok) (r .pending) ∙ ap (λ (s : Record). sets words 0 (wordsOf s)) (sym (h .goes-on ok k e)))
-
-pub long-pending : (words : List ℕ) {ok : Bool} (r : Record) {k : ℕ} {a : StepAnswer} → SteppedOn ok words a r → ok ≡ true → a ≡ StepAnswer.Left k
-    → length (r .counts) ≡ 32
-long-pending words r {k} h ok e =
-    ap (λ (s : Record). length (s .counts)) (h .goes-on ok k e) ∙ counts-long words (h .are-record ok)
-
--- ---- the next store told
-
-pub tell-crossed : {words area work : List ℕ} {place byte number : ℕ} {d : Decoded} {x : Foretold} {b : TellAnswer} → d ≡ decoded words
-    → (x ≡ Told.toldBy edition1 (d .rec) area work) × TellPromise edition1 (d .rec) area work x → x .answer ≡ b → number ≡ tellSaid b .refused
-    → place ≡ placeTold b → byte ≡ byteTold b → TellCrossed words area work place byte number
-tell-crossed {words} {area} {work} {x = x} f p e m l v =
-    record {
-      foretold = x;
-      found = p .0 ∙ ap (λ (a : Decoded). Told.toldBy edition1 (a .rec) area work) f;
-      promised = subst (λ (a : Decoded). TellPromise edition1 (a .rec) area work x) f (p .1);
-      numbered = m ∙ ap (λ (a : TellAnswer). tellSaid a .refused) (sym e);
-      place-told = l ∙ ap placeTold (sym e);
-      byte-told = v ∙ ap byteTold (sym e);
     }
 
 -- ---- the slot with the fewest present bytes

@@ -1,36 +1,83 @@
 -- A step that leaves stores to be done, made on the words of the record: what it promises, at each return of its code.
-use Prim.Native.Nat.{ℕ, _-_, _≤_, _<_}
+use Prim.Native.Nat.{ℕ, _*_, _-_, _≤_, _<_}
 use mathlib.Core.Path.{_≡_, refl, sym, _∙_, ap, subst, subst⁻¹}
 use mathlib.Core.Bool.{Bool, true, false, not}
 use mathlib.Core.List.{List, [], _∷_, _++_}
 use native.Mathlib.Omega.{arith}
-use lib.ListN.{length, getD, take, set}
+use lib.ListN.{length, length-set, getD, take, set}
 use lib.Seq.{sets}
 use borrow.Author.Tests.{not-false}
-use Rattle.segment.specs.Layout.{edition1}
+use Rattle.segment.specs.Layout.{edition1, digestSize}
 use Rattle.record.specs.Answers.{bare, storesLeft, stepSaid, tellSaid, withPending}
-use Rattle.record.specs.Range.{fitsLent}
+use Rattle.record.specs.Range.{countsGood, fitsLent}
 use Rattle.record.specs.RangeLaws.{lent}
 use Rattle.record.specs.declared.Pending.{Pending}
 use Rattle.record.specs.declared.Pending.the-variants.{Idle, Append, NewHead, Clean, Forget}
 use Rattle.record.specs.declared.Record.{Record}
 use Rattle.record.specs.declared.Refusal.{Refusal}
 use Rattle.record.specs.declared.Refusal.the-variants.{BadRecord}
+use Rattle.record.specs.declared.Stepped.{Stepped}
 use Rattle.record.specs.declared.StepAnswer.{StepAnswer}
 use Rattle.record.specs.declared.TellAnswer.{TellAnswer}
 use Rattle.model.specs.Promises.{StepPromise}
 use Rattle.laws.specs.OperationsKept.{edition1-roomy, edition1-laws}
+use Rattle.telling.specs.Agree.{agreesWith}
+use Rattle.telling.specs.Next.{PendingIn}
 use Rattle.telling.specs.BareLaws.{found-bad, front-fits, found-front}
 use Rattle.telling.specs.Told.{foundBy, toldBy}
 use Rattle.telling.specs.ToldLaws.{told-promise}
-use Rattle.stepping.specs.Finish.{oneLess}
+use Rattle.stepping.specs.Finish.{oneLess, advanced}
 use Rattle.stepping.specs.FinishLaws.{advance-left}
-use Rattle.stepping.specs.OnLaws.{found-refused, found-stored}
+use Rattle.stepping.specs.OnLaws.{found-refused, found-stored, found-known}
 use Rattle.words.specs.Words.{recordWords, pendingWords, wordsOf, word, recordIn, isRecord, decoded}
 use Rattle.words.specs.WordLaws.{too-short, counts-long, decoded-record, decoded-none, none-unfit, fits-record, pending-words, left-alone, encode-decode}
 use Rattle.words.specs.declared.Decoded.{Decoded}
 use Rattle.kurdavel.specs.Crossing.{StepCrossed, keptWords, leftTold, toldAfter, TellCrossed, placeTold, byteTold}
-use Rattle.kurdavel.specs.CrossingLaws.{front-says, kept-on, kept-off, step-crossed}
+use Rattle.kurdavel.specs.CrossingLaws.{fits-words, front-says, kept-on, kept-off, step-crossed}
+
+-- what the words say but the present bytes fits the area
+abbrev pub frontFits : List ℕ → List ℕ → Type 0
+frontFits words area = fitsLent edition1 (bare (recordIn words)) (length area) (word words 2) ≡ true
+
+-- what the last step relies on, once its store is made
+pub record AdvanceReady (r : Record) (area : List ℕ) : Type 0 where
+  pub left : 0 < storesLeft (r .pending)
+  pub slots-high : r .slots ≤ 32
+  pub size-high : r .size ≤ 2048
+  pub area-own : length area ≡ r .slots * r .size
+  pub inside : PendingIn r (r .pending)
+  pub agrees : agreesWith edition1 r (r .pending) ≡ true
+  pub size-some : 0 < r .size
+  pub counts-high : countsGood (r .size - digestSize edition1) (r .counts) ≡ true
+
+-- What the last step makes of the words, given the area with its store.
+pub record Finished (words words′ area cells cells′ : List ℕ) (left left′ version version′ number : ℕ) : Type 0 where
+  pub stepped : Stepped
+  pub advances : record { stepped = stepped; cells = cells′ } ≡ advanced edition1 (decoded words .rec) area cells
+  pub same-length : length cells′ ≡ length cells
+  pub says : words′ ≡ keptWords (decoded words .ok) words (stepped .rec)
+  pub long : decoded words .ok ≡ true → length (stepped .rec .counts) ≡ 32
+  pub numbered : number ≡ stepSaid (stepped .answer) .refused
+  pub left-told : left′ ≡ leftTold (stepped .answer) left
+  pub version-told : version′ ≡ toldAfter (stepped .answer) version
+
+-- the same from what the code finds, in each case of the answer
+pub finished : {words words′ area cells cells′ : List ℕ} {left left′ version version′ number : ℕ} {d : Decoded} {x : Stepped} {b : StepAnswer}
+    → d ≡ decoded words → record { stepped = x; cells = cells′ } ≡ advanced edition1 (d .rec) area cells → length cells′ ≡ length cells
+    → (words′ ≡ keptWords (d .ok) words (x .rec)) × (d .ok ≡ true → length (x .rec .counts) ≡ 32) → x .answer ≡ b → number ≡ stepSaid b .refused
+    → left′ ≡ leftTold b left → version′ ≡ toldAfter b version
+    → Finished words words′ area cells cells′ left left′ version version′ number
+finished {words = words} {area = area} {cells = cells} {left = left} {version = version} {x = x} f a n w e m l v =
+    record {
+      stepped = x;
+      advances = a ∙ ap (λ (y : Decoded). advanced edition1 (y .rec) area cells) f;
+      same-length = n;
+      says = w .0 ∙ ap (λ (y : Decoded). keptWords (y .ok) words (x .rec)) f;
+      long = λ ok. w .1 (ap (λ (y : Decoded). y .ok) f ∙ ok);
+      numbered = m ∙ ap (λ (a : StepAnswer). stepSaid a .refused) (sym e);
+      left-told = l ∙ ap (λ (a : StepAnswer). leftTold a left) (sym e);
+      version-told = v ∙ ap (λ (a : StepAnswer). toldAfter a version) (sym e);
+    }
 
 -- ---- the words of a pending operation with one store less
 
@@ -70,14 +117,18 @@ module _ (words area work : List ℕ) where
     pub bad-found : not t ≡ true → found cells ≡ TellAnswer.Refused BadRecord
     bad-found e = sym (found-bad edition1 says area cells work tested e)
 
-    module _ (passed : not t ≡ false) {f : Record} (front : f ≡ bare (recordIn words)) where
-      pub front-lent : fitsLent edition1 f (length area) (f .cells) ≡ true
-      front-lent =
-          front-fits edition1 says area cells work tested (not-false t passed) (front-says words (length area) cells tested passed front)
+    module _ (passed : not t ≡ false) where
+      front : bare (recordIn words) ≡ bare says
+      front = front-says words (length area) cells tested passed refl
 
-      pub front-found : {a : TellAnswer} → a ≡ toldBy edition1 f area work .answer → a ≡ found cells
-      front-found h =
-          found-front edition1 says area cells work tested (not-false t passed) (front-says words (length area) cells tested passed front) h
+      pub front-lent : frontFits words area
+      front-lent = front-fits edition1 says area cells work tested (not-false t passed) front
+
+      pub front-found : {a : TellAnswer} → a ≡ toldBy edition1 (bare (recordIn words)) area work .answer → a ≡ found cells
+      front-found h = found-front edition1 says area cells work tested (not-false t passed) front h
+
+      pub front-long : recordWords ≤ length words
+      front-long = fits-words words (length area) cells (sym tested ∙ not-false t passed)
 
   -- a record for which a store is found fits, and the words are a record's
   found-fit : (cells p b : ℕ) → found cells ≡ TellAnswer.At p b → fitsLent edition1 says (length area) cells ≡ true
@@ -153,6 +204,40 @@ module _ (words area work : List ℕ) where
           λ ok. long ok,
         )
         refl refl refl refl
+
+    -- the last step, once its store is made
+    pub on-last : (p b : ℕ) {words′ cells′ : List ℕ} {left′ version′ number : ℕ} → found (length cells) ≡ TellAnswer.At p b
+        → Finished words words′ (set area p b) cells cells′ left left′ version version′ number
+        → StepCrossed words words′ area (set area p b) cells cells′ work left left′ version version′ number
+    on-last p b e f =
+        step-crossed refl (found-stored edition1 edition1-roomy says area cells work p b e (f .advances) (f .same-length)) (f .says, f .long) refl (f .numbered)
+        (f .left-told) (f .version-told)
+
+    pub on-ready : (p b : ℕ) → found (length cells) ≡ TellAnswer.At p b → AdvanceReady says (set area p b)
+    on-ready p b e =
+        let fit = found-fit (length cells) p b e in
+        let k = found-known edition1 edition1-roomy says area cells work fit p b e in
+        let l = lent edition1 says (length area) (length cells) fit in
+        record {
+          left = k .left;
+          slots-high = l .slots-high;
+          size-high = l .size-high;
+          area-own = simp length-set (l .area-own);
+          inside = k .inside;
+          agrees = k .agrees;
+          size-some = omega (arith, l .size-low);
+          counts-high = l .counts-high;
+        }
+
+    -- stores are left
+    pub on-left : (p b : ℕ) → found (length cells) ≡ TellAnswer.At p b → 0 < word words 16
+    on-left p b e =
+        let are = found-record (length cells) p b e in
+        let k : word words 16 ≡ storesLeft (recordIn words .pending) =
+        sym (ap (λ (l : List ℕ). getD l 4 0) (pending-words words are)) ∙ left-fifth (recordIn words .pending) in
+        let k-said : word words 16 ≡ storesLeft (says .pending) =
+        k ∙ ap (λ (d : Decoded). storesLeft (d .rec .pending)) (sym (decoded-record words are)) in
+        omega (arith, on-ready p b e .left)
 
   -- ---- the store told
 

@@ -1,110 +1,58 @@
-// The step, and the store that it will make told before it. A step that leaves stores to be done changes one word of the record, so it
-// is made on the words as they are; the last one goes through the record.
+// The step, and the store that it will make told before it. Both go by the record's words as they are; only the last step takes the
+// record out of them and puts it back.
 use crate::keep;
-use firmware::step_held;
-use record::Record;
 use record::StepAnswer;
 use record::TellAnswer;
 use record::number;
+use stepping::finish::advance;
 use telling::tell::store_of;
 use words::CELLS;
 use words::LEFT;
 use words::WORDS;
 use words::decode;
-use words::encode_pending;
 use words::fits;
 use words::front_in;
-ghost use Prim.Native.Nat.{_≤_, _<_};
+ghost use Prim.Native.Nat.{_≤_};
 ghost use mathlib.Core.Path.{_≡_};
-ghost use mathlib.Core.Bool.{true};
 ghost use lib.ListN.{length};
-ghost use Rattle.words.specs.Words.{recordWords, word};
-ghost use Rattle.kurdavel.specs.Crossing.{StepCrossed, SteppedOn, TellCrossed, keptWords};
+ghost use Rattle.segment.specs.Layout.{edition1};
+ghost use Rattle.record.specs.Answers.{bare};
+ghost use Rattle.telling.specs.Told.{toldBy};
+ghost use Rattle.words.specs.Words.{recordWords, recordIn, decoded};
+ghost use Rattle.kurdavel.specs.Crossing.{StepCrossed, TellCrossed};
+ghost use Rattle.kurdavel.specs.StepOn.{frontFits, AdvanceReady, Finished};
 
-// Whether more stores than one are left, as far as the words tell.
-fn goes_on(words: &[u32]) -> bool
-    ensures { λ r. ⌜ (r ≡ true → (recordWords ≤ length (now (words .entry))) × (1 < word (now (words .entry)) 16)) ⌝ }
+// Place and byte of the next store of a record that fits, or the cause that refuses it. The two calls below share it, and nothing else
+// calls what it calls, so that the compiler puts all of it in line.
+fn found_in(words: &[u32], area: &[u8], work: &[u8]) -> TellAnswer
+    requires { ⌜ recordWords ≤ length (now words) ⌝ }
+    requires { ⌜ frontFits (now words) (now area) ⌝ }
+    ensures { λ r. ⌜ r ≡ toldBy edition1 (bare (recordIn (now (words .entry)))) (now (area .entry)) (now (work .entry)) .answer ⌝ }
 {
-    if words.len() < WORDS {
-        return false;
-    }
-    1 < words[LEFT]
+    store_of(front_in(words), area, work)
 }
 
-// A step that is not the last: one store in the area, and in the record one store less.
-fn step_on(
+// The last step behind its store: the record is brought up to date, and goes back into its words.
+fn finish(
     words: &mut [u32],
-    area: &mut [u8],
-    index: &[u32],
-    work: &[u8],
-    left: &mut u32,
-    version: &mut u32,
-) -> u32
-    requires { ⌜ (recordWords ≤ length (now words)) × (1 < word (now words) 16) ⌝ }
-    ensures { λ r.
-        ⌜
-        StepCrossed (now (words .entry)) (now (words .exit)) (now (area .entry)) (now (area .exit)) (now (index .entry))
-        (now (index .entry)) (now (work .entry)) (now (left .entry)) (now (left .exit)) (now (version .entry))
-        (now (version .exit)) r
-        ⌝ }
-{
-    if !fits(words, area.len(), index.len()) {
-        return 4;
-    }
-    match store_of(front_in(words), area, work) {
-        TellAnswer::Refused(cause) => number(cause),
-        TellAnswer::At { place, byte } => {
-            let rest = words[LEFT] - 1;
-            area[place as usize] = byte;
-            words[LEFT] = rest;
-            *left = rest;
-            *version = 0;
-            0
-        }
-    }
-}
-
-// The record after a step back into its words, if they were a record's. While stores are left only the words of its pending operation
-// change.
-fn keep_stepped(words: &mut [u32], ok: bool, answer: StepAnswer, rec: Record)
-    requires { ⌜ SteppedOn ok (now words) answer rec ⌝ }
-    ensures kept { λ _. ⌜ now (words .exit) ≡ keptWords ok (now (words .entry)) rec ⌝ }
-    ensures long { λ _. ⌜ (ok ≡ true → length (rec .counts) ≡ 32) ⌝ }
-{
-    match answer {
-        StepAnswer::Left(_) => {
-            if ok {
-                let pending = rec.pending;
-                encode_pending(pending, words);
-            }
-        }
-        StepAnswer::Done(_) => keep(words, ok, rec),
-        StepAnswer::Refused(_) => keep(words, ok, rec),
-    }
-}
-
-// Any step, by the step that hands the record back.
-fn step_any(
-    words: &mut [u32],
-    area: &mut [u8],
+    area: &[u8],
     index: &mut [u32],
-    work: &[u8],
     left: &mut u32,
     version: &mut u32,
 ) -> u32
+    requires { ⌜ AdvanceReady (decoded (now words) .rec) (now area) ⌝ }
     ensures { λ r.
         ⌜
-        StepCrossed (now (words .entry)) (now (words .exit)) (now (area .entry)) (now (area .exit)) (now (index .entry))
-        (now (index .exit)) (now (work .entry)) (now (left .entry)) (now (left .exit)) (now (version .entry))
-        (now (version .exit)) r
+        Finished (now (words .entry)) (now (words .exit)) (now (area .entry)) (now (index .entry)) (now (index .exit))
+        (now (left .entry)) (now (left .exit)) (now (version .entry)) (now (version .exit)) r
         ⌝ }
 {
     let decoded = decode(words);
     let rec = decoded.rec;
-    let stepped = step_held(rec, area, index, work);
+    let stepped = advance(rec, area, index);
     let after = stepped.rec;
     let answer = stepped.answer;
-    keep_stepped(words, decoded.ok, answer, after);
+    keep(words, decoded.ok, after);
     match answer {
         StepAnswer::Refused(cause) => number(cause),
         StepAnswer::Left(count) => {
@@ -120,6 +68,7 @@ fn step_any(
     }
 }
 
+// A step that is not the last changes one word of the record.
 #[no_mangle]
 pub extern "C" fn kurdavel_step(
     words: &mut [u32],
@@ -136,10 +85,23 @@ pub extern "C" fn kurdavel_step(
         (now (version .exit)) r
         ⌝ }
 {
-    if goes_on(words) {
-        return step_on(words, area, index, work, left, version);
+    if !fits(words, area.len(), index.len()) {
+        return 4;
     }
-    step_any(words, area, index, work, left, version)
+    match found_in(words, area, work) {
+        TellAnswer::Refused(cause) => number(cause),
+        TellAnswer::At { place, byte } => {
+            area[place as usize] = byte;
+            let rest = words[LEFT] - 1;
+            if rest == 0 {
+                return finish(words, area, index, left, version);
+            }
+            words[LEFT] = rest;
+            *left = rest;
+            *version = 0;
+            0
+        }
+    }
 }
 
 // Place and byte of the store that the next step will make; both are 0 where it is refused.
@@ -164,7 +126,7 @@ pub extern "C" fn kurdavel_next_store(
     if !fits(words, area.len(), words[CELLS] as usize) {
         return 4;
     }
-    match store_of(front_in(words), area, work) {
+    match found_in(words, area, work) {
         TellAnswer::Refused(cause) => number(cause),
         TellAnswer::At {
             place: found,

@@ -14,7 +14,8 @@ use Rattle.model.specs.Log.{View, Item, Scan, damaged, scanned, itemFirst, scan
 use Rattle.laws.specs.Scans.{itemAt}
 use Rattle.laws.specs.Members.{total}
 use Rattle.log.specs.Extents.{Meets, restOf, rest-entry, rest-end, rest-damage, log-skip, log-take}
-use Rattle.log.specs.Suspects.{isSuspect, one-few, hit, hits, hits-append}
+use Rattle.log.specs.Tables.{holds, one-few}
+use Rattle.log.specs.Suspects.{hit, hits, hits-append}
 
 -- in a segment's items
 unfoldable pub countOf : List ℕ → List Item → ℕ
@@ -37,9 +38,9 @@ unfolding total placedIn countOf
 hits-placed table i [] = refl
 hits-placed table i (x ∷ xs) = ap (λ (k : ℕ). hit table (x .entry) + k) (hits-placed table i xs)
 
-hit-pick : (table : List ℕ) (w : ℕ) (e : Entry) → e .version ≡ w → pick (isSuspect table w) 1 0 ≡ hit table e
+hit-pick : (table : List ℕ) (w : ℕ) (e : Entry) → e .version ≡ w → pick (holds table w) 1 0 ≡ hit table e
 unfolding hit
-hit-pick table w e p = ap (λ (m : ℕ). pick (isSuspect table m) 1 0) (sym p)
+hit-pick table w e p = ap (λ (m : ℕ). pick (holds table m) 1 0) (sym p)
 
 -- ---- the turns of the loop over a segment
 
@@ -60,7 +61,7 @@ pub record Counting (L : Layout) (s table : List ℕ) (at k : ℕ) : Type 0 wher
 
 module _ (L : Layout) (s table : List ℕ) (at k : ℕ) (so-far : Counting L s table at k) where
   -- d is 1 where the entry's version w is a suspect's
-  pub count-turn : {w len : ℕ} → Meets L s at w len → (t : Bool) → t ≡ isSuspect table w → (d : ℕ) → d ≡ pick t 1 0 → Counting L s table (at + len) (k + d)
+  pub count-turn : {w len : ℕ} → Meets L s at w len → (t : Bool) → t ≡ holds table w → (d : ℕ) → d ≡ pick t 1 0 → Counting L s table (at + len) (k + d)
   count-turn {w} {len} m t q d e =
       record {
         whole =

@@ -6,14 +6,12 @@ use mathlib.Core.List.{List, [], _∷_, _++_, append-nil, append-assoc}
 use native.Mathlib.Omega.{arith}
 use native.Mathlib.Decide.{decLe}
 use lib.Dec.{eqb, ltb}
-use lib.ListN.{length, getD, set, replicate, length-set}
-use lib.Seq.{getD-set-same, getD-set-other}
+use lib.ListN.{length, getD, replicate, length-set}
 use borrow.Author.Tests.{eq-eqb, eqb-true, eqb-false}
 use Rattle.segment.specs.Choice.{pick, pick-true, pick-false}
-use Rattle.segment.specs.Layout.{Layout, digestSize}
+use Rattle.segment.specs.Layout.{Layout, digestSize, versionLimit}
 use Rattle.segment.specs.Entry.{end, damage, entryAt}
-use Rattle.slot_map.specs.Bit.{bit, named, withBit}
-use Rattle.slot_map.specs.BitLaws.{bit-with-same, bit-with-other, named-true, set-named}
+use Rattle.slot_map.specs.Bit.{withBit}
 use Rattle.model.specs.Log.{View, Item, scanned, scan, itemsOf, endOf, isDamaged, placedIn, Placed, viewsOf, logOf, versionShared}
 use Rattle.model.specs.Recovery.{logDamaged}
 use Rattle.laws.specs.Scans.{item-first}
@@ -21,80 +19,49 @@ use Rattle.laws.specs.Members.{clash, total}
 use Rattle.laws.specs.Versions.{counted, count, count-append, count-shared}
 use Rattle.laws.specs.LogLaws.{scan-whole}
 use Rattle.log.specs.Extents.{Meets, restOf, rest-whole, rest-entry, rest-end, rest-damage, log-take, log-skip, damaged-slot}
-use Rattle.log.specs.Suspects.{isSuspect, occupied, hits, empty-new, log-positive, Suspects, suspects-none, Suspecting, look-shared, look-alone}
+use Rattle.log.specs.Marks.{bitIn, setIn, set-own, set-keeps}
+use Rattle.log.specs.Tables.{vacant, holds, occupied, empty-new}
+use Rattle.log.specs.Suspects.{hits, log-below, Suspects, suspects-none, Suspecting, look-shared, look-alone}
 
 -- ---- the bit of a version
 
--- the word that has the bit
-abbrev pub wordOf : List ℕ → ℕ → ℕ
-wordOf filter v = getD filter (v / 32 % 512) 0
-
 unfoldable pub isMarked : List ℕ → ℕ → Bool
-isMarked filter v = named (wordOf filter v) (v % 32)
+isMarked filter v = bitIn filter (v / 32 % 512) (v % 32)
 
 unfoldable pub markedWith : List ℕ → ℕ → List ℕ
-markedWith filter v = set filter (v / 32 % 512) (withBit (wordOf filter v) (v % 32))
+markedWith filter v = setIn filter (v / 32 % 512) (v % 32)
 
 module _ (filter : List ℕ) (v : ℕ) where
   pub length-marked : length (markedWith filter v) ≡ length filter
   unfolding markedWith
-  length-marked = length-set filter (v / 32 % 512) (withBit (wordOf filter v) (v % 32))
+  length-marked = length-set filter (v / 32 % 512) (withBit (getD filter (v / 32 % 512) 0) (v % 32))
 
 module _ (filter : List ℕ) (size : length filter ≡ 512) (v : ℕ) where
-  own-word : getD (markedWith filter v) (v / 32 % 512) 0 ≡ withBit (wordOf filter v) (v % 32)
-  unfolding markedWith
-  own-word = getD-set-same filter (v / 32 % 512) (withBit (wordOf filter v) (v % 32)) 0 (omega arith)
-
   pub mark-own : isMarked (markedWith filter v) v ≡ true
-  unfolding isMarked
-  mark-own =
-      set-named (wordOf (markedWith filter v) v) (v % 32)
-      (ap (λ (w : ℕ). bit w (v % 32)) own-word ∙ bit-with-same (wordOf filter v) (v % 32))
-
-  -- a bit that is set stays
-  kept-bit : (w i j : ℕ) → bit w j ≡ 1 → bit (withBit w i) j ≡ 1
-  kept-bit w i j e = go (eqb i j) refl
-    where
-      go : (t : Bool) → eqb i j ≡ t → bit (withBit w i) j ≡ 1
-      go true p = ap (bit (withBit w i)) (sym (eqb-true i j p)) ∙ bit-with-same w i
-      go false p = bit-with-other w i j (eqb-false i j p) ∙ e
+  unfolding isMarked markedWith
+  mark-own = set-own filter (v / 32 % 512) (v % 32) (omega arith)
 
   pub mark-keeps : (u : ℕ) → isMarked filter u ≡ true → isMarked (markedWith filter v) u ≡ true
   unfolding isMarked markedWith
-  mark-keeps u e = set-named (wordOf (markedWith filter v) u) (u % 32) (go (eqb (v / 32 % 512) (u / 32 % 512)) refl)
-    where
-      was : bit (wordOf filter u) (u % 32) ≡ 1
-      was = named-true (wordOf filter u) (u % 32) e
-
-      go : (t : Bool) → eqb (v / 32 % 512) (u / 32 % 512) ≡ t → bit (wordOf (markedWith filter v) u) (u % 32) ≡ 1
-      go true p =
-          let same : v / 32 % 512 ≡ u / 32 % 512 = eqb-true (v / 32 % 512) (u / 32 % 512) p in
-          ap (λ (k : ℕ). bit (getD (markedWith filter v) k 0) (u % 32)) (sym same)
-          ∙ ap (λ (w : ℕ). bit w (u % 32)) own-word
-          ∙ kept-bit (wordOf filter v) (v % 32) (u % 32) (ap (λ (k : ℕ). bit (getD filter k 0) (u % 32)) same ∙ was)
-      go false p =
-          ap (λ (w : ℕ). bit w (u % 32))
-          (getD-set-other filter (v / 32 % 512) (u / 32 % 512) (withBit (wordOf filter v) (v % 32)) 0
-          (λ e. eqb-false (v / 32 % 512) (u / 32 % 512) p (sym e)))
-          ∙ was
+  mark-keeps u e = set-keeps filter (v / 32 % 512) (v % 32) (omega arith) (u / 32 % 512) (u % 32) e
 
 -- ---- what has passed
 
 -- Of the entries passed, no version but a suspect's stands twice, and the bit of each is set; the suspects are those of the
 -- whole log.
 pub record Filtered (log past : List Placed) (filter table : List ℕ) : Type 0 where
-  pub once : (v : ℕ) → isSuspect table v ≡ false → count v past ≤ 1
+  pub once : (v : ℕ) → holds table v ≡ false → count v past ≤ 1
   pub marks : (v : ℕ) → 1 ≤ count v past → isMarked filter v ≡ true
   pub suspects : Suspects log table
 
-pub filtered-none : (L : Layout) (area : List ℕ) (s : ℕ) (p : ℕ → Bool) (n : ℕ) (filter : List ℕ)
-    → Filtered (logOf (viewsOf L area s) p n) (logOf (viewsOf L area s) p 0) filter (replicate 256 0)
+pub filtered-none : (L : Layout) → versionLimit L ≤ vacant → (area : List ℕ) (s : ℕ) (p : ℕ → Bool) (n : ℕ) (filter : List ℕ)
+    → Filtered (logOf (viewsOf L area s) p n) (logOf (viewsOf L area s) p 0) filter (replicate 192 vacant)
 unfolding logOf total
-filtered-none L area s p n filter =
+filtered-none L limit area s p n filter =
     record {
       once = λ u e. omega arith;
       marks = λ u h. absurd (omega arith);
-      suspects = suspects-none (logOf (viewsOf L area s) p n) (log-positive L area s p n) (replicate 256 0) empty-new;
+      suspects = suspects-none (logOf (viewsOf L area s) p n) (log-below L limit area s p n) (replicate 192 vacant) empty-new;
     }
 
 pub count-more : (log : List Placed) (x : Placed) (u : ℕ) → count u (log ++ (x ∷ [])) ≡ count u log + counted u (x .entry)
@@ -121,25 +88,25 @@ module _ (log past : List Placed) (x : Placed) (filter table : List ℕ) (size :
       same u p = sym its ∙ eqb-true (x .entry .version) u p
 
       -- a version that is no suspect now
-      before : (u : ℕ) → isSuspect more u ≡ false → (t : Bool) → isSuspect table u ≡ t → count u past ≤ 1
+      before : (u : ℕ) → holds more u ≡ false → (t : Bool) → holds table u ≡ t → count u past ≤ 1
       before u q true p = omega (arith, h .let-go refl u q p, inside u)
       before u q false p = filtered .once u p
 
       -- the entry's own version: no suspect, so its bit was not set, and it has not passed
-      alone : isSuspect more w ≡ false → Dec (1 ≤ count w past) → count w past ≡ 0
-      alone q (yes l) = absurd (clash (isSuspect more w) (h .has refl (filtered .marks w l)) q)
+      alone : holds more w ≡ false → Dec (1 ≤ count w past) → count w past ≡ 0
+      alone q (yes l) = absurd (clash (holds more w) (h .has refl (filtered .marks w l)) q)
       alone q (no l) = omega arith
 
-      once : (u : ℕ) → isSuspect more u ≡ false → (t : Bool) → eqb (x .entry .version) u ≡ t → count u (past ++ (x ∷ [])) ≤ 1
+      once : (u : ℕ) → holds more u ≡ false → (t : Bool) → eqb (x .entry .version) u ≡ t → count u (past ++ (x ∷ [])) ≤ 1
       once u q true p =
           omega (
             arith,
             count-more past x u,
             ap (λ (k : ℕ). count k past) (same u p),
-            alone (ap (isSuspect more) (same u p) ∙ q) (decLe 1 (count w past)),
+            alone (ap (holds more) (same u p) ∙ q) (decLe 1 (count w past)),
             pick-true {A = ℕ} (eqb (x .entry .version) u) 1 0 p,
           )
-      once u q false p = omega (arith, count-more past x u, other u p, before u q (isSuspect table u) refl)
+      once u q false p = omega (arith, count-more past x u, other u p, before u q (holds table u) refl)
 
       marks : (u : ℕ) (t : Bool) → eqb (x .entry .version) u ≡ t → 1 ≤ count u (past ++ (x ∷ [])) → isMarked (markedWith filter w) u ≡ true
       marks u true p h = ap (isMarked (markedWith filter w)) (sym (same u p)) ∙ mark-own filter size w
@@ -288,10 +255,10 @@ pub filtered-all : (log : List Placed) (filter table : List ℕ) → Filtered lo
     → r ≡ versionShared log
 filtered-all log filter table h r told = go r refl
   where
-    one : (u : ℕ) (t : Bool) → isSuspect table u ≡ t → r ≡ false → count u log ≤ 1
+    one : (u : ℕ) (t : Bool) → holds table u ≡ t → r ≡ false → count u log ≤ 1
     one u true p e = look-alone log table (h .suspects) r told e u p
     one u false p e = h .once u p
 
     go : (t : Bool) → r ≡ t → r ≡ versionShared log
     go true e = e ∙ sym (look-shared log table (h .suspects) r told e)
-    go false e = e ∙ sym (count-shared log (λ u. one u (isSuspect table u) refl e))
+    go false e = e ∙ sym (count-shared log (λ u. one u (holds table u) refl e))

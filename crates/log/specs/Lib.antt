@@ -2,6 +2,8 @@
 pub mod Shape
 pub mod Heads
 pub mod Extents
+pub mod Tables
+pub mod Marks
 pub mod Suspects
 pub mod Counts
 pub mod Filter

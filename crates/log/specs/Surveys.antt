@@ -1,13 +1,13 @@
 -- What a walk of the log tells: damage, the highest version, and whether the filter tells all versions apart.
 use Prim.Native.Nat.{ℕ, _+_, _≤_, _<_, max}
 use mathlib.Core.Path.{_≡_, refl, sym, _∙_, ap, subst}
-use mathlib.Core.Bool.{Bool, true, false}
+use mathlib.Core.Bool.{Bool, true, false, not}
 use mathlib.Core.List.{List, [], _∷_, _++_, append-nil, append-assoc}
 use native.Mathlib.Omega.{arith}
 use native.Mathlib.Decide.{decLe}
 use lib.Dec.{eqb}
 use lib.ListN.{length}
-use borrow.Author.Tests.{eqb-true}
+use borrow.Author.Tests.{eqb-true, not-true}
 use Rattle.segment.specs.Choice.{pick, both-false-left, both-false-right}
 use Rattle.segment.specs.Layout.{Layout, digestSize}
 use Rattle.segment.specs.Entry.{end, damage, entryAt}
@@ -31,6 +31,23 @@ pub told-none : (v : ℕ → View) (p : ℕ → Bool) (filter : List ℕ) → le
 unfolding logOf highest total
 told-none v p filter size =
     record { highest-is = refl; size = size; once = λ e u. omega arith; marks = λ e u h. absurd (omega arith) }
+
+-- What it means that the version w is marked as long as those before are apart, with the answer still: they are apart with it
+-- only if they were and its bit was not set.
+pub record MarkedApart (filter : List ℕ) (w : ℕ) (apart still : Bool) (filter₁ : List ℕ) : Type 0 where
+  pub size : length filter₁ ≡ length filter
+  pub was : still ≡ true → apart ≡ true
+  pub unset : still ≡ true → isMarked filter w ≡ false
+  pub marked : still ≡ true → filter₁ ≡ markedWith filter w
+
+pub apart-no-more : (filter : List ℕ) (w : ℕ) (apart : Bool) → MarkedApart filter w apart false filter
+apart-no-more filter w apart =
+    record { size = refl; was = λ e. absurd (clash false e refl); unset = λ e. absurd (clash false e refl); marked = λ e. absurd (clash false e refl) }
+
+pub apart-marked : (filter : List ℕ) (w : ℕ) (apart : Bool) → apart ≡ true → (r : Bool) → r ≡ isMarked filter w → (filter₁ : List ℕ) → filter₁ ≡ markedWith filter w
+    → MarkedApart filter w apart (not r) filter₁
+apart-marked filter w apart a r e filter₁ f =
+    record { size = ap length f ∙ length-marked filter w; was = λ q. a; unset = λ q. sym e ∙ not-true r q; marked = λ q. f }
 
 -- one entry more
 module _ (log : List Placed) (x : Placed) (top : ℕ) (apart : Bool) (filter : List ℕ) (so-far : Told log top apart filter) where
@@ -64,23 +81,15 @@ module _ (log : List Placed) (x : Placed) (top : ℕ) (apart : Bool) (filter : L
             ap (isMarked (markedWith filter w)) (sym same) ∙ mark-own filter (so-far .size) w
         go false e = mark-keeps filter (so-far .size) w u (so-far .marks a u (omega (arith, count-more log x u, its-count u false e)))
 
-    -- both the old versions are apart and the bit was not set
-    still : (t : Bool) → isMarked filter w ≡ t → pick t false apart ≡ true → (isMarked filter w ≡ false) × (apart ≡ true)
-    unfolding pick
-    still true e q = absurd (clash true refl (sym q))
-    still false e q = (e, q)
-
-    pub told-more : (top₁ : ℕ) → top₁ ≡ max top w → (apart₁ : Bool) → apart₁ ≡ pick (isMarked filter w) false apart → (filter₁ : List ℕ)
-        → filter₁ ≡ markedWith filter w → Told (log ++ (x ∷ [])) top₁ apart₁ filter₁
+    pub told-more : (top₁ : ℕ) → top₁ ≡ max top w → (apart₁ : Bool) (filter₁ : List ℕ) → MarkedApart filter w apart apart₁ filter₁
+        → Told (log ++ (x ∷ [])) top₁ apart₁ filter₁
     unfolding highest
-    told-more top₁ t apart₁ a filter₁ f =
+    told-more top₁ t apart₁ filter₁ a =
         record {
           highest-is = omega (arith, t, its, so-far .highest-is, highest-append log (x ∷ []));
-          size = ap length f ∙ length-marked filter w ∙ so-far .size;
-          once = λ e. let (unset, was) = still (isMarked filter w) refl (sym a ∙ e) in once-more unset was;
-          marks =
-              λ e u l. let (unset, was) = still (isMarked filter w) refl (sym a ∙ e) in
-              ap (λ (g : List ℕ). isMarked g u) f ∙ marks-more was u l;
+          size = a .size ∙ so-far .size;
+          once = λ e. once-more (a .unset e) (a .was e);
+          marks = λ e u l. ap (λ (g : List ℕ). isMarked g u) (a .marked e) ∙ marks-more (a .was e) u l;
         }
 
 -- ---- the entries of one slot
@@ -123,11 +132,10 @@ module _ (L : Layout) (s : List ℕ) (i : ℕ) (before : List Placed) where
       }
 
   module _ (at top : ℕ) (apart : Bool) (filter : List ℕ) (so-far : Telling L s i before at top apart filter) where
-    pub telling-turn : {w len : ℕ} → Meets L s at w len → (top₁ : ℕ) → top₁ ≡ max top w → (apart₁ : Bool)
-        → apart₁ ≡ pick (isMarked filter w) false apart → (filter₁ : List ℕ) → filter₁ ≡ markedWith filter w
-        → Telling L s i before (at + len) top₁ apart₁ filter₁
+    pub telling-turn : {w len : ℕ} → Meets L s at w len → (top₁ : ℕ) → top₁ ≡ max top w → (apart₁ : Bool) (filter₁ : List ℕ)
+        → MarkedApart filter w apart apart₁ filter₁ → Telling L s i before (at + len) top₁ apart₁ filter₁
     unfolding placedIn
-    telling-turn {w} {len} m top₁ t apart₁ a filter₁ f =
+    telling-turn {w} {len} m top₁ t apart₁ filter₁ a =
         record {
           items = so-far .items ++ (itemAt at (m .met) ∷ []);
           splits =
@@ -136,7 +144,7 @@ module _ (L : Layout) (s : List ℕ) (i : ℕ) (before : List Placed) where
           told =
               subst (λ (l : List Placed). Told l top₁ apart₁ filter₁) (sym longer)
               (told-more (before ++ placedIn i (so-far .items)) (placedAt i (itemAt at (m .met))) top apart filter (so-far .told) w
-              (m .its-version) top₁ t apart₁ a filter₁ f);
+              (m .its-version) top₁ t apart₁ filter₁ a);
         }
       where
         longer : before ++ placedIn i (so-far .items ++ (itemAt at (m .met) ∷ []))

@@ -5,10 +5,12 @@ use segment::Version;
 
 mod filter;
 pub mod head;
+mod marks;
 pub mod scan;
 pub mod slots;
 pub mod survey;
 mod suspects;
+mod table;
 pub mod versions;
 
 // The head's slot and digest, or that no slot has a digest.

@@ -10,15 +10,13 @@ use segment::entries::next;
 use segment::layout::DIGEST_SIZE;
 ghost use Prim.Native.Nat.{_+_, _*_, _≤_, max};
 ghost use mathlib.Core.Path.{_≡_};
-ghost use mathlib.Core.Bool.{true, false};
+ghost use mathlib.Core.Bool.{true};
 ghost use lib.ListN.{length};
-ghost use Rattle.segment.specs.Choice.{pick};
 ghost use Rattle.segment.specs.Layout.{edition1};
 ghost use Rattle.slot_map.specs.Bit.{named};
 ghost use Rattle.model.specs.Log.{viewsOf, logOf};
 ghost use Rattle.log.specs.Shape.{Shape};
-ghost use Rattle.log.specs.Filter.{isMarked, markedWith};
-ghost use Rattle.log.specs.Surveys.{Told, SlotTold, Surveyed};
+ghost use Rattle.log.specs.Surveys.{MarkedApart, Told, SlotTold, Surveyed};
 
 fn higher(a: Version, b: Version) -> Version
     ensures { λ r. ⌜ r .0 ≡ max (a .0) (b .0) ⌝ }
@@ -26,16 +24,15 @@ fn higher(a: Version, b: Version) -> Version
     if a.0 < b.0 { b } else { a }
 }
 
-// Marks a version, and answers whether it and those marked before are apart.
+// Marks a version as long as those before are apart, and answers whether they still are.
 fn mark_apart(filter: &mut [u32], version: Version, apart: bool) -> bool
     requires { ⌜ length (now filter) ≡ 512 ⌝ }
-    ensures told { λ r. ⌜ r ≡ pick (isMarked (now (filter .entry)) (version .0)) false apart ⌝ }
-    ensures now { λ _. ⌜ now (filter .exit) ≡ markedWith (now (filter .entry)) (version .0) ⌝ }
+    ensures { λ r. ⌜ MarkedApart (now (filter .entry)) (version .0) apart r (now (filter .exit)) ⌝ }
 {
-    if mark(filter, version) {
+    if !apart {
         return false;
     }
-    apart
+    !mark(filter, version)
 }
 
 // The entries of a slot, after those of the slots before it.

@@ -1,28 +1,31 @@
 -- What a walk over the log has seen of a key is the newest entry of the key.
-use Prim.Native.Nat.{ℕ, _+_, _*_, _<_}
+use Prim.Native.Nat.{ℕ, _+_, _*_, _≤_, _<_}
 use mathlib.Core.Path.{_≡_, refl, sym, _∙_, ap}
 use mathlib.Core.Bool.{Bool, true, false}
 use mathlib.Core.List.{List, [], _∷_, _++_, append-nil, List·Memᴰ·tail}
 use mathlib.Core.Option.{Option, none, some}
 use native.Mathlib.Omega.{arith}
 use lib.Dec.{eqb, ltb}
-use borrow.Author.Tests.{ltb-true, ltb-false, lt-ltb, eq-eqb, ne-eqb}
-use Rattle.segment.specs.Choice.{pick, pick-true, pick-false, both}
+use lib.ListN.{length, getD, take, drop}
+use borrow.Author.Tests.{ltb-true, ltb-false, lt-ltb, eq-eqb, ne-eqb, eqb-true, eqb-false}
+use Rattle.word.specs.Number.{numberOf}
+use Rattle.segment.specs.Choice.{pick, pick-true, pick-false, both, both-false-right}
 use Rattle.segment.specs.Layout.{Layout, digestSize}
-use Rattle.segment.specs.Entry.{Entry, end, damage, entryAt, keyOf}
-use Rattle.segment.specs.Entries.{headerOf, nextOf, next-entry}
-use Rattle.segment.specs.declared.Header.{Header}
+use Rattle.segment.specs.LayoutLaws.{entry-not-end}
+use Rattle.segment.specs.Kinds.{sizeOrZero, kindSize, no-size, has-size}
+use Rattle.segment.specs.Entry.{Entry, Found, entry, end, damage, entryAt, keyOf, sizeOf, bytesIn}
+use Rattle.segment.specs.EntryLaws.{decoded-at, past-end, at-end, kind-unknown, Reading, is-entry, is-end, is-damage, reading}
+use Rattle.segment.specs.Entries.{nextOf}
 use Rattle.segment.specs.declared.Key.{Key}
 use Rattle.segment.specs.declared.Next.{Next}
 use Rattle.segment.specs.declared.Version.{Version}
-use Rattle.segment.specs.declared.Next.the-variants as N
-use Rattle.model.specs.Log.{View, Item, Placed, placeOf, Scan, scanned, scan, itemsOf, placedIn, logOf, sameKeys, sameKey, laterOf, latest}
-use Rattle.laws.specs.Members.{In, first}
+use Rattle.model.specs.Log.{View, Item, Placed, placeOf, Scan, damaged, scanned, itemFirst, scan, itemsOf, isDamaged, placedIn, logOf, sameKeys, sameKey, laterOf, latest}
+use Rattle.laws.specs.Members.{clash, In, first}
 use Rattle.laws.specs.LogLaws.{placedAt, placed-append}
 use Rattle.laws.specs.Scans.{itemAt}
-use Rattle.log.specs.Extents.{meets, restOf, rest-whole, rest-entry, rest-end, rest-damage, log-skip, log-take}
+use Rattle.log.specs.Extents.{Meets, restOf, rest-whole, rest-entry, rest-end, rest-damage, log-skip, log-take}
 use Rattle.log.specs.Surveys.{after, after-none, after-first}
-use Rattle.scanning.specs.Seeing.{seenWith, seeing, seenIn, seenOf}
+use Rattle.scanning.specs.Seeing.{seenWith, seenNext, seeing, seenIn, seenOf}
 use Rattle.scanning.specs.declared.Seen.{Seen}
 
 -- ---- whether two keys are one, at each test of the code
@@ -51,6 +54,32 @@ module _ (k : Key) (a : Seen) (own : Key) (v : Version) (place : ℕ) where
     unfolding seenWith
     with-older h = sym (pick-true (sameKeys k own) _ a e ∙ pick-false (ltb (a .version .0) (v .0)) _ a h)
 
+-- ---- what was read at an offset
+
+module _ (L : Layout) (s : List ℕ) (at : ℕ) (k : Key) (a : Seen) (place : ℕ) where
+  pub seen-entry : (e : Entry) → entryAt L s at ≡ entry e
+      → seenNext k a (nextOf L (entryAt L s at)) place ≡ seenWith k a (keyOf e) (record { 0 = e .version }) place
+  unfolding seenNext nextOf
+  seen-entry e p = ap (λ (f : Found). seenNext k a (nextOf L f) place) p
+
+  -- what the reader says, of each form
+  pub seen-read : (n : Next) → n ≡ nextOf L (entryAt L s at) → (form : Next) → n ≡ form → seenNext k a form place ≡ seenNext k a (nextOf L (entryAt L s at)) place
+  seen-read n given form e = ap (λ (m : Next). seenNext k a m place) (sym e ∙ given)
+
+  -- an entry whose key's last bytes are other ones
+  pub seen-other : (x : ℕ) → x ≡ numberOf (take 4 (drop (at + 3) s)) → (x ≡ k .key → ⊥) → a ≡ seenNext k a (nextOf L (entryAt L s at)) place
+  unfolding seenNext nextOf sameKeys
+  seen-other x e n = go (reading L s at)
+    where
+      go : Reading L s at (entryAt L s at) → a ≡ seenNext k a (nextOf L (entryAt L s at)) place
+      go (is-entry y q r) =
+          let own : x ≡ y .key = e ∙ ap (λ (z : Entry). z .key) (sym (decoded-at L s at (length (bytesIn (y .value)))) ∙ r .same) in
+          with-other k a (keyOf y) (record { 0 = y .version }) place
+          (both-false-right (eqb (k .table) (y .table)) (eqb (k .key) (y .key)) (ne-eqb (k .key) (y .key) (λ h. n (own ∙ sym h))))
+          ∙ sym (seen-entry y q)
+      go (is-end q l z) = sym (ap (λ (f : Found). seenNext k a (nextOf L f) place) q)
+      go (is-damage q) = sym (ap (λ (f : Found). seenNext k a (nextOf L f) place) q)
+
 -- ---- one list after the other
 
 pub seen-append : (S : ℕ) (k : Key) (a : Seen) (xs ys : List Placed) → seenIn S k a (xs ++ ys) ≡ seenIn S k (seenIn S k a xs) ys
@@ -76,32 +105,22 @@ module _ (L : Layout) (bytes : List ℕ) (S i : ℕ) (k : Key) (before : Seen) w
   whole = seenIn S k before (placedIn i (itemsOf (scan L bytes)))
 
   module _ (at : ℕ) (now : Seen) (so-far : Seeing L bytes S i k before at now) where
-    pub see-turn :
-        (next : Next) → next ≡ nextOf L (entryAt L bytes at) → (h : Header) → next ≡ N.Entry h → (then : Seen) →
-        then ≡ seenWith k now (h .key) (h .version) (i * S + at) → Seeing L bytes S i k before (at + h .length) then
+    pub see-turn : {v len : ℕ} (m : Meets L bytes at v len) (then : Seen)
+        → then ≡ seenNext k now (nextOf L (entryAt L bytes at)) (i * S + at) → Seeing L bytes S i k before (at + len) then
     unfolding placedIn seenIn
-    see-turn next given h e then t =
-        let m = meets L bytes at next given h e in
+    see-turn {v} {len} m then t =
         let item = itemAt at (m .met) in
         record {
           items = so-far .items ++ (item ∷ []);
           splits =
               so-far .splits ∙ ap (after (so-far .items)) (rest-entry L bytes at m) ∙
-              after-first (so-far .items) item (restOf L bytes (at + h .length));
+              after-first (so-far .items) item (restOf L bytes (at + len));
           seen =
-              t ∙ ap (λ (x : Header). seenWith k now (x .key) (x .version) (i * S + at)) (sym its) ∙
-              ap (λ (a : Seen). seeing S k a (placedAt i item)) (so-far .seen) ∙
+              t ∙ seen-entry L bytes at k now (i * S + at) (m .met) (m .is) ∙ ap (λ (a : Seen). seeing S k a (placedAt i item)) (so-far .seen) ∙
               sym
               (ap (seenIn S k before) (placed-append i (so-far .items) (item ∷ [])) ∙
               seen-append S k before (placedIn i (so-far .items)) (placedAt i item ∷ []));
         }
-      where
-        its : headerOf L (meets L bytes at next given h e .met) ≡ h
-        its =
-            let (x, p, q) = next-entry L bytes at next given h e in
-            let there = meets L bytes at next given h e .is in
-            let same : meets L bytes at next given h e .met ≡ x = cc in
-            ap (headerOf L) same ∙ q
 
     pub see-end : entryAt L bytes at ≡ end → now ≡ whole
     unfolding after itemsOf
@@ -111,11 +130,50 @@ module _ (L : Layout) (bytes : List ℕ) (S i : ℕ) (k : Key) (before : Seen) w
         (sym
         (so-far .splits ∙ ap (after (so-far .items)) (rest-end L bytes at e) ∙ ap (λ (l : List Item). scanned l at) (append-nil (so-far .items))))
 
-    pub see-damage : entryAt L bytes at ≡ damage → before ≡ whole
-    unfolding after itemsOf placedIn seenIn
-    see-damage e =
-        ap (λ (r : Scan). seenIn S k before (placedIn i (itemsOf r)))
-        (sym (so-far .splits ∙ ap (after (so-far .items)) (rest-damage L bytes at e)))
+-- ---- an undamaged slot from an offset on
+
+damaged-first : (x : Item) (r : Scan) → isDamaged (itemFirst x r) ≡ isDamaged r
+unfolding isDamaged itemFirst
+damaged-first x damaged = refl
+damaged-first x (scanned is e) = refl
+
+module _ (L : Layout) (s : List ℕ) (at : ℕ) (sound : isDamaged (restOf L s at) ≡ false) where
+  no-damage : entryAt L s at ≡ damage → ⊥
+  unfolding isDamaged
+  no-damage e = clash (isDamaged (restOf L s at)) (ap isDamaged (rest-damage L s at e)) sound
+
+  pub past-all : length s ≤ at → entryAt L s at ≡ end
+  past-all h = go (eqb at (length s)) refl
+    where
+      go : (t : Bool) → eqb at (length s) ≡ t → entryAt L s at ≡ end
+      go true e = at-end L s at (eqb-true at (length s) e)
+      go false e = let n = eqb-false at (length s) e in absurd (no-damage (past-end L s at (omega arith)))
+
+  pub kind-none : at < length s → (getD s at 0 ≡ 0 → ⊥) → (len : ℕ) → len ≡ kindSize L (getD s at 0) → len ≡ 0 → ⊥
+  kind-none l k len e z = no-damage (kind-unknown L s at l k (no-size L (getD s at 0) (sym e ∙ z)))
+
+  -- an entry stands there, as long as its kind says
+  pub kind-meets : (len : ℕ) → len ≡ kindSize L (getD s at 0) → (len ≡ 0 → ⊥) → (v : ℕ) × Meets L s at v len
+  unfolding sizeOrZero
+  kind-meets len e long = go (reading L s at)
+    where
+      go : Reading L s at (entryAt L s at) → (v : ℕ) × Meets L s at v len
+      go (is-entry x q a) =
+          let size : sizeOf L x ≡ len = sym (e ∙ ap (sizeOrZero L) (a .known)) in (
+            x .version,
+            record { met = x; is = q; its-version = refl; its-size = size; fits = omega (arith, a .fits); some-byte = omega arith },
+          )
+      go (is-end q l z) =
+          let w = has-size L (getD s at 0) (λ n. long (e ∙ n)) in
+          absurd (entry-not-end L (getD s at 0) (w .0) (w .1 .known) z)
+      go (is-damage q) = absurd (no-damage q)
+
+  pub sound-on : {v len : ℕ} → Meets L s at v len → isDamaged (restOf L s (at + len)) ≡ false
+  sound-on {v} {len} m =
+      sym (damaged-first (itemAt at (m .met)) (restOf L s (at + len))) ∙ ap isDamaged (sym (rest-entry L s at m)) ∙ sound
+
+pub sound-start : (L : Layout) (s bytes : List ℕ) → s ≡ bytes → isDamaged (scan L bytes) ≡ false → isDamaged (restOf L s (digestSize L)) ≡ false
+sound-start L s bytes e h = ap isDamaged (rest-whole L s ∙ ap (scan L) e) ∙ h
 
 -- ---- the slots of the log
 

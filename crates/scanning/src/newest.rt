@@ -8,16 +8,22 @@ use segment::Version;
 use segment::area::cut;
 use segment::entries::next;
 use segment::layout::DIGEST_SIZE;
+use segment::layout::kind_size;
+use word::number::read32;
 ghost use Prim.Native.Nat.{_+_, _*_, _≤_};
 ghost use mathlib.Core.Path.{_≡_};
+ghost use mathlib.Core.Bool.{false};
 ghost use mathlib.Core.Option.{none};
 ghost use lib.Dec.{ltb};
 ghost use lib.ListN.{length};
 ghost use Rattle.segment.specs.Layout.{edition1};
+ghost use Rattle.segment.specs.Entry.{entryAt};
+ghost use Rattle.segment.specs.Entries.{nextOf};
 ghost use Rattle.slot_map.specs.Bit.{named};
-ghost use Rattle.model.specs.Log.{segmentOf, viewsOf, scan, itemsOf, placedIn, logOf, sameKeys};
+ghost use Rattle.model.specs.Log.{segmentOf, viewsOf, scan, itemsOf, isDamaged, placedIn, logOf, sameKeys};
+ghost use Rattle.laws.specs.LogLaws.{AllScanned};
 ghost use Rattle.log.specs.Shape.{Shape};
-ghost use Rattle.scanning.specs.Seeing.{seenWith, seenIn, seenOf};
+ghost use Rattle.scanning.specs.Seeing.{seenWith, seenNext, seenIn, seenOf};
 
 // Whether an entry is of a key, an object or a tombstone.
 fn is_of(key: Key, header: Header) -> bool
@@ -48,9 +54,26 @@ fn see(seen: Seen, key: Key, header: Header, place: usize) -> Seen
     seen
 }
 
-// What is seen after the entries of a slot; of a damaged slot none count.
+// What is seen after the entry at an offset of a segment. No more is read of one that has another key's last four bytes.
+fn see_at(part: &[u8], at: usize, key: Key, place: usize, seen: Seen) -> Seen
+    requires { ⌜ at + 7 ≤ length (now part) ⌝ }
+    ensures { λ r.
+        ⌜ r ≡ seenNext key seen (nextOf edition1 (entryAt edition1 (now (part .entry)) at)) place ⌝ }
+{
+    if read32(part, at + 3) != key.key {
+        return seen;
+    }
+    match next(part, at) {
+        Next::Entry(header) => see(seen, key, header, place),
+        Next::End => seen,
+        Next::Damage => seen,
+    }
+}
+
+// What is seen after the entries of an undamaged slot, in which an entry's kind tells its length.
 fn see_slot(s: usize, area: &[u8], slot: usize, key: Key, before: Seen) -> Seen
     requires { ⌜ slot * s + s ≤ length (now area) ⌝ }
+    requires { ⌜ isDamaged (scan edition1 (segmentOf (now area) s slot)) ≡ false ⌝ }
     ensures { λ r.
         ⌜ r ≡ seenIn s key before (placedIn slot (itemsOf (scan edition1 (segmentOf (now (area .entry)) s slot)))) ⌝ }
 {
@@ -58,26 +81,25 @@ fn see_slot(s: usize, area: &[u8], slot: usize, key: Key, before: Seen) -> Seen
     let start = slot * s;
     let mut at = DIGEST_SIZE;
     let mut seen = before;
-    loop {
-        match next(part, at) {
-            Next::Entry(header) => {
-                let length = header.length;
-                seen = see(seen, key, header, start + at);
-                at += length;
-            }
-            Next::End => {
-                return seen;
-            }
-            Next::Damage => {
-                return before;
-            }
+    while at < part.len() {
+        let kind = part[at];
+        if kind == 0 {
+            return seen;
         }
+        let length = kind_size(kind);
+        if length == 0 {
+            return before;
+        }
+        seen = see_at(part, at, key, start + at, seen);
+        at += length;
     }
+    seen
 }
 
-// The newest entry of a key in the log of a map.
+// The newest entry of a key in the undamaged log of a map.
 pub fn newest(n: usize, s: usize, area: &[u8], map: u32, key: Key) -> Seen
     requires { ⌜ Shape n s (now area) ⌝ }
+    requires { ⌜ AllScanned (viewsOf edition1 (now area) s) (named map) n ⌝ }
     ensures { λ r.
         ⌜ r ≡ seenIn s key (seenOf s none) (logOf (viewsOf edition1 (now (area .entry)) s) (named map) n) ⌝ }
 {

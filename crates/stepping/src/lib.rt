@@ -11,7 +11,7 @@ ghost use Rattle.segment.specs.Layout.{edition1};
 ghost use Rattle.model.specs.Promises.{StepPromise};
 ghost use Rattle.stepping.specs.Tested.{StepTested};
 
-mod finish;
+pub mod finish;
 
 // One step of the pending operation. It makes one store, by the one assignment below; for the rest the area is only read, and
 // the work buffer is left as it is. It answers the stores left, and at the last one the version, 0 for a cleaning. Refused

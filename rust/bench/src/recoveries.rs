@@ -54,7 +54,7 @@ fn scattered(report: &mut Report) {
     plain(report, case, area);
 }
 
-/// Versions that meet in the filter, and in the table of suspects too.
+/// Versions that meet in the filter, and in the marks of the suspects too.
 fn chosen(report: &mut Report) {
     for (case, versions) in [
         (

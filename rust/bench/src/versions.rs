@@ -1,9 +1,9 @@
-//! Versions chosen against the search for equal versions at recovery, as crates/log has it in filter.rt and suspects.rt.
+//! Versions chosen against the search for equal versions at recovery, as crates/log has it in filter.rt, table.rt and marks.rt.
 //!
 //! The search has a filter with a bit for each version modulo 2^14. A version whose bit is set already is a suspect and
-//! goes to a table of 256 cells: to the one that the highest 8 bits of its product with an odd number name, or to the
-//! next. Where both are taken, one walk over the log looks at all suspects, and the table is emptied. A change of the
-//! filter's size or of the product needs one here.
+//! goes to a table. When the table is full, one walk over the log looks at all suspects, and the table is emptied. In that
+//! walk an entry is searched for among the suspects if its mark is set: a bit that the highest 11 bits of its version's
+//! product with an odd number name. A change of the filter's size or of the product needs one here.
 
 use crate::image::TOMBSTONES;
 use crate::store::LOG;
@@ -19,13 +19,12 @@ pub fn in_steps(power: u32) -> Vec<u32> {
         .collect()
 }
 
-/// Versions of which all but a few find their bit set, and all of which have the same two cells. No versions need more
-/// walks: each leaves one suspect in the table, and the next suspect always finds a cell, so that there is at most one walk
-/// for every two entries.
+/// Versions of which all but a few find their bit set, and all of which have the same mark. No versions need more work: each
+/// is a suspect, and each walk searches for every entry.
 pub fn meeting() -> Vec<u32> {
     (1..)
         .flat_map(|first| row(14, first))
-        .filter(|&version| cell(version) == 0)
+        .filter(|&version| mark(version) == 0)
         .take(VERSIONS)
         .collect()
 }
@@ -35,7 +34,7 @@ fn row(power: u32, first: u32) -> impl Iterator<Item = u32> {
     (0..1u32 << (32 - power)).map(move |step| (step << power) + first)
 }
 
-/// The cell of a suspect.
-fn cell(version: u32) -> u32 {
-    version.wrapping_mul(2_654_435_761) >> 24
+/// The mark of a suspect.
+fn mark(version: u32) -> u32 {
+    version.wrapping_mul(2_654_435_761) >> 21
 }

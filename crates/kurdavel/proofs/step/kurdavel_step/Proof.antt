@@ -1,23 +1,109 @@
 -- `kurdavel::step::kurdavel_step` meets its contract.
 use borrow.Author.Needs.{needs}
+use Prim.Native.Nat.{_≤_}
+use mathlib.Core.Path.{_≡_, refl, sym, _∙_}
+use native.Mathlib.Omega.{arith}
+use lib.ListN.{length}
+use Rattle.segment.specs.Layout.{edition1}
+use Rattle.telling.specs.Told.{foundBy}
+use Rattle.words.specs.Words.{recordWords, decoded}
+use Rattle.kurdavel.specs.StepOn.{bad-found, front-long, front-lent, front-found, on-inside, on-left, on-ready, on-refused, on-stored, on-last}
 use Rattle.kurdavel.proofs.step.kurdavel_step.Statement.{statement}
 use Rattle.kurdavel.proofs.step.kurdavel_step.Tie as tie
 
-step-on-requires : tie.Need-step-on-requires
-step-on-requires c κs = c .before .before .before .before .before .before .goes-on .ensures (c .before .before .before .before .before .if1 .taken)
+returns : tie.Need-returns
+returns c =
+    let a = c .before .before .before .before .before .before .before .args in
+    on-refused (a .words .now) (a .area .now) (a .work .now) (a .index .now) _ _ _ (bad-found (a .words .now) (a .area .now) (a .work .now) (length (a .index .now)) (c .before .fits2 .ensures) (c .if1 .taken)) refl
+
+found-in-requires : tie.Need-found-in-requires
+found-in-requires c κs =
+    let t = c .before .before in
+    let a = t .before .before .before .before .before .before .before .args in
+    (front-long (a .words .now) (a .area .now) (a .work .now) (length (a .index .now)) (t .before .fits2 .ensures) (t .if1 .left), front-lent (a .words .now) (a .area .now) (a .work .now) (length (a .index .now)) (t .before .fits2 .ensures) (t .if1 .left))
+
+-- what is found
+found-is : (s : tie.After-found-in)
+    → let a = s .before .before .before .before .before .before .before .before .before .before .args in
+    s .found-in .result ≡ foundBy edition1 (decoded (a .words .now) .rec) (a .area .now) (length (a .index .now)) (a .work .now)
+found-is s =
+    let t = s .before .before .before in
+    let a = t .before .before .before .before .before .before .before .args in
+    front-found (a .words .now) (a .area .now) (a .work .now) (length (a .index .now)) (t .before .fits2 .ensures) (t .if1 .left) (s .found-in .ensures)
+
+long : (s : tie.After-found-in) → recordWords ≤ length (s .before .before .before .before .before .before .before .before .before .before .args .words .now)
+long s =
+    let t = s .before .before .before in
+    let a = t .before .before .before .before .before .before .before .args in
+    front-long (a .words .now) (a .area .now) (a .work .now) (length (a .index .now)) (t .before .fits2 .ensures) (t .if1 .left)
+
+slice-write-area : tie.Need-slice-write-area
+slice-write-area c =
+    let p = c .before in
+    let a = p .before .before .before .before .before .before .before .before .before .before .before .before .args in
+    on-inside (a .words .now) (a .area .now) (a .work .now) (length (a .index .now)) _ _ (sym (found-is (p .before .before)) ∙ p .place .given .1)
+
+slice-read-rest : tie.Need-slice-read-rest
+slice-read-rest c = omega (arith, long (c .before .before .before .before))
+
+sub-rest : tie.Need-sub-rest
+sub-rest c =
+    let p = c .before .before in
+    let a = p .before .before .before .before .before .before .before .before .before .before .before .before .args in
+    on-left (a .words .now) (a .area .now) (a .work .now) (a .index .now) 0 0 _ _ (sym (found-is (p .before .before)) ∙ p .place .given .1)
+
+finish-requires : tie.Need-finish-requires
+finish-requires c κs =
+    let p = c .before .before .before .before .before .before .before .before in
+    let a = p .before .before .before .before .before .before .before .before .before .before .before .before .args in
+    on-ready (a .words .now) (a .area .now) (a .work .now) (a .index .now) 0 0 _ _ (sym (found-is (p .before .before)) ∙ p .place .given .1)
+
+returns-2 : tie.Need-returns-2
+returns-2 c =
+    let p = c .before .before .before .before .before .before .before .before .before .before .before .before .before in
+    let a = p .before .before .before .before .before .before .before .before .before .before .before .before .args in
+    on-last (a .words .now) (a .area .now) (a .work .now) (a .index .now) _ _ _ _ (sym (found-is (p .before .before)) ∙ p .place .given .1) (c .before .before .before .before .finish .ensures)
+
+slice-write-words : tie.Need-slice-write-words
+slice-write-words c = omega (arith, long (c .before .before .before .before .before))
+
+returns-3 : tie.Need-returns-3
+returns-3 c =
+    let p = c .before .before in
+    let a = p .before .before .before .before .before .before .before .before .before .before .before .before .args in
+    on-refused (a .words .now) (a .area .now) (a .work .now) (a .index .now) _ _ _ (sym (found-is (p .before .before)) ∙ p .cause .given .1) (c .number .ensures)
+
+returns-4 : tie.Need-returns-4
+returns-4 c =
+    let p = c .before .before .before in
+    let a = p .before .before .before .before .before .before .before .before .before .before .before .before .args in
+    let at = sym (found-is (p .before .before)) ∙ p .place .given .1 in
+    on-stored (a .words .now) (a .area .now) (a .work .now) (a .index .now) _ _ _ _ at (omega (arith, on-left (a .words .now) (a .area .now) (a .work .now) (a .index .now) 0 0 _ _ at, c .if2 .left)) refl
 
 pub kurdavel-step-spec : {M : Type 1} → statement M
 kurdavel-step-spec =
     tie.close
     (tie.spec
     (λ c κs. search needs)
-    step-on-requires
     (λ c. search needs)
-    (λ c. search needs)
-    (λ c. search needs)
+    returns
+    found-in-requires
     (λ c. search needs)
     (λ c κs. search needs)
     (λ c. search needs)
     (λ c. search needs)
+    slice-write-area
+    slice-read-rest
+    sub-rest
+    finish-requires
     (λ c. search needs)
-    (λ c. search needs))
+    (λ c. search needs)
+    (λ c. search needs)
+    returns-2
+    slice-write-words
+    (λ c. search needs)
+    (λ c. search needs)
+    returns-3
+    (λ c. search needs)
+    (λ c. search needs)
+    returns-4)

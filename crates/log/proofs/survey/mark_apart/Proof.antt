@@ -1,9 +1,12 @@
 -- `log::survey::mark_apart` meets its contract.
-use mathlib.Core.Path.{sym, _∙_}
 use borrow.Author.Needs.{needs}
-use Rattle.segment.specs.Choice.{pick-true, pick-false}
+use borrow.Author.Tests.{not-false}
+use Rattle.log.specs.Surveys.{apart-no-more, apart-marked}
 use Rattle.log.proofs.survey.mark_apart.Statement.{statement}
 use Rattle.log.proofs.survey.mark_apart.Tie as tie
+
+returns : tie.Need-returns
+returns c = apart-no-more _ _ _
 
 mark-requires : tie.Need-mark-requires
 mark-requires c κs = search needs
@@ -11,14 +14,8 @@ mark-requires c κs = search needs
 same-length : tie.Need-same-length
 same-length c = search needs
 
-returns : tie.Need-returns
-returns c = (sym (pick-true _ _ _ (sym (c .before .before .before .mark .ensures .0) ∙ c .if1 .taken)), c .before .before .before .mark .ensures .1)
-
-same-length-2 : tie.Need-same-length-2
-same-length-2 c = search needs
-
 returns-2 : tie.Need-returns-2
-returns-2 c = (sym (pick-false _ _ _ (sym (c .before .before .before .mark .ensures .0) ∙ c .if1 .left)), c .before .before .before .mark .ensures .1)
+returns-2 c = apart-marked _ _ _ (not-false _ (c .before .before .before .before .if1 .left)) _ (c .before .before .mark .ensures .0) _ (c .before .before .mark .ensures .1)
 
 pub mark-apart-spec : {M : Type 1} → statement M
-mark-apart-spec = tie.close (tie.spec mark-requires same-length returns same-length-2 returns-2)
+mark-apart-spec = tie.close (tie.spec returns mark-requires same-length returns-2)

@@ -51,8 +51,7 @@ loop-less c = omega (arith, met (c .before .before .before .before .before .befo
 
 loop-again : tie.Need-loop-again Inv-loop μ-loop
 loop-again c =
-    telling-turn edition1 _ _ _ _ _ _ _ (c .before .before .before .before .before .before .before .before .before .before .loop .inv) (met (c .before .before .before .before .before .before .before)) _ (c .before .before .before .before .higher .ensures) _ (c .before .before .mark-apart .ensures .0) _
-    (c .before .before .mark-apart .ensures .1)
+    telling-turn edition1 _ _ _ _ _ _ _ (c .before .before .before .before .before .before .before .before .before .before .loop .inv) (met (c .before .before .before .before .before .before .before)) _ (c .before .before .before .before .higher .ensures) _ _ (c .before .before .mark-apart .ensures)
 
 enum-told : tie.Need-enum-told Inv-loop μ-loop
 enum-told c = search needs

@@ -16,10 +16,10 @@ use Rattle.log.proofs.suspects.count.Statement.{statement}
 use Rattle.log.proofs.suspects.count.Tie as tie
 
 abbrev Inv-loop : tie.InvT-loop
-Inv-loop n s area map table total₀ i₀ total i = (i ≤ n) × (total ≤ i * 2048) × (total ≡ hits table (logOf (viewsOf edition1 area s) (named map) i))
+Inv-loop n s area map marks table total₀ i₀ total i = (i ≤ n) × (total ≤ i * 2048) × (total ≡ hits table (logOf (viewsOf edition1 area s) (named map) i))
 
 abbrev μ-loop : tie.MeasureT-loop
-μ-loop n s area map table total₀ i₀ total i = n - i
+μ-loop n s area map marks table total₀ i₀ total i = n - i
 
 loop-holds : tie.Need-loop-holds Inv-loop μ-loop
 unfolding logOf total
@@ -29,7 +29,7 @@ add-i : tie.Need-add-i Inv-loop μ-loop
 add-i c = omega arith
 
 is-named-requires : tie.Need-is-named-requires Inv-loop μ-loop
-is-named-requires c κs = omega (arith, c .before .before .before .before .pre .0)
+is-named-requires c κs = omega (arith, c .before .before .before .before .before .pre .0)
 
 loop-less : tie.Need-loop-less Inv-loop μ-loop
 loop-less c = omega arith
@@ -42,7 +42,7 @@ loop-again c = (
 )
 
 cut-requires : tie.Need-cut-requires Inv-loop μ-loop
-cut-requires c κs = inside (c .before .before .before .before .before .before .pre .0) _ (c .before .before .loop-test .taken)
+cut-requires c κs = inside (c .before .before .before .before .before .before .before .pre .0) _ (c .before .before .loop-test .taken)
 
 count-in-requires : tie.Need-count-in-requires Inv-loop μ-loop
 count-in-requires c κs = search needs
@@ -52,11 +52,11 @@ short c =
     omega (
       arith,
       c .count-in .ensures .few,
-      part-short (c .before .before .before .before .before .before .before .before .pre .0) (c .before .before .before .before .before .loop .i) (c .before .before .before .before .loop-test .taken) _ (c .before .cut .ensures),
+      part-short (c .before .before .before .before .before .before .before .before .before .pre .0) (c .before .before .before .before .before .loop .i) (c .before .before .before .before .loop-test .taken) _ (c .before .cut .ensures),
     )
 
 add-total : tie.Need-add-total Inv-loop μ-loop
-add-total c = omega (arith, short c, c .before .before .before .before .before .before .before .before .pre .0)
+add-total c = omega (arith, short c, c .before .before .before .before .before .before .before .before .before .pre .0)
 
 loop-less-2 : tie.Need-loop-less-2 Inv-loop μ-loop
 loop-less-2 c = omega arith
@@ -65,13 +65,13 @@ loop-again-2 : tie.Need-loop-again-2 Inv-loop μ-loop
 loop-again-2 c = (
   omega arith,
   omega (arith, short c),
-  total-take (viewsOf edition1 (c .before .before .before .before .before .before .before .before .args .area .now) (c .before .before .before .before .before .before .before .before .args .s)) _ _ _ _ (c .before .before .before .before .before .loop .inv .2) (sym (c .before .before .before .is-named .ensures) ∙ not-false _ (c .before .before .if1 .left)) _
-      (c .count-in .ensures .counts ∙ ap (λ (l : List ℕ). countOf (c .before .before .before .before .before .before .before .before .args .table .now) (itemsOf (scan edition1 l))) (c .before .cut .ensures)),
+  total-take (viewsOf edition1 (c .before .before .before .before .before .before .before .before .before .args .area .now) (c .before .before .before .before .before .before .before .before .before .args .s)) _ _ _ _ (c .before .before .before .before .before .loop .inv .2) (sym (c .before .before .before .is-named .ensures) ∙ not-false _ (c .before .before .if1 .left)) _
+      (c .count-in .ensures .counts ∙ ap (λ (l : List ℕ). countOf (c .before .before .before .before .before .before .before .before .before .args .table .now) (itemsOf (scan edition1 l))) (c .before .cut .ensures)),
 )
 
 returns : tie.Need-returns Inv-loop μ-loop
 returns c =
-    let e : c .before .loop .i ≡ c .before .before .before .before .args .n = omega arith in
+    let e : c .before .loop .i ≡ c .before .before .before .before .before .args .n = omega arith in
     rw (← e) (c .before .loop .inv .2)
 
 pub count-spec : {M : Type 1} → statement M

@@ -12,10 +12,10 @@ use Rattle.log.proofs.suspects.count_in.Statement.{statement}
 use Rattle.log.proofs.suspects.count_in.Tie as tie
 
 abbrev Inv-loop : tie.InvT-loop
-Inv-loop part table at₀ count₀ at count = Counting edition1 part table at count
+Inv-loop part marks table at₀ count₀ at count = Counting edition1 part table at count
 
 abbrev μ-loop : tie.MeasureT-loop
-μ-loop part table at₀ count₀ at count = length part - at
+μ-loop part marks table at₀ count₀ at count = length part - at
 
 loop-holds : tie.Need-loop-holds Inv-loop μ-loop
 unfolding edition1
@@ -35,11 +35,11 @@ one-requires c κs = search needs
 
 -- the entry that the turn passes, and the count with it
 met : (c : tie.After-header Inv-loop μ-loop)
-    → Meets edition1 (c .before .before .before .before .before .before .args .part .now) (c .before .before .before .loop .at) (c .header .given .0 .0 .version .0) (c .header .given .0 .0 .length)
+    → Meets edition1 (c .before .before .before .before .before .before .before .args .part .now) (c .before .before .before .loop .at) (c .header .given .0 .0 .version .0) (c .header .given .0 .0 .length)
 met c = meets edition1 _ _ _ (c .before .before .next .ensures) _ (c .header .given .1)
 
 turned : (c : tie.After-one Inv-loop μ-loop)
-    → Counting edition1 (c .before .before .before .before .before .before .before .before .before .before .args .part .now) (c .before .before .before .before .before .before .before .before .before .before .args .table .now) (c .before .before .before .before .before .before .before .loop .at + c .before .before .before .before .header .given .0 .0 .length)
+    → Counting edition1 (c .before .before .before .before .before .before .before .before .before .before .before .args .part .now) (c .before .before .before .before .before .before .before .before .before .before .before .args .table .now) (c .before .before .before .before .before .before .before .loop .at + c .before .before .before .before .header .given .0 .0 .length)
     (c .before .before .before .before .before .before .before .loop .count + c .one .result)
 turned c = count-turn edition1 _ _ _ _ (c .before .before .before .before .before .before .before .loop .inv) (met (c .before .before .before .before)) _ (c .before .is-suspect .ensures) _ (c .one .ensures)
 

@@ -57,7 +57,7 @@ same-length : tie.Need-same-length Inv-loop μ-loop
 same-length c = c .before .before .before .before .before .pass .kept .1 .1 .1 .1 .0 ∙ c .before .before .before .before .before .before .before .before .before .before .before .before .before .loop .inv .size ∙ sym (c .before .before .before .before .before .before .before .before .before .before .before .before .before .before .before .before .before .before .pre .1 .size)
 
 same-length-2 : tie.Need-same-length-2 Inv-loop μ-loop
-same-length-2 c = c .before .before .before .before .before .pass .kept .1 .1 .1 .1 .1 .0 ∙ c .before .before .before .before .before .before .before .before .before .before .before .before .before .loop .inv .filtered .suspects .size ∙ sym (c .before .before .before .before .before .before .before .before .before .before .before .before .before .before .before .before .before .before .pre .1 .filtered .suspects .size)
+same-length-2 c = c .before .before .before .before .before .pass .kept .1 .1 .1 .1 .1 .0 ∙ c .before .before .before .before .before .before .before .before .before .before .before .before .before .loop .inv .filtered .suspects .sorted .size ∙ sym (c .before .before .before .before .before .before .before .before .before .before .before .before .before .before .before .before .before .before .pre .1 .filtered .suspects .sorted .size)
 
 returns : tie.Need-returns Inv-loop μ-loop
 returns c = slot-shared _ _ (c .before .before .before .before .before .pass .ensures .0 .shared (c .if1 .taken))
@@ -78,7 +78,7 @@ same-length-3 : tie.Need-same-length-3 Inv-loop μ-loop
 same-length-3 c = c .before .before .before .loop .inv .size ∙ sym (c .before .before .before .before .before .before .before .before .pre .1 .size)
 
 same-length-4 : tie.Need-same-length-4 Inv-loop μ-loop
-same-length-4 c = c .before .before .before .loop .inv .filtered .suspects .size ∙ sym (c .before .before .before .before .before .before .before .before .pre .1 .filtered .suspects .size)
+same-length-4 c = c .before .before .before .loop .inv .filtered .suspects .sorted .size ∙ sym (c .before .before .before .before .before .before .before .before .pre .1 .filtered .suspects .sorted .size)
 
 returns-2 : tie.Need-returns-2 Inv-loop μ-loop
 returns-2 c = slot-filtered _ _ (filter-end edition1 _ _ _ _ _ _ _ (c .before .before .before .loop .inv) (next-end edition1 _ _ _ (c .before .before .next .ensures) (c .enum-told .given .1)))
@@ -90,7 +90,7 @@ same-length-5 : tie.Need-same-length-5 Inv-loop μ-loop
 same-length-5 c = c .before .before .before .loop .inv .size ∙ sym (c .before .before .before .before .before .before .before .before .pre .1 .size)
 
 same-length-6 : tie.Need-same-length-6 Inv-loop μ-loop
-same-length-6 c = c .before .before .before .loop .inv .filtered .suspects .size ∙ sym (c .before .before .before .before .before .before .before .before .pre .1 .filtered .suspects .size)
+same-length-6 c = c .before .before .before .loop .inv .filtered .suspects .sorted .size ∙ sym (c .before .before .before .before .before .before .before .before .pre .1 .filtered .suspects .sorted .size)
 
 returns-3 : tie.Need-returns-3 Inv-loop μ-loop
 returns-3 c = absurd (filter-damage edition1 _ _ _ _ _ _ _ (c .before .before .before .loop .inv) (next-damage edition1 _ _ _ (c .before .before .next .ensures) (c .enum-told2 .given .1)))

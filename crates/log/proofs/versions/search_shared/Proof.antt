@@ -4,9 +4,10 @@ use mathlib.Core.Path.{_≡_, refl, sym, _∙_}
 use native.Mathlib.Omega.{arith}
 use borrow.Author.Tests.{not-true, not-false}
 use lib.ListN.{length}
-use Rattle.segment.specs.Layout.{edition1}
+use Rattle.segment.specs.Layout.{edition1, versionLimit}
 use Rattle.slot_map.specs.Bit.{named}
 use Rattle.model.specs.Log.{viewsOf, logOf}
+use Rattle.log.specs.Tables.{vacant}
 use Rattle.log.specs.Filter.{Filtered, filtered-none, filtered-skip, enters, filtered-all}
 use Rattle.log.proofs.versions.search_shared.Statement.{statement}
 use Rattle.log.proofs.versions.search_shared.Tie as tie
@@ -17,10 +18,14 @@ Inv-loop n s area map filter₀ table₀ i₀ filter table i = (i ≤ n) × (len
 abbrev μ-loop : tie.MeasureT-loop
 μ-loop n s area map filter₀ table₀ i₀ filter table i = n - i
 
+limit : versionLimit edition1 ≤ vacant
+unfolding edition1
+limit = omega arith
+
 loop-holds : tie.Need-loop-holds Inv-loop μ-loop
 loop-holds c =
     let a = c .before .args in
-    (omega arith, refl, filtered-none edition1 (a .area .now) (a .s) (named (a .map)) (a .n) _)
+    (omega arith, refl, filtered-none edition1 limit (a .area .now) (a .s) (named (a .map)) (a .n) _)
 
 add-i : tie.Need-add-i Inv-loop μ-loop
 add-i c = omega arith
@@ -42,7 +47,7 @@ slice-aggregate-filter-slot : tie.Need-slice-aggregate-filter-slot Inv-loop μ-l
 slice-aggregate-filter-slot c = sym (c .before .before .before .before .loop .inv .1)
 
 slice-aggregate-filter-slot-2 : tie.Need-slice-aggregate-filter-slot-2 Inv-loop μ-loop
-slice-aggregate-filter-slot-2 c = sym (c .before .before .before .before .before .loop .inv .2 .suspects .size)
+slice-aggregate-filter-slot-2 c = sym (c .before .before .before .before .before .loop .inv .2 .suspects .sorted .size)
 
 filter-slot-requires : tie.Need-filter-slot-requires Inv-loop μ-loop
 filter-slot-requires c κs = (
@@ -64,7 +69,7 @@ loop-again-2 c = (
 )
 
 slice-aggregate-suspect-shared : tie.Need-slice-aggregate-suspect-shared Inv-loop μ-loop
-slice-aggregate-suspect-shared c = sym (c .before .before .loop .inv .2 .suspects .size)
+slice-aggregate-suspect-shared c = sym (c .before .before .loop .inv .2 .suspects .sorted .size)
 
 suspect-shared-requires : tie.Need-suspect-shared-requires Inv-loop μ-loop
 suspect-shared-requires c κs = (c .before .before .before .before .pre .0, c .before .before .loop .inv .2 .suspects)

@@ -24,7 +24,7 @@ add-i : tie.Need-add-i Inv-loop μ-loop
 add-i c = omega arith
 
 is-named-requires : tie.Need-is-named-requires Inv-loop μ-loop
-is-named-requires c κs = omega (arith, c .before .before .before .pre)
+is-named-requires c κs = omega (arith, c .before .before .before .pre .0)
 
 loop-less : tie.Need-loop-less Inv-loop μ-loop
 loop-less c = omega arith
@@ -36,7 +36,10 @@ loop-again c = (
 )
 
 see-slot-requires : tie.Need-see-slot-requires Inv-loop μ-loop
-see-slot-requires c κs = inside (c .before .before .before .before .before .pre) _ (c .before .before .loop-test .taken)
+see-slot-requires c κs = (
+  inside (c .before .before .before .before .before .pre .0) _ (c .before .before .loop-test .taken),
+  c .before .before .before .before .before .pre .1 _ (c .before .before .loop-test .taken) (sym (c .before .is-named .ensures) ∙ not-false _ (c .if1 .left)),
+)
 
 loop-less-2 : tie.Need-loop-less-2 Inv-loop μ-loop
 loop-less-2 c = omega arith

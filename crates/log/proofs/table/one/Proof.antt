@@ -1,7 +1,7 @@
--- `log::suspects::one` meets its contract.
+-- `log::table::one` meets its contract.
 use Rattle.segment.specs.Choice.{pick}
-use Rattle.log.proofs.suspects.one.Statement.{statement}
-use Rattle.log.proofs.suspects.one.Tie as tie
+use Rattle.log.proofs.table.one.Statement.{statement}
+use Rattle.log.proofs.table.one.Tie as tie
 
 returns : tie.Need-returns
 unfolding pick

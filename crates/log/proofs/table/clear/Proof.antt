@@ -1,12 +1,12 @@
--- `log::suspects::clear` meets its contract. The invariant: the cells before i are 0.
+-- `log::table::clear` meets its contract. The invariant: the cells before i are 0.
 use Prim.Native.Nat.{_-_, _≤_}
 use mathlib.Core.Path.{_≡_, refl, _∙_}
 use native.Mathlib.Omega.{arith}
 use lib.ListN.{length, length-set}
 use borrow.Author.Needs.{needs}
-use Rattle.log.specs.Suspects.{ClearedTo, clear-turn, clear-end}
-use Rattle.log.proofs.suspects.clear.Statement.{statement}
-use Rattle.log.proofs.suspects.clear.Tie as tie
+use Rattle.log.specs.Tables.{ClearedTo, clear-turn, clear-end}
+use Rattle.log.proofs.table.clear.Statement.{statement}
+use Rattle.log.proofs.table.clear.Tie as tie
 
 abbrev Inv-loop : tie.InvT-loop
 Inv-loop table₀ i₀ table i = (i ≤ length table) × (length table ≡ length table₀) × ClearedTo i table

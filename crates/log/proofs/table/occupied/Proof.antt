@@ -1,12 +1,12 @@
--- `log::suspects::occupied` meets its contract. The invariant: the count and the cells that are left give the whole count.
+-- `log::table::occupied` meets its contract. The invariant: the count and the cells that are left give the whole count.
 use Prim.Native.Nat.{_+_, _-_, _≤_}
 use mathlib.Core.Path.{_≡_}
 use native.Mathlib.Omega.{arith}
 use borrow.Author.Needs.{needs}
 use lib.ListN.{length, drop}
-use Rattle.log.specs.Suspects.{one-few, occupied, occupied-turn, occupied-end}
-use Rattle.log.proofs.suspects.occupied.Statement.{statement}
-use Rattle.log.proofs.suspects.occupied.Tie as tie
+use Rattle.log.specs.Tables.{one-few, occupied, occupied-turn, occupied-end}
+use Rattle.log.proofs.table.occupied.Statement.{statement}
+use Rattle.log.proofs.table.occupied.Tie as tie
 
 abbrev Inv-loop : tie.InvT-loop
 Inv-loop table count₀ i₀ count i = (i ≤ length table) × (count ≤ i) × (count + occupied (drop i table) ≡ occupied table)
