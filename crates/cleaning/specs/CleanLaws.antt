@@ -8,7 +8,7 @@ use mathlib.Core.List.{List, [], _∷_, _++_}
 use native.Mathlib.Nat.{zero-add}
 use native.Mathlib.Omega.{arith}
 use lib.Dec.{eqb}
-use lib.ListN.{length}
+use lib.ListN.{length, replicate}
 use lib.Seq.{sets}
 use borrow.Author.Tests.{lt-ltb, le-ltb, eq-eqb, ne-eqb, not-false, eqb-false, ltb-false}
 use Rattle.word.specs.Number.{Bytes}
@@ -39,7 +39,9 @@ use Rattle.starting.specs.NewHead.{NumberLeft}
 use Rattle.starting.specs.Answer.{startedWith, refusedStart}
 use Rattle.cleaning.specs.Entries.{SplitFits}
 use Rattle.cleaning.specs.Marks.{marksOf}
+use Rattle.cleaning.specs.Filter.{siftNeeded}
 use Rattle.cleaning.specs.Kept.{keptBytes}
+use Rattle.cleaning.specs.KeptAlike.{needed-bytes}
 use Rattle.cleaning.specs.KeptModel.{splitOf}
 use Rattle.cleaning.specs.Copied.{Copied}
 use Rattle.cleaning.specs.Begun.{CleanReady, CleanFits, Room, cleaningWith, frontCauses, keptCauses, begunWith, markedWith, causesWith, cleaned-promise}
@@ -199,7 +201,7 @@ module _ (L : Layout) (area cells : List ℕ) (r : Record) (victims : ℕ) (work
           long = ltb-false (length work) (r .size) (t .work-long);
         }
 
-    pub marked-promise : Bytes area → (marks : List ℕ) (split : Split) → split ≡ splitOf r victims → marks ≡ marksOf L area cells split →
+    pub marked-promise : Bytes area → (marks : List ℕ) (split : Split) → split ≡ splitOf r victims → marks ≡ siftNeeded L area cells split (replicate 128 0) →
         (work′ : List ℕ) (a : Start) → record { start = a; work = work′ } ≡ markedWith L r victims work (keptBytes L area cells marks split) →
         StartPromise L freely (clean victims) r area cells work work′ a
     unfolding causesWith frontCauses keptCauses idleCauses markedWith
@@ -207,6 +209,7 @@ module _ (L : Layout) (area cells : List ℕ) (r : Record) (victims : ℕ) (work
         cleaned-promise L area cells r victims work work′ a bytes
         (h
         ∙ ap (λ (l : List ℕ). markedWith L r victims work (keptBytes L area cells l split)) its
+        ∙ ap (markedWith L r victims work) (needed-bytes L area cells split)
         ∙ ap (λ (s : Split). markedWith L r victims work (keptBytes L area cells (marksOf L area cells s) s)) is
         ∙ ap (begunWith L r victims work (keptBytes L area cells (marksOf L area cells (splitOf r victims)) (splitOf r victims)))
         (sym

@@ -2,8 +2,10 @@
 // digest of a new head.
 pub mod clean;
 pub mod copy;
+pub mod filter;
 pub mod kept;
 pub mod marks;
+pub mod noted;
 pub mod outside;
 pub mod tombstones;
 
