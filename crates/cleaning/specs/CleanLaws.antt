@@ -42,6 +42,7 @@ use Rattle.cleaning.specs.Marks.{marksOf}
 use Rattle.cleaning.specs.Filter.{siftNeeded}
 use Rattle.cleaning.specs.Kept.{keptBytes}
 use Rattle.cleaning.specs.KeptAlike.{needed-bytes}
+use Rattle.cleaning.specs.Chosen.{chosenBytes}
 use Rattle.cleaning.specs.KeptModel.{splitOf}
 use Rattle.cleaning.specs.Copied.{Copied}
 use Rattle.cleaning.specs.Begun.{CleanReady, CleanFits, Room, cleaningWith, frontCauses, keptCauses, begunWith, markedWith, causesWith, cleaned-promise}
@@ -129,7 +130,7 @@ module _ (L : Layout) (r : Record) (victims : ℕ) (work bytes : List ℕ) (n : 
   unfolding markedWith
   marked-begun e h = h ∙ ap (begunWith L r victims work bytes) (sym (checked-none _ (here Check.Passed e)))
 
--- what the code may rely on then
+-- what the code may rely on then: what is chosen is what is kept
 module _ {L : Layout} {r : Record} {victims : ℕ} {split : Split} {area marks work : List ℕ} (f : CleanFits L r victims split area marks work)
     (cells : List ℕ) (n : ℕ) (m : n ≡ length (keptBytes L area cells marks split)) (e : Check.Passed ≡ checked (firstCause (keptCauses L r n))) where
   pub ready : CleanReady L r victims
@@ -142,8 +143,13 @@ module _ {L : Layout} {r : Record} {victims : ℕ} {split : Split} {area marks w
         number-left = passed-kept L r n e .number-left;
       }
 
-  pub room : Room L r split area cells marks work
-  room = record { shape = f .shape; fits = omega (arith, passed-kept L r n e .fits, m); long = f .long }
+  pub room : (chosen : List ℕ) → length chosen ≡ 256 → chosenBytes L area chosen split ≡ keptBytes L area cells marks split → Room L r split area chosen work
+  room chosen long same =
+      record {
+        shape = record { slots = f .shape .slots; chosen-long = long };
+        fits = omega (arith, passed-kept L r n e .fits, m, ap length same);
+        long = f .long;
+      }
 
 -- ---- the promise at each answer
 

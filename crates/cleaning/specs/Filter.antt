@@ -11,7 +11,8 @@ use Rattle.segment.specs.Choice.{pick}
 use Rattle.segment.specs.Layout.{Layout}
 use Rattle.segment.specs.declared.Header.{Header}
 use Rattle.segment.specs.declared.Key.{Key}
-use Rattle.cleaning.specs.Marks.{isMarked, markedWith, markEntry}
+use Rattle.index.specs.Search.{searchFor}
+use Rattle.cleaning.specs.Marks.{isMarked, markedWith, markFound}
 use Rattle.cleaning.specs.Tombstones.{anyTombstone}
 use Rattle.cleaning.specs.Walks.{walkBelow}
 use Rattle.cleaning.specs.declared.Split.{Split}
@@ -42,7 +43,8 @@ noteVictims L area split filter = walkBelow L noteEntry area (split .size) (spli
 
 -- the cell of an object's key, where the filter has the key
 unfoldable pub siftEntry : Layout → List ℕ → List ℕ → List ℕ → List ℕ → Header → List ℕ
-siftEntry L area cells filter marks h = pick (filterHas filter (h .key)) (markEntry L area cells marks h) marks
+siftEntry L area cells filter marks h =
+    pick (h .tombstone) marks (pick (filterHas filter (h .key)) (markFound marks (searchFor L area cells (h .key))) marks)
 
 abbrev pub siftOutside : Layout → List ℕ → List ℕ → List ℕ → Split → List ℕ → List ℕ
 siftOutside L area cells filter split marks =

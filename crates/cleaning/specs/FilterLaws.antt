@@ -1,7 +1,7 @@
 -- Marks made by a walk that goes by a filter agree with those of the whole walk on the cell of each key that the filter has.
 use Prim.Native.Nat.{ℕ, zero, suc, _+_, _-_, _≤_, _<_}
 use mathlib.Core.Path.{_≡_, refl, sym, _∙_, ap, subst}
-use mathlib.Core.Bool.{Bool, true, false, not}
+use mathlib.Core.Bool.{Bool, true, false}
 use mathlib.Core.List.{List, [], _∷_, List·Memᴰ·head, List·Memᴰ·tail}
 use native.Mathlib.Decide.{ℕ-discrete, decLt}
 use native.Mathlib.Omega.{arith}
@@ -25,7 +25,7 @@ use Rattle.index.specs.SearchLaws.{search-within, search-above, search-inside}
 use Rattle.index.specs.declared.Found.{Found}
 use Rattle.cleaning.specs.Entries.{slotItems}
 use Rattle.cleaning.specs.Marks.{isMarked, markedWith, length-marked, mark-own, mark-other, markFound, markEntry, markItems, markSlot, markPart, markBelow, markOutside}
-use Rattle.cleaning.specs.MarksLaws.{length-entry}
+use Rattle.cleaning.specs.MarksLaws.{length-found, length-entry}
 use Rattle.cleaning.specs.Tombstones.{anyTombstone}
 use Rattle.cleaning.specs.Walks.{walkItems, walkSlot, walkPart, walkBelow, items-keep, part-keeps, below-keeps}
 use Rattle.cleaning.specs.Filter.{spread, spread-low, filterHas, filterWith, noteEntry, noteVictims, siftEntry, siftOutside, siftNeeded}
@@ -43,14 +43,19 @@ module _ (filter : List ℕ) (h : Header) where
   tombstone-noted e g = g ∙ sym (pick-true (h .tombstone) _ filter e)
 
 module _ (L : Layout) (area cells filter marks : List ℕ) (h : Header) where
-  pub sift-passed : filterHas filter (h .key) ≡ false → marks ≡ siftEntry L area cells filter marks h
+  pub sift-dead : h .tombstone ≡ true → marks ≡ siftEntry L area cells filter marks h
   unfolding siftEntry
-  sift-passed e = sym (pick-false (filterHas filter (h .key)) _ marks e)
+  sift-dead e = sym (pick-true (h .tombstone) marks _ e)
 
-  pub sift-marks : {marks′ : List ℕ} → filterHas filter (h .key) ≡ true → marks′ ≡ markEntry L area cells marks h →
-      marks′ ≡ siftEntry L area cells filter marks h
-  unfolding siftEntry
-  sift-marks e g = g ∙ sym (pick-true (filterHas filter (h .key)) _ marks e)
+  module _ (object : h .tombstone ≡ false) where
+    pub sift-passed : filterHas filter (h .key) ≡ false → marks ≡ siftEntry L area cells filter marks h
+    unfolding siftEntry
+    sift-passed e = sym (pick-false (h .tombstone) marks _ object ∙ pick-false (filterHas filter (h .key)) _ marks e)
+
+    pub sift-marks : {marks′ : List ℕ} → filterHas filter (h .key) ≡ true → marks′ ≡ markFound marks (searchFor L area cells (h .key)) →
+        marks′ ≡ siftEntry L area cells filter marks h
+    unfolding siftEntry
+    sift-marks e g = g ∙ sym (pick-false (h .tombstone) marks _ object ∙ pick-true (filterHas filter (h .key)) _ marks e)
 
 module _ (L : Layout) (area cells : List ℕ) (split : Split) (marks : List ℕ) where
   pub not-needed : anyTombstone L area split ≡ false → marks ≡ siftNeeded L area cells split marks
@@ -83,11 +88,12 @@ length-noted L area split n i filter e =
 module _ (L : Layout) (area cells filter : List ℕ) where
   pub length-sift : (n : ℕ) (marks : List ℕ) (h : Header) → length marks ≡ n → length (siftEntry L area cells filter marks h) ≡ n
   unfolding siftEntry pick
-  length-sift n marks h e = go (filterHas filter (h .key))
+  length-sift n marks h e = go (h .tombstone) (filterHas filter (h .key))
     where
-      go : (t : Bool) → length (pick t (markEntry L area cells marks h) marks) ≡ n
-      go true = length-entry L area cells marks h ∙ e
-      go false = e
+      go : (t u : Bool) → length (pick t marks (pick u (markFound marks (searchFor L area cells (h .key))) marks)) ≡ n
+      go true u = e
+      go false true = length-found L area cells marks (searchFor L area cells (h .key)) ∙ e
+      go false false = e
 
   pub length-sifted : (split : Split) (n i : ℕ) (marks : List ℕ) → length marks ≡ n →
       length (walkBelow L (siftEntry L area cells filter) area (split .size) (split .outside) marks i) ≡ n
@@ -261,18 +267,17 @@ module _ (L : Layout) (area cells filter : List ℕ) (k : Key) (has : filterHas 
       record {
         left-long = length-sift L area cells filter 128 a h (g .left-long);
         right-long = length-entry L area cells b h ∙ g .right-long;
-        same = go (filterHas filter (h .key)) refl (h .tombstone);
+        same = go (h .tombstone) (filterHas filter (h .key)) refl;
       }
     where
       f : Found
       f = searchFor L area cells (h .key)
 
-      go : (t : Bool) → filterHas filter (h .key) ≡ t → (u : Bool) →
-          isMarked (pick t (pick u a (markFound a f)) a) c ≡ isMarked (pick u b (markFound b f)) c
-      go true e true = g .same
-      go true e false = both-mark a b (h .key) g f refl
-      go false e true = g .same
-      go false e false = one-marks a b (h .key) g e f refl
+      go : (t u : Bool) → filterHas filter (h .key) ≡ u →
+          isMarked (pick t a (pick u (markFound a f) a)) c ≡ isMarked (pick t b (markFound b f)) c
+      go true u e = g .same
+      go false true e = both-mark a b (h .key) g f refl
+      go false false e = one-marks a b (h .key) g e f refl
 
   agree-items : (is : List Item) (a b : List ℕ) → Agree c a b → Agree c (walkItems L (siftEntry L area cells filter) a is) (markItems L area cells b is)
   unfolding walkItems markItems

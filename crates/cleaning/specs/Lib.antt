@@ -9,6 +9,8 @@ pub mod FilterLaws
 pub mod Kept
 pub mod KeptLaws
 pub mod KeptAlike
+pub mod Chosen
+pub mod ChosenLaws
 pub mod Outside
 pub mod KeptModel
 pub mod Begun

@@ -1,27 +1,23 @@
 -- The walk outside the victims at each test of the code, and what a mark means.
-use Prim.Native.Nat.{ℕ, zero, suc, _+_, _≤_, _<_}
+use Prim.Native.Nat.{ℕ, zero, suc, _≤_, _<_}
 use mathlib.Core.Path.{_≡_, refl, sym, _∙_, ap}
 use mathlib.Core.Bool.{Bool, true, false, not}
 use mathlib.Core.List.{List, [], _∷_, List·Memᴰ·tail}
-use native.Mathlib.Numerals.{add-one}
 use native.Mathlib.Omega.{arith}
 use lib.ListN.{length}
-use Rattle.segment.specs.Choice.{pick, pick-true, pick-false, both, either}
-use Rattle.segment.specs.Layout.{Layout, digestSize}
+use Rattle.segment.specs.Choice.{pick, both, either}
+use Rattle.segment.specs.Layout.{Layout}
 use Rattle.segment.specs.Entries.{headerOf}
 use Rattle.segment.specs.declared.Header.{Header}
 use Rattle.segment.specs.declared.Key.{Key}
 use Rattle.slot_map.specs.Bit.{named}
-use Rattle.model.specs.Log.{Item, segmentOf}
+use Rattle.model.specs.Log.{Item}
 use Rattle.laws.specs.Members.{In, first}
 use Rattle.laws.specs.LogLaws.{anyBelow}
-use Rattle.index.specs.Build.{entriesAt}
 use Rattle.index.specs.Search.{searchFor}
 use Rattle.index.specs.declared.Found.{Found}
 use Rattle.cleaning.specs.Entries.{slotItems, isKeyOf, isObject, objectIn, slotHolds}
-use Rattle.cleaning.specs.EntriesLaws.{Meets, entries-meets}
-use Rattle.cleaning.specs.Marks.{isMarked, markedWith, length-marked, mark-own, mark-other, markFound, markEntry, markItems, markSlot, markPart, markBelow, markOutside, markNeeded}
-use Rattle.cleaning.specs.Tombstones.{anyTombstone}
+use Rattle.cleaning.specs.Marks.{isMarked, markedWith, length-marked, mark-own, mark-other, markFound, markEntry, markItems, markSlot, markPart, markBelow}
 use Rattle.cleaning.specs.declared.Split.{Split}
 
 -- ---- at each test of the code
@@ -40,19 +36,10 @@ module _ (L : Layout) (area cells marks : List ℕ) where
     unfolding markFound
     full-keeps e = sym (ap (markFound marks) e)
 
-  module _ (h : Header) where
-    pub tombstone-keeps : h .tombstone ≡ true → marks ≡ markEntry L area cells marks h
-    unfolding markEntry
-    tombstone-keeps e = sym (pick-true (h .tombstone) marks _ e)
-
-    pub object-marks : {marks′ : List ℕ} → h .tombstone ≡ false → marks′ ≡ markFound marks (searchFor L area cells (h .key)) → marks′ ≡ markEntry L area cells marks h
-    unfolding markEntry
-    object-marks e m = m ∙ sym (pick-false (h .tombstone) marks _ e)
-
 -- ---- the lengths
 
 module _ (L : Layout) (area cells : List ℕ) where
-  length-found : (marks : List ℕ) (f : Found) → length (markFound marks f) ≡ length marks
+  pub length-found : (marks : List ℕ) (f : Found) → length (markFound marks f) ≡ length marks
   unfolding markFound
   length-found marks (Found.At i) = length-marked marks i
   length-found marks (Found.Free i) = refl

@@ -20,7 +20,7 @@ ghost use lib.ListN.{length};
 ghost use Rattle.segment.specs.Layout.{edition1};
 ghost use Rattle.index.specs.Search.{searchFor};
 ghost use Rattle.cleaning.specs.Entries.{SplitFits};
-ghost use Rattle.cleaning.specs.Marks.{markFound, markEntry};
+ghost use Rattle.cleaning.specs.Marks.{markFound};
 ghost use Rattle.cleaning.specs.Walks.{walkSlot, walkPart};
 ghost use Rattle.cleaning.specs.Filter.{siftEntry, siftOutside, siftNeeded};
 
@@ -39,18 +39,7 @@ fn mark_key(area: &[u8], cells: &[u32], marks: &mut [u32], key: Key)
     }
 }
 
-// Marks the cell of an object's key.
-fn mark_entry(area: &[u8], cells: &[u32], marks: &mut [u32], header: Header)
-    requires { ⌜ length (now marks) ≡ 128 ⌝ }
-    ensures { λ _. ⌜ now (marks .exit) ≡ markEntry edition1 (now (area .entry)) (now (cells .entry)) (now (marks .entry)) header ⌝ }
-{
-    if header.tombstone {
-        return;
-    }
-    mark_key(area, cells, marks, header.key);
-}
-
-// The same where the filter has the key: most keys are not searched for.
+// Marks the cell of an object's key where the filter has the key: most keys are not searched for.
 fn sift_entry(area: &[u8], cells: &[u32], filter: &[u32], marks: &mut [u32], header: Header)
     requires { ⌜ (length (now filter) ≡ 128) × (length (now marks) ≡ 128) ⌝ }
     ensures { λ _.
@@ -58,10 +47,13 @@ fn sift_entry(area: &[u8], cells: &[u32], filter: &[u32], marks: &mut [u32], hea
         now (marks .exit) ≡ siftEntry edition1 (now (area .entry)) (now (cells .entry)) (now (filter .entry)) (now (marks .entry)) header
         ⌝ }
 {
+    if header.tombstone {
+        return;
+    }
     if !has(filter, header.key) {
         return;
     }
-    mark_entry(area, cells, marks, header);
+    mark_key(area, cells, marks, header.key);
 }
 
 // Marks the cells of the keys of a slot's objects. Damage ends a segment too.

@@ -11,7 +11,7 @@ use Rattle.segment.specs.Layout.{Layout}
 use Rattle.segment.specs.Entries.{headerOf}
 use Rattle.segment.specs.declared.Key.{Key}
 use Rattle.slot_map.specs.Bit.{named}
-use Rattle.model.specs.Log.{Placed, placeOf, placedIn}
+use Rattle.model.specs.Log.{placeOf, placedIn}
 use Rattle.laws.specs.LogLaws.{itemOf, mem-placed}
 use Rattle.index.specs.Search.{searchFor}
 use Rattle.index.specs.declared.Found.{Found}

@@ -1,6 +1,5 @@
 -- `cleaning::filter::has` meets its contract.
 use mathlib.Core.Path.{_∙_, ap}
-use denote.Ref.{now}
 use borrow.Author.Needs.{needs}
 use Rattle.cleaning.specs.Marks.{isMarked}
 use Rattle.cleaning.proofs.filter.has.Statement.{statement}
