@@ -108,12 +108,12 @@ module _ (L : Layout) (test : Test) (S : ℕ) where
     unfolding choosePlaced placedIn
     choice-stop e = sym (ap (λ (is : List Item). choosePlaced L test S chosen (placedIn i is)) e) ∙ from
 
-    pub choice-entry : {h : Header} → Meets L s at h → (chosen′ : List ℕ) → chosen′ ≡ chooseEntry test chosen h (i * S + at) →
-        choosePlaced L test S chosen′ (placedIn i (entriesAt L s (at + h .length))) ≡ whole
+    pub choice-entry : {h : Header} → Meets L s at h → (chosen′ : List ℕ) → chosen′ ≡ chooseEntry test chosen h (i * S + at) → (at′ : ℕ) →
+        at′ ≡ at + h .length → choosePlaced L test S chosen′ (placedIn i (entriesAt L s at′)) ≡ whole
     unfolding choosePlaced placedIn
-    choice-entry {h} m chosen′ e =
-        ap (λ (l : List ℕ). choosePlaced L test S l (placedIn i (entriesAt L s (at + h .length))))
-        (e ∙ ap (λ (g : Header). chooseEntry test chosen g (i * S + at)) (sym (m .its)))
+    choice-entry {h} m chosen′ e at′ b =
+        (λ j.
+        choosePlaced L test S ((e ∙ ap (λ (g : Header). chooseEntry test chosen g (i * S + at)) (sym (m .its))) j) (placedIn i (entriesAt L s (b j))))
         ∙ sym (ap (λ (is : List Item). choosePlaced L test S chosen (placedIn i is)) (entries-meets L s at m))
         ∙ from
 
@@ -182,8 +182,10 @@ module _ (L : Layout) (area chosen : List ℕ) (S i : ℕ) (s : List ℕ) where
     pub chosen-stop : entriesAt L s at ≡ [] → chosenFrom at ≡ []
     chosen-stop e = parts-stop L (chosenEntry area chosen) S i s at e
 
-    pub chosen-entry : {h : Header} → Meets L s at h → chosenFrom at ≡ chosenEntry area chosen h (i * S + at) ++ chosenFrom (at + h .length)
-    chosen-entry m = parts-entry L (chosenEntry area chosen) S i s at m
+    pub chosen-entry : {h : Header} → Meets L s at h → (at′ : ℕ) → at′ ≡ at + h .length →
+        chosenFrom at ≡ chosenEntry area chosen h (i * S + at) ++ chosenFrom at′
+    chosen-entry {h} m at′ b =
+        parts-entry L (chosenEntry area chosen) S i s at m ∙ ap (λ (k : ℕ). chosenEntry area chosen h (i * S + at) ++ chosenFrom k) (sym b)
 
 module _ (L : Layout) (area chosen : List ℕ) (split : Split) where
   module _ (i : ℕ) where

@@ -113,12 +113,13 @@ module _ (L : Layout) (area cells marks : List ℕ) (S : ℕ) where
         pub measured-stop : entriesAt L s at ≡ [] → total ≡ whole
         measured-stop e = omega (arith, so-far, ap length (from-stop e))
 
-        pub measured-entry : {h : Header} → Meets L s at h → (n : ℕ) → n ≡ length (keptEntry L area cells marks h (i * S + at)) →
-            total + n + length (keptFrom i s (at + h .length)) ≡ whole
-        measured-entry {h} m n e =
+        pub measured-entry : {h : Header} → Meets L s at h → (n : ℕ) → n ≡ length (keptEntry L area cells marks h (i * S + at)) → (at′ : ℕ) →
+            at′ ≡ at + h .length → total + n + length (keptFrom i s at′) ≡ whole
+        measured-entry {h} m n e at′ b =
             omega (
               arith,
               so-far,
+              ap (λ (k : ℕ). length (keptFrom i s k)) b,
               ap length (from-entry m),
               length-append (keptEntry L area cells marks h (i * S + at)) (keptFrom i s (at + h .length)),
             )

@@ -43,11 +43,11 @@ module _ (L : Layout) (step : Step) where
     unfolding walkItems
     walk-stop e = sym (ap (walkItems L step words) e) ∙ from
 
-    pub walk-entry : {h : Header} → Meets L s at h → (words′ : List ℕ) → words′ ≡ step words h →
-        walkItems L step words′ (entriesAt L s (at + h .length)) ≡ whole
+    pub walk-entry : {h : Header} → Meets L s at h → (words′ : List ℕ) → words′ ≡ step words h → (at′ : ℕ) → at′ ≡ at + h .length →
+        walkItems L step words′ (entriesAt L s at′) ≡ whole
     unfolding walkItems
-    walk-entry {h} m words′ e =
-        ap (λ (l : List ℕ). walkItems L step l (entriesAt L s (at + h .length))) (e ∙ ap (step words) (sym (m .its)))
+    walk-entry {h} m words′ e at′ b =
+        (λ i. walkItems L step ((e ∙ ap (step words) (sym (m .its))) i) (entriesAt L s (b i)))
         ∙ sym (ap (walkItems L step words) (entries-meets L s at m))
         ∙ from
 

@@ -1,5 +1,6 @@
 // What is kept, copied to the work buffer.
 use crate::Split;
+use crate::behind::behind;
 use crate::chosen::is_chosen;
 use crate::kept::is_kept;
 use log::slots::is_named;
@@ -91,7 +92,7 @@ fn copy_slot(
         match next(s, at) {
             Next::Entry(header) => {
                 to = copy_chosen(area, chosen, header, slot * size + at, work, to);
-                at += header.length;
+                at = behind(at, header.length);
             }
             Next::End => {
                 return to;

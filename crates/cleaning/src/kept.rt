@@ -1,5 +1,6 @@
 // What is kept of the victims' slots, and how long it is.
 use crate::Split;
+use crate::behind::behind;
 use crate::chosen::choose;
 use crate::marks::is_marked;
 use index::Found;
@@ -95,7 +96,7 @@ fn measure_slot(
         match next(s, at) {
             Next::Entry(header) => {
                 total += choose_kept(area, cells, marks, chosen, header, slot * size + at);
-                at += header.length;
+                at = behind(at, header.length);
             }
             Next::End => {
                 return total;

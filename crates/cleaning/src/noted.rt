@@ -1,5 +1,6 @@
 // The keys of the victims' tombstones, put into a filter. An object of any other key keeps no tombstone.
 use crate::Split;
+use crate::behind::behind;
 use crate::filter::put;
 use log::slots::is_named;
 use segment::Header;
@@ -38,7 +39,7 @@ fn note_slot(area: &[u8], filter: &mut [u32], split: Split, slot: usize)
         match next(s, at) {
             Next::Entry(header) => {
                 note_entry(filter, header);
-                at += header.length;
+                at = behind(at, header.length);
             }
             Next::End => {
                 return;

@@ -1,6 +1,7 @@
 // One walk over the log outside the victims: the cells of the keys of its objects are marked, where a filter has the key. A
 // tombstone among the victims is kept if the cell of its key is.
 use crate::Split;
+use crate::behind::behind;
 use crate::filter::has;
 use crate::marks::mark;
 use crate::noted::note_victims;
@@ -80,7 +81,7 @@ fn mark_slot(
         match next(s, at) {
             Next::Entry(header) => {
                 sift_entry(area, cells, filter, marks, header);
-                at += header.length;
+                at = behind(at, header.length);
             }
             Next::End => {
                 return;

@@ -1,6 +1,6 @@
 -- `cleaning::copy::copy_slot` meets its contract. The invariant: with what is chosen from here on, the copy is that of the slot.
 use Prim.Native.Nat.{_+_, _*_, _-_, _<_}
-use mathlib.Core.Path.{_≡_}
+use mathlib.Core.Path.{_≡_, refl}
 use native.Mathlib.Omega.{arith}
 use lib.ListN.{length}
 use denote.Ref.{now}
@@ -67,18 +67,18 @@ copy-chosen-requires c κs =
         copying-room (c .before .before .before .before .before .loop .inv) (s .pre .1 .1)
             (chosenEntry (now (a .area)) (now (a .chosen)) h (a .slot * a .split .size + at))
             (chosenFrom edition1 (now (a .area)) (now (a .chosen)) (a .split .size) (a .slot) (now (c .before .before .before .before .before .before .cut .result)) (at + h .length))
-            (chosen-entry edition1 _ _ _ _ _ _ (met (c .before))),
+            (chosen-entry edition1 _ _ _ _ _ _ (met (c .before)) (at + h .length) refl),
       ),
     )
 
-add-at : tie.Need-add-at Inv-loop μ-loop
-add-at c = omega (arith, met (c .before .before .before .before .before), long (c .before .before .before .before .before .before .before .before .before .before), c .before .before .before .before .before .before .before .before .before .before .before .before .before .before .pre .0 .slots .size-high)
+behind-requires : tie.Need-behind-requires Inv-loop μ-loop
+behind-requires c κs = omega (arith, met (c .before .before .before .before), long (c .before .before .before .before .before .before .before .before .before), c .before .before .before .before .before .before .before .before .before .before .before .before .before .pre .0 .slots .size-high)
 
 loop-less : tie.Need-loop-less Inv-loop μ-loop
-loop-less c = omega (arith, met (c .before .before .before .before .before))
+loop-less c = omega (arith, c .behind .ensures, met (c .before .before .before .before .before))
 
 loop-again : tie.Need-loop-again Inv-loop μ-loop
-loop-again c = copying-next (c .before .before .before .before .before .before .before .before .before .loop .inv) _ _ _ _ (chosen-entry edition1 _ _ _ _ _ _ (met (c .before .before .before .before .before))) (c .before .before .before .copy-chosen .ensures)
+loop-again c = copying-next (c .before .before .before .before .before .before .before .before .before .loop .inv) _ _ _ _ (chosen-entry edition1 _ _ _ _ _ _ (met (c .before .before .before .before .before)) _ (c .behind .ensures)) (c .before .before .before .copy-chosen .ensures)
 
 enum-told : tie.Need-enum-told Inv-loop μ-loop
 enum-told c = search needs
@@ -111,7 +111,7 @@ copy-slot-spec =
     mul-copy-chosen
     add-copy-chosen
     copy-chosen-requires
-    add-at
+    behind-requires
     loop-less
     loop-again
     enum-told

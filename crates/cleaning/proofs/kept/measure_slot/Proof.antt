@@ -90,24 +90,25 @@ add-total c =
     let k = m .before .before in
     omega (arith, short m, met k, long (k .before .before .before .before .before), k .before .before .before .before .loop .inv .1)
 
-add-at : tie.Need-add-at Inv-loop μ-loop
-add-at c =
-    let m = c .before .before .before in
-    let k = m .before .before in
-    omega (arith, met k, long (k .before .before .before .before .before))
+behind-requires : tie.Need-behind-requires Inv-loop μ-loop
+behind-requires c κs =
+    let k = c .before .before .before .before in
+    let s = k .before .before .before .before .before .before .before .before .before .before in
+    omega (arith, met k, long (k .before .before .before .before .before), s .pre .0 .0 .slots .size-high)
 
 loop-less : tie.Need-loop-less Inv-loop μ-loop
-loop-less c = omega (arith, met (c .before .before .before .before .before))
+loop-less c = omega (arith, c .behind .ensures, met (c .before .before .before .before .before))
 
 loop-again : tie.Need-loop-again Inv-loop μ-loop
 loop-again c =
     let m = c .before .before .before in
     let k = m .before .before in
-    let l = k .before .before .before .before .loop in (
-      measured-entry edition1 _ _ _ _ _ _ _ _ _ (l .inv .0) (met k) _ (m .choose-kept .ensures .0),
-      omega (arith, short m, l .inv .1),
-      omega (arith, met k),
-      choice-entry edition1 (keptTest edition1 _ _ _) _ _ _ _ _ _ (l .inv .3) (met k) _ (m .choose-kept .ensures .1),
+    let l = k .before .before .before .before .loop in
+    let b = c .behind .ensures in (
+      measured-entry edition1 _ _ _ _ _ _ _ _ _ (l .inv .0) (met k) _ (m .choose-kept .ensures .0) _ b,
+      omega (arith, b, short m, l .inv .1),
+      omega (arith, b, met k),
+      choice-entry edition1 (keptTest edition1 _ _ _) _ _ _ _ _ _ (l .inv .3) (met k) _ (m .choose-kept .ensures .1) _ b,
       ap length (m .choose-kept .ensures .1) ∙ length-choice (keptTest edition1 _ _ _) _ _ _ _ (l .inv .4),
     )
 
@@ -163,7 +164,7 @@ measure-slot-spec =
     add-choose-kept
     choose-kept-requires
     add-total
-    add-at
+    behind-requires
     loop-less
     loop-again
     enum-told

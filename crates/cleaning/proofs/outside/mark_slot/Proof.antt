@@ -51,23 +51,23 @@ sift-entry-requires c κs =
     let s = c .before .before .before .before .before .before .before .before .before .before .before in
     (s .pre .0 .1, c .before .before .before .before .before .loop .inv .1 ∙ s .pre .0 .0 .marks-long)
 
-add-at : tie.Need-add-at Inv-loop μ-loop
-add-at c =
+behind-requires : tie.Need-behind-requires Inv-loop μ-loop
+behind-requires c κs =
     omega (
       arith,
-      met (c .before .before .before .before .before),
-      long (c .before .before .before .before .before .before .before .before .before .before),
-      c .before .before .before .before .before .before .before .before .before .before .before .before .before .before .before .pre .0 .0 .slots .size-high,
+      met (c .before .before .before .before),
+      long (c .before .before .before .before .before .before .before .before .before),
+      c .before .before .before .before .before .before .before .before .before .before .before .before .before .before .pre .0 .0 .slots .size-high,
     )
 
 loop-less : tie.Need-loop-less Inv-loop μ-loop
-loop-less c = omega (arith, met (c .before .before .before .before .before))
+loop-less c = omega (arith, c .behind .ensures, met (c .before .before .before .before .before))
 
 loop-again : tie.Need-loop-again Inv-loop μ-loop
 loop-again c =
     let l = c .before .before .before .before .before .before .before .before .before in
     let made = c .before .before .before .sift-entry .ensures in (
-      walk-entry edition1 (siftEntry edition1 _ _ _) _ _ _ _ (l .loop .inv .0) (met (c .before .before .before .before .before)) _ made,
+      walk-entry edition1 (siftEntry edition1 _ _ _) _ _ _ _ (l .loop .inv .0) (met (c .before .before .before .before .before)) _ made _ (c .behind .ensures),
       ap length made ∙ length-sift edition1 _ _ _ _ _ _ (l .loop .inv .1),
     )
 
@@ -108,7 +108,7 @@ mark-slot-spec =
     next-requires
     enum-known-header
     sift-entry-requires
-    add-at
+    behind-requires
     loop-less
     loop-again
     enum-told
