@@ -47,11 +47,11 @@ module _ (L : Layout) (area cells : List ℕ) where
 
   pub length-entry : (marks : List ℕ) (h : Header) → length (markEntry L area cells marks h) ≡ length marks
   unfolding markEntry pick
-  length-entry marks h = go (h .tombstone)
+  length-entry marks h = go (h .tombstone) _
     where
-      go : (t : Bool) → length (pick t marks (markFound marks (searchFor L area cells (h .key)))) ≡ length marks
-      go true = refl
-      go false = length-found marks (searchFor L area cells (h .key))
+      go : (t : Bool) (f : Found) → length (pick t marks (markFound marks f)) ≡ length marks
+      go true f = refl
+      go false f = length-found marks f
 
   pub length-items : (is : List Item) (marks : List ℕ) → length (markItems L area cells marks is) ≡ length marks
   unfolding markItems

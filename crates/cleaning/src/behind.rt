@@ -10,11 +10,11 @@ pub fn behind(at: usize, length: usize) -> usize
     ensures { λ r. ⌜ r ≡ at + length ⌝ }
 {
     match length {
-        11 => at + 11,
-        19 => at + 19,
-        35 => at + 35,
-        67 => at + 67,
         131 => at + 131,
+        67 => at + 67,
+        35 => at + 35,
+        19 => at + 19,
+        11 => at + 11,
         _ => at + length % 65536,
     }
 }
