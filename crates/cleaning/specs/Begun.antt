@@ -36,6 +36,7 @@ use Rattle.starting.specs.Answer.{startedWith, refusedStart}
 use Rattle.cleaning.specs.Entries.{SplitFits}
 use Rattle.cleaning.specs.Marks.{marksOf}
 use Rattle.cleaning.specs.Kept.{keptBytes}
+use Rattle.cleaning.specs.Chosen.{ChosenFits, chosenBytes}
 use Rattle.cleaning.specs.KeptModel.{splitOf, bytes-kept}
 use Rattle.cleaning.specs.declared.Split.{Split}
 
@@ -59,9 +60,9 @@ pub record CleanFits (L : Layout) (r : Record) (victims : ℕ) (split : Split) (
   pub long : r .size ≤ length work
 
 -- The new head's bytes fit a segment, and the work buffer.
-pub record Room (L : Layout) (r : Record) (split : Split) (area cells marks work : List ℕ) : Type 0 where
-  pub shape : SplitFits split area marks
-  pub fits : digestSize L + length (keptBytes L area cells marks split) ≤ r .size
+pub record Room (L : Layout) (r : Record) (split : Split) (area chosen work : List ℕ) : Type 0 where
+  pub shape : ChosenFits split area chosen
+  pub fits : digestSize L + length (chosenBytes L area chosen split) ≤ r .size
   pub long : r .size ≤ length work
 
 -- ---- the answer

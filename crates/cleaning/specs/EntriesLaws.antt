@@ -22,7 +22,7 @@ use Rattle.cleaning.specs.declared.Split.{Split}
 -- ---- where slots and entries lie
 
 module _ {split : Split} {area : List ℕ} (shape : SlotsFit split area) where
-  area-short : length area ≤ 65536
+  pub area-short : length area ≤ 65536
   area-short = omega (arith, shape .whole, mul-le-mul (shape .slots-high) (shape .size-high))
 
   module _ (i : ℕ) (below : i < split .slots) where

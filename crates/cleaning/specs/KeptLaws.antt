@@ -1,9 +1,8 @@
 -- What is kept, at each test of the code.
-use Prim.Native.Nat.{ℕ, zero, suc, _+_, _*_, _≤_, _<_}
+use Prim.Native.Nat.{ℕ, _+_, _*_, _≤_}
 use mathlib.Core.Path.{_≡_, refl, sym, _∙_, ap}
 use mathlib.Core.Bool.{Bool, true, false}
 use mathlib.Core.List.{List, [], _++_}
-use native.Mathlib.Decide.{ℕ-discrete}
 use native.Mathlib.Numerals.{add-one}
 use native.Mathlib.Omega.{arith}
 use lib.Dec.{eqb}
@@ -114,12 +113,13 @@ module _ (L : Layout) (area cells marks : List ℕ) (S : ℕ) where
         pub measured-stop : entriesAt L s at ≡ [] → total ≡ whole
         measured-stop e = omega (arith, so-far, ap length (from-stop e))
 
-        pub measured-entry : {h : Header} → Meets L s at h → (n : ℕ) → n ≡ length (keptEntry L area cells marks h (i * S + at)) →
-            total + n + length (keptFrom i s (at + h .length)) ≡ whole
-        measured-entry {h} m n e =
+        pub measured-entry : {h : Header} → Meets L s at h → (n : ℕ) → n ≡ length (keptEntry L area cells marks h (i * S + at)) → (at′ : ℕ) →
+            at′ ≡ at + h .length → total + n + length (keptFrom i s at′) ≡ whole
+        measured-entry {h} m n e at′ b =
             omega (
               arith,
               so-far,
+              ap (λ (k : ℕ). length (keptFrom i s k)) b,
               ap length (from-entry m),
               length-append (keptEntry L area cells marks h (i * S + at)) (keptFrom i s (at + h .length)),
             )
@@ -146,20 +146,3 @@ module _ (L : Layout) (area cells marks : List ℕ) (split : Split) where
   pub below-none : keptBelow L area cells marks split 0 ≡ []
   unfolding keptBelow
   below-none = refl
-
-  -- more slots, more bytes
-  pub below-longer : (i n : ℕ) → i ≤ n → length (keptBelow L area cells marks split i) ≤ length (keptBelow L area cells marks split n)
-  unfolding keptBelow
-  below-longer i zero h = let e : i ≡ 0 = omega arith in rw e (omega arith)
-  below-longer i (suc n) h = go (ℕ-discrete i (suc n)) (λ l. below-longer i n l)
-    where
-      go : Dec (i ≡ suc n) → (i ≤ n → length (keptBelow L area cells marks split i) ≤ length (keptBelow L area cells marks split n)) →
-          length (keptBelow L area cells marks split i) ≤ length (keptBelow L area cells marks split n ++ keptPart L area cells marks split n)
-      go (yes e) ih = rw e (omega arith)
-      go (no ne) ih =
-          omega (arith, ih (omega arith), length-append (keptBelow L area cells marks split n) (keptPart L area cells marks split n))
-
-  -- there is room for one slot more
-  pub below-room : (from room i n : ℕ) → i < n → from + length (keptBelow L area cells marks split n) ≤ room →
-      from + length (keptBelow L area cells marks split i) + length (keptPart L area cells marks split i) ≤ room
-  below-room from room i n h fits = omega (arith, below-length i, below-longer (i + 1) n (omega arith))

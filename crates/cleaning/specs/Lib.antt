@@ -3,8 +3,14 @@ pub mod EntriesLaws
 pub mod Tombstones
 pub mod Marks
 pub mod MarksLaws
+pub mod Walks
+pub mod Filter
+pub mod FilterLaws
 pub mod Kept
 pub mod KeptLaws
+pub mod KeptAlike
+pub mod Chosen
+pub mod ChosenLaws
 pub mod Outside
 pub mod KeptModel
 pub mod Begun

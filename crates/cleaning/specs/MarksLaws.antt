@@ -1,27 +1,23 @@
 -- The walk outside the victims at each test of the code, and what a mark means.
-use Prim.Native.Nat.{ℕ, zero, suc, _+_, _≤_, _<_}
+use Prim.Native.Nat.{ℕ, zero, suc, _≤_, _<_}
 use mathlib.Core.Path.{_≡_, refl, sym, _∙_, ap}
 use mathlib.Core.Bool.{Bool, true, false, not}
 use mathlib.Core.List.{List, [], _∷_, List·Memᴰ·tail}
-use native.Mathlib.Numerals.{add-one}
 use native.Mathlib.Omega.{arith}
 use lib.ListN.{length}
-use Rattle.segment.specs.Choice.{pick, pick-true, pick-false, both, either}
-use Rattle.segment.specs.Layout.{Layout, digestSize}
+use Rattle.segment.specs.Choice.{pick, both, either}
+use Rattle.segment.specs.Layout.{Layout}
 use Rattle.segment.specs.Entries.{headerOf}
 use Rattle.segment.specs.declared.Header.{Header}
 use Rattle.segment.specs.declared.Key.{Key}
 use Rattle.slot_map.specs.Bit.{named}
-use Rattle.model.specs.Log.{Item, segmentOf}
+use Rattle.model.specs.Log.{Item}
 use Rattle.laws.specs.Members.{In, first}
 use Rattle.laws.specs.LogLaws.{anyBelow}
-use Rattle.index.specs.Build.{entriesAt}
 use Rattle.index.specs.Search.{searchFor}
 use Rattle.index.specs.declared.Found.{Found}
 use Rattle.cleaning.specs.Entries.{slotItems, isKeyOf, isObject, objectIn, slotHolds}
-use Rattle.cleaning.specs.EntriesLaws.{Meets, entries-meets}
-use Rattle.cleaning.specs.Marks.{isMarked, markedWith, length-marked, mark-own, mark-other, markFound, markEntry, markItems, markSlot, markPart, markBelow, markOutside, markNeeded}
-use Rattle.cleaning.specs.Tombstones.{anyTombstone}
+use Rattle.cleaning.specs.Marks.{isMarked, markedWith, length-marked, mark-own, mark-other, markFound, markEntry, markItems, markSlot, markPart, markBelow}
 use Rattle.cleaning.specs.declared.Split.{Split}
 
 -- ---- at each test of the code
@@ -40,65 +36,10 @@ module _ (L : Layout) (area cells marks : List ℕ) where
     unfolding markFound
     full-keeps e = sym (ap (markFound marks) e)
 
-  module _ (h : Header) where
-    pub tombstone-keeps : h .tombstone ≡ true → marks ≡ markEntry L area cells marks h
-    unfolding markEntry
-    tombstone-keeps e = sym (pick-true (h .tombstone) marks _ e)
-
-    pub object-marks : {marks′ : List ℕ} → h .tombstone ≡ false → marks′ ≡ markFound marks (searchFor L area cells (h .key)) → marks′ ≡ markEntry L area cells marks h
-    unfolding markEntry
-    object-marks e m = m ∙ sym (pick-false (h .tombstone) marks _ e)
-
-  -- a turn of the loop over a segment: the whole is what comes from here on
-  module _ (s : List ℕ) (at : ℕ) (whole : List ℕ) (from : markItems L area cells marks (entriesAt L s at) ≡ whole) where
-    pub marks-stop : entriesAt L s at ≡ [] → marks ≡ whole
-    unfolding markItems
-    marks-stop e = sym (ap (markItems L area cells marks) e) ∙ from
-
-    pub marks-entry : {h : Header} → Meets L s at h → (marks′ : List ℕ) → marks′ ≡ markEntry L area cells marks h →
-        markItems L area cells marks′ (entriesAt L s (at + h .length)) ≡ whole
-    unfolding markItems
-    marks-entry {h} m marks′ e =
-        ap (λ (l : List ℕ). markItems L area cells l (entriesAt L s (at + h .length))) (e ∙ ap (markEntry L area cells marks) (sym (m .its)))
-        ∙ sym (ap (markItems L area cells marks) (entries-meets L s at m))
-        ∙ from
-
-  module _ (split : Split) (i : ℕ) where
-    pub slot-whole : (s : List ℕ) → s ≡ segmentOf area (split .size) i → markItems L area cells marks (entriesAt L s (digestSize L)) ≡ markSlot L area cells split marks i
-    slot-whole s e = ap (λ (t : List ℕ). markItems L area cells marks (entriesAt L t (digestSize L))) e
-
-    pub part-outside : {marks′ : List ℕ} → named (split .outside) i ≡ true → marks′ ≡ markSlot L area cells split marks i → marks′ ≡ markPart L area cells split marks i
-    unfolding markPart
-    part-outside e h = h ∙ sym (pick-true (named (split .outside) i) _ marks e)
-
-    pub part-keeps : named (split .outside) i ≡ false → marks ≡ markPart L area cells split marks i
-    unfolding markPart
-    part-keeps e = sym (pick-false (named (split .outside) i) _ marks e)
-
-    pub marks-more : {now marks′ : List ℕ} → now ≡ markBelow L area cells split marks i → marks′ ≡ markPart L area cells split now i →
-        marks′ ≡ markBelow L area cells split marks (i + 1)
-    unfolding markBelow
-    marks-more n e =
-        e ∙ ap (λ (l : List ℕ). markPart L area cells split l i) n ∙ sym (ap (markBelow L area cells split marks) (add-one i))
-
-  pub marks-none : (split : Split) → marks ≡ markBelow L area cells split marks 0
-  unfolding markBelow
-  marks-none split = refl
-
--- the walk, where a victim holds a tombstone
-module _ (L : Layout) (area cells : List ℕ) (split : Split) (marks : List ℕ) where
-  pub not-needed : anyTombstone L area split ≡ false → marks ≡ markNeeded L area cells split marks
-  unfolding markNeeded
-  not-needed e = sym (pick-false (anyTombstone L area split) _ marks e)
-
-  pub is-needed : {marks′ : List ℕ} → anyTombstone L area split ≡ true → marks′ ≡ markOutside L area cells split marks → marks′ ≡ markNeeded L area cells split marks
-  unfolding markNeeded
-  is-needed e h = h ∙ sym (pick-true (anyTombstone L area split) _ marks e)
-
 -- ---- the lengths
 
 module _ (L : Layout) (area cells : List ℕ) where
-  length-found : (marks : List ℕ) (f : Found) → length (markFound marks f) ≡ length marks
+  pub length-found : (marks : List ℕ) (f : Found) → length (markFound marks f) ≡ length marks
   unfolding markFound
   length-found marks (Found.At i) = length-marked marks i
   length-found marks (Found.Free i) = refl
@@ -106,11 +47,11 @@ module _ (L : Layout) (area cells : List ℕ) where
 
   pub length-entry : (marks : List ℕ) (h : Header) → length (markEntry L area cells marks h) ≡ length marks
   unfolding markEntry pick
-  length-entry marks h = go (h .tombstone)
+  length-entry marks h = go (h .tombstone) _
     where
-      go : (t : Bool) → length (pick t marks (markFound marks (searchFor L area cells (h .key)))) ≡ length marks
-      go true = refl
-      go false = length-found marks (searchFor L area cells (h .key))
+      go : (t : Bool) (f : Found) → length (pick t marks (markFound marks f)) ≡ length marks
+      go true f = refl
+      go false f = length-found marks f
 
   pub length-items : (is : List Item) (marks : List ℕ) → length (markItems L area cells marks is) ≡ length marks
   unfolding markItems
@@ -130,14 +71,6 @@ module _ (L : Layout) (area cells : List ℕ) where
     unfolding markBelow
     length-below zero = refl
     length-below (suc n) = length-part n (markBelow L area cells split marks n) ∙ length-below n
-
-pub length-needed : (L : Layout) (area cells : List ℕ) (split : Split) (marks : List ℕ) → length (markNeeded L area cells split marks) ≡ length marks
-unfolding markNeeded pick
-length-needed L area cells split marks = go (anyTombstone L area split)
-  where
-    go : (t : Bool) → length (pick t (markOutside L area cells split marks) marks) ≡ length marks
-    go true = length-below L area cells split marks (split .slots)
-    go false = refl
 
 -- ---- what a mark means
 

@@ -30,6 +30,7 @@ ghost use Rattle.model.specs.Refused.{freely, victimsBad};
 ghost use Rattle.model.specs.Promises.{StartPromise};
 ghost use Rattle.starting.specs.Checks.{checked};
 ghost use Rattle.cleaning.specs.Kept.{keptBytes};
+ghost use Rattle.cleaning.specs.Chosen.{chosenBytes};
 ghost use Rattle.cleaning.specs.KeptModel.{splitOf};
 ghost use Rattle.cleaning.specs.Begun.{CleanReady, CleanFits, Room, frontCauses, keptCauses, begunWith, markedWith};
 
@@ -93,25 +94,23 @@ fn check_kept(rec: Record, count: usize) -> Check
 fn begin(
     rec: Record,
     area: &[u8],
-    index: &[u32],
-    marks: &[u32],
+    chosen: &[u32],
     work: &mut [u8],
     victims: u32,
     split: Split,
 ) -> Start
     requires { ⌜ CleanReady edition1 rec victims ⌝ }
-    requires { ⌜ Room edition1 rec split (now area) (now index) (now marks) (now work) ⌝ }
+    requires { ⌜ Room edition1 rec split (now area) (now chosen) (now work) ⌝ }
     ensures { λ r.
         ⌜
         record { start = r; work = now (work .exit) }
-        ≡ begunWith edition1 rec victims (now (work .entry))
-        (keptBytes edition1 (now (area .entry)) (now (index .entry)) (now (marks .entry)) split) none
+        ≡ begunWith edition1 rec victims (now (work .entry)) (chosenBytes edition1 (now (area .entry)) (now (chosen .entry)) split) none
         ⌝ }
 {
     let next = rec.next;
     let slot = next_free(rec.slots, rec.map, rec.head);
     write_digest(work, 0, new_digest(rec, victims, slot, next));
-    let count = copy_kept(area, index, marks, split, work, DIGEST_SIZE);
+    let count = copy_kept(area, chosen, split, work, DIGEST_SIZE);
     let left = head_stores(rec.size as usize, count) as u32;
     let length = count as u32;
     let pending = Pending::Clean {
@@ -123,7 +122,7 @@ fn begin(
     started(rec, pending, left)
 }
 
-// A cleaning once the cells are marked. What is kept is measured before a byte of the work buffer changes.
+// A cleaning once the cells are marked. What is kept is measured and chosen before a byte of the work buffer changes.
 fn clean_marked(
     rec: Record,
     area: &[u8],
@@ -141,9 +140,11 @@ fn clean_marked(
         (keptBytes edition1 (now (area .entry)) (now (index .entry)) (now (marks .entry)) split)
         ⌝ }
 {
-    match check_kept(rec, measure(area, index, marks, split)) {
+    let mut chosen = [0u32; 256];
+    let count = measure(area, index, marks, &mut chosen, split);
+    match check_kept(rec, count) {
         Check::Refused(c) => refused(rec, c),
-        Check::Passed => begin(rec, area, index, marks, work, victims, split),
+        Check::Passed => begin(rec, area, &chosen, work, victims, split),
     }
 }
 

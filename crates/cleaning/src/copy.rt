@@ -1,5 +1,7 @@
 // What is kept, copied to the work buffer.
 use crate::Split;
+use crate::behind::behind;
+use crate::chosen::is_chosen;
 use crate::kept::is_kept;
 use log::slots::is_named;
 use segment::Header;
@@ -12,8 +14,8 @@ ghost use Prim.Native.Nat.{_+_, _≤_, _<_};
 ghost use mathlib.Core.Path.{_≡_};
 ghost use lib.ListN.{length};
 ghost use Rattle.segment.specs.Layout.{edition1};
-ghost use Rattle.cleaning.specs.Entries.{SplitFits};
-ghost use Rattle.cleaning.specs.Kept.{keptEntry, keptSlot, keptPart, keptBytes};
+ghost use Rattle.cleaning.specs.Kept.{keptEntry};
+ghost use Rattle.cleaning.specs.Chosen.{ChosenFits, chosenEntry, chosenSlot, chosenPart, chosenBytes};
 ghost use Rattle.cleaning.specs.Copied.{Copied};
 
 // The bytes of an entry, if it is kept, from an offset of the work buffer on. Like the others here it answers the offset
@@ -44,21 +46,43 @@ pub fn copy_entry(
     to + header.length
 }
 
-// What is kept of a slot. Damage, which no log of ours has, ends a segment too.
+// The bytes of an entry, if it is chosen.
+fn copy_chosen(
+    area: &[u8],
+    chosen: &[u32],
+    header: Header,
+    place: usize,
+    work: &mut [u8],
+    to: usize,
+) -> usize
+    requires { ⌜ length (now chosen) ≡ 256 ⌝ }
+    requires { ⌜ place + header .length ≤ length (now area) ⌝ }
+    requires { ⌜ to + length (chosenEntry (now area) (now chosen) header place) ≤ length (now work) ⌝ }
+    ensures { λ r.
+        ⌜ Copied (chosenEntry (now (area .entry)) (now (chosen .entry)) header place) (now (work .entry)) to (now (work .exit)) r ⌝ }
+{
+    if !is_chosen(chosen, place) {
+        return to;
+    }
+    let end = place + header.length;
+    copy_into(work, to, &area[place..end]);
+    to + header.length
+}
+
+// What is chosen of a slot. Damage, which no log of ours has, ends a segment too.
 fn copy_slot(
     area: &[u8],
-    cells: &[u32],
-    marks: &[u32],
+    chosen: &[u32],
     split: Split,
     slot: usize,
     work: &mut [u8],
     from: usize,
 ) -> usize
-    requires { ⌜ SplitFits split (now area) (now marks) ⌝ }
+    requires { ⌜ ChosenFits split (now area) (now chosen) ⌝ }
     requires { ⌜ slot < split .slots ⌝ }
-    requires { ⌜ from + length (keptSlot edition1 (now area) (now cells) (now marks) (split .size) slot) ≤ length (now work) ⌝ }
+    requires { ⌜ from + length (chosenSlot edition1 (now area) (now chosen) (split .size) slot) ≤ length (now work) ⌝ }
     ensures { λ r.
-        ⌜ Copied (keptSlot edition1 (now (area .entry)) (now (cells .entry)) (now (marks .entry)) (split .size) slot) (now (work .entry)) from (now (work .exit)) r ⌝ }
+        ⌜ Copied (chosenSlot edition1 (now (area .entry)) (now (chosen .entry)) (split .size) slot) (now (work .entry)) from (now (work .exit)) r ⌝ }
 {
     let size = split.size;
     let s = cut(size, area, slot);
@@ -67,8 +91,8 @@ fn copy_slot(
     loop {
         match next(s, at) {
             Next::Entry(header) => {
-                to = copy_entry(area, cells, marks, header, slot * size + at, work, to);
-                at += header.length;
+                to = copy_chosen(area, chosen, header, slot * size + at, work, to);
+                at = behind(at, header.length);
             }
             Next::End => {
                 return to;
@@ -83,43 +107,35 @@ fn copy_slot(
 // The same, nothing where the slot is no victim.
 fn copy_victim(
     area: &[u8],
-    cells: &[u32],
-    marks: &[u32],
+    chosen: &[u32],
     split: Split,
     slot: usize,
     work: &mut [u8],
     to: usize,
 ) -> usize
-    requires { ⌜ SplitFits split (now area) (now marks) ⌝ }
+    requires { ⌜ ChosenFits split (now area) (now chosen) ⌝ }
     requires { ⌜ slot < split .slots ⌝ }
-    requires { ⌜ to + length (keptPart edition1 (now area) (now cells) (now marks) split slot) ≤ length (now work) ⌝ }
+    requires { ⌜ to + length (chosenPart edition1 (now area) (now chosen) split slot) ≤ length (now work) ⌝ }
     ensures { λ r.
-        ⌜ Copied (keptPart edition1 (now (area .entry)) (now (cells .entry)) (now (marks .entry)) split slot) (now (work .entry)) to (now (work .exit)) r ⌝ }
+        ⌜ Copied (chosenPart edition1 (now (area .entry)) (now (chosen .entry)) split slot) (now (work .entry)) to (now (work .exit)) r ⌝ }
 {
     if !is_named(split.victims, slot) {
         return to;
     }
-    copy_slot(area, cells, marks, split, slot, work, to)
+    copy_slot(area, chosen, split, slot, work, to)
 }
 
-// All that is kept, by ascending slot and then offset.
-pub fn copy_kept(
-    area: &[u8],
-    cells: &[u32],
-    marks: &[u32],
-    split: Split,
-    work: &mut [u8],
-    from: usize,
-) -> usize
-    requires { ⌜ SplitFits split (now area) (now marks) ⌝ }
-    requires { ⌜ from + length (keptBytes edition1 (now area) (now cells) (now marks) split) ≤ length (now work) ⌝ }
+// All that is chosen, by ascending slot and then offset.
+pub fn copy_kept(area: &[u8], chosen: &[u32], split: Split, work: &mut [u8], from: usize) -> usize
+    requires { ⌜ ChosenFits split (now area) (now chosen) ⌝ }
+    requires { ⌜ from + length (chosenBytes edition1 (now area) (now chosen) split) ≤ length (now work) ⌝ }
     ensures { λ r.
-        ⌜ Copied (keptBytes edition1 (now (area .entry)) (now (cells .entry)) (now (marks .entry)) split) (now (work .entry)) from (now (work .exit)) r ⌝ }
+        ⌜ Copied (chosenBytes edition1 (now (area .entry)) (now (chosen .entry)) split) (now (work .entry)) from (now (work .exit)) r ⌝ }
 {
     let mut to = from;
     let mut i = 0;
     while i < split.slots {
-        to = copy_victim(area, cells, marks, split, i, work, to);
+        to = copy_victim(area, chosen, split, i, work, to);
         i += 1;
     }
     to

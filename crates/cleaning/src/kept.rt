@@ -1,5 +1,7 @@
 // What is kept of the victims' slots, and how long it is.
 use crate::Split;
+use crate::behind::behind;
+use crate::chosen::choose;
 use crate::marks::is_marked;
 use index::Found;
 use index::search::search;
@@ -15,6 +17,7 @@ ghost use lib.ListN.{length};
 ghost use Rattle.segment.specs.Layout.{edition1};
 ghost use Rattle.cleaning.specs.Entries.{SplitFits};
 ghost use Rattle.cleaning.specs.Kept.{keptTest, keptEntry, keptSlot, keptPart, keptBytes};
+ghost use Rattle.cleaning.specs.Chosen.{chooseEntry, chooseSlot, choosePart, chooseVictims};
 
 // Whether a victim's entry at a place is kept: it is its key's highest version, and a tombstone only where the key's cell is
 // marked, as an object of the key stands outside the victims.
@@ -39,24 +42,51 @@ pub fn is_kept(area: &[u8], cells: &[u32], marks: &[u32], header: Header, place:
     }
 }
 
-// The length of an entry that is kept, 0 of one that is not.
-fn kept_length(area: &[u8], cells: &[u32], marks: &[u32], header: Header, place: usize) -> usize
-    requires { ⌜ length (now marks) ≡ 128 ⌝ }
+// The length of an entry that is kept, which is then chosen; 0 of one that is not.
+fn choose_kept(
+    area: &[u8],
+    cells: &[u32],
+    marks: &[u32],
+    chosen: &mut [u32],
+    header: Header,
+    place: usize,
+) -> usize
+    requires { ⌜ (length (now marks) ≡ 128) × (length (now chosen) ≡ 256) ⌝ }
     requires { ⌜ place + header .length ≤ length (now area) ⌝ }
     requires { ⌜ place < 65536 ⌝ }
-    ensures { λ r. ⌜ r ≡ length (keptEntry edition1 (now (area .entry)) (now (cells .entry)) (now (marks .entry)) header place) ⌝ }
+    ensures { λ r.
+        ⌜
+        (r ≡ length (keptEntry edition1 (now (area .entry)) (now (cells .entry)) (now (marks .entry)) header place))
+        × (now (chosen .exit)
+        ≡ chooseEntry (keptTest edition1 (now (area .entry)) (now (cells .entry)) (now (marks .entry))) (now (chosen .entry)) header place)
+        ⌝ }
 {
-    if is_kept(area, cells, marks, header, place) {
-        return header.length;
+    if !is_kept(area, cells, marks, header, place) {
+        return 0;
     }
-    0
+    choose(chosen, place);
+    header.length
 }
 
-// How long what is kept of a slot is. Damage ends a segment too.
-fn measure_slot(area: &[u8], cells: &[u32], marks: &[u32], split: Split, slot: usize) -> usize
-    requires { ⌜ SplitFits split (now area) (now marks) ⌝ }
+// How long what is kept of a slot is; it is chosen. Damage ends a segment too.
+fn measure_slot(
+    area: &[u8],
+    cells: &[u32],
+    marks: &[u32],
+    chosen: &mut [u32],
+    split: Split,
+    slot: usize,
+) -> usize
+    requires { ⌜ SplitFits split (now area) (now marks) × (length (now chosen) ≡ 256) ⌝ }
     requires { ⌜ slot < split .slots ⌝ }
-    ensures { λ r. ⌜ (r ≡ length (keptSlot edition1 (now (area .entry)) (now (cells .entry)) (now (marks .entry)) (split .size) slot)) × (r ≤ 2048) ⌝ }
+    ensures { λ r.
+        ⌜
+        (r ≡ length (keptSlot edition1 (now (area .entry)) (now (cells .entry)) (now (marks .entry)) (split .size) slot))
+        × (r ≤ 2048)
+        × (now (chosen .exit)
+        ≡ chooseSlot edition1 (keptTest edition1 (now (area .entry)) (now (cells .entry)) (now (marks .entry))) (now (area .entry))
+        (split .size) (now (chosen .entry)) slot)
+        ⌝ }
 {
     let size = split.size;
     let s = cut(size, area, slot);
@@ -65,8 +95,8 @@ fn measure_slot(area: &[u8], cells: &[u32], marks: &[u32], split: Split, slot: u
     loop {
         match next(s, at) {
             Next::Entry(header) => {
-                total += kept_length(area, cells, marks, header, slot * size + at);
-                at += header.length;
+                total += choose_kept(area, cells, marks, chosen, header, slot * size + at);
+                at = behind(at, header.length);
             }
             Next::End => {
                 return total;
@@ -78,30 +108,48 @@ fn measure_slot(area: &[u8], cells: &[u32], marks: &[u32], split: Split, slot: u
     }
 }
 
-// The same, 0 where the slot is no victim.
-fn measure_victim(area: &[u8], cells: &[u32], marks: &[u32], split: Split, slot: usize) -> usize
-    requires { ⌜ SplitFits split (now area) (now marks) ⌝ }
+// The same, 0 and nothing chosen where the slot is no victim.
+fn measure_victim(
+    area: &[u8],
+    cells: &[u32],
+    marks: &[u32],
+    chosen: &mut [u32],
+    split: Split,
+    slot: usize,
+) -> usize
+    requires { ⌜ SplitFits split (now area) (now marks) × (length (now chosen) ≡ 256) ⌝ }
     requires { ⌜ slot < split .slots ⌝ }
-    ensures { λ r. ⌜ (r ≡ length (keptPart edition1 (now (area .entry)) (now (cells .entry)) (now (marks .entry)) split slot)) × (r ≤ 2048) ⌝ }
+    ensures { λ r.
+        ⌜
+        (r ≡ length (keptPart edition1 (now (area .entry)) (now (cells .entry)) (now (marks .entry)) split slot))
+        × (r ≤ 2048)
+        × (now (chosen .exit)
+        ≡ choosePart edition1 (keptTest edition1 (now (area .entry)) (now (cells .entry)) (now (marks .entry))) (now (area .entry)) split
+        (now (chosen .entry)) slot)
+        ⌝ }
 {
     if !is_named(split.victims, slot) {
         return 0;
     }
-    measure_slot(area, cells, marks, split, slot)
+    measure_slot(area, cells, marks, chosen, split, slot)
 }
 
-// How long all that is kept is.
-pub fn measure(area: &[u8], cells: &[u32], marks: &[u32], split: Split) -> usize
-    requires { ⌜ SplitFits split (now area) (now marks) ⌝ }
+// How long all that is kept is; it is chosen.
+pub fn measure(area: &[u8], cells: &[u32], marks: &[u32], chosen: &mut [u32], split: Split) -> usize
+    requires { ⌜ SplitFits split (now area) (now marks) × (length (now chosen) ≡ 256) ⌝ }
     ensures { λ r.
         ⌜
-        (r ≡ length (keptBytes edition1 (now (area .entry)) (now (cells .entry)) (now (marks .entry)) split)) × (r ≤ 65536)
+        (r ≡ length (keptBytes edition1 (now (area .entry)) (now (cells .entry)) (now (marks .entry)) split))
+        × (r ≤ 65536)
+        × (now (chosen .exit)
+        ≡ chooseVictims edition1 (keptTest edition1 (now (area .entry)) (now (cells .entry)) (now (marks .entry))) (now (area .entry)) split
+        (now (chosen .entry)))
         ⌝ }
 {
     let mut total = 0;
     let mut i = 0;
     while i < split.slots {
-        total += measure_victim(area, cells, marks, split, i);
+        total += measure_victim(area, cells, marks, chosen, split, i);
         i += 1;
     }
     total

@@ -1,7 +1,10 @@
-// One walk over the log outside the victims: the cells of the keys of its objects are marked. A tombstone among the victims is
-// kept if the cell of its key is.
+// One walk over the log outside the victims: the cells of the keys of its objects are marked, where a filter has the key. A
+// tombstone among the victims is kept if the cell of its key is.
 use crate::Split;
+use crate::behind::behind;
+use crate::filter::has;
 use crate::marks::mark;
+use crate::noted::note_victims;
 use crate::tombstones::any_tombstone;
 use index::Found;
 use index::search::search;
@@ -18,7 +21,9 @@ ghost use lib.ListN.{length};
 ghost use Rattle.segment.specs.Layout.{edition1};
 ghost use Rattle.index.specs.Search.{searchFor};
 ghost use Rattle.cleaning.specs.Entries.{SplitFits};
-ghost use Rattle.cleaning.specs.Marks.{markFound, markEntry, markSlot, markPart, markOutside, markNeeded};
+ghost use Rattle.cleaning.specs.Marks.{markFound};
+ghost use Rattle.cleaning.specs.Walks.{walkSlot, walkPart};
+ghost use Rattle.cleaning.specs.Filter.{siftEntry, siftOutside, siftNeeded};
 
 // Marks the cell of a key.
 fn mark_key(area: &[u8], cells: &[u32], marks: &mut [u32], key: Key)
@@ -35,30 +40,48 @@ fn mark_key(area: &[u8], cells: &[u32], marks: &mut [u32], key: Key)
     }
 }
 
-// Marks the cell of an object's key.
-fn mark_entry(area: &[u8], cells: &[u32], marks: &mut [u32], header: Header)
-    requires { ⌜ length (now marks) ≡ 128 ⌝ }
-    ensures { λ _. ⌜ now (marks .exit) ≡ markEntry edition1 (now (area .entry)) (now (cells .entry)) (now (marks .entry)) header ⌝ }
+// Marks the cell of an object's key where the filter has the key: most keys are not searched for.
+fn sift_entry(area: &[u8], cells: &[u32], filter: &[u32], marks: &mut [u32], header: Header)
+    requires { ⌜ (length (now filter) ≡ 128) × (length (now marks) ≡ 128) ⌝ }
+    ensures { λ _.
+        ⌜
+        now (marks .exit) ≡ siftEntry edition1 (now (area .entry)) (now (cells .entry)) (now (filter .entry)) (now (marks .entry)) header
+        ⌝ }
 {
     if header.tombstone {
+        return;
+    }
+    if !has(filter, header.key) {
         return;
     }
     mark_key(area, cells, marks, header.key);
 }
 
 // Marks the cells of the keys of a slot's objects. Damage ends a segment too.
-fn mark_slot(area: &[u8], cells: &[u32], marks: &mut [u32], split: Split, slot: usize)
-    requires { ⌜ SplitFits split (now area) (now marks) ⌝ }
+fn mark_slot(
+    area: &[u8],
+    cells: &[u32],
+    filter: &[u32],
+    marks: &mut [u32],
+    split: Split,
+    slot: usize,
+)
+    requires { ⌜ SplitFits split (now area) (now marks) × (length (now filter) ≡ 128) ⌝ }
     requires { ⌜ slot < split .slots ⌝ }
-    ensures { λ _. ⌜ now (marks .exit) ≡ markSlot edition1 (now (area .entry)) (now (cells .entry)) split (now (marks .entry)) slot ⌝ }
+    ensures { λ _.
+        ⌜
+        now (marks .exit)
+        ≡ walkSlot edition1 (siftEntry edition1 (now (area .entry)) (now (cells .entry)) (now (filter .entry))) (now (area .entry))
+        (split .size) (now (marks .entry)) slot
+        ⌝ }
 {
     let s = cut(split.size, area, slot);
     let mut at = DIGEST_SIZE;
     loop {
         match next(s, at) {
             Next::Entry(header) => {
-                mark_entry(area, cells, marks, header);
-                at += header.length;
+                sift_entry(area, cells, filter, marks, header);
+                at = behind(at, header.length);
             }
             Next::End => {
                 return;
@@ -71,36 +94,53 @@ fn mark_slot(area: &[u8], cells: &[u32], marks: &mut [u32], split: Split, slot: 
 }
 
 // The same, nothing where the slot is not outside the victims.
-fn mark_part(area: &[u8], cells: &[u32], marks: &mut [u32], split: Split, slot: usize)
-    requires { ⌜ SplitFits split (now area) (now marks) ⌝ }
+fn mark_part(
+    area: &[u8],
+    cells: &[u32],
+    filter: &[u32],
+    marks: &mut [u32],
+    split: Split,
+    slot: usize,
+)
+    requires { ⌜ SplitFits split (now area) (now marks) × (length (now filter) ≡ 128) ⌝ }
     requires { ⌜ slot < split .slots ⌝ }
-    ensures { λ _. ⌜ now (marks .exit) ≡ markPart edition1 (now (area .entry)) (now (cells .entry)) split (now (marks .entry)) slot ⌝ }
+    ensures { λ _.
+        ⌜
+        now (marks .exit)
+        ≡ walkPart edition1 (siftEntry edition1 (now (area .entry)) (now (cells .entry)) (now (filter .entry))) (now (area .entry))
+        (split .size) (split .outside) (now (marks .entry)) slot
+        ⌝ }
 {
     if !is_named(split.outside, slot) {
         return;
     }
-    mark_slot(area, cells, marks, split, slot);
+    mark_slot(area, cells, filter, marks, split, slot);
 }
 
-// Marks the cells of the keys of all objects outside the victims.
-pub fn mark_outside(area: &[u8], cells: &[u32], marks: &mut [u32], split: Split)
-    requires { ⌜ SplitFits split (now area) (now marks) ⌝ }
-    ensures { λ _. ⌜ now (marks .exit) ≡ markOutside edition1 (now (area .entry)) (now (cells .entry)) split (now (marks .entry)) ⌝ }
+// Marks the cells of the keys of all objects outside the victims, where the filter has the key.
+pub fn mark_outside(area: &[u8], cells: &[u32], filter: &[u32], marks: &mut [u32], split: Split)
+    requires { ⌜ SplitFits split (now area) (now marks) × (length (now filter) ≡ 128) ⌝ }
+    ensures { λ _.
+        ⌜
+        now (marks .exit) ≡ siftOutside edition1 (now (area .entry)) (now (cells .entry)) (now (filter .entry)) split (now (marks .entry))
+        ⌝ }
 {
     let mut i = 0;
     while i < split.slots {
-        mark_part(area, cells, marks, split, i);
+        mark_part(area, cells, filter, marks, split, i);
         i += 1;
     }
 }
 
-// The same, nothing where no victim holds a tombstone, as no mark is looked at then.
+// The same by the keys of the victims' tombstones, nothing where no victim holds one, as no mark is looked at then.
 pub fn mark_needed(area: &[u8], cells: &[u32], marks: &mut [u32], split: Split)
     requires { ⌜ SplitFits split (now area) (now marks) ⌝ }
-    ensures { λ _. ⌜ now (marks .exit) ≡ markNeeded edition1 (now (area .entry)) (now (cells .entry)) split (now (marks .entry)) ⌝ }
+    ensures { λ _. ⌜ now (marks .exit) ≡ siftNeeded edition1 (now (area .entry)) (now (cells .entry)) split (now (marks .entry)) ⌝ }
 {
     if !any_tombstone(area, split) {
         return;
     }
-    mark_outside(area, cells, marks, split);
+    let mut filter = [0u32; 128];
+    note_victims(area, &mut filter, split);
+    mark_outside(area, cells, &filter, marks, split);
 }

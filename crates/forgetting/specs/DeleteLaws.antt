@@ -20,7 +20,7 @@ use Rattle.segment.specs.declared.Digest.{Digest}
 use Rattle.segment.specs.declared.Key.{Key}
 use Rattle.slot_map.specs.Bit.{named, withBit, within}
 use Rattle.slot_map.specs.Count.{free}
-use Rattle.slot_map.specs.BitLaws.{named-true, bit-of-zero, with-clear, within-pow}
+use Rattle.slot_map.specs.BitLaws.{named-true, set-named, bit-of-zero, bit-pow-same, with-clear, within-pow}
 use Rattle.record.specs.Range.{fitsLent}
 use Rattle.record.specs.RangeLaws.{Lent, lent}
 use Rattle.record.specs.declared.Pending.the-variants.{Forget}
@@ -52,6 +52,8 @@ use Rattle.writing.specs.Laying.{laidBegun}
 use Rattle.writing.specs.StartLaws.{deletes, deleteTests, delete-causes, deleted, start-laid}
 use Rattle.forgetting.specs.Forgot.{forgotSlot}
 use Rattle.forgetting.specs.Forgetting.{ForgetReady, VictimReady, inLog, forgettingWith, forgotBegun, unfit, outsideMarks, liveAt, forgotIn, forgotAt, forgotFound, forgotFor}
+use Rattle.forgetting.specs.Sifted.{siftedMarks, needed-alike, forgot-alike}
+use Rattle.forgetting.specs.declared.Live.{Live}
 use Rattle.forgetting.specs.ForgotModel.{live-found, live-place, live-slot, live-in, bytes-forgot}
 
 -- ---- the tests of the code
@@ -148,22 +150,36 @@ module _ (L : Layout) (r : Record) (slot w : ℕ) (ew : w ≡ withBit 0 slot) (s
   -- what the code makes of it
   pub victim-begun :
       (area cells : List ℕ) (k : Key) (work : List ℕ) (cell place : ℕ) (marks : List ℕ) (needed : Bool) {b : Begun} →
-      marks ≡ markOutside L area cells split (replicate 128 0) → needed ≡ isMarked marks cell →
+      searchFor L area cells k ≡ Found.At cell → marks ≡ siftedMarks L area cells split k (replicate 128 0) → needed ≡ isMarked marks cell →
       b ≡ forgotBegun L r (split .victims) work
       (forgotSlot L area cells marks (record { place = place; needed = needed; key = k; version = r .next }) (split .size) slot) →
       b ≡ forgotIn L r area cells k work cell place slot
   unfolding forgotIn
-  victim-begun area cells k work cell place marks needed em en h =
-      h ∙ (λ i.
+  victim-begun area cells k work cell place marks needed at em en h =
+      h ∙ (λ i. forgotBegun L r (split .victims) work (forgotSlot L area cells (em i) (going (told i)) (split .size) slot))
+      ∙ ap (forgotBegun L r (split .victims) work) (forgot-alike L area cells split k (going (isMarked all cell)) slot below own)
+      ∙ (λ i.
       forgotBegun L r (victim-parted i .victims) work
-      (forgotSlot L area cells (all-marks i) (record { place = place; needed = told i; key = k; version = r .next }) (victim-parted i .size) slot))
+      (forgotSlot L area cells (all-marks i) (going (isMarked (all-marks i) cell)) (victim-parted i .size) slot))
       ∙ sym (pick-true (inLog r slot) _ _ in-log)
     where
-      all-marks : marks ≡ outsideMarks L r area cells slot
-      all-marks = em ∙ ap (λ (s : Split). markOutside L area cells s (replicate 128 0)) victim-parted
+      going : Bool → Live
+      going t = record { place = place; needed = t; key = k; version = r .next }
 
-      told : needed ≡ isMarked (outsideMarks L r area cells slot) cell
-      told = en ∙ ap (λ (l : List ℕ). isMarked l cell) all-marks
+      all : List ℕ
+      all = markOutside L area cells split (replicate 128 0)
+
+      all-marks : all ≡ outsideMarks L r area cells slot
+      all-marks = ap (λ (s : Split). markOutside L area cells s (replicate 128 0)) victim-parted
+
+      told : needed ≡ isMarked all cell
+      told = en ∙ ap (λ (l : List ℕ). isMarked l cell) em ∙ needed-alike L area cells split k cell at
+
+      below : slot < split .slots
+      below = omega (arith, in-log-below r slot in-log, ap (λ (s : Split). s .slots) victim-parted)
+
+      own : named (split .victims) slot ≡ true
+      own = ap (λ (s : Split). named (s .victims) slot) victim-parted ∙ set-named (2 ^ slot) slot (bit-pow-same slot)
 
 module _ (L : Layout) (r : Record) (area cells : List ℕ) (k : Key) (work : List ℕ) where
   module _ (cell place slot : ℕ) where

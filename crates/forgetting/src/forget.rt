@@ -4,7 +4,9 @@ use crate::Live;
 use crate::copy::put_slot;
 use cleaning::Split;
 use cleaning::clean::split_of;
+use cleaning::filter::put;
 use cleaning::marks::is_marked;
+use cleaning::noted::note_victims;
 use cleaning::outside::mark_outside;
 use index::Found;
 use index::search::search;
@@ -25,8 +27,12 @@ use starting::stores::head_stores;
 ghost use Prim.Native.Nat.{_≤_, _<_};
 ghost use mathlib.Core.Path.{_≡_};
 ghost use Rattle.segment.specs.Layout.{edition1};
+ghost use Rattle.index.specs.Search.{searchFor};
 ghost use Rattle.index.specs.SearchLaws.{Inside};
+ghost use Rattle.index.specs.declared.Found.the-variants.{At};
+ghost use Rattle.cleaning.specs.Entries.{SplitFits};
 ghost use Rattle.forgetting.specs.Forgot.{forgotSlot};
+ghost use Rattle.forgetting.specs.Sifted.{siftedMarks};
 ghost use Rattle.forgetting.specs.Forgetting.{ForgetReady, VictimReady, inLog, forgotBegun, forgotAt, forgotFor};
 
 // Whether a slot is one of the log's.
@@ -75,6 +81,18 @@ fn begin(
     started(rec, pending, left)
 }
 
+// Marks the cells of the keys of objects outside the victim, of the key itself and those of the victim's tombstones: no other
+// mark is looked at.
+fn mark_left(area: &[u8], index: &[u32], marks: &mut [u32], split: Split, key: Key)
+    requires { ⌜ SplitFits split (now area) (now marks) ⌝ }
+    ensures { λ _. ⌜ now (marks .exit) ≡ siftedMarks edition1 (now (area .entry)) (now (index .entry)) split key (now (marks .entry)) ⌝ }
+{
+    let mut filter = [0u32; 128];
+    put(&mut filter, key);
+    note_victims(area, &mut filter, split);
+    mark_outside(area, index, &filter, marks, split);
+}
+
 // The key's cell in the index tells the place of the live object, and so the victim. On a store that is none of ours the place
 // may lie outside the log.
 fn forget_at(
@@ -87,6 +105,7 @@ fn forget_at(
 ) -> Start
     requires { ⌜ ForgetReady edition1 rec (now area) (now index) (now work) ⌝ }
     requires { ⌜ Inside edition1 (now area) (now index) cell ⌝ }
+    requires { ⌜ searchFor edition1 (now area) (now index) key ≡ At cell ⌝ }
     ensures { λ r.
         ⌜
         record { start = r; work = now (work .exit) }
@@ -100,7 +119,7 @@ fn forget_at(
     }
     let split = split_of(rec, with_slot(0, slot as u32));
     let mut marks = [0u32; 128];
-    mark_outside(area, index, &mut marks, split);
+    mark_left(area, index, &mut marks, split, key);
     let needed = is_marked(&marks, cell);
     let version = rec.next;
     let live = Live {

@@ -13,16 +13,16 @@ next-free-requires c κs = search needs
 
 new-digest-requires : tie.Need-new-digest-requires
 new-digest-requires c κs =
-    let r = c .before .before .before .before .before .before .before .pre .0 in
+    let r = c .before .before .before .before .before .before .pre .0 in
     head-ready edition1 _ _ _ (r .lent) _ (r .all-named) (r .number-left) _ (c .before .next-free .ensures)
 
 write-digest-requires : tie.Need-write-digest-requires
 unfolding edition1
-write-digest-requires c κs = let r = c .before .before .before .before .before .before .before .before .pre .1 in omega (arith, r .fits, r .long)
+write-digest-requires c κs = let r = c .before .before .before .before .before .before .before .pre .1 in omega (arith, r .fits, r .long)
 
 copy-kept-requires : tie.Need-copy-kept-requires
 unfolding edition1
-copy-kept-requires c κs = let r = c .before .before .before .before .before .before .before .before .before .before .before .before .pre .1 in (r .shape, omega (arith, r .fits, r .long))
+copy-kept-requires c κs = let r = c .before .before .before .before .before .before .before .before .before .before .before .pre .1 in (r .shape, omega (arith, r .fits, r .long))
 
 cast-head-stores : tie.Need-cast-head-stores
 cast-head-stores c = search needs
@@ -30,20 +30,20 @@ cast-head-stores c = search needs
 head-stores-requires : tie.Need-head-stores-requires
 unfolding edition1
 head-stores-requires c κs =
-    let s = c .before .before .before .before .before .before .before .before .before .before .before .before .before .before .before .before in
+    let s = c .before .before .before .before .before .before .before .before .before .before .before .before .before .before .before in
     (omega (arith, c .before .before .before .copy-kept .ensures .behind, s .pre .1 .fits), s .pre .0 .lent .size-high)
 
 cast-left : tie.Need-cast-left
 unfolding edition1
 cast-left c =
-    let s = c .before .before .before .before .before .before .before .before .before .before .before .before .before .before .before .before .before in
+    let s = c .before .before .before .before .before .before .before .before .before .before .before .before .before .before .before .before in
     let most = head-most _ _ (c .head-stores .ensures) in
     omega (arith, c .before .before .before .before .copy-kept .ensures .behind, s .pre .1 .fits, s .pre .0 .lent .size-high)
 
 cast-length : tie.Need-cast-length
 unfolding edition1
 cast-length c =
-    let s = c .before .before .before .before .before .before .before .before .before .before .before .before .before .before .before .before .before in
+    let s = c .before .before .before .before .before .before .before .before .before .before .before .before .before .before .before .before in
     omega (arith, c .before .before .before .before .copy-kept .ensures .behind, s .pre .1 .fits, s .pre .0 .lent .size-high)
 
 started-requires : tie.Need-started-requires

@@ -7,7 +7,7 @@ use denote.Ref.{now}
 use borrow.Author.Needs.{needs}
 use Rattle.word.specs.Number.{Bytes}
 use Rattle.segment.specs.Layout.{edition1}
-use Rattle.cleaning.specs.MarksLaws.{length-needed}
+use Rattle.cleaning.specs.FilterLaws.{length-needed}
 use Rattle.cleaning.specs.CleanLaws.{front-refused, front-shape, front-fits, marked-promise}
 use Rattle.cleaning.proofs.clean.clean.Statement.{statement}
 use Rattle.cleaning.proofs.clean.clean.Tie as tie
@@ -52,7 +52,7 @@ clean-marked-requires c κs =
     let k = t .before .before in
     let a = k .before .before .before .before .args in
     front-fits edition1 (now (a .area)) (now (a .index)) (a .rec) (a .victims) (now (a .work)) (sym (t .enum-told .given .1) ∙ k .check-victims .ensures)
-    _ _ (s .split-of .ensures) (ap length (m .mark-needed .ensures) ∙ length-needed edition1 _ _ _ _ ∙ length-replicate {A = ℕ} 128 0)
+    _ _ (s .split-of .ensures) (ap length (m .mark-needed .ensures) ∙ length-needed edition1 _ _ _ 128 _ (length-replicate {A = ℕ} 128 0))
 
 returns : tie.Need-returns
 returns c =

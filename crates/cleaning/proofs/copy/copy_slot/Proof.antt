@@ -1,27 +1,28 @@
--- `cleaning::copy::copy_slot` meets its contract. The invariant: with what is kept from here on, the copy is that of the slot.
+-- `cleaning::copy::copy_slot` meets its contract. The invariant: with what is chosen from here on, the copy is that of the slot.
 use Prim.Native.Nat.{_+_, _*_, _-_, _<_}
-use mathlib.Core.Path.{_≡_}
+use mathlib.Core.Path.{_≡_, refl}
 use native.Mathlib.Omega.{arith}
 use lib.ListN.{length}
 use denote.Ref.{now}
 use borrow.Author.Needs.{needs}
 use Rattle.segment.specs.Layout.{edition1}
-use Rattle.cleaning.specs.Kept.{keptSlot, keptEntry}
+use Rattle.cleaning.specs.Chosen.{chosenSlot, chosenEntry}
 use Rattle.cleaning.specs.EntriesLaws.{Meets, meets, stops-end, stops-damage, slot-lies, slot-long, entry-lies, place-short}
-use Rattle.cleaning.specs.KeptLaws.{keptFrom, from-whole, from-stop, from-entry}
+use Rattle.cleaning.specs.ChosenLaws.{chosenFrom, chosen-whole, chosen-stop, chosen-entry}
 use Rattle.cleaning.specs.Copied.{Copying, copying-start, copying-room, copying-next, copying-end}
 use Rattle.cleaning.proofs.copy.copy_slot.Statement.{statement}
 use Rattle.cleaning.proofs.copy.copy_slot.Tie as tie
 
 abbrev Inv-loop : tie.InvT-loop
-Inv-loop area cells marks slot work₀ from size s at₀ to₀ work at to = Copying (keptSlot edition1 area cells marks size slot) work₀ from (keptFrom edition1 area cells marks size slot s at) work to
+Inv-loop area chosen slot work₀ from size s at₀ to₀ work at to =
+    Copying (chosenSlot edition1 area chosen size slot) work₀ from (chosenFrom edition1 area chosen size slot s at) work to
 
 abbrev μ-loop : tie.MeasureT-loop
-μ-loop area cells marks slot work₀ from size s at₀ to₀ work at to = length s - at
+μ-loop area chosen slot work₀ from size s at₀ to₀ work at to = length s - at
 
 -- the slot's part of the area is S bytes long
-long : (c : tie.After-cut Inv-loop μ-loop) → length (now (c .cut .result)) ≡ c .before .before .before .before .before .args .split .size
-long c = let s = c .before .before .before .before .before in slot-long (s .pre .0 .slots) _ (s .pre .1 .0) _ (c .cut .ensures)
+long : (c : tie.After-cut Inv-loop μ-loop) → length (now (c .cut .result)) ≡ c .before .before .before .before .args .split .size
+long c = let s = c .before .before .before .before in slot-long (s .pre .0 .slots) _ (s .pre .1 .0) _ (c .cut .ensures)
 
 -- the entry that the turn meets, and its place
 met : (c : tie.After-known-told Inv-loop μ-loop)
@@ -29,18 +30,18 @@ met : (c : tie.After-known-told Inv-loop μ-loop)
 met c = meets edition1 _ _ _ (c .before .before .before .next .ensures) _ (c .before .header .given .1)
 
 place : (c : tie.After-known-told Inv-loop μ-loop)
-    → let a = c .before .before .before .before .before .before .before .before .before .before .args in
+    → let a = c .before .before .before .before .before .before .before .before .before .args in
     a .slot * a .split .size + c .before .before .before .before .loop .at < 65536
 place c =
-    let s = c .before .before .before .before .before .before .before .before .before .before in
+    let s = c .before .before .before .before .before .before .before .before .before in
     place-short (s .pre .0 .slots) _ (s .pre .1 .0) _ (c .before .before .before .before .before .cut .ensures) _ _ (met c .fits) (met c .some-byte)
 
 cut-requires : tie.Need-cut-requires Inv-loop μ-loop
-cut-requires c κs = let s = c .before .before .before .before in slot-lies (s .pre .0 .slots) (s .args .slot) (s .pre .1 .0)
+cut-requires c κs = let s = c .before .before .before in slot-lies (s .pre .0 .slots) (s .args .slot) (s .pre .1 .0)
 
 loop-holds : tie.Need-loop-holds Inv-loop μ-loop
 unfolding edition1
-loop-holds c = copying-start _ _ _ _ (from-whole edition1 _ _ _ _ _ _ (c .cut .ensures))
+loop-holds c = copying-start _ _ _ _ (chosen-whole edition1 _ _ _ _ _ (c .cut .ensures))
 
 next-requires : tie.Need-next-requires Inv-loop μ-loop
 next-requires c κs = search needs
@@ -48,39 +49,36 @@ next-requires c κs = search needs
 enum-known-header : tie.Need-enum-known-header Inv-loop μ-loop
 enum-known-header c = search needs
 
-mul-copy-entry : tie.Need-mul-copy-entry Inv-loop μ-loop
-mul-copy-entry c = omega (arith, place c)
+mul-copy-chosen : tie.Need-mul-copy-chosen Inv-loop μ-loop
+mul-copy-chosen c = omega (arith, place c)
 
-add-copy-entry : tie.Need-add-copy-entry Inv-loop μ-loop
-add-copy-entry c = omega (arith, place c)
+add-copy-chosen : tie.Need-add-copy-chosen Inv-loop μ-loop
+add-copy-chosen c = omega (arith, place c)
 
-copy-entry-requires : tie.Need-copy-entry-requires Inv-loop μ-loop
-copy-entry-requires c κs =
-    let s = c .before .before .before .before .before .before .before .before .before .before .before in
+copy-chosen-requires : tie.Need-copy-chosen-requires Inv-loop μ-loop
+copy-chosen-requires c κs =
+    let s = c .before .before .before .before .before .before .before .before .before .before in
     let a = s .args in
     let at = c .before .before .before .before .before .loop .at in
     let h = c .before .before .header .given .0 .0 in (
-      s .pre .0 .marks-long,
+      s .pre .0 .chosen-long,
       (
         entry-lies (s .pre .0 .slots) _ (s .pre .1 .0) _ (c .before .before .before .before .before .before .cut .ensures) _ _ (met (c .before) .fits),
-        (
-          place (c .before),
-          copying-room (c .before .before .before .before .before .loop .inv) (s .pre .1 .1)
-              (keptEntry edition1 (now (a .area)) (now (a .cells)) (now (a .marks)) h (a .slot * a .split .size + at))
-              (keptFrom edition1 (now (a .area)) (now (a .cells)) (now (a .marks)) (a .split .size) (a .slot) (now (c .before .before .before .before .before .before .cut .result)) (at + h .length))
-              (from-entry edition1 _ _ _ _ _ _ _ (met (c .before))),
-        ),
+        copying-room (c .before .before .before .before .before .loop .inv) (s .pre .1 .1)
+            (chosenEntry (now (a .area)) (now (a .chosen)) h (a .slot * a .split .size + at))
+            (chosenFrom edition1 (now (a .area)) (now (a .chosen)) (a .split .size) (a .slot) (now (c .before .before .before .before .before .before .cut .result)) (at + h .length))
+            (chosen-entry edition1 _ _ _ _ _ _ (met (c .before)) (at + h .length) refl),
       ),
     )
 
-add-at : tie.Need-add-at Inv-loop μ-loop
-add-at c = omega (arith, met (c .before .before .before .before .before), long (c .before .before .before .before .before .before .before .before .before .before), c .before .before .before .before .before .before .before .before .before .before .before .before .before .before .before .pre .0 .slots .size-high)
+behind-requires : tie.Need-behind-requires Inv-loop μ-loop
+behind-requires c κs = omega (arith, met (c .before .before .before .before), long (c .before .before .before .before .before .before .before .before .before), c .before .before .before .before .before .before .before .before .before .before .before .before .before .pre .0 .slots .size-high)
 
 loop-less : tie.Need-loop-less Inv-loop μ-loop
-loop-less c = omega (arith, met (c .before .before .before .before .before))
+loop-less c = omega (arith, c .behind .ensures, met (c .before .before .before .before .before))
 
 loop-again : tie.Need-loop-again Inv-loop μ-loop
-loop-again c = copying-next (c .before .before .before .before .before .before .before .before .before .loop .inv) _ _ _ _ (from-entry edition1 _ _ _ _ _ _ _ (met (c .before .before .before .before .before))) (c .before .before .before .copy-entry .ensures)
+loop-again c = copying-next (c .before .before .before .before .before .before .before .before .before .loop .inv) _ _ _ _ (chosen-entry edition1 _ _ _ _ _ _ (met (c .before .before .before .before .before)) _ (c .behind .ensures)) (c .before .before .before .copy-chosen .ensures)
 
 enum-told : tie.Need-enum-told Inv-loop μ-loop
 enum-told c = search needs
@@ -89,7 +87,7 @@ same-length : tie.Need-same-length Inv-loop μ-loop
 same-length c = c .before .before .before .loop .inv .long
 
 returns : tie.Need-returns Inv-loop μ-loop
-returns c = copying-end (c .before .before .before .loop .inv) (from-stop edition1 _ _ _ _ _ _ _ (stops-end edition1 _ _ _ (c .before .before .next .ensures) (c .enum-told .given .1)))
+returns c = copying-end (c .before .before .before .loop .inv) (chosen-stop edition1 _ _ _ _ _ _ (stops-end edition1 _ _ _ (c .before .before .next .ensures) (c .enum-told .given .1)))
 
 enum-told-2 : tie.Need-enum-told-2 Inv-loop μ-loop
 enum-told-2 c = search needs
@@ -98,7 +96,7 @@ same-length-2 : tie.Need-same-length-2 Inv-loop μ-loop
 same-length-2 c = c .before .before .before .loop .inv .long
 
 returns-2 : tie.Need-returns-2 Inv-loop μ-loop
-returns-2 c = copying-end (c .before .before .before .loop .inv) (from-stop edition1 _ _ _ _ _ _ _ (stops-damage edition1 _ _ _ (c .before .before .next .ensures) (c .enum-told2 .given .1)))
+returns-2 c = copying-end (c .before .before .before .loop .inv) (chosen-stop edition1 _ _ _ _ _ _ (stops-damage edition1 _ _ _ (c .before .before .next .ensures) (c .enum-told2 .given .1)))
 
 pub copy-slot-spec : {M : Type 1} → statement M
 copy-slot-spec =
@@ -110,10 +108,10 @@ copy-slot-spec =
     loop-holds
     next-requires
     enum-known-header
-    mul-copy-entry
-    add-copy-entry
-    copy-entry-requires
-    add-at
+    mul-copy-chosen
+    add-copy-chosen
+    copy-chosen-requires
+    behind-requires
     loop-less
     loop-again
     enum-told

@@ -1,29 +1,37 @@
--- `cleaning::kept::measure_slot` meets its contract. The invariant: with the length of what is kept from here on, the total is that of the slot.
+-- `cleaning::kept::measure_slot` meets its contract. The invariant: with the length of what is kept from here on the total
+-- is that of the slot, and with the entries from here on what is chosen is.
 use Prim.Native.Nat.{_+_, _*_, _-_, _≤_, _<_}
-use mathlib.Core.Path.{_≡_}
+use mathlib.Core.Path.{_≡_, refl, _∙_, ap}
 use native.Mathlib.Omega.{arith}
 use lib.ListN.{length}
 use denote.Ref.{now}
 use borrow.Author.Needs.{needs}
-use Rattle.segment.specs.Layout.{edition1}
-use Rattle.cleaning.specs.Kept.{keptSlot}
+use Rattle.segment.specs.Layout.{edition1, digestSize}
+use Rattle.model.specs.Log.{placedIn}
+use Rattle.index.specs.Build.{entriesAt}
+use Rattle.cleaning.specs.Kept.{keptTest, keptSlot}
+use Rattle.cleaning.specs.Chosen.{choosePlaced}
+use Rattle.cleaning.specs.ChosenLaws.{choice-stop, choice-entry, choice-whole, length-choice}
 use Rattle.cleaning.specs.EntriesLaws.{Meets, meets, stops-end, stops-damage, slot-lies, slot-long, entry-lies, place-short}
 use Rattle.cleaning.specs.KeptLaws.{keptFrom, measured-whole, entry-short, measured-stop, measured-entry}
 use Rattle.cleaning.proofs.kept.measure_slot.Statement.{statement}
 use Rattle.cleaning.proofs.kept.measure_slot.Tie as tie
 
 abbrev Inv-loop : tie.InvT-loop
-Inv-loop area cells marks slot size s at₀ total₀ at total =
+Inv-loop area cells marks chosen₀ slot size s at₀ total₀ chosen at total =
     (total + length (keptFrom edition1 area cells marks size slot s at) ≡ length (keptSlot edition1 area cells marks size slot))
     × (total ≤ at)
     × (at ≤ length s)
+    × (choosePlaced edition1 (keptTest edition1 area cells marks) size chosen (placedIn slot (entriesAt edition1 s at))
+    ≡ choosePlaced edition1 (keptTest edition1 area cells marks) size chosen₀ (placedIn slot (entriesAt edition1 s (digestSize edition1))))
+    × (length chosen ≡ length chosen₀)
 
 abbrev μ-loop : tie.MeasureT-loop
-μ-loop area cells marks slot size s at₀ total₀ at total = length s - at
+μ-loop area cells marks chosen₀ slot size s at₀ total₀ chosen at total = length s - at
 
 -- the slot's part of the area is S bytes long
-long : (c : tie.After-cut Inv-loop μ-loop) → length (now (c .cut .result)) ≡ c .before .before .before .before .args .split .size
-long c = let s = c .before .before .before .before in slot-long (s .pre .0 .slots) _ (s .pre .1) _ (c .cut .ensures)
+long : (c : tie.After-cut Inv-loop μ-loop) → length (now (c .cut .result)) ≡ c .before .before .before .before .before .args .split .size
+long c = let s = c .before .before .before .before .before in slot-long (s .pre .0 .0 .slots) _ (s .pre .1) _ (c .cut .ensures)
 
 -- the entry that the turn meets, and its place
 met : (c : tie.After-known-told Inv-loop μ-loop)
@@ -31,23 +39,29 @@ met : (c : tie.After-known-told Inv-loop μ-loop)
 met c = meets edition1 _ _ _ (c .before .before .before .next .ensures) _ (c .before .header .given .1)
 
 place : (c : tie.After-known-told Inv-loop μ-loop)
-    → let a = c .before .before .before .before .before .before .before .before .before .args in
+    → let a = c .before .before .before .before .before .before .before .before .before .before .args in
     a .slot * a .split .size + c .before .before .before .before .loop .at < 65536
 place c =
-    let s = c .before .before .before .before .before .before .before .before .before in
-    place-short (s .pre .0 .slots) _ (s .pre .1) _ (c .before .before .before .before .before .cut .ensures) _ _ (met c .fits) (met c .some-byte)
+    let s = c .before .before .before .before .before .before .before .before .before .before in
+    place-short (s .pre .0 .0 .slots) _ (s .pre .1) _ (c .before .before .before .before .before .cut .ensures) _ _ (met c .fits) (met c .some-byte)
 
-short : (c : tie.After-kept-length Inv-loop μ-loop) → c .kept-length .result ≤ c .before .before .header .given .0 .0 .length
+short : (c : tie.After-choose-kept Inv-loop μ-loop) → c .choose-kept .result ≤ c .before .before .before .header .given .0 .0 .length
 short c =
-    let a = c .before .before .before .before .before .before .before .before .before .before .args in
-    omega (arith, c .kept-length .ensures, entry-short edition1 (now (a .area)) (now (a .cells)) (now (a .marks)) (c .before .before .header .given .0 .0) (a .slot * a .split .size + c .before .before .before .before .before .loop .at))
+    let k = c .before .before in
+    let a = k .before .before .before .before .before .before .before .before .before .before .args in
+    omega (
+      arith,
+      c .choose-kept .ensures .0,
+      entry-short edition1 (now (a .area)) (now (a .cells)) (now (a .marks)) (k .before .header .given .0 .0)
+          (a .slot * a .split .size + k .before .before .before .before .loop .at),
+    )
 
 cut-requires : tie.Need-cut-requires Inv-loop μ-loop
-cut-requires c κs = let s = c .before .before .before in slot-lies (s .pre .0 .slots) (s .args .slot) (s .pre .1)
+cut-requires c κs = let s = c .before .before .before .before in slot-lies (s .pre .0 .0 .slots) (s .args .slot) (s .pre .1)
 
 loop-holds : tie.Need-loop-holds Inv-loop μ-loop
 unfolding edition1
-loop-holds c = (measured-whole edition1 _ _ _ _ _ _ (c .cut .ensures), omega arith, omega (arith, long c))
+loop-holds c = (measured-whole edition1 _ _ _ _ _ _ (c .cut .ensures), omega arith, omega (arith, long c), refl, refl)
 
 next-requires : tie.Need-next-requires Inv-loop μ-loop
 next-requires c κs = search needs
@@ -55,50 +69,86 @@ next-requires c κs = search needs
 enum-known-header : tie.Need-enum-known-header Inv-loop μ-loop
 enum-known-header c = search needs
 
-mul-kept-length : tie.Need-mul-kept-length Inv-loop μ-loop
-mul-kept-length c = omega (arith, place c)
+mul-choose-kept : tie.Need-mul-choose-kept Inv-loop μ-loop
+mul-choose-kept c = omega (arith, place (c .before))
 
-add-kept-length : tie.Need-add-kept-length Inv-loop μ-loop
-add-kept-length c = omega (arith, place c)
+add-choose-kept : tie.Need-add-choose-kept Inv-loop μ-loop
+add-choose-kept c = omega (arith, place (c .before))
 
-kept-length-requires : tie.Need-kept-length-requires Inv-loop μ-loop
-kept-length-requires c κs =
-    let s = c .before .before .before .before .before .before .before .before .before in
-    (s .pre .0 .marks-long, (entry-lies (s .pre .0 .slots) _ (s .pre .1) _ (c .before .before .before .before .before .cut .ensures) _ _ (met c .fits), place c))
+choose-kept-requires : tie.Need-choose-kept-requires Inv-loop μ-loop
+choose-kept-requires c κs =
+    let k = c .before in
+    let l = k .before .before .before .before .loop in
+    let s = k .before .before .before .before .before .before .before .before .before .before in (
+      (s .pre .0 .0 .marks-long, l .inv .4 ∙ s .pre .0 .1),
+      (entry-lies (s .pre .0 .0 .slots) _ (s .pre .1) _ (k .before .before .before .before .before .cut .ensures) _ _ (met k .fits), place k),
+    )
 
 add-total : tie.Need-add-total Inv-loop μ-loop
-add-total c = omega (arith, short c, met (c .before), long (c .before .before .before .before .before .before))
+add-total c =
+    let m = c .before .before in
+    let k = m .before .before in
+    omega (arith, short m, met k, long (k .before .before .before .before .before), k .before .before .before .before .loop .inv .1)
 
-add-at : tie.Need-add-at Inv-loop μ-loop
-add-at c = omega (arith, met (c .before .before), long (c .before .before .before .before .before .before .before))
+behind-requires : tie.Need-behind-requires Inv-loop μ-loop
+behind-requires c κs =
+    let k = c .before .before .before .before in
+    let s = k .before .before .before .before .before .before .before .before .before .before in
+    omega (arith, met k, long (k .before .before .before .before .before), s .pre .0 .0 .slots .size-high)
 
 loop-less : tie.Need-loop-less Inv-loop μ-loop
-loop-less c = omega (arith, met (c .before .before))
+loop-less c = omega (arith, c .behind .ensures, met (c .before .before .before .before .before))
 
 loop-again : tie.Need-loop-again Inv-loop μ-loop
-loop-again c = (
-  measured-entry edition1 _ _ _ _ _ _ _ _ _ (c .before .before .before .before .before .before .loop .inv .0) (met (c .before .before)) _ (c .before .kept-length .ensures),
-  omega (arith, short (c .before), c .before .before .before .before .before .before .loop .inv .1),
-  omega (arith, met (c .before .before)),
-)
+loop-again c =
+    let m = c .before .before .before in
+    let k = m .before .before in
+    let l = k .before .before .before .before .loop in
+    let b = c .behind .ensures in (
+      measured-entry edition1 _ _ _ _ _ _ _ _ _ (l .inv .0) (met k) _ (m .choose-kept .ensures .0) _ b,
+      omega (arith, b, short m, l .inv .1),
+      omega (arith, b, met k),
+      choice-entry edition1 (keptTest edition1 _ _ _) _ _ _ _ _ _ (l .inv .3) (met k) _ (m .choose-kept .ensures .1) _ b,
+      ap length (m .choose-kept .ensures .1) ∙ length-choice (keptTest edition1 _ _ _) _ _ _ _ (l .inv .4),
+    )
 
 enum-told : tie.Need-enum-told Inv-loop μ-loop
 enum-told c = search needs
 
+same-length : tie.Need-same-length Inv-loop μ-loop
+same-length c = c .before .before .before .loop .inv .4
+
 returns : tie.Need-returns Inv-loop μ-loop
-returns c = (
-  measured-stop edition1 _ _ _ _ _ _ _ _ _ (c .before .before .before .loop .inv .0) (stops-end edition1 _ _ _ (c .before .before .next .ensures) (c .enum-told .given .1)),
-  omega (arith, c .before .before .before .loop .inv .1, c .before .before .before .loop .inv .2, long (c .before .before .before .before), c .before .before .before .before .before .before .before .before .pre .0 .slots .size-high),
-)
+returns c =
+    let l = c .before .before .before .loop in
+    let k = c .before .before .before .before in
+    let s = k .before .before .before .before .before in
+    let a = s .args in
+    let stop = stops-end edition1 _ _ _ (c .before .before .next .ensures) (c .enum-told .given .1) in (
+      measured-stop edition1 _ _ _ _ _ _ _ _ _ (l .inv .0) stop,
+      omega (arith, l .inv .1, l .inv .2, long k, s .pre .0 .0 .slots .size-high),
+      choice-stop edition1 (keptTest edition1 _ _ _) _ _ _ _ _ _ (l .inv .3) stop
+          ∙ choice-whole edition1 (keptTest edition1 (now (a .area)) (now (a .cells)) (now (a .marks))) (a .split .size) (now (a .area)) (now (a .chosen)) (a .slot) _ (k .cut .ensures),
+    )
 
 enum-told-2 : tie.Need-enum-told-2 Inv-loop μ-loop
 enum-told-2 c = search needs
 
+same-length-2 : tie.Need-same-length-2 Inv-loop μ-loop
+same-length-2 c = c .before .before .before .loop .inv .4
+
 returns-2 : tie.Need-returns-2 Inv-loop μ-loop
-returns-2 c = (
-  measured-stop edition1 _ _ _ _ _ _ _ _ _ (c .before .before .before .loop .inv .0) (stops-damage edition1 _ _ _ (c .before .before .next .ensures) (c .enum-told2 .given .1)),
-  omega (arith, c .before .before .before .loop .inv .1, c .before .before .before .loop .inv .2, long (c .before .before .before .before), c .before .before .before .before .before .before .before .before .pre .0 .slots .size-high),
-)
+returns-2 c =
+    let l = c .before .before .before .loop in
+    let k = c .before .before .before .before in
+    let s = k .before .before .before .before .before in
+    let a = s .args in
+    let stop = stops-damage edition1 _ _ _ (c .before .before .next .ensures) (c .enum-told2 .given .1) in (
+      measured-stop edition1 _ _ _ _ _ _ _ _ _ (l .inv .0) stop,
+      omega (arith, l .inv .1, l .inv .2, long k, s .pre .0 .0 .slots .size-high),
+      choice-stop edition1 (keptTest edition1 _ _ _) _ _ _ _ _ _ (l .inv .3) stop
+          ∙ choice-whole edition1 (keptTest edition1 (now (a .area)) (now (a .cells)) (now (a .marks))) (a .split .size) (now (a .area)) (now (a .chosen)) (a .slot) _ (k .cut .ensures),
+    )
 
 pub measure-slot-spec : {M : Type 1} → statement M
 measure-slot-spec =
@@ -110,14 +160,16 @@ measure-slot-spec =
     loop-holds
     next-requires
     enum-known-header
-    mul-kept-length
-    add-kept-length
-    kept-length-requires
+    mul-choose-kept
+    add-choose-kept
+    choose-kept-requires
     add-total
-    add-at
+    behind-requires
     loop-less
     loop-again
     enum-told
+    same-length
     returns
     enum-told-2
+    same-length-2
     returns-2)

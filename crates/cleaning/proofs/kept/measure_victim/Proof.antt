@@ -2,10 +2,13 @@
 use mathlib.Core.Path.{sym, _∙_, ap}
 use native.Mathlib.Omega.{arith}
 use lib.ListN.{length}
+use denote.Ref.{now}
 use borrow.Author.Needs.{needs}
-use Rattle.segment.specs.Layout.{edition1}
 use borrow.Author.Tests.{not-true, not-false}
+use Rattle.segment.specs.Layout.{edition1}
+use Rattle.cleaning.specs.Kept.{keptTest}
 use Rattle.cleaning.specs.KeptLaws.{part-victim, part-other}
+use Rattle.cleaning.specs.ChosenLaws.{choice-victim, choice-passed}
 use Rattle.cleaning.proofs.kept.measure_victim.Statement.{statement}
 use Rattle.cleaning.proofs.kept.measure_victim.Tie as tie
 
@@ -13,17 +16,31 @@ is-named-requires : tie.Need-is-named-requires
 is-named-requires c κs = search needs
 
 returns : tie.Need-returns
-returns c = (sym (ap length (part-other edition1 _ _ _ _ _ (sym (c .before .is-named .ensures) ∙ not-true _ (c .if1 .taken)))), omega arith)
+returns c =
+    let a = c .before .before .before .before .before .before .args in
+    let other = sym (c .before .is-named .ensures) ∙ not-true _ (c .if1 .taken) in (
+      sym (ap length (part-other edition1 _ _ _ _ _ other)),
+      omega arith,
+      choice-passed edition1 (keptTest edition1 (now (a .area)) (now (a .cells)) (now (a .marks))) _ _ _ _ other,
+    )
 
 measure-slot-requires : tie.Need-measure-slot-requires
 measure-slot-requires c κs = search needs
 
+same-length : tie.Need-same-length
+same-length c = search needs
+
 returns-2 : tie.Need-returns-2
-returns-2 c = (
-  c .measure-slot .ensures .0 ∙ ap length (part-victim edition1 _ _ _ _ _ (sym (c .before .before .is-named .ensures) ∙ not-false _ (c .before .if1 .left))),
-  c .measure-slot .ensures .1,
-)
+returns-2 c =
+    let m = c .before .before .measure-slot .ensures in
+    let t = c .before .before .before .before in
+    let a = t .before .before .before .before .before .before .args in
+    let victim = sym (t .before .is-named .ensures) ∙ not-false _ (t .if1 .left) in (
+      m .0 ∙ ap length (part-victim edition1 _ _ _ _ _ victim),
+      m .1,
+      choice-victim edition1 (keptTest edition1 (now (a .area)) (now (a .cells)) (now (a .marks))) _ _ _ _ victim (m .2),
+    )
 
 pub measure-victim-spec : {M : Type 1} → statement M
 measure-victim-spec =
-    tie.close (tie.spec is-named-requires returns measure-slot-requires returns-2)
+    tie.close (tie.spec is-named-requires returns measure-slot-requires same-length returns-2)

@@ -6,8 +6,9 @@ use lib.ListN.{length}
 use denote.Ref.{now}
 use Rattle.segment.specs.Layout.{edition1, digestSize}
 use Rattle.index.specs.Build.{entriesAt}
-use Rattle.cleaning.specs.Marks.{markItems}
-use Rattle.cleaning.specs.MarksLaws.{marks-stop, marks-entry, length-entry, slot-whole}
+use Rattle.cleaning.specs.Walks.{walkItems, walk-stop, walk-entry, walk-whole}
+use Rattle.cleaning.specs.Filter.{siftEntry}
+use Rattle.cleaning.specs.FilterLaws.{length-sift}
 use Rattle.cleaning.specs.EntriesLaws.{Meets, meets, stops-end, stops-damage, slot-lies, slot-long}
 use borrow.Author.Needs.{needs}
 use Rattle.cleaning.proofs.outside.mark_slot.Statement.{statement}
@@ -15,16 +16,17 @@ use Rattle.cleaning.proofs.outside.mark_slot.Tie as tie
 
 -- The invariant: the marks with those of the entries from here on are those of the slot.
 abbrev Inv-loop : tie.InvT-loop
-Inv-loop area cells marks₀ slot s at₀ marks at =
-    (markItems edition1 area cells marks (entriesAt edition1 s at) ≡ markItems edition1 area cells marks₀ (entriesAt edition1 s (digestSize edition1)))
+Inv-loop area cells filter marks₀ slot s at₀ marks at =
+    (walkItems edition1 (siftEntry edition1 area cells filter) marks (entriesAt edition1 s at)
+    ≡ walkItems edition1 (siftEntry edition1 area cells filter) marks₀ (entriesAt edition1 s (digestSize edition1)))
     × (length marks ≡ length marks₀)
 
 abbrev μ-loop : tie.MeasureT-loop
-μ-loop area cells marks₀ slot s at₀ marks at = length s - at
+μ-loop area cells filter marks₀ slot s at₀ marks at = length s - at
 
 -- the slot's part of the area is S bytes long
-long : (c : tie.After-cut Inv-loop μ-loop) → length (now (c .cut .result)) ≡ c .before .before .before .before .args .split .size
-long c = let s = c .before .before .before .before in slot-long (s .pre .0 .slots) _ (s .pre .1) _ (c .cut .ensures)
+long : (c : tie.After-cut Inv-loop μ-loop) → length (now (c .cut .result)) ≡ c .before .before .before .before .before .args .split .size
+long c = let s = c .before .before .before .before .before in slot-long (s .pre .0 .0 .slots) _ (s .pre .1) _ (c .cut .ensures)
 
 -- the entry that the turn meets
 met : (c : tie.After-known-told Inv-loop μ-loop)
@@ -32,7 +34,7 @@ met : (c : tie.After-known-told Inv-loop μ-loop)
 met c = meets edition1 _ _ _ (c .before .before .before .next .ensures) _ (c .before .header .given .1)
 
 cut-requires : tie.Need-cut-requires Inv-loop μ-loop
-cut-requires c κs = let s = c .before .before .before in slot-lies (s .pre .0 .slots) (s .args .slot) (s .pre .1)
+cut-requires c κs = let s = c .before .before .before .before in slot-lies (s .pre .0 .0 .slots) (s .args .slot) (s .pre .1)
 
 loop-holds : tie.Need-loop-holds Inv-loop μ-loop
 unfolding edition1
@@ -44,28 +46,29 @@ next-requires c κs = search needs
 enum-known-header : tie.Need-enum-known-header Inv-loop μ-loop
 enum-known-header c = search needs
 
-mark-entry-requires : tie.Need-mark-entry-requires Inv-loop μ-loop
-mark-entry-requires c κs =
-    c .before .before .before .before .before .loop .inv .1 ∙ c .before .before .before .before .before .before .before .before .before .before .pre .0 .marks-long
+sift-entry-requires : tie.Need-sift-entry-requires Inv-loop μ-loop
+sift-entry-requires c κs =
+    let s = c .before .before .before .before .before .before .before .before .before .before .before in
+    (s .pre .0 .1, c .before .before .before .before .before .loop .inv .1 ∙ s .pre .0 .0 .marks-long)
 
-add-at : tie.Need-add-at Inv-loop μ-loop
-add-at c =
+behind-requires : tie.Need-behind-requires Inv-loop μ-loop
+behind-requires c κs =
     omega (
       arith,
-      met (c .before .before .before .before .before),
-      long (c .before .before .before .before .before .before .before .before .before .before),
-      c .before .before .before .before .before .before .before .before .before .before .before .before .before .before .pre .0 .slots .size-high,
+      met (c .before .before .before .before),
+      long (c .before .before .before .before .before .before .before .before .before),
+      c .before .before .before .before .before .before .before .before .before .before .before .before .before .before .pre .0 .0 .slots .size-high,
     )
 
 loop-less : tie.Need-loop-less Inv-loop μ-loop
-loop-less c = omega (arith, met (c .before .before .before .before .before))
+loop-less c = omega (arith, c .behind .ensures, met (c .before .before .before .before .before))
 
 loop-again : tie.Need-loop-again Inv-loop μ-loop
 loop-again c =
     let l = c .before .before .before .before .before .before .before .before .before in
-    let made = c .before .before .before .mark-entry .ensures in (
-      marks-entry edition1 _ _ _ _ _ _ (l .loop .inv .0) (met (c .before .before .before .before .before)) _ made,
-      ap length made ∙ length-entry edition1 _ _ _ _ ∙ l .loop .inv .1,
+    let made = c .before .before .before .sift-entry .ensures in (
+      walk-entry edition1 (siftEntry edition1 _ _ _) _ _ _ _ (l .loop .inv .0) (met (c .before .before .before .before .before)) _ made _ (c .behind .ensures),
+      ap length made ∙ length-sift edition1 _ _ _ _ _ _ (l .loop .inv .1),
     )
 
 enum-told : tie.Need-enum-told Inv-loop μ-loop
@@ -77,9 +80,9 @@ same-length c = c .before .before .before .loop .inv .1
 returns : tie.Need-returns Inv-loop μ-loop
 returns c =
     let k = c .before .before .before .before in
-    let a = k .before .before .before .before .args in
-    marks-stop edition1 _ _ _ _ _ _ (c .before .before .before .loop .inv .0) (stops-end edition1 _ _ _ (c .before .before .next .ensures) (c .enum-told .given .1))
-    ∙ slot-whole edition1 (now (a .area)) (now (a .cells)) (now (a .marks)) (a .split) (a .slot) _ (k .cut .ensures)
+    let a = k .before .before .before .before .before .args in
+    walk-stop edition1 (siftEntry edition1 _ _ _) _ _ _ _ (c .before .before .before .loop .inv .0) (stops-end edition1 _ _ _ (c .before .before .next .ensures) (c .enum-told .given .1))
+    ∙ walk-whole edition1 (siftEntry edition1 (now (a .area)) (now (a .cells)) (now (a .filter))) (now (a .area)) (a .split .size) (now (a .marks)) (a .slot) _ (k .cut .ensures)
 
 enum-told-2 : tie.Need-enum-told-2 Inv-loop μ-loop
 enum-told-2 c = search needs
@@ -90,9 +93,9 @@ same-length-2 c = c .before .before .before .loop .inv .1
 returns-2 : tie.Need-returns-2 Inv-loop μ-loop
 returns-2 c =
     let k = c .before .before .before .before in
-    let a = k .before .before .before .before .args in
-    marks-stop edition1 _ _ _ _ _ _ (c .before .before .before .loop .inv .0) (stops-damage edition1 _ _ _ (c .before .before .next .ensures) (c .enum-told2 .given .1))
-    ∙ slot-whole edition1 (now (a .area)) (now (a .cells)) (now (a .marks)) (a .split) (a .slot) _ (k .cut .ensures)
+    let a = k .before .before .before .before .before .args in
+    walk-stop edition1 (siftEntry edition1 _ _ _) _ _ _ _ (c .before .before .before .loop .inv .0) (stops-damage edition1 _ _ _ (c .before .before .next .ensures) (c .enum-told2 .given .1))
+    ∙ walk-whole edition1 (siftEntry edition1 (now (a .area)) (now (a .cells)) (now (a .filter))) (now (a .area)) (a .split .size) (now (a .marks)) (a .slot) _ (k .cut .ensures)
 
 pub mark-slot-spec : {M : Type 1} → statement M
 mark-slot-spec =
@@ -104,8 +107,8 @@ mark-slot-spec =
     loop-holds
     next-requires
     enum-known-header
-    mark-entry-requires
-    add-at
+    sift-entry-requires
+    behind-requires
     loop-less
     loop-again
     enum-told

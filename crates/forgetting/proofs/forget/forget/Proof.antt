@@ -17,7 +17,10 @@ forget-at-requires : tie.Need-forget-at-requires
 forget-at-requires c κs =
     let i = c .before .before in (
       c .before .before .before .before .before .before .before .before .pre,
-      search-inside edition1 _ _ _ _ (sym (i .before .before .search .ensures) ∙ i .cell .given .1),
+      (
+        search-inside edition1 _ _ _ _ (sym (i .before .before .search .ensures) ∙ i .cell .given .1),
+        sym (i .before .before .search .ensures) ∙ i .cell .given .1,
+      ),
     )
 
 enum-told : tie.Need-enum-told

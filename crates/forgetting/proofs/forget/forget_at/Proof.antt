@@ -8,7 +8,7 @@ use denote.Ref.{now}
 use borrow.Author.Needs.{needs, scaled-fits}
 use borrow.Author.Tests.{not-true, not-false}
 use Rattle.segment.specs.Layout.{edition1}
-use Rattle.cleaning.specs.MarksLaws.{length-below}
+use Rattle.forgetting.specs.Sifted.{length-left}
 use Rattle.forgetting.specs.Forgetting.{inLog}
 use Rattle.forgetting.specs.DeleteLaws.{in-log-below, victim-fits, victim-ready, victim-begun, forgot-outside}
 use Rattle.forgetting.proofs.forget.forget_at.Statement.{statement}
@@ -55,11 +55,11 @@ with-slot-requires c κs =
 split-of-requires : tie.Need-split-of-requires
 split-of-requires c κs = search needs
 
-slice-aggregate-mark-outside : tie.Need-slice-aggregate-mark-outside
-slice-aggregate-mark-outside c = search needs
+slice-aggregate-mark-left : tie.Need-slice-aggregate-mark-left
+slice-aggregate-mark-left c = search needs
 
-mark-outside-requires : tie.Need-mark-outside-requires
-mark-outside-requires c κs =
+mark-left-requires : tie.Need-mark-left-requires
+mark-left-requires c κs =
     let e = c .before .before .before in
     let s = e .before .before .before .before .before .before .before in
     victim-fits
@@ -83,7 +83,7 @@ begin-requires c κs =
     let s = e .before .before .before .before .before .before .before in
     victim-ready edition1 (s .args .rec) _ _ (p .before .with-slot .ensures) _ (p .split-of .ensures)
     (sym (e .before .in-log .ensures) ∙ not-false _ (e .if1 .left)) _ _ _ (s .pre .0) _
-    (ap length (m .mark-outside .ensures) ∙ length-below edition1 _ _ _ _ _ ∙ length-replicate {A = ℕ} 128 0)
+    (ap length (m .mark-left .ensures) ∙ length-left edition1 _ _ _ _ _ 128 (length-replicate {A = ℕ} 128 0))
 
 same-length : tie.Need-same-length
 same-length c = search needs
@@ -93,10 +93,11 @@ returns-2 c =
     let m = c .before .before .before .before .before .before .before .before .before in
     let p = m .before .before in
     let e = p .before .before in
-    let a = e .before .before .before .before .before .before .before .args in
+    let b = e .before .before .before .before .before .before .before in
+    let a = b .args in
     victim-begun edition1 (a .rec) _ _ (p .before .with-slot .ensures) _ (p .split-of .ensures)
-    (sym (e .before .in-log .ensures) ∙ not-false _ (e .if1 .left)) (now (a .area)) (now (a .index)) (a .key) (now (a .work)) (a .cell) _ _ _
-    (m .mark-outside .ensures) (c .before .before .before .before .before .before .is-marked .ensures) (c .before .before .begin .ensures)
+    (sym (e .before .in-log .ensures) ∙ not-false _ (e .if1 .left)) (now (a .area)) (now (a .index)) (a .key) (now (a .work)) (a .cell) _ _ _ (b .pre .1 .1)
+    (m .mark-left .ensures) (c .before .before .before .before .before .before .is-marked .ensures) (c .before .before .begin .ensures)
 
 pub forget-at-spec : {M : Type 1} → statement M
 forget-at-spec =
@@ -114,8 +115,8 @@ forget-at-spec =
     cast-with-slot
     with-slot-requires
     split-of-requires
-    slice-aggregate-mark-outside
-    mark-outside-requires
+    slice-aggregate-mark-left
+    mark-left-requires
     slice-aggregate-is-marked
     is-marked-requires
     slice-aggregate-begin

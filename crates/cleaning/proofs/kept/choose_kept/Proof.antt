@@ -1,0 +1,42 @@
+-- `cleaning::kept::choose_kept` meets its contract.
+use mathlib.Core.Path.{sym, _∙_}
+use denote.Ref.{now}
+use borrow.Author.Needs.{needs}
+use borrow.Author.Tests.{not-true, not-false}
+use Rattle.segment.specs.Layout.{edition1}
+use Rattle.cleaning.specs.Kept.{keptTest}
+use Rattle.cleaning.specs.KeptLaws.{length-kept, length-dropped}
+use Rattle.cleaning.specs.ChosenLaws.{entry-chosen, entry-left}
+use Rattle.cleaning.proofs.kept.choose_kept.Statement.{statement}
+use Rattle.cleaning.proofs.kept.choose_kept.Tie as tie
+
+is-kept-requires : tie.Need-is-kept-requires
+is-kept-requires c κs = search needs
+
+returns : tie.Need-returns
+returns c =
+    let a = c .before .before .before .before .before .before .args in
+    let dropped = sym (c .before .is-kept .ensures) ∙ not-true _ (c .if1 .taken) in (
+      length-dropped edition1 _ _ _ (a .header) _ dropped,
+      entry-left (keptTest edition1 (now (a .area)) (now (a .cells)) (now (a .marks))) _ (a .header) _ dropped,
+    )
+
+choose-requires : tie.Need-choose-requires
+choose-requires c κs = search needs
+
+same-length : tie.Need-same-length
+same-length c = search needs
+
+returns-2 : tie.Need-returns-2
+returns-2 c =
+    let t = c .before .before .before .before in
+    let s = t .before .before .before .before .before .before in
+    let a = s .args in
+    let kept = sym (t .before .is-kept .ensures) ∙ not-false _ (t .if1 .left) in (
+      length-kept edition1 _ _ _ (a .header) _ (s .pre .1 .0) kept,
+      entry-chosen (keptTest edition1 (now (a .area)) (now (a .cells)) (now (a .marks))) _ (a .header) _ kept (c .before .before .choose .ensures),
+    )
+
+pub choose-kept-spec : {M : Type 1} → statement M
+choose-kept-spec =
+    tie.close (tie.spec is-kept-requires returns choose-requires same-length returns-2)

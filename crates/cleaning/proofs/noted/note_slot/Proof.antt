@@ -1,0 +1,117 @@
+-- `cleaning::noted::note_slot` meets its contract.
+use Prim.Native.Nat.{_-_}
+use mathlib.Core.Path.{_≡_, refl, _∙_, ap}
+use native.Mathlib.Omega.{arith}
+use lib.ListN.{length}
+use denote.Ref.{now}
+use Rattle.segment.specs.Layout.{edition1, digestSize}
+use Rattle.index.specs.Build.{entriesAt}
+use Rattle.cleaning.specs.Walks.{walkItems, walk-stop, walk-entry, walk-whole}
+use Rattle.cleaning.specs.Filter.{noteEntry}
+use Rattle.cleaning.specs.FilterLaws.{length-note}
+use Rattle.cleaning.specs.EntriesLaws.{Meets, meets, stops-end, stops-damage, slot-lies, slot-long}
+use borrow.Author.Needs.{needs}
+use Rattle.cleaning.proofs.noted.note_slot.Statement.{statement}
+use Rattle.cleaning.proofs.noted.note_slot.Tie as tie
+
+-- The invariant: the filter with the keys of the entries from here on is that of the slot.
+abbrev Inv-loop : tie.InvT-loop
+Inv-loop area filter₀ slot s at₀ filter at =
+    (walkItems edition1 noteEntry filter (entriesAt edition1 s at) ≡ walkItems edition1 noteEntry filter₀ (entriesAt edition1 s (digestSize edition1)))
+    × (length filter ≡ length filter₀)
+
+abbrev μ-loop : tie.MeasureT-loop
+μ-loop area filter₀ slot s at₀ filter at = length s - at
+
+-- the slot's part of the area is S bytes long
+long : (c : tie.After-cut Inv-loop μ-loop) → length (now (c .cut .result)) ≡ c .before .before .before .args .split .size
+long c = let s = c .before .before .before in slot-long (s .pre .0 .slots) _ (s .pre .1) _ (c .cut .ensures)
+
+-- the entry that the turn meets
+met : (c : tie.After-known-told Inv-loop μ-loop)
+    → Meets edition1 (now (c .before .before .before .before .before .cut .result)) (c .before .before .before .before .loop .at) (c .before .header .given .0 .0)
+met c = meets edition1 _ _ _ (c .before .before .before .next .ensures) _ (c .before .header .given .1)
+
+cut-requires : tie.Need-cut-requires Inv-loop μ-loop
+cut-requires c κs = let s = c .before .before in slot-lies (s .pre .0 .slots) (s .args .slot) (s .pre .1)
+
+loop-holds : tie.Need-loop-holds Inv-loop μ-loop
+unfolding edition1
+loop-holds c = (refl, refl)
+
+next-requires : tie.Need-next-requires Inv-loop μ-loop
+next-requires c κs = search needs
+
+enum-known-header : tie.Need-enum-known-header Inv-loop μ-loop
+enum-known-header c = search needs
+
+note-entry-requires : tie.Need-note-entry-requires Inv-loop μ-loop
+note-entry-requires c κs =
+    c .before .before .before .before .before .loop .inv .1 ∙ c .before .before .before .before .before .before .before .before .before .pre .0 .marks-long
+
+behind-requires : tie.Need-behind-requires Inv-loop μ-loop
+behind-requires c κs =
+    omega (
+      arith,
+      met (c .before .before .before .before),
+      long (c .before .before .before .before .before .before .before .before .before),
+      c .before .before .before .before .before .before .before .before .before .before .before .before .pre .0 .slots .size-high,
+    )
+
+loop-less : tie.Need-loop-less Inv-loop μ-loop
+loop-less c = omega (arith, c .behind .ensures, met (c .before .before .before .before .before))
+
+loop-again : tie.Need-loop-again Inv-loop μ-loop
+loop-again c =
+    let l = c .before .before .before .before .before .before .before .before .before in
+    let made = c .before .before .before .note-entry .ensures in (
+      walk-entry edition1 noteEntry _ _ _ _ (l .loop .inv .0) (met (c .before .before .before .before .before)) _ made _ (c .behind .ensures),
+      ap length made ∙ length-note _ _ _ (l .loop .inv .1),
+    )
+
+enum-told : tie.Need-enum-told Inv-loop μ-loop
+enum-told c = search needs
+
+same-length : tie.Need-same-length Inv-loop μ-loop
+same-length c = c .before .before .before .loop .inv .1
+
+returns : tie.Need-returns Inv-loop μ-loop
+returns c =
+    let k = c .before .before .before .before in
+    let a = k .before .before .before .args in
+    walk-stop edition1 noteEntry _ _ _ _ (c .before .before .before .loop .inv .0) (stops-end edition1 _ _ _ (c .before .before .next .ensures) (c .enum-told .given .1))
+    ∙ walk-whole edition1 noteEntry (now (a .area)) (a .split .size) (now (a .filter)) (a .slot) _ (k .cut .ensures)
+
+enum-told-2 : tie.Need-enum-told-2 Inv-loop μ-loop
+enum-told-2 c = search needs
+
+same-length-2 : tie.Need-same-length-2 Inv-loop μ-loop
+same-length-2 c = c .before .before .before .loop .inv .1
+
+returns-2 : tie.Need-returns-2 Inv-loop μ-loop
+returns-2 c =
+    let k = c .before .before .before .before in
+    let a = k .before .before .before .args in
+    walk-stop edition1 noteEntry _ _ _ _ (c .before .before .before .loop .inv .0) (stops-damage edition1 _ _ _ (c .before .before .next .ensures) (c .enum-told2 .given .1))
+    ∙ walk-whole edition1 noteEntry (now (a .area)) (a .split .size) (now (a .filter)) (a .slot) _ (k .cut .ensures)
+
+pub note-slot-spec : {M : Type 1} → statement M
+note-slot-spec =
+    tie.close
+    (tie.spec
+    Inv-loop
+    μ-loop
+    cut-requires
+    loop-holds
+    next-requires
+    enum-known-header
+    note-entry-requires
+    behind-requires
+    loop-less
+    loop-again
+    enum-told
+    same-length
+    returns
+    enum-told-2
+    same-length-2
+    returns-2)
