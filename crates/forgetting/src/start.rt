@@ -8,6 +8,7 @@ use segment::layout::HEAD_SIZE;
 use segment::layout::TOMBSTONE;
 use starting::Check;
 use starting::answer::refused;
+use starting::answer::started;
 use writing::causes::check_delete;
 use writing::causes::no_room;
 use writing::lay::lay_entry;
@@ -38,7 +39,9 @@ pub fn delete(
             if no_room(rec, HEAD_SIZE) {
                 return forget(rec, area, index, work, key);
             }
-            lay_entry(rec, work, TOMBSTONE, key, &area[0..0])
+            let laying = lay_entry(rec, work, TOMBSTONE, key, &area[0..0]);
+            let pending = laying.pending;
+            started(rec, pending, laying.left)
         }
     }
 }

@@ -43,7 +43,7 @@ use Rattle.recovery.specs.Lookups.{Reached, lookupAt, lookedUp, toldBy, partBy}
 use Rattle.recovery.specs.LookupLaws.{reached, looked-unfit, looked-fit, read-promise, value-promise, looked-outside}
 use Rattle.recovery.specs.declared.Lookup.{Lookup}
 use Rattle.words.specs.Words.{recordWords, pendingWords, wordsOf, word, recordIn, isRecord, decoded}
-use Rattle.words.specs.WordLaws.{record-long, counts-long, decoded-record, decoded-none, pending-alone, fits-record, fits-decoded}
+use Rattle.words.specs.WordLaws.{record-long, counts-long, decoded-record, decoded-none, pending-alone, encode-decode, fits-record, fits-decoded}
 use Rattle.words.specs.declared.Decoded.{Decoded}
 use Rattle.kurdavel.specs.Crossing.{FormatCrossed, RecoverCrossed, wordsAfter, ReadCrossed, ValueCrossed, Handed, storesAfter, StartCrossed, keptWords, StepCrossed, leftTold, toldAfter, slotTold, FewestCrossed, ScanCrossed, ScanValueCrossed}
 use Rattle.model.specs.Scanned.{ScanValue}
@@ -85,6 +85,21 @@ kept-on words words′ r e w = rw e w
 pub kept-off : {ok : Bool} (words : List ℕ) (r : Record) → ok ≡ false → words ≡ keptWords ok words r
 unfolding keptWords
 kept-off words r e = rw e
+
+-- the words say the record that they said where it is handed back as it was
+pub same-words : (words : List ℕ) → words ≡ keptWords (decoded words .ok) words (decoded words .rec)
+same-words words = go (isRecord words) refl
+  where
+    go : (t : Bool) → isRecord words ≡ t → words ≡ keptWords (decoded words .ok) words (decoded words .rec)
+    go true f =
+        kept-on words words (decoded words .rec) (ap (λ (d : Decoded). d .ok) (decoded-record words f))
+        (sym (encode-decode words f) ∙ ap (λ (d : Decoded). sets words 0 (wordsOf (d .rec))) (sym (decoded-record words f)))
+    go false f = kept-off words (decoded words .rec) (ap (λ (d : Decoded). d .ok) (decoded-none words f))
+
+pub said-long : (words : List ℕ) → decoded words .ok ≡ true → length (decoded words .rec .counts) ≡ 32
+said-long words ok =
+    let are = ok-record words refl ok in
+    ap (λ (d : Decoded). length (d .rec .counts)) (decoded-record words are) ∙ counts-long words are
 
 -- ---- format and recovery
 

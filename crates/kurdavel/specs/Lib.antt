@@ -2,6 +2,7 @@
 pub mod Crossing
 pub mod CrossingLaws
 pub mod StepOn
+pub mod StartOn
 pub mod NoRecord
 pub mod Foretold
 pub mod Joining

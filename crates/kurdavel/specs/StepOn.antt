@@ -33,7 +33,7 @@ use Rattle.words.specs.Words.{recordWords, pendingWords, wordsOf, word, recordI
 use Rattle.words.specs.WordLaws.{too-short, counts-long, decoded-record, decoded-none, none-unfit, fits-record, pending-words, left-alone, encode-decode}
 use Rattle.words.specs.declared.Decoded.{Decoded}
 use Rattle.kurdavel.specs.Crossing.{StepCrossed, keptWords, leftTold, toldAfter, TellCrossed, placeTold, byteTold}
-use Rattle.kurdavel.specs.CrossingLaws.{fits-words, front-says, kept-on, kept-off, step-crossed}
+use Rattle.kurdavel.specs.CrossingLaws.{fits-words, front-says, same-words, said-long, kept-on, step-crossed}
 
 -- what the words say but the present bytes fits the area
 abbrev pub frontFits : List ℕ → List ℕ → Type 0
@@ -154,31 +154,11 @@ module _ (words area work : List ℕ) where
   -- ---- the step
 
   module _ (cells : List ℕ) (left version : ℕ) where
-    -- the words that say a record that is handed back
-    same-words : words ≡ keptWords (decoded words .ok) words says
-    same-words = go (isRecord words) refl
-      where
-        go : (t : Bool) → isRecord words ≡ t → words ≡ keptWords (decoded words .ok) words says
-        go true f =
-            kept-on words words says (ap (λ (d : Decoded). d .ok) (decoded-record words f))
-            (sym (encode-decode words f) ∙ ap (λ (d : Decoded). sets words 0 (wordsOf (d .rec))) (sym (decoded-record words f)))
-        go false f = kept-off words says (ap (λ (d : Decoded). d .ok) (decoded-none words f))
-
-    long : decoded words .ok ≡ true → length (says .counts) ≡ 32
-    long ok = go (isRecord words) refl
-      where
-        go : (t : Bool) → isRecord words ≡ t → length (says .counts) ≡ 32
-        go true f = ap (λ (d : Decoded). length (d .rec .counts)) (decoded-record words f) ∙ counts-long words f
-        go false f =
-            let no : decoded words .ok ≡ false = ap (λ (d : Decoded). d .ok) (decoded-none words f) in
-            let z : _≡_ {A = ℕ} 0 1 = cc in
-            absurd (omega arith)
-
     pub on-refused : (c : Refusal) {number : ℕ} → found (length cells) ≡ TellAnswer.Refused c → number ≡ tellSaid (TellAnswer.Refused c) .refused
         → StepCrossed words words area area cells cells work left left version version number
     unfolding leftTold toldAfter
     on-refused c e m =
-        step-crossed {b = StepAnswer.Refused c} refl (found-refused edition1 edition1-roomy says area cells work c e refl) (same-words, long) refl m refl refl
+        step-crossed {b = StepAnswer.Refused c} refl (found-refused edition1 edition1-roomy says area cells work c e refl) (same-words words, said-long words) refl m refl refl
 
     pub on-stored : (p b : ℕ) {words′ : List ℕ} → found (length cells) ≡ TellAnswer.At p b → 1 < word words 16
         → words′ ≡ set words 16 (word words 16 - 1)
@@ -201,7 +181,7 @@ module _ (words area work : List ℕ) where
               (w
               ∙ left-alone words are (word words 16 - 1) (oneLess (recordIn words .pending)) (less-words (recordIn words .pending) ∙ ap less five)
               ∙ ap (λ (r : Record). sets words 0 (wordsOf r)) (sym its)),
-          λ ok. long ok,
+          said-long words,
         )
         refl refl refl refl
 

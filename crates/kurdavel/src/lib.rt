@@ -23,19 +23,23 @@ use recovery::read::told;
 use segment::Key;
 use segment::Version;
 use segment::layout::HEAD_SIZE;
+use segment::layout::object_kind;
+use starting::Check;
 use store::clean;
 use store::delete;
 use store::fewest_present;
 use store::format;
 use store::join;
 use store::recover;
-use store::write;
-use store::write_expecting;
 use words::SIZE;
 use words::WORDS;
 use words::decode;
 use words::encode;
+use words::encode_pending;
 use words::fits;
+use words::front_in;
+use writing::causes::check_fitting;
+use writing::lay::lay_entry;
 ghost use Prim.Native.Nat.{_≤_};
 ghost use mathlib.Core.Path.{_≡_};
 ghost use mathlib.Core.Bool.{true};
@@ -209,6 +213,50 @@ fn hand_back(words: &mut [u32], ok: bool, start: Start, stores: &mut u32) -> u32
     }
 }
 
+// The start of a write, on the words as they are: the record is tested and not copied, and of its words only those of the pending
+// operation change.
+fn start_write(
+    words: &mut [u32],
+    area: &[u8],
+    index: &[u32],
+    work: &mut [u8],
+    tables: Tables,
+    expected: Expected,
+    key: Key,
+    value: &[u8],
+    stores: &mut u32,
+) -> u32
+    ensures { λ r.
+        ⌜
+        StartCrossed (record { tables = tables; expected = expected }) (write key (now (value .entry))) (now (words .entry)) (now (words .exit))
+        (now (area .entry)) (now (index .entry)) (now (work .entry)) (now (work .exit)) (now (stores .entry)) (now (stores .exit)) r
+        ⌝ }
+{
+    if !fits(words, area.len(), index.len()) {
+        return 4;
+    }
+    let front = front_in(words);
+    match check_fitting(
+        front,
+        area,
+        index,
+        work.len(),
+        tables,
+        expected,
+        key,
+        value.len(),
+    ) {
+        Check::Refused(cause) => number(cause),
+        Check::Passed => {
+            let laying = lay_entry(front, work, object_kind(value.len()), key, value);
+            let pending = laying.pending;
+            encode_pending(pending, words);
+            *stores = laying.left;
+            0
+        }
+    }
+}
+
 #[no_mangle]
 pub extern "C" fn kurdavel_write(
     words: &mut [u32],
@@ -230,11 +278,18 @@ pub extern "C" fn kurdavel_write(
         (now (stores .exit)) r
         ⌝ }
 {
-    let decoded = decode(words);
-    let rec = decoded.rec;
     let tables = Tables { first, last };
-    let start = write(rec, area, index, work, tables, Key { table, key }, value);
-    hand_back(words, decoded.ok, start, stores)
+    start_write(
+        words,
+        area,
+        index,
+        work,
+        tables,
+        Expected::Any,
+        Key { table, key },
+        value,
+        stores,
+    )
 }
 
 // A write over the version that the caller expects the key to have, 0 where it expects none.
@@ -259,12 +314,10 @@ pub extern "C" fn kurdavel_write_expecting(
         (now (area .entry)) (now (index .entry)) (now (work .entry)) (now (work .exit)) (now (stores .entry)) (now (stores .exit)) r
         ⌝ }
 {
-    let decoded = decode(words);
-    let rec = decoded.rec;
     let only = Expected::Only(Version(expected));
     let tables = Tables { first, last };
-    let start = write_expecting(
-        rec,
+    start_write(
+        words,
         area,
         index,
         work,
@@ -272,8 +325,8 @@ pub extern "C" fn kurdavel_write_expecting(
         only,
         Key { table, key },
         value,
-    );
-    hand_back(words, decoded.ok, start, stores)
+        stores,
+    )
 }
 
 #[no_mangle]

@@ -18,6 +18,7 @@ use Rattle.segment.specs.Written.{entryOf}
 use Rattle.segment.specs.declared.Key.{Key}
 use Rattle.record.specs.Range.{fitsLent}
 use Rattle.record.specs.RangeLaws.{Lent, lent}
+use Rattle.record.specs.declared.Pending.{Pending}
 use Rattle.record.specs.declared.Refusal.{Refusal}
 use Rattle.record.specs.declared.Refusal.the-variants.{BadRecord}
 use Rattle.record.specs.declared.Start.{Start}
@@ -37,7 +38,7 @@ use Rattle.starting.specs.declared.Check.{Check}
 use Rattle.starting.specs.Checks.{checked}
 use Rattle.starting.specs.CheckLaws.{checked-some, checked-none}
 use Rattle.starting.specs.NewHead.{NumberLeft}
-use Rattle.starting.specs.Answer.{refusedStart}
+use Rattle.starting.specs.Answer.{startedWith, refusedStart}
 use Rattle.writing.specs.Tests.{factsFor}
 use Rattle.writing.specs.Laying.{laidBegun, EntryReady}
 use Rattle.writing.specs.Known.{genuine-facts}
@@ -115,6 +116,11 @@ module _ (L : Layout) (q : Terms) (o : Operation) (r : Record) (area cells work 
 laid-long : (r : Record) (l : Laid) (work work′ : List ℕ) (a : Start) → record { start = a; work = work′ } ≡ laidBegun r l work → length work′ ≡ length work
 unfolding laidBegun
 laid-long r l work work′ a h = ap (λ (b : Begun). length (b .work)) h ∙ length-sets work 0 (l .bytes)
+
+-- the operation that was laid down is started
+pub laid-started : (r : Record) {a : Start} {p : Pending} {left : ℕ} {work′ : List ℕ} {b : Begun} → a ≡ startedWith r p left
+    → record { start = startedWith r p left; work = work′ } ≡ b → record { start = a; work = work′ } ≡ b
+laid-started r {work′ = work′} e h = ap (λ (s : Start). record { start = s; work = work′ }) e ∙ h
 
 -- what the code may rely on once all tests are passed
 module _ (L : Layout) (r : Record) (area cells work : List ℕ) (n : ℕ) where

@@ -17,16 +17,18 @@ use starting::Check;
 use starting::checks::check_idle;
 ghost use Prim.Native.Nat.{_+_, _^_, _≤_, _<_};
 ghost use mathlib.Core.Path.{_≡_};
+ghost use mathlib.Core.Bool.{true};
 ghost use lib.Dec.{leb};
 ghost use lib.ListN.{length};
 ghost use Rattle.segment.specs.Layout.{edition1};
+ghost use Rattle.record.specs.Range.{fitsLent};
 ghost use Rattle.model.specs.Causes.{firstCause};
 ghost use Rattle.model.specs.Refused.{noRoom, reaching, writeCauses, deleteCauses};
 ghost use Rattle.starting.specs.Checks.{checked};
 ghost use Rattle.writing.specs.declared.Presence.{Presence};
 ghost use Rattle.writing.specs.Tests.{firstTests, versionTests, expectedTests, keyTests, numberTests, roomTests, entryTests, factsOf, factsFor};
 
-// 4, 22, 3 and 5: what the record, the lengths and the caller's reach tell.
+// 22, 3 and 5, for a record that has passed 4's test of range and lengths: what the record, the lengths and the caller's reach tell.
 fn check_first(
     rec: Record,
     area: usize,
@@ -35,14 +37,12 @@ fn check_first(
     tables: Tables,
     key: Key,
 ) -> Check
+    requires { ⌜ fitsLent edition1 rec area index ≡ true ⌝ }
     ensures { λ r.
         ⌜
         r ≡ checked (firstCause (firstTests edition1 rec (record { area = area; index = index; work = work }) tables key))
         ⌝ }
 {
-    if !fits_lent(rec, area, index) {
-        return Check::Refused(Refusal::BadRecord);
-    }
     if !holds_table(tables, key.table) {
         return Check::Refused(Refusal::OutsideTables);
     }
@@ -160,8 +160,8 @@ fn check_entry(rec: Record, presence: Presence, length: usize) -> Check
     }
 }
 
-// Write: 4, 22, 3, 5, 7, 21, 9, 11, 12, 10, for a value of so many bytes.
-pub fn check_write(
+// Write: 22, 3, 5, 7, 21, 9, 11, 12, 10, for a value of so many bytes and a record that has passed 4's test of range and lengths.
+pub fn check_fitting(
     rec: Record,
     area: &[u8],
     index: &[u32],
@@ -171,6 +171,7 @@ pub fn check_write(
     key: Key,
     value: usize,
 ) -> Check
+    requires { ⌜ fitsLent edition1 rec (length (now area)) (length (now index)) ≡ true ⌝ }
     ensures { λ r.
         ⌜
         r ≡ checked
@@ -196,6 +197,33 @@ pub fn check_write(
     }
 }
 
+// Write: 4, 22, 3, 5, 7, 21, 9, 11, 12, 10, for a value of so many bytes.
+pub fn check_write(
+    rec: Record,
+    area: &[u8],
+    index: &[u32],
+    work: usize,
+    tables: Tables,
+    expected: Expected,
+    key: Key,
+    value: usize,
+) -> Check
+    ensures { λ r.
+        ⌜
+        r ≡ checked
+        (firstCause
+        (writeCauses edition1 rec
+        (record { area = length (now (area .entry)); index = length (now (index .entry)); work = work })
+        (record { tables = tables; expected = expected }) key
+        (factsFor edition1 rec (now (area .entry)) (now (index .entry)) key) value))
+        ⌝ }
+{
+    if !fits_lent(rec, area.len(), index.len()) {
+        return Check::Refused(Refusal::BadRecord);
+    }
+    check_fitting(rec, area, index, work, tables, expected, key, value)
+}
+
 // Delete: 4, 22, 3, 5, 8, 9, 10.
 pub fn check_delete(
     rec: Record,
@@ -214,6 +242,9 @@ pub fn check_delete(
         (reaching tables) key (factsFor edition1 rec (now (area .entry)) (now (index .entry)) key)))
         ⌝ }
 {
+    if !fits_lent(rec, area.len(), index.len()) {
+        return Check::Refused(Refusal::BadRecord);
+    }
     match check_first(rec, area.len(), index.len(), work, tables, key) {
         Check::Refused(c) => Check::Refused(c),
         Check::Passed => match find(rec.size as usize, area, index, key) {

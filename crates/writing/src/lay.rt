@@ -1,15 +1,14 @@
 // What a start lays down: the pending operation, and the bytes for the work buffer.
+use crate::Laying;
 use crate::causes::fits_head;
 use record::Pending;
 use record::Record;
-use record::Start;
 use segment::Key;
 use segment::layout::DIGEST_SIZE;
 use segment::layout::HEAD_SIZE;
 use segment::writer::write_digest;
 use segment::writer::write_entry;
 use slot_map::next_free;
-use starting::answer::started;
 use starting::digest::new_digest;
 use starting::stores::commit_stores;
 use starting::stores::head_stores;
@@ -22,17 +21,18 @@ ghost use lib.ListN.{length};
 ghost use Rattle.segment.specs.Layout.{edition1, valueLength, entrySize};
 ghost use Rattle.segment.specs.Written.{entryOf};
 ghost use Rattle.model.specs.Operations.{laidAppend, laidHead, laidEntry};
+ghost use Rattle.starting.specs.Answer.{startedWith};
 ghost use Rattle.starting.specs.NewHead.{NumberLeft};
 ghost use Rattle.writing.specs.Laying.{laidBegun, EntryReady};
 
 // An entry that goes to the end of the head.
-fn lay_append(rec: Record, work: &mut [u8], kind: u8, key: Key, value: &[u8]) -> Start
+fn lay_append(rec: Record, work: &mut [u8], kind: u8, key: Key, value: &[u8]) -> Laying
     requires { ⌜ EntryReady edition1 rec (length (now value)) (length (now work)) ⌝ }
     requires { ⌜ leb (rec .end + entrySize edition1 (length (now value))) (rec .size) ≡ true ⌝ }
     requires { ⌜ valueLength edition1 kind ≡ some (length (now value)) ⌝ }
     ensures { λ r.
         ⌜
-        record { start = r; work = now (work .exit) }
+        record { start = startedWith rec (r .pending) (r .left); work = now (work .exit) }
         ≡ laidBegun rec (laidAppend edition1 (entryOf edition1 kind key (rec .next) (now (value .entry)))) (now (work .entry))
         ⌝ }
 {
@@ -41,17 +41,20 @@ fn lay_append(rec: Record, work: &mut [u8], kind: u8, key: Key, value: &[u8]) ->
     write_entry(work, 0, kind, key, next, value);
     let left = commit_stores(rec.size as usize, rec.end as usize, count) as u32;
     let length = count as u32;
-    started(rec, Pending::Append { length, left }, left)
+    Laying {
+        pending: Pending::Append { length, left },
+        left,
+    }
 }
 
 // An entry that goes to a new head, behind its digest.
-fn lay_head(rec: Record, work: &mut [u8], kind: u8, key: Key, value: &[u8]) -> Start
+fn lay_head(rec: Record, work: &mut [u8], kind: u8, key: Key, value: &[u8]) -> Laying
     requires { ⌜ EntryReady edition1 rec (length (now value)) (length (now work)) ⌝ }
     requires { ⌜ NumberLeft rec ⌝ }
     requires { ⌜ valueLength edition1 kind ≡ some (length (now value)) ⌝ }
     ensures { λ r.
         ⌜
-        record { start = r; work = now (work .exit) }
+        record { start = startedWith rec (r .pending) (r .left); work = now (work .exit) }
         ≡ laidBegun rec (laidHead edition1 rec (entryOf edition1 kind key (rec .next) (now (value .entry)))) (now (work .entry))
         ⌝ }
 {
@@ -62,17 +65,20 @@ fn lay_head(rec: Record, work: &mut [u8], kind: u8, key: Key, value: &[u8]) -> S
     write_entry(work, DIGEST_SIZE, kind, key, next, value);
     let left = head_stores(rec.size as usize, count) as u32;
     let length = count as u32;
-    started(rec, Pending::NewHead { slot, length, left }, left)
+    Laying {
+        pending: Pending::NewHead { slot, length, left },
+        left,
+    }
 }
 
 // An entry is appended to the head if it fits, else it comes to a new head.
-pub fn lay_entry(rec: Record, work: &mut [u8], kind: u8, key: Key, value: &[u8]) -> Start
+pub fn lay_entry(rec: Record, work: &mut [u8], kind: u8, key: Key, value: &[u8]) -> Laying
     requires { ⌜ EntryReady edition1 rec (length (now value)) (length (now work)) ⌝ }
     requires { ⌜ (leb (rec .end + entrySize edition1 (length (now value))) (rec .size) ≡ false → NumberLeft rec) ⌝ }
     requires { ⌜ valueLength edition1 kind ≡ some (length (now value)) ⌝ }
     ensures { λ r.
         ⌜
-        record { start = r; work = now (work .exit) }
+        record { start = startedWith rec (r .pending) (r .left); work = now (work .exit) }
         ≡ laidBegun rec (laidEntry edition1 rec (entryOf edition1 kind key (rec .next) (now (value .entry)))) (now (work .entry))
         ⌝ }
 {

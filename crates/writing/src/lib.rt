@@ -1,4 +1,5 @@
 // The start of a write, and what that of a delete shares with it: what they check, and how an entry is laid out in the work buffer.
+use record::Pending;
 use segment::Version;
 
 pub mod causes;
@@ -13,4 +14,10 @@ pub enum Presence {
     Tombstone,
     Nothing,
     Forbidden,
+}
+
+// What a start lays down besides the bytes in the work buffer: the pending operation and the number of its stores.
+pub struct Laying {
+    pub pending: Pending,
+    pub left: u32,
 }

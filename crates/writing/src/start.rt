@@ -9,6 +9,7 @@ use segment::Key;
 use segment::layout::object_kind;
 use starting::Check;
 use starting::answer::refused;
+use starting::answer::started;
 ghost use Rattle.segment.specs.Layout.{edition1};
 ghost use Rattle.model.specs.Operations.{write};
 ghost use Rattle.model.specs.Refused.{reaching};
@@ -42,7 +43,11 @@ pub fn write_expecting(
         value.len(),
     ) {
         Check::Refused(c) => refused(rec, c),
-        Check::Passed => lay_entry(rec, work, object_kind(value.len()), key, value),
+        Check::Passed => {
+            let laying = lay_entry(rec, work, object_kind(value.len()), key, value);
+            let pending = laying.pending;
+            started(rec, pending, laying.left)
+        }
     }
 }
 

@@ -8,7 +8,7 @@ use Rattle.segment.specs.Layout.{edition1}
 use Rattle.segment.specs.LayoutLaws.{tombstone-length}
 use Rattle.laws.specs.OperationsKept.{edition1-roomy}
 use Rattle.starting.specs.declared.Check.{Check}
-use Rattle.writing.specs.StartLaws.{deletes, delete-refused, delete-ready, delete-number, delete-laid}
+use Rattle.writing.specs.StartLaws.{deletes, delete-refused, delete-ready, delete-number, delete-laid, laid-started}
 use Rattle.forgetting.specs.DeleteLaws.{delete-lent, forget-ready, forget-promise}
 use Rattle.forgetting.proofs.start.delete.Statement.{statement}
 use Rattle.forgetting.proofs.start.delete.Tie as tie
@@ -88,9 +88,10 @@ same-length-2 c = search needs
 returns-3 : tie.Need-returns-3
 unfolding edition1
 returns-3 c =
-    let f = c .before .before .before .before .before in
+    let f = c .before .before .before .before .before .before in
     let t = f .before .before in
-    delete-laid edition1 _ _ _ _ _ _ (passed t) (sym (f .before .no-room .ensures) ∙ f .if1 .left) _ _ (c .before .before .lay-entry .ensures)
+    delete-laid edition1 _ _ _ _ _ _ (passed t) (sym (f .before .no-room .ensures) ∙ f .if1 .left) _ _
+    (laid-started (t .before .before .before .before .before .before .args .rec) (c .started .ensures) (c .before .before .before .lay-entry .ensures))
 
 pub delete-spec : {M : Type 1} → statement M
 delete-spec =
@@ -108,6 +109,7 @@ delete-spec =
     part-lay-entry-start
     part-lay-entry-end
     lay-entry-requires
+    (λ c κs. search needs)
     returns-2
     same-length-2
     returns-3)

@@ -10,23 +10,29 @@ use Rattle.starting.specs.declared.Check.{Check}
 use Rattle.starting.specs.Checks.{checked}
 use Rattle.writing.specs.declared.Presence.the-variants.{Tombstone, Nothing}
 use Rattle.writing.specs.Tests.{factsOf, firstTests}
-use Rattle.writing.specs.TestLaws.{first-lent, delete-first, delete-forbidden, delete-absent, delete-spent, delete-number}
+use Rattle.writing.specs.TestLaws.{first-bad, first-lent, delete-first, delete-forbidden, delete-absent, delete-spent, delete-number}
 use borrow.Author.Needs.{needs}
+use borrow.Author.Tests.{not-false}
 use Rattle.writing.proofs.causes.check_delete.Statement.{statement}
 use Rattle.writing.proofs.causes.check_delete.Tie as tie
 
 -- what is known once 4, 22, 3 and 5 are passed
 first : (c : tie.After-enum-told) →
-    let a = c .before .before .before .before .before .args in
+    let a = c .before .before .before .before .before .before .before .args in
     Check.Passed ≡ checked (firstCause (firstTests edition1 (a .rec) (record { area = length (now (a .area)); index = length (now (a .index)); work = a .work }) (a .tables) (a .key)))
 first c = sym (c .enum-told .given .1) ∙ c .before .before .check-first .ensures
 
 lent : (c : tie.After-enum-told) →
-    let a = c .before .before .before .before .before .args in Lent edition1 (a .rec) (length (now (a .area))) (length (now (a .index)))
+    let a = c .before .before .before .before .before .before .before .args in Lent edition1 (a .rec) (length (now (a .area))) (length (now (a .index)))
 lent c = first-lent edition1 _ _ _ _ (first c)
 
+returns : tie.Need-returns
+returns c =
+    let a = c .before .before .before .before .args in
+    delete-first edition1 _ _ _ _ _ _ (first-bad edition1 (a .rec) (record { area = length (now (a .area)); index = length (now (a .index)); work = a .work }) (a .tables) (a .key) (c .before .fits-lent .ensures) (c .if1 .taken))
+
 check-first-requires : tie.Need-check-first-requires
-check-first-requires c κs = search needs
+check-first-requires c κs = sym (c .before .fits-lent .ensures) ∙ not-false _ (c .if1 .left)
 
 enum-known-c : tie.Need-enum-known-c
 enum-known-c c = search needs
@@ -52,43 +58,45 @@ enum-told-4 c = search needs
 enum-told-5 : tie.Need-enum-told-5
 enum-told-5 c = search needs
 
-returns : tie.Need-returns
+returns-2 : tie.Need-returns-2
 unfolding edition1
-returns c =
+returns-2 c =
     let f = c .before .before .before .before .before in
-    delete-spent edition1 _ _ _ _ _ (first (f .before .before)) _ (sym (c .before .before .before .enum-told5 .given .1) ∙ f .find .ensures) (c .if1 .taken)
+    delete-spent edition1 _ _ _ _ _ (first (f .before .before)) _ (sym (c .before .before .before .enum-told5 .given .1) ∙ f .find .ensures) (c .if2 .taken)
 
 check-number-requires : tie.Need-check-number-requires
 check-number-requires c κs = omega arith
 
-returns-2 : tie.Need-returns-2
-returns-2 c = delete-first edition1 _ _ _ _ _ _ (sym (c .before .c .given .1) ∙ c .before .before .before .check-first .ensures)
-
 returns-3 : tie.Need-returns-3
-returns-3 c =
-    delete-forbidden edition1 _ _ _ _ _ (first (c .before .before .before .before)) (sym (c .enum-told2 .given .1) ∙ c .before .before .find .ensures)
+returns-3 c = delete-first edition1 _ _ _ _ _ _ (sym (c .before .c .given .1) ∙ c .before .before .before .check-first .ensures)
 
 returns-4 : tie.Need-returns-4
-unfolding factsOf
 returns-4 c =
-    delete-absent edition1 _ _ _ _ _ (first (c .before .before .before .before)) Nothing (sym (c .enum-told3 .given .1) ∙ c .before .before .find .ensures) refl refl
+    delete-forbidden edition1 _ _ _ _ _ (first (c .before .before .before .before)) (sym (c .enum-told2 .given .1) ∙ c .before .before .find .ensures)
 
 returns-5 : tie.Need-returns-5
 unfolding factsOf
 returns-5 c =
-    delete-absent edition1 _ _ _ _ _ (first (c .before .before .before .before)) Tombstone (sym (c .enum-told4 .given .1) ∙ c .before .before .find .ensures) refl refl
+    delete-absent edition1 _ _ _ _ _ (first (c .before .before .before .before)) Nothing (sym (c .enum-told3 .given .1) ∙ c .before .before .find .ensures) refl refl
 
 returns-6 : tie.Need-returns-6
-unfolding edition1
+unfolding factsOf
 returns-6 c =
+    delete-absent edition1 _ _ _ _ _ (first (c .before .before .before .before)) Tombstone (sym (c .enum-told4 .given .1) ∙ c .before .before .find .ensures) refl refl
+
+returns-7 : tie.Need-returns-7
+unfolding edition1
+returns-7 c =
     let f = c .before .before .before .before .before .before in
     delete-number edition1 _ _ _ _ _ (first (f .before .before)) _ (sym (c .before .before .before .before .enum-told5 .given .1) ∙ f .find .ensures)
-    (c .before .if1 .left) (c .check-number .ensures)
+    (c .before .if2 .left) (c .check-number .ensures)
 
 pub check-delete-spec : {M : Type 1} → statement M
 check-delete-spec =
     tie.close
     (tie.spec
+    (λ c κs. search needs)
+    returns
     check-first-requires
     enum-known-c
     enum-told
@@ -98,10 +106,10 @@ check-delete-spec =
     enum-told-3
     enum-told-4
     enum-told-5
-    returns
-    check-number-requires
     returns-2
+    check-number-requires
     returns-3
     returns-4
     returns-5
-    returns-6)
+    returns-6
+    returns-7)

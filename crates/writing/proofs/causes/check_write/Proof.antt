@@ -1,114 +1,21 @@
--- `writing::causes::check_write` meets its contract: a law for each return.
-use Prim.Native.Nat.{_+_, _≤_}
-use mathlib.Core.Path.{_≡_, sym, _∙_}
-use denote.Ref.{now}
-use lib.ListN.{length}
-use native.Mathlib.Omega.{arith}
-use Rattle.segment.specs.Layout.{edition1, digestSize, entrySize}
-use Rattle.record.specs.RangeLaws.{Lent}
-use Rattle.model.specs.Causes.{firstCause}
-use Rattle.laws.specs.OperationsKept.{edition1-roomy}
-use Rattle.starting.specs.declared.Check.{Check}
-use Rattle.starting.specs.Checks.{checked}
-use Rattle.writing.specs.Tests.{firstTests}
-use Rattle.writing.specs.TestLaws.{kind-room, first-lent, write-first, write-value, write-expected, write-entry}
+-- `writing::causes::check_write` meets its contract.
 use borrow.Author.Needs.{needs}
+use mathlib.Core.Path.{sym, _∙_}
+use lib.ListN.{length}
+use denote.Ref.{now}
+use borrow.Author.Tests.{not-false}
+use Rattle.segment.specs.Layout.{edition1}
+use Rattle.writing.specs.TestLaws.{first-bad, write-first}
 use Rattle.writing.proofs.causes.check_write.Statement.{statement}
 use Rattle.writing.proofs.causes.check_write.Tie as tie
 
--- what is known once 4, 22, 3 and 5 are passed
-first : (c : tie.After-enum-told) →
-    let a = c .before .before .before .before .before .args in
-    Check.Passed ≡ checked (firstCause (firstTests edition1 (a .rec) (record { area = length (now (a .area)); index = length (now (a .index)); work = a .work }) (a .tables) (a .key)))
-first c = sym (c .enum-told .given .1) ∙ c .before .before .check-first .ensures
-
-lent : (c : tie.After-enum-told) →
-    let a = c .before .before .before .before .before .args in Lent edition1 (a .rec) (length (now (a .area))) (length (now (a .index)))
-lent c = first-lent edition1 _ _ _ _ (first c)
-
--- and 7
-room : (c : tie.Else1) → digestSize edition1 + entrySize edition1 (c .before .before .before .before .before .before .before .args .value) ≤ 256
-room c = kind-room edition1 _ _ edition1-roomy (c .before .object-kind .ensures) (c .if1 .left)
-
-check-first-requires : tie.Need-check-first-requires
-check-first-requires c κs = search needs
-
-enum-known-c : tie.Need-enum-known-c
-enum-known-c c = search needs
-
-enum-told : tie.Need-enum-told
-enum-told c = search needs
-
-object-kind-requires : tie.Need-object-kind-requires
-object-kind-requires c κs = search needs
-
 returns : tie.Need-returns
-returns c = write-value edition1 _ _ _ _ _ _ (first (c .before .before)) _ (c .before .object-kind .ensures) (c .if1 .taken)
+returns c =
+    let a = c .before .before .before .before .args in
+    write-first edition1 _ _ _ _ _ _ _ (first-bad edition1 (a .rec) (record { area = length (now (a .area)); index = length (now (a .index)); work = a .work }) (a .tables) (a .key) (c .before .fits-lent .ensures) (c .if1 .taken))
 
-cast-find : tie.Need-cast-find
-cast-find c = search needs
-
-find-requires : tie.Need-find-requires
-find-requires c κs = let l = lent (c .before .before .before) in (omega (arith, l .size-low), omega (arith, l .size-high))
-
-check-expected-requires : tie.Need-check-expected-requires
-check-expected-requires c κs = search needs
-
-enum-known-c-2 : tie.Need-enum-known-c-2
-enum-known-c-2 c = search needs
-
-enum-told-2 : tie.Need-enum-told-2
-enum-told-2 c = search needs
-
-add-check-entry : tie.Need-add-check-entry
-unfolding edition1
-add-check-entry c = omega (arith, room (c .before .before .before .before .before))
-
-check-entry-requires : tie.Need-check-entry-requires
-unfolding edition1
-check-entry-requires c κs =
-    let e = c .before .before .before .before .before in
-    let l = lent (e .before .before) in
-    (omega (arith, room e), l .map-below, omega (arith, l .cells-low))
-
-returns-2 : tie.Need-returns-2
-returns-2 c = write-first edition1 _ _ _ _ _ _ _ (sym (c .before .c .given .1) ∙ c .before .before .before .check-first .ensures)
-
-returns-3 : tie.Need-returns-3
-unfolding edition1
-returns-3 c =
-    let s = c .before .before .before in
-    let e = s .before .before .before in
-    let t = e .before .before in
-    write-expected edition1 _ _ _ _ _ (t .before .before .before .before .before .args .value) (first t) _ (e .before .object-kind .ensures) (e .if1 .left) _
-    (rw (s .before .find .ensures) at (sym (c .before .c2 .given .1) ∙ s .check-expected .ensures))
-
-returns-4 : tie.Need-returns-4
-unfolding edition1
-returns-4 c =
-    let s = c .before .before .before in
-    let e = s .before .before .before in
-    let t = e .before .before in
-    write-entry edition1 _ _ _ _ _ _ (first t) _ (e .before .object-kind .ensures) (e .if1 .left)
-    (rw (s .before .find .ensures) at (sym (c .before .enum-told2 .given .1) ∙ s .check-expected .ensures))
-    (rw (s .before .find .ensures) at (c .check-entry .ensures))
+check-fitting-requires : tie.Need-check-fitting-requires
+check-fitting-requires c κs = sym (c .before .fits-lent .ensures) ∙ not-false _ (c .if1 .left)
 
 pub check-write-spec : {M : Type 1} → statement M
-check-write-spec =
-    tie.close
-    (tie.spec
-    check-first-requires
-    enum-known-c
-    enum-told
-    object-kind-requires
-    returns
-    cast-find
-    find-requires
-    check-expected-requires
-    enum-known-c-2
-    enum-told-2
-    add-check-entry
-    check-entry-requires
-    returns-2
-    returns-3
-    returns-4)
+check-write-spec = tie.close (tie.spec (λ c κs. search needs) returns check-fitting-requires (λ c. search needs))

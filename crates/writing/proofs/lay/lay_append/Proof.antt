@@ -1,5 +1,6 @@
 -- `writing::lay::lay_append` meets its contract.
 use borrow.Author.Needs.{needs}
+use mathlib.Core.Path.{refl}
 use native.Mathlib.Omega.{arith}
 use borrow.Author.Tests.{leb-true}
 use Rattle.segment.specs.Layout.{edition1}
@@ -33,16 +34,13 @@ cast-left c =
 cast-length : tie.Need-cast-length
 cast-length c = search needs
 
-started-requires : tie.Need-started-requires
-started-requires c κs = search needs
-
 same-length : tie.Need-same-length
 same-length c = search needs
 
 returns : tie.Need-returns
 unfolding edition1
 returns c =
-    append-said edition1 _ _ _ _ (c .before .before .before .before .before .before .before .before .before .before .before .pre .1 .1) _ _ _ _ (c .started .ensures) (c .before .commit-stores .ensures) (c .before .before .before .before .before .before .write-entry .ensures)
+    append-said edition1 _ _ _ _ (c .before .before .before .before .before .before .before .before .before .before .pre .1 .1) _ _ _ _ refl (c .commit-stores .ensures) (c .before .before .before .before .before .write-entry .ensures)
 
 pub lay-append-spec : {M : Type 1} → statement M
 lay-append-spec =
@@ -55,6 +53,5 @@ lay-append-spec =
     commit-stores-requires
     cast-left
     cast-length
-    started-requires
     same-length
     returns)

@@ -1,6 +1,6 @@
 -- `writing::lay::lay_head` meets its contract.
 use borrow.Author.Needs.{needs}
-use mathlib.Core.Path.{ap}
+use mathlib.Core.Path.{refl, ap}
 use native.Mathlib.Omega.{arith}
 use lib.ListN.{length}
 use lib.Seq.{length-sets}
@@ -51,18 +51,15 @@ cast-left c =
 cast-length : tie.Need-cast-length
 cast-length c = search needs
 
-started-requires : tie.Need-started-requires
-started-requires c κs = search needs
-
 same-length : tie.Need-same-length
 same-length c = search needs
 
 returns : tie.Need-returns
 unfolding edition1
 returns c =
-    let d = c .before .before .before .before .before .before .before .before .before in
-    head-said edition1 _ _ _ _ (d .before .before .before .before .before .before .before .pre .1 .1) _ _ _ _ _ _ _ (c .started .ensures) (d .before .before .before .next-free .ensures) (d .before .new-digest .ensures) (d .write-digest .ensures)
-    (c .before .before .before .before .before .write-entry .ensures) (c .before .head-stores .ensures)
+    let d = c .before .before .before .before .before .before .before .before in
+    head-said edition1 _ _ _ _ (d .before .before .before .before .before .before .before .pre .1 .1) _ _ _ _ _ _ _ refl (d .before .before .before .next-free .ensures) (d .before .new-digest .ensures) (d .write-digest .ensures)
+    (c .before .before .before .before .write-entry .ensures) (c .head-stores .ensures)
 
 pub lay-head-spec : {M : Type 1} → statement M
 lay-head-spec =
@@ -78,6 +75,5 @@ lay-head-spec =
     head-stores-requires
     cast-left
     cast-length
-    started-requires
     same-length
     returns)

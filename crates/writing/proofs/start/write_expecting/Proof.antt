@@ -3,7 +3,7 @@ use mathlib.Core.Path.{sym, _∙_}
 use denote.Ref.{now}
 use Rattle.segment.specs.Layout.{edition1}
 use Rattle.laws.specs.OperationsKept.{edition1-roomy}
-use Rattle.writing.specs.StartLaws.{write-refused, write-ready, write-number, write-known, write-laid}
+use Rattle.writing.specs.StartLaws.{write-refused, write-ready, write-number, write-known, write-laid, laid-started}
 use borrow.Author.Needs.{needs}
 use Rattle.writing.proofs.start.write_expecting.Statement.{statement}
 use Rattle.writing.proofs.start.write_expecting.Tie as tie
@@ -41,14 +41,18 @@ returns c =
     write-refused edition1 _ _ _ _ _ _ _ _ (sym (c .before .before .c .given .1) ∙ c .before .before .before .before .check-write .ensures) _
     (c .refused .ensures)
 
+started-requires : tie.Need-started-requires
+started-requires c κs = search needs
+
 same-length : tie.Need-same-length
 same-length c = search needs
 
 returns-2 : tie.Need-returns-2
 returns-2 c =
-    let t = c .before .before .before .before .before in
+    let d = c .before .before .before in
+    let t = d .before .before .before in
     write-laid edition1 _ _ _ _ _ _ _ (sym (t .enum-told .given .1) ∙ t .before .before .check-write .ensures) _ _ _
-    (c .before .before .before .object-kind .ensures) (c .before .before .lay-entry .ensures)
+    (d .before .object-kind .ensures) (laid-started (t .before .before .before .before .before .before .before .args .rec) (c .started .ensures) (d .lay-entry .ensures))
 
 pub write-expecting-spec : {M : Type 1} → statement M
 write-expecting-spec =
@@ -60,6 +64,7 @@ write-expecting-spec =
     enum-told
     object-kind-requires
     lay-entry-requires
+    started-requires
     returns
     same-length
     returns-2)
