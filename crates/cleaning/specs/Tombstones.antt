@@ -47,9 +47,11 @@ module _ (L : Layout) (s : List ℕ) (at : ℕ) (whole : Bool) (from : tombstone
         ∙ ap tombstoneIn (sym (entries-meets L s at m))
         ∙ from
 
-    pub tombstone-next : h .tombstone ≡ false → tombstoneIn (entriesAt L s (at + h .length)) ≡ whole
+    pub tombstone-next : h .tombstone ≡ false → (at′ : ℕ) → at′ ≡ at + h .length → tombstoneIn (entriesAt L s at′) ≡ whole
     unfolding tombstoneIn either
-    tombstone-next e = let passed = its ∙ e in sym (ap tombstoneIn (entries-meets L s at m) ∙ rw passed) ∙ from
+    tombstone-next e at′ b =
+        let passed = its ∙ e in
+        ap (λ (n : ℕ). tombstoneIn (entriesAt L s n)) b ∙ sym (ap tombstoneIn (entries-meets L s at m) ∙ rw passed) ∙ from
 
 -- a slot, and a turn of a loop over the slots
 module _ (L : Layout) (area : List ℕ) (split : Split) (i : ℕ) where

@@ -92,7 +92,7 @@ fn copy_slot(
         match next(s, at) {
             Next::Entry(header) => {
                 to = copy_chosen(area, chosen, header, slot * size + at, work, to);
-                at = behind(at, header.length);
+                at = behind(at, header);
             }
             Next::End => {
                 return to;

@@ -96,7 +96,7 @@ fn measure_slot(
         match next(s, at) {
             Next::Entry(header) => {
                 total += choose_kept(area, cells, marks, chosen, header, slot * size + at);
-                at = behind(at, header.length);
+                at = behind(at, header);
             }
             Next::End => {
                 return total;

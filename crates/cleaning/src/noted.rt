@@ -39,7 +39,7 @@ fn note_slot(area: &[u8], filter: &mut [u32], split: Split, slot: usize)
         match next(s, at) {
             Next::Entry(header) => {
                 note_entry(filter, header);
-                at = behind(at, header.length);
+                at = behind(at, header);
             }
             Next::End => {
                 return;

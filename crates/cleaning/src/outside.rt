@@ -81,7 +81,7 @@ fn mark_slot(
         match next(s, at) {
             Next::Entry(header) => {
                 sift_entry(area, cells, filter, marks, header);
-                at = behind(at, header.length);
+                at = behind(at, header);
             }
             Next::End => {
                 return;

@@ -1,12 +1,14 @@
 // Whether a victim holds a tombstone: only then it matters which objects stand outside the victims.
 use crate::Split;
+use crate::behind::behind;
 use log::slots::is_named;
 use segment::Next;
 use segment::area::cut;
 use segment::entries::next;
 use segment::layout::DIGEST_SIZE;
-ghost use Prim.Native.Nat.{_<_};
+ghost use Prim.Native.Nat.{_≤_, _<_};
 ghost use mathlib.Core.Path.{_≡_};
+ghost use lib.ListN.{length};
 ghost use Rattle.segment.specs.Layout.{edition1, digestSize};
 ghost use Rattle.index.specs.Build.{entriesAt};
 ghost use Rattle.cleaning.specs.Entries.{SlotsFit};
@@ -14,6 +16,7 @@ ghost use Rattle.cleaning.specs.Tombstones.{tombstoneIn, victimHolds, an
 
 // Whether a tombstone stands in a segment. Damage ends a segment too.
 fn holds_tombstone(s: &[u8]) -> bool
+    requires { ⌜ length (now s) ≤ 2048 ⌝ }
     ensures { λ r. ⌜ r ≡ tombstoneIn (entriesAt edition1 (now (s .entry)) (digestSize edition1)) ⌝ }
 {
     let mut at = DIGEST_SIZE;
@@ -23,7 +26,7 @@ fn holds_tombstone(s: &[u8]) -> bool
                 if header.tombstone {
                     return true;
                 }
-                at += header.length;
+                at = behind(at, header);
             }
             Next::End => {
                 return false;

@@ -3,7 +3,6 @@ use Prim.Native.Nat.{ℕ, zero, suc, _+_, _*_, _-_, _≤_, _<_}
 use mathlib.Core.Path.{_≡_, refl, sym, _∙_, ap, subst}
 use mathlib.Core.Bool.{Bool, true, false, not}
 use mathlib.Core.List.{List, [], _∷_, List·Memᴰ·tail}
-use mathlib.Core.Option.{Option, none, some}
 use native.Mathlib.Decide.{ℕ-discrete}
 use native.Mathlib.Nat.{mul-le-mul}
 use native.Mathlib.Numerals.{add-one}
@@ -12,9 +11,8 @@ use lib.Dec.{eqb, leb, ltb}
 use lib.ListN.{length, getD, set, replicate, length-set, length-replicate}
 use lib.Seq.{getD-set-same, getD-set-other}
 use borrow.Author.Tests.{eqb-true, eqb-false, eq-eqb, ne-eqb, le-leb, lt-leb, le-ltb}
-use Rattle.segment.specs.Choice.{pick, pick-true, pick-false, both, either, isNone}
-use Rattle.segment.specs.Layout.{Layout, digestSize, entrySize}
-use Rattle.segment.specs.Entry.{bytesIn}
+use Rattle.segment.specs.Choice.{pick, pick-true, pick-false, both, either}
+use Rattle.segment.specs.Layout.{Layout, digestSize}
 use Rattle.segment.specs.Entries.{headerOf}
 use Rattle.segment.specs.declared.Header.{Header}
 use Rattle.segment.specs.declared.Key.{Key}
@@ -179,17 +177,6 @@ found-short cells place n (Found.At c) = go (eqb (getD cells c 0) (place + 1))
     go false = omega arith
 found-short cells place n (Found.Free c) = omega arith
 found-short cells place n Found.Full = omega arith
-
--- ---- a tombstone
-
--- it is as long as the shortest entry
-pub tombstone-length : (L : Layout) (s : List ℕ) (at : ℕ) {h : Header} → Meets L s at h → h .tombstone ≡ true → h .length ≡ entrySize L 0
-unfolding isNone bytesIn
-tombstone-length L s at m t = sym (ap (λ (g : Header). g .length) (m .its)) ∙ go (m .met .value) (ap (λ (g : Header). g .tombstone) (m .its) ∙ t)
-  where
-    go : (v : Option (List ℕ)) → isNone v ≡ true → entrySize L (length (bytesIn v)) ≡ entrySize L 0
-    go none e = refl
-    go (some b) e = absurd (clash true refl (sym e))
 
 -- ---- a turn of the loop over a segment: the whole is what comes from here on
 

@@ -1,5 +1,6 @@
 -- `cleaning::copy::copy_slot` meets its contract. The invariant: with what is chosen from here on, the copy is that of the slot.
 use Prim.Native.Nat.{_+_, _*_, _-_, _<_}
+use mathlib.Core.Bool.{true}
 use mathlib.Core.Path.{_≡_, refl}
 use native.Mathlib.Omega.{arith}
 use lib.ListN.{length}
@@ -7,7 +8,7 @@ use denote.Ref.{now}
 use borrow.Author.Needs.{needs}
 use Rattle.segment.specs.Layout.{edition1}
 use Rattle.cleaning.specs.Chosen.{chosenSlot, chosenEntry}
-use Rattle.cleaning.specs.EntriesLaws.{Meets, meets, stops-end, stops-damage, slot-lies, slot-long, entry-lies, place-short}
+use Rattle.cleaning.specs.EntriesLaws.{Meets, meets, stops-end, stops-damage, tombstone-length, slot-lies, slot-long, entry-lies, place-short}
 use Rattle.cleaning.specs.ChosenLaws.{chosenFrom, chosen-whole, chosen-stop, chosen-entry}
 use Rattle.cleaning.specs.Copied.{Copying, copying-start, copying-room, copying-next, copying-end}
 use Rattle.cleaning.proofs.copy.copy_slot.Statement.{statement}
@@ -28,6 +29,11 @@ long c = let s = c .before .before .before .before in slot-long (s .pre .0 .slot
 met : (c : tie.After-known-told Inv-loop μ-loop)
     → Meets edition1 (now (c .before .before .before .before .before .cut .result)) (c .before .before .before .before .loop .at) (c .before .header .given .0 .0)
 met c = meets edition1 _ _ _ (c .before .before .before .next .ensures) _ (c .before .header .given .1)
+
+-- a tombstone is 11 bytes long
+tombstone-long : (c : tie.After-known-told Inv-loop μ-loop) → c .before .header .given .0 .0 .tombstone ≡ true → c .before .header .given .0 .0 .length ≡ 11
+unfolding edition1
+tombstone-long c t = tombstone-length edition1 _ _ (met c) t
 
 place : (c : tie.After-known-told Inv-loop μ-loop)
     → let a = c .before .before .before .before .before .before .before .before .before .args in
@@ -72,7 +78,9 @@ copy-chosen-requires c κs =
     )
 
 behind-requires : tie.Need-behind-requires Inv-loop μ-loop
-behind-requires c κs = omega (arith, met (c .before .before .before .before), long (c .before .before .before .before .before .before .before .before .before), c .before .before .before .before .before .before .before .before .before .before .before .before .before .pre .0 .slots .size-high)
+behind-requires c κs =
+    let k = c .before .before .before .before in
+    (omega (arith, met k, long (k .before .before .before .before .before), k .before .before .before .before .before .before .before .before .before .pre .0 .slots .size-high), tombstone-long k)
 
 loop-less : tie.Need-loop-less Inv-loop μ-loop
 loop-less c = omega (arith, c .behind .ensures, met (c .before .before .before .before .before))

@@ -1,6 +1,7 @@
 -- `cleaning::kept::measure_slot` meets its contract. The invariant: with the length of what is kept from here on the total
 -- is that of the slot, and with the entries from here on what is chosen is.
 use Prim.Native.Nat.{_+_, _*_, _-_, _≤_, _<_}
+use mathlib.Core.Bool.{true}
 use mathlib.Core.Path.{_≡_, refl, _∙_, ap}
 use native.Mathlib.Omega.{arith}
 use lib.ListN.{length}
@@ -12,7 +13,7 @@ use Rattle.index.specs.Build.{entriesAt}
 use Rattle.cleaning.specs.Kept.{keptTest, keptSlot}
 use Rattle.cleaning.specs.Chosen.{choosePlaced}
 use Rattle.cleaning.specs.ChosenLaws.{choice-stop, choice-entry, choice-whole, length-choice}
-use Rattle.cleaning.specs.EntriesLaws.{Meets, meets, stops-end, stops-damage, slot-lies, slot-long, entry-lies, place-short}
+use Rattle.cleaning.specs.EntriesLaws.{Meets, meets, stops-end, stops-damage, tombstone-length, slot-lies, slot-long, entry-lies, place-short}
 use Rattle.cleaning.specs.KeptLaws.{keptFrom, measured-whole, entry-short, measured-stop, measured-entry}
 use Rattle.cleaning.proofs.kept.measure_slot.Statement.{statement}
 use Rattle.cleaning.proofs.kept.measure_slot.Tie as tie
@@ -37,6 +38,11 @@ long c = let s = c .before .before .before .before .before in slot-long (s .pre 
 met : (c : tie.After-known-told Inv-loop μ-loop)
     → Meets edition1 (now (c .before .before .before .before .before .cut .result)) (c .before .before .before .before .loop .at) (c .before .header .given .0 .0)
 met c = meets edition1 _ _ _ (c .before .before .before .next .ensures) _ (c .before .header .given .1)
+
+-- a tombstone is 11 bytes long
+tombstone-long : (c : tie.After-known-told Inv-loop μ-loop) → c .before .header .given .0 .0 .tombstone ≡ true → c .before .header .given .0 .0 .length ≡ 11
+unfolding edition1
+tombstone-long c t = tombstone-length edition1 _ _ (met c) t
 
 place : (c : tie.After-known-told Inv-loop μ-loop)
     → let a = c .before .before .before .before .before .before .before .before .before .before .args in
@@ -94,7 +100,7 @@ behind-requires : tie.Need-behind-requires Inv-loop μ-loop
 behind-requires c κs =
     let k = c .before .before .before .before in
     let s = k .before .before .before .before .before .before .before .before .before .before in
-    omega (arith, met k, long (k .before .before .before .before .before), s .pre .0 .0 .slots .size-high)
+    (omega (arith, met k, long (k .before .before .before .before .before), s .pre .0 .0 .slots .size-high), tombstone-long k)
 
 loop-less : tie.Need-loop-less Inv-loop μ-loop
 loop-less c = omega (arith, c .behind .ensures, met (c .before .before .before .before .before))

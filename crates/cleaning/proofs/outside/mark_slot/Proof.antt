@@ -1,5 +1,6 @@
 -- `cleaning::outside::mark_slot` meets its contract.
 use Prim.Native.Nat.{_-_}
+use mathlib.Core.Bool.{true}
 use mathlib.Core.Path.{_≡_, refl, _∙_, ap}
 use native.Mathlib.Omega.{arith}
 use lib.ListN.{length}
@@ -9,7 +10,7 @@ use Rattle.index.specs.Build.{entriesAt}
 use Rattle.cleaning.specs.Walks.{walkItems, walk-stop, walk-entry, walk-whole}
 use Rattle.cleaning.specs.Filter.{siftEntry}
 use Rattle.cleaning.specs.FilterLaws.{length-sift}
-use Rattle.cleaning.specs.EntriesLaws.{Meets, meets, stops-end, stops-damage, slot-lies, slot-long}
+use Rattle.cleaning.specs.EntriesLaws.{Meets, meets, stops-end, stops-damage, tombstone-length, slot-lies, slot-long}
 use borrow.Author.Needs.{needs}
 use Rattle.cleaning.proofs.outside.mark_slot.Statement.{statement}
 use Rattle.cleaning.proofs.outside.mark_slot.Tie as tie
@@ -33,6 +34,11 @@ met : (c : tie.After-known-told Inv-loop μ-loop)
     → Meets edition1 (now (c .before .before .before .before .before .cut .result)) (c .before .before .before .before .loop .at) (c .before .header .given .0 .0)
 met c = meets edition1 _ _ _ (c .before .before .before .next .ensures) _ (c .before .header .given .1)
 
+-- a tombstone is 11 bytes long
+tombstone-long : (c : tie.After-known-told Inv-loop μ-loop) → c .before .header .given .0 .0 .tombstone ≡ true → c .before .header .given .0 .0 .length ≡ 11
+unfolding edition1
+tombstone-long c t = tombstone-length edition1 _ _ (met c) t
+
 cut-requires : tie.Need-cut-requires Inv-loop μ-loop
 cut-requires c κs = let s = c .before .before .before .before in slot-lies (s .pre .0 .0 .slots) (s .args .slot) (s .pre .1)
 
@@ -53,12 +59,8 @@ sift-entry-requires c κs =
 
 behind-requires : tie.Need-behind-requires Inv-loop μ-loop
 behind-requires c κs =
-    omega (
-      arith,
-      met (c .before .before .before .before),
-      long (c .before .before .before .before .before .before .before .before .before),
-      c .before .before .before .before .before .before .before .before .before .before .before .before .before .before .pre .0 .0 .slots .size-high,
-    )
+    let k = c .before .before .before .before in
+    (omega (arith, met k, long (k .before .before .before .before .before), k .before .before .before .before .before .before .before .before .before .before .pre .0 .0 .slots .size-high), tombstone-long k)
 
 loop-less : tie.Need-loop-less Inv-loop μ-loop
 loop-less c = omega (arith, c .behind .ensures, met (c .before .before .before .before .before))

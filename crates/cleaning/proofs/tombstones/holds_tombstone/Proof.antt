@@ -5,6 +5,7 @@ use native.Mathlib.Omega.{arith}
 use lib.ListN.{length}
 use borrow.Author.Needs.{needs}
 use Rattle.segment.specs.Layout.{edition1, digestSize}
+use Rattle.laws.specs.Members.{clash}
 use Rattle.index.specs.Build.{entriesAt}
 use Rattle.cleaning.specs.EntriesLaws.{Meets, meets, stops-end, stops-damage}
 use Rattle.cleaning.specs.Tombstones.{tombstoneIn, tombstone-none, tombstone-found, tombstone-next}
@@ -35,14 +36,18 @@ met c = meets edition1 _ _ _ (c .before .before .before .next .ensures) _ (c .be
 returns : tie.Need-returns Inv-loop μ-loop
 returns c = tombstone-found edition1 _ _ _ (c .before .before .before .before .before .loop .inv) (met (c .before)) (c .if1 .taken)
 
-add-at : tie.Need-add-at Inv-loop μ-loop
-add-at c = omega (arith, met (c .before .before))
+behind-requires : tie.Need-behind-requires Inv-loop μ-loop
+behind-requires c κs =
+    let k = c .before in
+    (omega (arith, met k, k .before .before .before .before .before .before .pre), λ t. absurd (clash _ t (c .if1 .left)))
 
 loop-less : tie.Need-loop-less Inv-loop μ-loop
-loop-less c = omega (arith, met (c .before .before))
+loop-less c = omega (arith, c .behind .ensures, met (c .before .before))
 
 loop-again : tie.Need-loop-again Inv-loop μ-loop
-loop-again c = tombstone-next edition1 _ _ _ (c .before .before .before .before .before .before .loop .inv) (met (c .before .before)) (c .before .if1 .left)
+loop-again c =
+    let k = c .before .before in
+    tombstone-next edition1 _ _ _ (k .before .before .before .before .loop .inv) (met k) (c .before .if1 .left) _ (c .behind .ensures)
 
 enum-told : tie.Need-enum-told Inv-loop μ-loop
 enum-told c = search needs
@@ -66,7 +71,7 @@ holds-tombstone-spec =
     next-requires
     enum-known-header
     returns
-    add-at
+    behind-requires
     loop-less
     loop-again
     enum-told

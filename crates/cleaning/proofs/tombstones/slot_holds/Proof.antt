@@ -2,12 +2,13 @@
 use mathlib.Core.Path.{sym, _∙_, ap}
 use Prim.Native.Nat.{ℕ}
 use mathlib.Core.List.{List}
+use native.Mathlib.Omega.{arith}
 use borrow.Author.Needs.{needs}
 use Rattle.segment.specs.Layout.{edition1, digestSize}
 use borrow.Author.Tests.{not-true, not-false}
 use Rattle.index.specs.Build.{entriesAt}
 use Rattle.cleaning.specs.Tombstones.{tombstoneIn, victim-none, victim-goes}
-use Rattle.cleaning.specs.EntriesLaws.{slot-lies}
+use Rattle.cleaning.specs.EntriesLaws.{slot-lies, slot-long}
 use Rattle.cleaning.proofs.tombstones.slot_holds.Statement.{statement}
 use Rattle.cleaning.proofs.tombstones.slot_holds.Tie as tie
 
@@ -21,7 +22,9 @@ cut-requires : tie.Need-cut-requires
 cut-requires c κs = let s = c .before .before .before in slot-lies (s .pre .0) (s .args .slot) (s .pre .1)
 
 holds-tombstone-requires : tie.Need-holds-tombstone-requires
-holds-tombstone-requires c κs = search needs
+holds-tombstone-requires c κs =
+    let s = c .before .before .before .before in
+    omega (arith, slot-long (s .pre .0) _ (s .pre .1) _ (c .cut .ensures), s .pre .0 .size-high)
 
 returns-2 : tie.Need-returns-2
 returns-2 c =

@@ -8,8 +8,8 @@ use lib.ListN.{length}
 use denote.Ref.{now}
 use Rattle.segment.specs.Layout.{edition1}
 use Rattle.index.specs.Search.{searchFor}
-use Rattle.cleaning.specs.EntriesLaws.{Meets, meets, stops-end, stops-damage, slot-lies, slot-long, place-short}
-use Rattle.joining.specs.NotesLaws.{Noting, noting-start, noting-tombstone, noting-object, noting-stop, found-short, tombstone-length}
+use Rattle.cleaning.specs.EntriesLaws.{Meets, meets, stops-end, stops-damage, tombstone-length, slot-lies, slot-long, place-short}
+use Rattle.joining.specs.NotesLaws.{Noting, noting-start, noting-tombstone, noting-object, noting-stop, found-short}
 use borrow.Author.Needs.{needs}
 use Rattle.joining.proofs.notes.note_slot.Statement.{statement}
 use Rattle.joining.proofs.notes.note_slot.Tie as tie

@@ -6,9 +6,8 @@ use native.Mathlib.Omega.{arith}
 use lib.ListN.{length}
 use denote.Ref.{now}
 use Rattle.segment.specs.Layout.{edition1}
-use Rattle.cleaning.specs.EntriesLaws.{Meets, meets, stops-end, stops-damage, slot-lies, slot-long, place-short}
+use Rattle.cleaning.specs.EntriesLaws.{Meets, meets, stops-end, stops-damage, tombstone-length, slot-lies, slot-long, place-short}
 use Rattle.joining.specs.Weights.{ShareFits}
-use Rattle.joining.specs.NotesLaws.{tombstone-length}
 use Rattle.joining.specs.WeightsLaws.{Weighing, weighing-start, weighing-tombstone, weighing-object, weighing-passed, weighing-stop, note-fits, share-short}
 use borrow.Author.Needs.{needs}
 use Rattle.joining.proofs.weights.weigh_slot.Statement.{statement}
