@@ -22,6 +22,6 @@ pub fn behind(at: usize, header: Header) -> usize
         67 => at + 67,
         35 => at + 35,
         19 => at + 19,
-        _ => at + length % 65536,
+        _ => (at + length) % 65536,
     }
 }
