@@ -7,7 +7,7 @@ ghost use mathlib.Core.Bool.{true};
 
 // The offset behind an entry. The lengths that entries have stand in branches of their own, the tombstone's first, so that a
 // processor that foresees the branch goes on to the next entry and does not wait until the length is loaded. Without the remainder
-// a compiler sees that all branches are one sum and takes them away.
+// of the sum a compiler sees that all branches are one sum and takes them away; that of a length does not stop it.
 pub fn behind(at: usize, header: Header) -> usize
     requires { ⌜ at + header .length < 65536 ⌝ }
     requires { ⌜ (header .tombstone ≡ true → header .length ≡ 11) ⌝ }
@@ -22,6 +22,6 @@ pub fn behind(at: usize, header: Header) -> usize
         67 => at + 67,
         35 => at + 35,
         19 => at + 19,
-        _ => at + length % 65536,
+        _ => (at + length) % 65536,
     }
 }
