@@ -8,13 +8,13 @@ use native.Mathlib.Nat.{mul-le-mul}
 use native.Mathlib.Omega.{arith}
 use lib.ListN.{length}
 use lib.Seq.{sets}
-use borrow.Author.Tests.{not-true, not-false}
+use borrow.Author.Tests.{not-false}
 use Rattle.segment.specs.Layout.{edition1}
 use Rattle.segment.specs.declared.Key.{Key}
 use Rattle.segment.specs.declared.Version.{Version}
-use Rattle.record.specs.Answers.{blank, bare, formatSaid, recoverSaid, readSaid, startSaid, stepSaid, tellSaid, fewestSaid, withPending}
+use Rattle.record.specs.Answers.{bare, formatSaid, recoverSaid, readSaid, startSaid, stepSaid, fewestSaid}
 use Rattle.record.specs.Range.{fitsLent}
-use Rattle.record.specs.RangeLaws.{lent, blank-unfit}
+use Rattle.record.specs.RangeLaws.{lent}
 use Rattle.record.specs.declared.Refusal.{Refusal}
 use Rattle.record.specs.declared.Record.{Record}
 use Rattle.record.specs.declared.FormatAnswer.{FormatAnswer}
@@ -27,14 +27,12 @@ use Rattle.record.specs.declared.Stepped.{Stepped}
 use Rattle.record.specs.declared.StepAnswer.{StepAnswer}
 use Rattle.record.specs.declared.Fewest.{Fewest}
 use Rattle.record.specs.declared.FewestAnswer.{FewestAnswer}
-use Rattle.record.specs.declared.Foretold.{Foretold}
-use Rattle.record.specs.declared.TellAnswer.{TellAnswer}
 use Rattle.model.specs.Fewest.{FewestPromise}
 use Rattle.model.specs.Operations.{Operation}
 use Rattle.record.specs.Reach.{holdsTable}
 use Rattle.record.specs.declared.Tables.{Tables}
 use Rattle.model.specs.Refused.{Terms}
-use Rattle.model.specs.Promises.{FormatPromise, RecoverPromise, ValuePromise, StartPromise, StepPromise, TellPromise}
+use Rattle.model.specs.Promises.{FormatPromise, RecoverPromise, ValuePromise, StartPromise, StepPromise}
 use Rattle.telling.specs.Told as Told
 use Rattle.stepping.specs.Tested.{StepTested}
 use Rattle.index.specs.Search.{searchFor}
@@ -42,8 +40,8 @@ use Rattle.index.specs.declared.Found.{Found}
 use Rattle.recovery.specs.Lookups.{Reached, lookupAt, lookedUp, toldBy, partBy}
 use Rattle.recovery.specs.LookupLaws.{reached, looked-unfit, looked-fit, read-promise, value-promise, looked-outside}
 use Rattle.recovery.specs.declared.Lookup.{Lookup}
-use Rattle.words.specs.Words.{recordWords, pendingWords, wordsOf, word, recordIn, isRecord, decoded}
-use Rattle.words.specs.WordLaws.{record-long, counts-long, decoded-record, decoded-none, pending-alone, encode-decode, fits-record, fits-decoded}
+use Rattle.words.specs.Words.{recordWords, wordsOf, word, recordIn, isRecord, decoded}
+use Rattle.words.specs.WordLaws.{record-long, counts-long, decoded-record, decoded-none, encode-decode, fits-record, fits-decoded}
 use Rattle.words.specs.declared.Decoded.{Decoded}
 use Rattle.kurdavel.specs.Crossing.{FormatCrossed, RecoverCrossed, wordsAfter, ReadCrossed, ValueCrossed, Handed, storesAfter, StartCrossed, keptWords, StepCrossed, leftTold, toldAfter, slotTold, FewestCrossed, ScanCrossed, ScanValueCrossed}
 use Rattle.model.specs.Scanned.{ScanValue}
@@ -181,22 +179,6 @@ pub reached-word : (words area cells : List ℕ) (t : Tables) (k : Key)
 reached-word words area cells t k fit held i e =
     subst (λ (s : ℕ). Reached s cells i) (size-word words (length area) (length cells) fit)
     (reached edition1 (decoded words .rec) area cells t k fit held i e)
-
--- words that are no record say the blank one, which is bad
-pub looked-none : (words area cells : List ℕ) (t : Tables) (k : Key) {d : Decoded} → d ≡ decoded words → not (d .ok) ≡ true
-    → Lookup.Bad ≡ lookedUp edition1 (decoded words .rec) area cells t k
-looked-none words area cells t k {d} f off = go (isRecord words) refl
-  where
-    go : (x : Bool) → isRecord words ≡ x → Lookup.Bad ≡ lookedUp edition1 (decoded words .rec) area cells t k
-    go true e =
-        let yes : decoded words .ok ≡ true = ap (λ (a : Decoded). a .ok) (decoded-record words e) in
-        let no : decoded words .ok ≡ false = sym (ap (λ (a : Decoded). a .ok) f) ∙ not-true (d .ok) off in
-        let z : _≡_ {A = ℕ} 0 1 = cc in
-        absurd (omega arith)
-    go false e =
-        let says : decoded words .rec ≡ blank = ap (λ (a : Decoded). a .rec) (decoded-none words e) in
-        sym (ap (λ (r : Record). lookedUp edition1 r area cells t k) says
-        ∙ looked-unfit edition1 blank area cells t k (blank-unfit edition1 (length area) (length cells)))
 
 pub read-crossed : {words area cells : List ℕ} {t : Tables} {k : Key} {version kind number : ℕ} {x : Lookup} {a b : ReadAnswer}
     → x ≡ lookedUp edition1 (decoded words .rec) area cells t k → a ≡ toldBy x → a ≡ b → number ≡ readSaid b .refused

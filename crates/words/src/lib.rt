@@ -50,7 +50,7 @@ fn put_pending(words: &mut [u32], tag: u32, slot: u32, victims: u32, bytes: u32,
     words[16] = left;
 }
 
-// The pending operation alone: what a step writes that leaves stores to be done, and with it nothing else of the record.
+// The pending operation alone: what a start writes on the words as they are, and with it nothing else of the record.
 pub fn encode_pending(p: Pending, words: &mut [u32])
     requires { ⌜ recordWords ≤ length (now words) ⌝ }
     ensures { λ _. ⌜ now (words .exit) ≡ sets (now (words .entry)) 12 (pendingWords p) ⌝ }
