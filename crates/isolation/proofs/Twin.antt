@@ -24,7 +24,7 @@ use Rattle.laws.specs.Stores.{length-stored}
 use Rattle.laws.specs.Scans.{itemAt, itemsFrom}
 use Rattle.laws.specs.AppendBytes.{append-prefix, append-other, append-digest, append-scan}
 use Rattle.laws.specs.NewHeadBytes.{headPlan, new-head-prefix, new-head-other-prefix, new-head-other, new-head-view}
-use Rattle.laws.specs.RecoverLaws.{recovered-fits, recovered-scan}
+use Rattle.laws.specs.RecoverLaws.{recovered-holds, recovered-scan}
 use Rattle.laws.specs.Headed.{new-others}
 use Rattle.laws.specs.Planned.{new-below, new-free, new-map-fits}
 use Rattle.isolation.proofs.Hidden.{hidden, hiddenItem, hiddenScan, map-append, size-hidden, scan-items, encoded-hidden, items-hidden}
@@ -123,10 +123,10 @@ module _ (of : ℕ → Bool) (L : Layout) (r : Record) (area area′ : List ℕ)
     Left m plan plan′ = Alike of L (r .slots) (r .size) m (stored area plan) (stored area′ plan′)
 
     facts : Lent L r (length area) (r .cells)
-    facts = lent L r (length area) (r .cells) (recovered-fits L (r .slots) (r .size) (r .cells) area r e)
+    facts = recovered-holds L (r .slots) (r .size) (r .cells) area r e
 
     facts′ : Lent L r (length area′) (r .cells)
-    facts′ = lent L r (length area′) (r .cells) (recovered-fits L (r .slots) (r .size) (r .cells) area′ r e′)
+    facts′ = recovered-holds L (r .slots) (r .size) (r .cells) area′ r e′
 
     left-long : (plan plan′ : List (ℕ × ℕ)) → length (stored area plan) ≡ length (stored area′ plan′)
     left-long plan plan′ = length-stored area plan ∙ a .long ∙ sym (length-stored area′ plan′)

@@ -37,7 +37,7 @@ use Rattle.laws.specs.Members.{In, Once, more, once-length, Within, clash}
 use Rattle.laws.specs.Keys.{KeysWithin, key-listed, listed-key, keys-once, keys-within}
 use Rattle.laws.specs.MapLaws.{valueAt, unplaced, Cleaned, clean-keys}
 use Rattle.laws.specs.Operated.{Accepted, OperationLaws, planAt, mapAfter}
-use Rattle.laws.specs.RecoverLaws.{recovered-case, recovered-fits}
+use Rattle.laws.specs.RecoverLaws.{recovered-case, recovered-holds}
 use Rattle.laws.specs.Cleanings.{Cleaning, clean-cleans}
 use Rattle.laws.specs.Cleaned.{cleaned-cleaned}
 use Rattle.laws.specs.Headed.{Heads}
@@ -164,7 +164,7 @@ module _ (L : Layout) (laws : OperationLaws L) (area : List ℕ) (r : Record) (i
     done = finishedRecord L area r (clean victims)
 
     facts : Lent L r (length area) (r .cells)
-    facts = lent L r (length area) (r .cells) (recovered-fits L (r .slots) (r .size) (r .cells) area r (acc .recovers))
+    facts = recovered-holds L (r .slots) (r .size) (r .cells) area r (acc .recovers)
 
     cleaning : Cleaning L area r victims (r .next) (logNow L area r)
     cleaning = clean-cleans L area r victims acc

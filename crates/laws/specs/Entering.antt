@@ -21,7 +21,7 @@ use Rattle.model.specs.Log.{Placed, hasKey, present, latest, objectOnly}
 use Rattle.model.specs.Operations.{Operation, write, delete, logNow, writtenEntry, tombstoneEntry, fitsHead, noRoom, countNew}
 use Rattle.model.specs.Refused.{freely, keyFacts, startCauses}
 use Rattle.laws.specs.Latest.{latest-has}
-use Rattle.laws.specs.RecoverLaws.{recovered-fits, recovered-next, recovered-number}
+use Rattle.laws.specs.RecoverLaws.{recovered-holds, recovered-next, recovered-number}
 use Rattle.laws.specs.Appended.{Takes}
 use Rattle.laws.specs.Operated.{Accepted}
 use Rattle.laws.specs.Passed.{WritePassed, write-passed, DeletePassed, delete-passed}
@@ -43,7 +43,7 @@ pub record Entering (L : Layout) (before : List ℕ) (idle : Record) (e : Entry)
 
 module _ (L : Layout) (before : List ℕ) (idle : Record) (o : Operation) (a : Accepted L before idle o) where
   pub idle-lent : Lent L idle (length before) (idle .cells)
-  idle-lent = lent L idle (length before) (idle .cells) (recovered-fits L (idle .slots) (idle .size) (idle .cells) before idle (a .recovers))
+  idle-lent = recovered-holds L (idle .slots) (idle .size) (idle .cells) before idle (a .recovers)
 
   pub idle-next : idle .next .0 ≤ versionLimit L
   idle-next = recovered-next L (idle .slots) (idle .size) (idle .cells) before idle (a .recovers) (a .area-bytes)

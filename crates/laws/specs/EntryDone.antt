@@ -27,7 +27,7 @@ use Rattle.laws.specs.Scans.{itemAt, encoded-one}
 use Rattle.laws.specs.AppendBytes.{append-other, append-digest, append-scan}
 use Rattle.laws.specs.NewHeadBytes.{headPlan, formed-one, new-head-other, new-head-view}
 use Rattle.laws.specs.LogLaws.{entered-added}
-use Rattle.laws.specs.RecoverLaws.{recovered-fits, recovered-scan, recovered-highest, recovered-apart}
+use Rattle.laws.specs.RecoverLaws.{recovered-holds, recovered-scan, recovered-highest, recovered-apart}
 use Rattle.laws.specs.Appended.{Appends, appended-entered, appended-recovered}
 use Rattle.laws.specs.Headed.{none-within, Heads, headed-entered, headed-recovered}
 use Rattle.laws.specs.Entering.{Roomy, Entering}
@@ -39,7 +39,7 @@ module _ (L : Layout) (roomy : Roomy L) (area : List ℕ) (r : Record) (x : Entr
     (bytes : Bytes area) (f : Entering L area r x)
   where
     facts : Lent L r (length area) (r .cells)
-    facts = lent L r (length area) (r .cells) (recovered-fits L (r .slots) (r .size) (r .cells) area r e)
+    facts = recovered-holds L (r .slots) (r .size) (r .cells) area r e
 
     -- what is to be shown of the area and the record after the last store
     abbrev Done : List ℕ → Record → Type 0

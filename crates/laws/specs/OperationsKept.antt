@@ -33,7 +33,7 @@ use Rattle.laws.specs.NewHeadBytes.{headPlan, new-head-other, new-head-v
 use Rattle.laws.specs.FormatBytes.{bytes-formatted}
 use Rattle.laws.specs.Fresh.{format-recovers, format-log}
 use Rattle.laws.specs.LogLaws.{log-in, scan-whole}
-use Rattle.laws.specs.RecoverLaws.{recovered-case, recovered-fits, recovered-apart, recovered-above, recovered-more}
+use Rattle.laws.specs.RecoverLaws.{recovered-case, recovered-fits, recovered-holds, recovered-apart, recovered-above, recovered-more}
 use Rattle.laws.specs.Headed.{Heads}
 use Rattle.laws.specs.Cleaned.{cleaned-cleaned, cleaned-recovered}
 use Rattle.laws.specs.Operated.{Accepted, planAt, mapAfter, OperationLaws}
@@ -47,7 +47,7 @@ use Rattle.laws.specs.Cleanings.{Cleaning, clean-cleans, forget-value, f
 module _ (L : Layout) (before : List ℕ) (idle : Record) (victims : ℕ) (next : Version) (stand : List Placed)
     (c : Cleaning L before idle victims next stand) where
   facts : Lent L idle (length before) (idle .cells)
-  facts = lent L idle (length before) (idle .cells) (recovered-fits L (idle .slots) (idle .size) (idle .cells) before idle (c .recovers))
+  facts = recovered-holds L (idle .slots) (idle .size) (idle .cells) before idle (c .recovers)
 
   abbrev clean-plan : List (ℕ × ℕ)
   clean-plan = headPlan L (idle .size) (newSlot idle) (digestWith idle victims next) (kept victims stand)
@@ -227,7 +227,7 @@ operation-laws L roomy =
       some-stores = λ before idle o a. plan-stores L before idle (a .recovers) _ _ (planned L roomy before idle o a);
       few-stores = λ before idle o a. plan-most L before idle (a .recovers) _ _ (planned L roomy before idle o a);
       bytes-fit = λ before idle o a. plan-fits L before idle (a .recovers) _ _ (planned L roomy before idle o a);
-      own-lengths = λ n s m area r ab e. recovered-fits L n s m area r e;
+      own-lengths = λ n s m area r ab e. recovered-fits L n s m area r e ab;
       more-cells = λ n s m k area e good l. recovered-more L n s m k area (recordFrom L n s m area) e good l;
       version-below =
           λ area r e k x p.
@@ -237,7 +237,7 @@ operation-laws L roomy =
           let found = log-found L (r .slots) (r .size) (r .cells) area r e x (present-in (logNow L area r) k x p) in
           value-there L area (r .size) x
           (length-segment area (r .size) (x .slot)
-          (slot-inside area (r .slots) (r .size) (x .slot) (lent L r (length area) (r .cells) (recovered-fits L (r .slots) (r .size) (r .cells) area r e) .area-own) (found .0)))
+          (slot-inside area (r .slots) (r .size) (x .slot) (recovered-holds L (r .slots) (r .size) (r .cells) area r e .area-own) (found .0)))
           (found .1);
       format-bytes = λ n s area ab. bytes-formatted L n s area ab;
       format-recovers = λ n s m area g c. format-recovers L roomy n s area g m c;

@@ -34,7 +34,7 @@ use Rattle.laws.specs.Scans.{encoded-one, scan-scans, scans-stands}
 use Rattle.laws.specs.AppendBytes.{append-prefix, append-prefix-bytes}
 use Rattle.laws.specs.NewHeadBytes.{headBytes, headPlan, length-headBytes, formed-one, new-head-prefix, new-head-other-prefix, new-head-prefix-bytes}
 use Rattle.laws.specs.LogLaws.{log-same, log-in, scan-whole}
-use Rattle.laws.specs.RecoverLaws.{recovered-case, recovered-fits, recovered-next, recovered-scan, views-recovered, cut-recovered, cut-log}
+use Rattle.laws.specs.RecoverLaws.{recovered-case, recovered-holds, recovered-next, recovered-scan, views-recovered, cut-recovered, cut-log}
 use Rattle.laws.specs.Operated.{Accepted, planAt}
 use Rattle.laws.specs.Entering.{Roomy, Entering, idle-lent, write-enters, delete-enters}
 use Rattle.laws.specs.Cleanings.{Cleaning, clean-cleans, forget-cleans}
@@ -105,7 +105,7 @@ module _ (L : Layout) (roomy : Roomy L) (before : List ℕ) (idle : Record) wher
 
 module _ (L : Layout) (area : List ℕ) (r : Record) (e : recovered L (r .slots) (r .size) (r .cells) area ≡ some r) where
   facts : Lent L r (length area) (r .cells)
-  facts = lent L r (length area) (r .cells) (recovered-fits L (r .slots) (r .size) (r .cells) area r e)
+  facts = recovered-holds L (r .slots) (r .size) (r .cells) area r e
 
   -- the slot of a new head is one of the store's, and free
   pub new-below : newSlot r < r .slots

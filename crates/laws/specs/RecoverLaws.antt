@@ -22,7 +22,7 @@ use Rattle.segment.specs.declared.Digest.{Digest}
 use Rattle.slot_map.specs.Bit.{named}
 use Rattle.slot_map.specs.Count.{used}
 use Rattle.record.specs.Range.{between, slotsGood, sizeGood, cellsGood, mapGood, leftGood, countsGood, inRange, lengthsOwn, fitsLent}
-use Rattle.record.specs.RangeLaws.{map-in}
+use Rattle.record.specs.RangeLaws.{Lent, map-in, between-low, between-high, fits-lent}
 use Rattle.record.specs.declared.Refusal.{Refusal}
 use Rattle.record.specs.declared.Refusal.the-variants.{BadOrder}
 use Rattle.record.specs.declared.Record.{Record}
@@ -253,23 +253,31 @@ module _ (L : Layout) (v : ℕ → View) (n s m : ℕ) (h : Head) where
   abbrev pub CountsInside : Type 0
   CountsInside = countsGood (s - digestSize L) (countsOf L (logUnder v n h)) ≡ true
 
-  pub under-in-range : (areaLength : ℕ) → Allowed n s m areaLength → Sound v n m h → EndsInside → CountsInside → inRange L (recordUnder L v n s m h) ≡ true
-  unfolding inRange between leftGood
-  under-in-range areaLength l f e c =
-      both-true _ _
-      (both-true _ _ (both-true _ _ (l .slots-good) (l .size-good)) (both-true _ _ (l .cells-good) (f .map-good)))
-      (both-true _ _
-      (both-true _ _
-      (both-true _ _ (le-leb (digestSize L) (endOf (v (h .slot) .scan)) (e .0)) (le-leb (endOf (v (h .slot) .scan)) s (e .1)))
-      (both-true _ _ (ap not (ne-eqb (h .digest .number .0) 0 (f .numbered)))
-      (ap not (ne-eqb (nextVersion (h .digest) (logUnder v n h)) 0 (λ z. omega arith)))))
-      (both-true _ _ (le-leb (length (keysOf (logUnder v n h))) (m - 1) (f .keys)) (both-true _ _ c refl)))
-
-  pub under-fits : (areaLength : ℕ) → Allowed n s m areaLength → Sound v n m h → EndsInside → CountsInside
-      → fitsLent L (recordUnder L v n s m h) areaLength m ≡ true
-  unfolding fitsLent lengthsOwn
-  under-fits areaLength l f e c =
-      both-true _ _ (under-in-range areaLength l f e c) (both-true _ _ (eq-eqb areaLength (n * s) (l .long)) (eq-eqb m m refl))
+  pub under-lent : (areaLength : ℕ) → Allowed n s m areaLength → Sound v n m h → EndsInside → CountsInside → Lent L (recordUnder L v n s m h) areaLength m
+  under-lent areaLength l f e c =
+      let map = map-in n (h .slot) (h .digest .map) (f .map-good) in
+      record {
+        slots-low = between-low 4 32 n (l .slots-good);
+        slots-high = between-high 4 32 n (l .slots-good);
+        size-low = between-low 256 2048 s (l .size-good);
+        size-high = between-high 256 2048 s (l .size-good);
+        cells-low = between-low 16 4096 m (l .cells-good);
+        cells-high = between-high 16 4096 m (l .cells-good);
+        map-below = map .below;
+        head-below = map .head-in;
+        head-named = map .head-named;
+        some-free = map .some-free;
+        end-low = e .0;
+        end-high = e .1;
+        number-some = omega (arith, f .numbered);
+        next-some = omega arith;
+        keys-high = f .keys;
+        counts-high = c;
+        left-some = λ busy. absurd (busy refl);
+        left-high = omega arith;
+        area-own = l .long;
+        index-own = refl;
+      }
 
 -- ---- the log of a recovered record
 
@@ -451,11 +459,11 @@ module _ (L : Layout) (n s m : ℕ) (area : List ℕ) (r : Record) (e : recovere
       let scans = scan-scans L (segmentOf area s i) (scan-whole (scan L (segmentOf area s i)) (f .scans i b q)) in
       omega (arith, scans-total scans, scans-high scans, length-segment area s i (slot-inside area n s i (l .long) b))
 
-  pub recovered-fits : fitsLent L r (length area) m ≡ true
-  recovered-fits =
-      recovered-case L n s m area (λ (k : Record). (digestSize L ≤ k .end) × (k .end ≤ s) → fitsLent L k (length area) m ≡ true)
+  pub recovered-holds : Lent L r (length area) m
+  recovered-holds =
+      recovered-case L n s m area (λ (k : Record). (digestSize L ≤ k .end) × (k .end ≤ s) → Lent L k (length area) m)
       (λ h l f ends.
-      under-fits L (viewsOf L area s) n s m h (length area) l f ends
+      under-lent L (viewsOf L area s) n s m h (length area) l f ends
       (counts-fit L (viewsOf L area s) (h .digest .map) n (s - digestSize L) (slot-holds h l f))) r e recovered-ends
 
   -- in an area of bytes the record's numbers fit theirs
@@ -489,3 +497,6 @@ module _ (L : Layout) (n s m : ℕ) (area : List ℕ) (r : Record) (e : recovere
         rw (own-digest h f) (digest-next-fits L (segmentOf area s (h .slot)) (segment-bytes area s (h .slot) bytes)) in
         let set : 0 < h .digest .next .0 = omega (arith, f .next-set) in
         omega (arith, highest-below (logUnder (viewsOf L area s) n h) (versionLimit L) (omega arith) (log-version h f))) r e
+
+    pub recovered-fits : fitsLent L r (length area) m ≡ true
+    recovered-fits = fits-lent L r (length area) m recovered-holds recovered-next

@@ -34,11 +34,11 @@ use Rattle.laws.specs.Stores.{slot-inside, length-segment}
 use Rattle.laws.specs.Scans.{itemEntries, Scans, scan-scans, scans-total, scans-high}
 use Rattle.laws.specs.LogLaws.{partOf, part-picked, part-passed, no-parts, log-those, log-in, scan-whole}
 use Rattle.laws.specs.Counted.{entries-in, slot-log}
-use Rattle.laws.specs.RecoverLaws.{recovered-case, recovered-fits}
+use Rattle.laws.specs.RecoverLaws.{recovered-case, recovered-holds}
 
 module _ (L : Layout) (area : List ℕ) (r : Record) (e : recovered L (r .slots) (r .size) (r .cells) area ≡ some r) where
   facts : Lent L r (length area) (r .cells)
-  facts = lent L r (length area) (r .cells) (recovered-fits L (r .slots) (r .size) (r .cells) area r e)
+  facts = recovered-holds L (r .slots) (r .size) (r .cells) area r e
 
   new-below : newSlot r < r .slots
   new-below = next-below (r .slots) (r .map) (r .head) (facts .head-below) (facts .some-free)

@@ -6,6 +6,7 @@ use mathlib.Core.List.{List, [], _∷_, _++_}
 use mathlib.Core.Option.{Option, none, some}
 use native.Mathlib.Omega.{arith}
 use lib.ListN.{length}
+use Rattle.word.specs.Number.{Bytes}
 use Rattle.segment.specs.Layout.{Layout}
 use Rattle.segment.specs.declared.Key.{Key}
 use Rattle.record.specs.Range.{fitsLent}
@@ -84,29 +85,29 @@ module _ (L : Layout) (n s m : ℕ) (area : List ℕ) where
         none-left (imageCauses v n (some h)) (keyCauses v n m (some h)) (causes-none _ (sound-clear v n m h sound))
 
     own-first :
-        (t : Tables) (k : Key) (cells : List ℕ) → length cells ≡ m →
+        Bytes area → (t : Tables) (k : Key) (cells : List ℕ) → length cells ≡ m →
         firstCause (scanCauses L n s area t k) ≡ firstCause (readCauses L own (logNow L area own) (readLengths area cells) t k)
-    own-first t k cells long =
+    own-first bytes t k cells long =
         scan-passed L n s area t k (lent-clear n s m (length area) lent .0) own-image ∙
         ap (λ (log : List Placed). firstCause (soughtCauses log t k)) own-log ∙
         sym
         (cause-skip (when (recordBad L own (readLengths area cells)) BadRecord) (soughtCauses (logNow L area own) t k)
         (ap not
-        (ap (λ (c : ℕ). fitsLent L own (length area) c) long ∙ recovered-fits L n s m area own (sound-recovered L n s m area h lent sound))))
+        (ap (λ (c : ℕ). fitsLent L own (length area) c) long ∙ recovered-fits L n s m area own (sound-recovered L n s m area h lent sound) bytes)))
 
     own-genuine : (cells : List ℕ) → IndexRule s (logNow L area own) cells → Genuine L area own cells
     own-genuine cells rule = record { recovers = sound-recovered L n s m area h lent sound; rule = rule }
 
-    own-alike : (cells : List ℕ) → length cells ≡ m → IndexRule s (logNow L area own) cells → (t : Tables) (k : Key) → ReadsAlike L n s area own cells t k
-    own-alike cells long rule t k =
+    own-alike : Bytes area → (cells : List ℕ) → length cells ≡ m → IndexRule s (logNow L area own) cells → (t : Tables) (k : Key) → ReadsAlike L n s area own cells t k
+    own-alike bytes cells long rule t k =
         record {
           answer =
               λ a p b q.
-              q .answers ∙ ap₂ (λ (c : Option Refusal) (log : List Placed). readAnswer L c (present log k)) (own-first t k cells long) own-log ∙
+              q .answers ∙ ap₂ (λ (c : Option Refusal) (log : List Placed). readAnswer L c (present log k)) (own-first bytes t k cells long) own-log ∙
               sym (p .exact (own-genuine cells rule));
           value =
               λ p promised q given.
-              given .exact ∙ ap₂ (λ (c : Option Refusal) (log : List Placed). valueAnswer L s c (present log k)) (own-first t k cells long) own-log ∙
+              given .exact ∙ ap₂ (λ (c : Option Refusal) (log : List Placed). valueAnswer L s c (present log k)) (own-first bytes t k cells long) own-log ∙
               sym (promised .exact (own-genuine cells rule));
         }
 
@@ -116,21 +117,21 @@ module _ (L : Layout) (n s m : ℕ) (area : List ℕ) where
 
   -- and its first cause that of an indexed read with as many cells
   pub scan-first :
-      (r : Record) → recovered L n s m area ≡ some r → (t : Tables) (k : Key) (cells : List ℕ) → length cells ≡ m →
+      (r : Record) → recovered L n s m area ≡ some r → Bytes area → (t : Tables) (k : Key) (cells : List ℕ) → length cells ≡ m →
       firstCause (scanCauses L n s area t k) ≡ firstCause (readCauses L r (logNow L area r) (readLengths area cells) t k)
   scan-first =
       recovered-case L n s m area
       (λ (r : Record).
-      (t : Tables) (k : Key) (cells : List ℕ) → length cells ≡ m →
+      Bytes area → (t : Tables) (k : Key) (cells : List ℕ) → length cells ≡ m →
       firstCause (scanCauses L n s area t k) ≡ firstCause (readCauses L r (logNow L area r) (readLengths area cells) t k))
       own-first
 
-  -- For every area that recovery accepts, and every index of as many cells that keeps its rule, the two reads are one.
+  -- For every area of bytes that recovery accepts, and every index of as many cells that keeps its rule, the two reads are one.
   pub scan-reads :
-      (r : Record) → recovered L n s m area ≡ some r → (cells : List ℕ) → length cells ≡ m → IndexRule s (logNow L area r) cells →
+      (r : Record) → recovered L n s m area ≡ some r → Bytes area → (cells : List ℕ) → length cells ≡ m → IndexRule s (logNow L area r) cells →
       (t : Tables) (k : Key) → ReadsAlike L n s area r cells t k
   scan-reads =
       recovered-case L n s m area
       (λ (r : Record).
-      (cells : List ℕ) → length cells ≡ m → IndexRule s (logNow L area r) cells → (t : Tables) (k : Key) → ReadsAlike L n s area r cells t k)
+      Bytes area → (cells : List ℕ) → length cells ≡ m → IndexRule s (logNow L area r) cells → (t : Tables) (k : Key) → ReadsAlike L n s area r cells t k)
       own-alike

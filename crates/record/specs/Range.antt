@@ -5,7 +5,7 @@ use mathlib.Core.Bool.{Bool, true, false, not}
 use mathlib.Core.List.{List, [], _∷_}
 use lib.Dec.{eqb, ltb, leb}
 use Rattle.segment.specs.Choice.{both}
-use Rattle.segment.specs.Layout.{Layout, digestSize}
+use Rattle.segment.specs.Layout.{Layout, digestSize, versionLimit}
 use Rattle.slot_map.specs.Bit.{bit, named}
 use Rattle.slot_map.specs.Count.{used}
 use Rattle.record.specs.declared.Pending.{Pending}
@@ -40,6 +40,10 @@ leftGood s (NewHead i n k) = between 1 (s + 1) k
 leftGood s (Clean i v n k) = between 1 (s + 1) k
 leftGood s (Forget i v n k) = between 1 (s + 1) k
 
+-- a next version of 1 or more; 02, R-11: it is not above its limit
+abbrev pub nextGood : Layout → ℕ → Bool
+nextGood L v = between 1 (versionLimit L) v
+
 -- 02, R-5: no number of present bytes is above a limit, which is what a segment has behind its digest
 unfoldable pub countsGood : ℕ → List ℕ → Bool
 countsGood m [] = true
@@ -49,7 +53,7 @@ countsGood m (c ∷ cs) = both (leb c m) (countsGood m cs)
 unfoldable pub inRange : Layout → Record → Bool
 inRange L r =
     both (both (both (slotsGood (r .slots)) (sizeGood (r .size))) (both (cellsGood (r .cells)) (mapGood (r .slots) (r .head) (r .map))))
-    (both (both (between (digestSize L) (r .size) (r .end)) (both (not (eqb (r .digest .0) 0)) (not (eqb (r .next .0) 0))))
+    (both (both (between (digestSize L) (r .size) (r .end)) (both (not (eqb (r .digest .0) 0)) (nextGood L (r .next .0))))
     (both (leb (r .keys) (r .cells - 1)) (both (countsGood (r .size - digestSize L) (r .counts)) (leftGood (r .size) (r .pending)))))
 
 -- the lent area and index are as long as the record says

@@ -12,18 +12,20 @@ use lib.ListN.{length, getD, replicate, drop, drop-of-length-le}
 use lib.Seq.{drop-cons}
 use borrow.Author.Tests.{ltb-true, leb-true, eqb-true, eqb-false, not-true, not-false, lt-ltb, le-ltb, le-leb, lt-leb, eq-eqb, ne-eqb}
 use Rattle.segment.specs.Choice.{both, both-left, both-right, both-true, both-false-right}
-use Rattle.segment.specs.Layout.{Layout, digestSize}
+use Rattle.segment.specs.Layout.{Layout, digestSize, versionLimit}
 use Rattle.slot_map.specs.Bit.{named}
 use Rattle.slot_map.specs.BitLaws.{bit-above, named-true, clear-named}
 use Rattle.slot_map.specs.Count.{used, allSlots}
 use Rattle.slot_map.specs.CountLaws.{not-all, all-named}
 use Rattle.record.specs.Answers.{storesLeft, withPending, bare, blank}
-use Rattle.record.specs.Range.{between, slotsGood, sizeGood, cellsGood, mapGood, leftGood, countsGood, inRange, lengthsOwn, fitsLent}
+use Rattle.record.specs.Range.{between, slotsGood, sizeGood, cellsGood, mapGood, leftGood, nextGood, countsGood, inRange, lengthsOwn, fitsLent}
 use Rattle.record.specs.declared.Pending.{Pending}
 use Rattle.record.specs.declared.Pending.the-variants.{Idle, Append, NewHead, Clean, Forget}
 use Rattle.record.specs.declared.Record.{Record}
 
--- A record in range whose lent area and index are as long as it says. Where it is idle, 0 stores are left.
+-- A record in range whose lent area and index are as long as it says. Where it is idle, 0 stores are left. That its next version
+-- is not above the limit stands beside (`lent-next`): of a recovered record it is known where the area consists of bytes, the
+-- rest of any list.
 pub record Lent (L : Layout) (r : Record) (areaLength indexLength : ℕ) : Type 0 where
   pub slots-low : 4 ≤ r .slots
   pub slots-high : r .slots ≤ 32
@@ -192,7 +194,7 @@ limitsGood r = both (slotsGood (r .slots)) (both (sizeGood (r .size)) (cellsGood
 unfoldable pub countersGood : Layout → Record → Bool
 countersGood L r =
     both (between (digestSize L) (r .size) (r .end))
-    (both (not (eqb (r .digest .0) 0)) (both (not (eqb (r .next .0) 0)) (leb (r .keys) (r .cells - 1))))
+    (both (not (eqb (r .digest .0) 0)) (both (nextGood L (r .next .0)) (leb (r .keys) (r .cells - 1))))
 
 -- A chain of tests, from left to right: t is what the code finds for the test x, and r its answer in the end. `stop` and `go`
 -- are for `if !t { return false; }`, `ends` and `goes` for `t && ..`.
@@ -317,6 +319,13 @@ module _ (L : Layout) (r : Record) (a i : ℕ) (e : fitsLent L r a i ≡ true) w
   left : leftGood (r .size) (r .pending) ≡ true
   left = both-right _ _ (both-right _ _ (both-right _ _ after-limits))
 
+  next : nextGood L (r .next .0) ≡ true
+  unfolding countersGood
+  next = both-left _ _ (both-right _ _ (both-right _ _ counters))
+
+  pub lent-next : r .next .0 ≤ versionLimit L
+  lent-next = between-high 1 (versionLimit L) (r .next .0) next
+
   pub lent : Lent L r a i
   unfolding lengthsOwn countersGood
   lent =
@@ -336,7 +345,7 @@ module _ (L : Layout) (r : Record) (a i : ℕ) (e : fitsLent L r a i ≡ true) w
         end-low = between-low (digestSize L) (r .size) (r .end) (both-left _ _ counters);
         end-high = between-high (digestSize L) (r .size) (r .end) (both-left _ _ counters);
         number-some = not-zero (r .digest .0) (both-left _ _ (both-right _ _ counters));
-        next-some = not-zero (r .next .0) (both-left _ _ (both-right _ _ (both-right _ _ counters)));
+        next-some = between-low 1 (versionLimit L) (r .next .0) next;
         keys-high = leb-true (r .keys) (r .cells - 1) (both-right _ _ (both-right _ _ (both-right _ _ counters)));
         counts-high = counts;
         left-some = left-pos (r .size) (r .pending) left;
@@ -345,9 +354,9 @@ module _ (L : Layout) (r : Record) (a i : ℕ) (e : fitsLent L r a i ≡ true) w
         index-own = eqb-true i (r .cells) (both-right _ _ own);
       }
 
-pub fits-lent : (L : Layout) (r : Record) (a i : ℕ) → Lent L r a i → fitsLent L r a i ≡ true
+pub fits-lent : (L : Layout) (r : Record) (a i : ℕ) → Lent L r a i → r .next .0 ≤ versionLimit L → fitsLent L r a i ≡ true
 unfolding fitsLent inRange lengthsOwn mapGood both
-fits-lent L r a i h =
+fits-lent L r a i h limit =
     rw (
       between-true 4 32 (r .slots) (h .slots-low) (h .slots-high),
       between-true 256 2048 (r .size) (h .size-low) (h .size-high),
@@ -357,7 +366,7 @@ fits-lent L r a i h =
       lt-ltb (used (r .slots) (r .map)) (r .slots) (h .some-free),
       between-true (digestSize L) (r .size) (r .end) (h .end-low) (h .end-high),
       some-not (r .digest .0) (λ e. omega arith),
-      some-not (r .next .0) (λ e. omega arith),
+      between-true 1 (versionLimit L) (r .next .0) (h .next-some) limit,
       le-leb (r .keys) (r .cells - 1) (h .keys-high),
       h .counts-high,
       left-true (r .size) (r .pending) (h .left-some) (h .left-high),

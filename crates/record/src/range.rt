@@ -2,10 +2,12 @@
 // without a look at the log.
 use crate::Pending;
 use crate::Record;
+use segment::Version;
 use segment::layout::DIGEST_SIZE;
+use segment::layout::VERSION_LIMIT;
 ghost use Prim.Native.Nat.{_-_, _≤_};
 ghost use mathlib.Core.Path.{_≡_};
-ghost use Rattle.record.specs.Range.{between, slotsGood, sizeGood, cellsGood, mapGood, leftGood, countsGood, inRange, fitsLent, lengthsOwn};
+ghost use Rattle.record.specs.Range.{between, slotsGood, sizeGood, cellsGood, mapGood, leftGood, nextGood, countsGood, inRange, fitsLent, lengthsOwn};
 ghost use Rattle.record.specs.RangeLaws.{limitsGood, countersGood, frontGood};
 ghost use lib.Dec.{leb};
 ghost use Rattle.segment.specs.Choice.{both};
@@ -74,6 +76,13 @@ fn limits_good(rec: Record) -> bool
     size_good(rec.size) && cells_good(rec.cells as usize)
 }
 
+// Whether a next version is one.
+fn next_good(next: Version) -> bool
+    ensures { λ r. ⌜ r ≡ nextGood edition1 (next .0) ⌝ }
+{
+    1 <= next.0 && next.0 <= VERSION_LIMIT
+}
+
 // Whether the end of the head's entries, the digest number, the next version and the number of keys can be so.
 fn counters_good(rec: Record) -> bool
     requires { ⌜ 1 ≤ rec .cells ⌝ }
@@ -87,7 +96,7 @@ fn counters_good(rec: Record) -> bool
     if number.0 == 0 {
         return false;
     }
-    next.0 != 0 && rec.keys <= rec.cells - 1
+    next_good(next) && rec.keys <= rec.cells - 1
 }
 
 // Whether a number is not above the limit, where those before it were not.

@@ -145,7 +145,7 @@ module _ (L : Layout) (n s : ℕ) (area cells cells′ : List ℕ) (r : Recovery
                   };
               fit =
                   subst (λ (k : ℕ). fitsLent L (rec L n s cellsUsed area) (length area) k ≡ true) (sym (p .same-length ∙ long))
-                  (recovered-fits L n s cellsUsed area (rec L n s cellsUsed area) recovers);
+                  (recovered-fits L n s cellsUsed area (rec L n s cellsUsed area) recovers bytes);
               bytes = bytes;
             }
 

@@ -17,7 +17,7 @@ pub const HEAD_SIZE: usize = 11;
 pub const DIGEST_SIZE: usize = 13;
 
 // The highest next version and the highest digest number.
-pub const VERSION_LIMIT: u32 = 4294967295;
+pub const VERSION_LIMIT: u64 = 4294967295;
 
 pub const NUMBER_LIMIT: u32 = 4294967295;
 

@@ -6,7 +6,7 @@ pub mod reader;
 pub mod writer;
 
 // A version of an object or tombstone. Versions and digest numbers are counted apart (01, "Bytes of a segment").
-pub struct Version(pub u32);
+pub struct Version(pub u64);
 
 // The number of a digest.
 pub struct DigestNumber(pub u32);

@@ -7,12 +7,21 @@ use crate::Version;
 use crate::layout;
 use word::number::read16;
 use word::number::read32;
-ghost use Prim.Native.Nat.{_≤_};
+ghost use Prim.Native.Nat.{_+_, _≤_};
 ghost use mathlib.Core.Path.{_≡_};
-ghost use lib.ListN.{length};
+ghost use lib.ListN.{length, take, drop};
+ghost use Rattle.word.specs.Number.{numberOf};
 ghost use Rattle.segment.specs.Layout.{edition1, digestSize};
 ghost use Rattle.segment.specs.Entry.{entryAt, answer};
 ghost use Rattle.segment.specs.Digest.{isDigest, digestOf};
+
+// The version whose bytes stand at an offset.
+pub fn version_at(s: &[u8], at: usize) -> Version
+    requires { ⌜ at + edition1 .width ≤ length (now s) ⌝ }
+    ensures { λ r. ⌜ r ≡ record { 0 = numberOf (take (edition1 .width) (drop at (now (s .entry)))) } ⌝ }
+{
+    Version(read32(s, at) as u64)
+}
 
 // What stands at an offset of a segment's bytes, for any offset. The segment's own end counts as the end; past it is damage.
 pub fn read(s: &[u8], at: usize) -> Read
@@ -35,7 +44,7 @@ pub fn read(s: &[u8], at: usize) -> Read
     if s.len() - at < length {
         return Read::Damage;
     }
-    let version = Version(read32(s, at + 7));
+    let version = version_at(s, at + 7);
     if !layout::good_version(version) {
         return Read::Damage;
     }
@@ -77,6 +86,6 @@ pub fn digest(s: &[u8]) -> Digest
     Digest {
         number: DigestNumber(read32(s, 1)),
         map: read32(s, 5),
-        next: Version(read32(s, 9)),
+        next: version_at(s, 9),
     }
 }

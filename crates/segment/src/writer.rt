@@ -9,6 +9,7 @@ ghost use Prim.Native.Nat.{_+_, _≤_};
 ghost use mathlib.Core.Path.{_≡_};
 ghost use lib.ListN.{length};
 ghost use lib.Seq.{sets};
+ghost use Rattle.word.specs.Number.{bytesOf};
 ghost use Rattle.segment.specs.Layout.{edition1, entrySize, digestSize};
 ghost use Rattle.segment.specs.Digest.{encodedDigest};
 ghost use Rattle.segment.specs.Written.{encodedHead, encodedAs};
@@ -25,6 +26,14 @@ pub fn copy_into(dst: &mut [u8], at: usize, src: &[u8])
     }
 }
 
+// The bytes of a version. A version that needs more of them than the layout has loses the others.
+pub fn write_version(s: &mut [u8], at: usize, version: Version)
+    requires { ⌜ at + edition1 .width ≤ length (now s) ⌝ }
+    ensures { λ _. ⌜ now (s .exit) ≡ sets (now (s .entry)) at (bytesOf (edition1 .width) (version .0)) ⌝ }
+{
+    write32(s, at, (version.0 % 4294967296) as u32);
+}
+
 // The bytes of an entry before its value.
 pub fn write_head(s: &mut [u8], at: usize, kind: u8, key: Key, version: Version)
     requires { ⌜ at + entrySize edition1 0 ≤ length (now s) ⌝ }
@@ -33,7 +42,7 @@ pub fn write_head(s: &mut [u8], at: usize, kind: u8, key: Key, version: Version)
     s[at] = kind;
     write16(s, at + 1, key.table);
     write32(s, at + 3, key.key);
-    write32(s, at + 7, version.0);
+    write_version(s, at + 7, version);
 }
 
 // The bytes of an entry.
@@ -54,5 +63,5 @@ pub fn write_digest(s: &mut [u8], at: usize, d: Digest)
     s[at] = layout::DIGEST;
     write32(s, at + 1, number.0);
     write32(s, at + 5, d.map);
-    write32(s, at + 9, next.0);
+    write_version(s, at + 9, next);
 }

@@ -33,7 +33,7 @@ use Rattle.model.specs.Counts.{objectBytes, withoutVictims}
 use Rattle.model.specs.Index.{IndexRule}
 use Rattle.model.specs.Operations.{Operation, write, delete, clean, Laid, laid, laidAppend, laidHead, laidEntry, laidForget, laidDelete, logNow, noRoom, newSlot, newDigest, nextAfter, fitsHead, allEncoded, writtenEntry, tombstoneEntry, planOf, commit, stored, appendCommit, headCommit, appendedRecord, headedRecord, entryRecord, renewedRecord, forgottenRecord, deletedRecord, finishedRecord, toldVersion}
 use Rattle.model.specs.Recovery.{recovered}
-use Rattle.laws.specs.RecoverLaws.{recovered-apart, recovered-keys, recovered-fits, recovered-above}
+use Rattle.laws.specs.RecoverLaws.{recovered-apart, recovered-keys, recovered-holds, recovered-above}
 use Rattle.laws.specs.Operated.{Accepted, planAt}
 use Rattle.laws.specs.Entering.{Roomy, Entering, idle-lent, write-enters, delete-enters}
 use Rattle.laws.specs.Cleanings.{clean-cleans, forget-cleans}
@@ -85,7 +85,7 @@ module _ (L : Layout) (roomy : Roomy L) (before cells : List ℕ) (idle : Record
       few-keys : (after : List ℕ) (fin : Record) → fin .slots ≡ idle .slots → fin .size ≡ idle .size → fin .cells ≡ idle .cells
           → recovered L (idle .slots) (idle .size) (idle .cells) after ≡ some fin → fin .keys < idle .cells
       few-keys after fin a b c q =
-          omega (arith, lent L fin (length after) (idle .cells) (recovered-fits L (idle .slots) (idle .size) (idle .cells) after fin q))
+          omega (arith, recovered-holds L (idle .slots) (idle .size) (idle .cells) after fin q)
 
       append-ends : fitsHead L idle e ≡ true → EntryEnds (laidAppend L e) (appendedRecord L idle (logNow L before idle) e)
       unfolding planOf finishWith finishAppend
@@ -189,7 +189,7 @@ module _ (L : Layout) (roomy : Roomy L) (before cells : List ℕ) (idle : Record
           keys = recovered-keys L (idle .slots) (idle .size) (idle .cells) after fin q
 
           few : fin .keys < idle .cells
-          few = omega (arith, lent L fin (length after) (idle .cells) (recovered-fits L (idle .slots) (idle .size) (idle .cells) after fin q))
+          few = omega (arith, recovered-holds L (idle .slots) (idle .size) (idle .cells) after fin q)
 
           holds : Holds (idle .size) (length cells) (logNow L after fin) (rebuilt L r after cells (newDigest idle victims .map))
           holds =

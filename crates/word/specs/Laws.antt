@@ -2,12 +2,12 @@
 use Prim.Native.Nat.{ℕ, zero, suc, _+_, _*_, _/_, _%_, _^_, _≤_, _<_}
 use mathlib.Core.Path.{_≡_, refl, _∙_, ap}
 use mathlib.Core.List.{List, [], _∷_, _++_, append-assoc}
-use native.Mathlib.Nat.{add-zero, zero-add, add-suc, suc-add, add-assoc, lt-of-lt-of-le, pow-succ', pow-le-pow-right, mod-lt, mod-mod, mul-le-mul, div-one, div-div-eq-div-mul}
+use native.Mathlib.Nat.{add-zero, zero-add, add-suc, suc-add, add-assoc, lt-of-lt-of-le, pow-suc, pow-succ', pow-le-pow-right, mod-lt, mul-assoc, mul-le-mul, div-one, div-div-eq-div-mul}
 use native.Mathlib.Numerals.{add-one}
 use native.Mathlib.Omega.{arith}
 use lib.Dec.{lit<}
+use lib.Arith.{mod-mul}
 use lib.Bits.{bitXor}
-use lib.Pow.{field}
 use lib.ListN.{length, getD, take, drop, set, length-take, length-drop, drop-of-length-le}
 use lib.Seq.{sets, sets-eq, getD-drop, take-nil, drop-nil, drop-cons, drop-drop, take-add, take-at, drop-at, length-take-le}
 use Rattle.word.specs.Number.{Bytes, numberOf, bytesOf}
@@ -80,11 +80,23 @@ bytesOf-append zero w x = rw (zero-add w, div-one x)
 bytesOf-append (suc v) w x =
     rw (suc-add v w, bytesOf-append v w (x / 256), div-div-eq-div-mul x 256 (256 ^ v), ← (pow-succ' 256 v))
 
-pub bytesOf-halves : (x : ℕ) → bytesOf 4 x ≡ bytesOf 2 (x % 65536) ++ bytesOf 2 (x / 65536)
-bytesOf-halves x =
-    let low : x % 65536 % 256 ≡ x % 256 = omega arith in
-    let high : x % 65536 / 256 % 256 ≡ x / 256 % 256 = ap (λ (y : ℕ). y % 256) (field x 8 8) ∙ mod-mod (x / 256) 256 in
-    bytesOf-append 2 2 x ∙ rw (bytesOf-two x, bytesOf-two (x % 65536), low, high)
+power-pos : (w : ℕ) → 0 < 256 ^ w
+power-pos zero = omega arith
+power-pos (suc w) = rw (pow-suc 256 w) (omega (arith, power-pos w))
+
+-- only the w lowest bytes matter
+pub bytesOf-low : (w x : ℕ) → bytesOf w (x % 256 ^ w) ≡ bytesOf w x
+unfolding bytesOf
+bytesOf-low zero x = refl
+bytesOf-low (suc w) x =
+    let parts : x % 256 ^ suc w ≡ (x / 256 % 256 ^ w) * 256 + x % 256 = rw (pow-suc 256 w) (mod-mul x (power-pos w) (lit< tt)) in
+    let low : x % 256 ^ suc w % 256 ≡ x % 256 = omega (arith, parts) in
+    let high : x % 256 ^ suc w / 256 ≡ x / 256 % 256 ^ w = omega (arith, parts) in
+    rw (low, high, bytesOf-low w (x / 256))
+
+-- a number in two parts
+pub bytesOf-parts : (v w x : ℕ) → bytesOf (v + w) x ≡ bytesOf v (x % 256 ^ v) ++ bytesOf w (x / 256 ^ v)
+bytesOf-parts v w x = bytesOf-append v w x ∙ rw (bytesOf-low v x)
 
 -- ---- lists of bytes
 
@@ -138,8 +150,15 @@ number-four at s =
     ∙ rw (number-at 2 (at + 1) s, number-at 1 (at + 1 + 1) s, number-at 0 (at + 1 + 1 + 1) s, number-none (drop (at + 1 + 1 + 1 + 1) s))
     (rw (add-assoc at 1 1, add-assoc at 2 1) (omega arith))
 
-pub number-halves : (at : ℕ) (s : List ℕ) → numberOf (take 4 (drop at s)) ≡ numberOf (take 2 (drop at s)) + 65536 * numberOf (take 2 (drop (at + 2) s))
-number-halves at s = rw (number-four at s, number-two at s, number-two (at + 2) s) (rw (add-assoc at 2 1) (omega arith))
+-- a number in two parts
+pub number-parts : (v w at : ℕ) (s : List ℕ)
+    → numberOf (take (v + w) (drop at s)) ≡ numberOf (take v (drop at s)) + 256 ^ v * numberOf (take w (drop (at + v) s))
+number-parts zero w at s = rw (zero-add w, number-none (drop at s), add-zero at) (omega arith)
+number-parts (suc v) w at s =
+    let rest = numberOf (take w (drop (at + suc v) s)) in
+    let next : at + 1 + v ≡ at + suc v = omega arith in
+    rw (suc-add v w, number-at (v + w) at s, number-at v at s, number-parts v w (at + 1) s, pow-succ' 256 v, next, mul-assoc 256 (256 ^ v) rest)
+    (omega arith)
 
 pub number-at-lt : (w at : ℕ) (s : List ℕ) → Bytes s → numberOf (take w (drop at s)) < 256 ^ w
 number-at-lt w at s h =
@@ -177,9 +196,10 @@ pub sets-append : (s : List ℕ) (at : ℕ) (a b : List ℕ) → sets s at (a ++
 sets-append s at [] b = rw (add-zero at)
 sets-append s at (x ∷ a) b = sets-append (set s at x) (suc at) a b ∙ rw (suc-add, add-suc)
 
-pub sets-halves : (s : List ℕ) (at x : ℕ) → sets (sets s at (bytesOf 2 (x % 65536))) (at + 2) (bytesOf 2 (x / 65536)) ≡ sets s at (bytesOf 4 x)
-sets-halves s at x =
-    rw (bytesOf-halves x, sets-append s at (bytesOf 2 (x % 65536)) (bytesOf 2 (x / 65536)), length-bytesOf 2 (x % 65536))
+pub sets-parts : (v w : ℕ) (s : List ℕ) (at x : ℕ)
+    → sets (sets s at (bytesOf v (x % 256 ^ v))) (at + v) (bytesOf w (x / 256 ^ v)) ≡ sets s at (bytesOf (v + w) x)
+sets-parts v w s at x =
+    rw (bytesOf-parts v w x, sets-append s at (bytesOf v (x % 256 ^ v)) (bytesOf w (x / 256 ^ v)), length-bytesOf v (x % 256 ^ v))
 
 -- ---- FNV-1a
 
@@ -220,7 +240,7 @@ fnvFrom-two h x = rw (bytesOf-two x)
 
 pub keyHash-halves : (table key : ℕ)
     → keyHash table key ≡ fnvFrom (fnvFrom (fnvFrom 2166136261 (bytesOf 2 table)) (bytesOf 2 (key % 65536))) (bytesOf 2 (key / 65536))
-keyHash-halves table key = simp (bytesOf-halves key, fnvFrom-append)
+keyHash-halves table key = simp (bytesOf-parts 2 2 key, fnvFrom-append)
 
 -- a turn of a loop over a slice, and its end
 pub fnvFrom-turn : (h i : ℕ) (s : List ℕ) → i < length s → fnvFrom h (drop i s) ≡ fnvFrom (fnvStep h (getD s i 0)) (drop (i + 1) s)

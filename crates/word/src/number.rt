@@ -1,4 +1,4 @@
-// 16- and 32-bit numbers in a byte slice at an offset, the lowest byte first.
+// Numbers of 16, 32 and 64 bits in a byte slice at an offset, the lowest byte first.
 ghost use Prim.Native.Nat.{_+_, _≤_, _<_};
 ghost use mathlib.Core.Path.{_≡_};
 ghost use lib.ListN.{length, take, drop};
@@ -26,6 +26,13 @@ pub fn read32(s: &[u8], at: usize) -> u32
     read16(s, at) as u32 + 65536 * (read16(s, at + 2) as u32)
 }
 
+pub fn read64(s: &[u8], at: usize) -> u64
+    requires { ⌜ at + 8 ≤ length (now s) ⌝ }
+    ensures { λ r. ⌜ r ≡ numberOf (take 8 (drop at (now (s .entry)))) ⌝ }
+{
+    read32(s, at) as u64 + 4294967296 * (read32(s, at + 4) as u64)
+}
+
 pub fn write16(s: &mut [u8], at: usize, x: u16)
     requires { ⌜ at + 2 ≤ length (now s) ⌝ }
     ensures { λ _. ⌜ now (s .exit) ≡ sets (now (s .entry)) at (bytesOf 2 x) ⌝ }
@@ -40,4 +47,12 @@ pub fn write32(s: &mut [u8], at: usize, x: u32)
 {
     write16(s, at, (x % 65536) as u16);
     write16(s, at + 2, (x / 65536) as u16);
+}
+
+pub fn write64(s: &mut [u8], at: usize, x: u64)
+    requires { ⌜ at + 8 ≤ length (now s) ⌝ }
+    ensures { λ _. ⌜ now (s .exit) ≡ sets (now (s .entry)) at (bytesOf 8 x) ⌝ }
+{
+    write32(s, at, (x % 4294967296) as u32);
+    write32(s, at + 4, (x / 4294967296) as u32);
 }

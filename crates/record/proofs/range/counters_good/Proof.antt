@@ -20,13 +20,13 @@ returns-3 : tie.Need-returns-3
 unfolding countersGood edition1
 returns-3 c =
     go _ (c .before .before .before .before .before .before .before .between .ensures) (c .before .before .before .before .before .before .if1 .left)
-    (goes _ refl (some-not _ (c .before .before .before .before .if2 .left)) (goes _ refl (some-not _ (c .before .before .if3 .taken)) refl))
+    (goes _ refl (some-not _ (c .before .before .before .before .if2 .left)) (goes _ (c .before .before .before .next-good .ensures) (c .before .before .if3 .taken) refl))
 
 returns-4 : tie.Need-returns-4
 unfolding countersGood edition1
 returns-4 c =
     go _ (c .before .before .before .before .before .between .ensures) (c .before .before .before .before .if1 .left)
-    (goes _ refl (some-not _ (c .before .before .if2 .left)) (ends _ refl (zero-not _ (c .if3 .left))))
+    (goes _ refl (some-not _ (c .before .before .if2 .left)) (ends _ (c .before .next-good .ensures) (c .if3 .left)))
 
 pub counters-good-spec : {M : Type 1} → statement M
 counters-good-spec =
@@ -37,6 +37,7 @@ counters-good-spec =
     (λ c κs. search needs)
     returns
     returns-2
+    (λ c κs. search needs)
     (λ c. search needs)
     returns-3
     returns-4)

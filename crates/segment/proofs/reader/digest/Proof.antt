@@ -10,13 +10,17 @@ read32-requires c κs = search needs
 read32-requires-2 : tie.Need-read32-requires-2
 read32-requires-2 c κs = search needs
 
-read32-requires-3 : tie.Need-read32-requires-3
-unfolding edition1
-read32-requires-3 c κs = search needs
+version-at-requires : tie.Need-version-at-requires
+version-at-requires c κs = search needs
 
 returns : tie.Need-returns
-unfolding edition1
-returns c = cc
+returns c =
+    λ i.
+    record {
+      number = record { 0 = c .before .before .read32 .ensures i };
+      map = c .before .read322 .ensures i;
+      next = c .version-at .ensures i;
+    }
 
 pub digest-spec : {M : Type 1} → statement M
-digest-spec = tie.close (tie.spec read32-requires read32-requires-2 read32-requires-3 returns)
+digest-spec = tie.close (tie.spec read32-requires read32-requires-2 version-at-requires returns)

@@ -1,6 +1,6 @@
 -- `segment::reader::read` meets its contract: a law for each return, at the tests that led there.
 use Prim.Native.Nat.{_+_, _≤_}
-use mathlib.Core.Path.{_∙_}
+use mathlib.Core.Path.{_∙_, ap}
 use native.Mathlib.Omega.{arith}
 use lib.ListN.{length}
 use denote.Ref.{now}
@@ -8,6 +8,7 @@ use borrow.Author.Tests.{not-true, not-false}
 use Rattle.segment.specs.Layout.{edition1}
 use Rattle.segment.specs.Kinds.{size-least}
 use Rattle.segment.specs.ReaderLaws.{reads-past, reads-at-end, reads-kind-end, reads-unknown, reads-long, reads-bad-version, reads-tombstone, reads-object}
+use Rattle.segment.specs.declared.Version.{Version}
 use borrow.Author.Needs.{needs}
 use Rattle.segment.proofs.reader.read.Statement.{statement}
 use Rattle.segment.proofs.reader.read.Tie as tie
@@ -36,8 +37,8 @@ sub-if5 c = search needs
 returns-5 : tie.Need-returns-5
 returns-5 c = search (reads-long, needs)
 
-add-read32 : tie.Need-add-read32
-add-read32 c = search needs
+add-version-at : tie.Need-add-version-at
+add-version-at c = search needs
 
 -- where the whole entry is there, so are the fields before its value
 room : (c : tie.Else5)
@@ -46,8 +47,9 @@ room : (c : tie.Else5)
 unfolding edition1
 room c = omega (arith, size-least edition1 _ (λ e. c .before .if4 .left (c .before .before .kind-size .ensures ∙ e)))
 
-read32-requires : tie.Need-read32-requires
-read32-requires c κs = omega (arith, room c)
+version-at-requires : tie.Need-version-at-requires
+unfolding edition1
+version-at-requires c κs = omega (arith, room c)
 
 good-version-requires : tie.Need-good-version-requires
 good-version-requires c κs = search needs
@@ -58,7 +60,7 @@ returns-6 c =
     let l = c .before .before .before in
     let k = l .before .before in
     reads-bad-version edition1 _ _ _ (k .kind-size .ensures) (k .before .before .before .if2 .left) (l .before .if4 .left) (l .if5 .left) _
-    (c .before .before .read32 .ensures) _ (c .before .good-version .ensures) (not-true _ (c .if6 .taken))
+    (ap (λ (x : Version). x .0) (c .before .before .version-at .ensures)) _ (c .before .good-version .ensures) (not-true _ (c .if6 .taken))
 
 add-read16 : tie.Need-add-read16
 add-read16 c = search needs
@@ -66,11 +68,11 @@ add-read16 c = search needs
 read16-requires : tie.Need-read16-requires
 read16-requires c κs = omega (arith, room (c .before .before .before))
 
-add-read32-2 : tie.Need-add-read32-2
-add-read32-2 c = search needs
+add-read32 : tie.Need-add-read32
+add-read32 c = search needs
 
-read32-requires-2 : tie.Need-read32-requires-2
-read32-requires-2 c κs = omega (arith, room (c .before .before .before .before))
+read32-requires : tie.Need-read32-requires
+read32-requires c κs = omega (arith, room (c .before .before .before .before))
 
 returns-7 : tie.Need-returns-7
 unfolding edition1
@@ -79,8 +81,8 @@ returns-7 c =
     let l = v .before .before .before in
     let k = l .before .before in
     reads-tombstone edition1 _ _ _ (k .kind-size .ensures) (k .before .before .before .if2 .left) (l .before .if4 .left) (l .if5 .left) _
-    (v .before .before .read32 .ensures) _ (v .before .good-version .ensures) (not-false _ (v .if6 .left)) _ _
-    (c .before .before .read16 .ensures) (c .before .read322 .ensures) (c .if7 .taken)
+    (ap (λ (x : Version). x .0) (v .before .before .version-at .ensures)) _ (v .before .good-version .ensures) (not-false _ (v .if6 .left)) _ _
+    (c .before .before .read16 .ensures) (c .before .read32 .ensures) (c .if7 .taken)
 
 returns-8 : tie.Need-returns-8
 unfolding edition1
@@ -89,8 +91,8 @@ returns-8 c =
     let l = v .before .before .before in
     let k = l .before .before in
     reads-object edition1 _ _ _ (k .kind-size .ensures) (k .before .before .before .if2 .left) (l .before .if4 .left) (l .if5 .left) _
-    (v .before .before .read32 .ensures) _ (v .before .good-version .ensures) (not-false _ (v .if6 .left)) _ _
-    (c .before .before .read16 .ensures) (c .before .read322 .ensures) (c .if7 .left)
+    (ap (λ (x : Version). x .0) (v .before .before .version-at .ensures)) _ (v .before .good-version .ensures) (not-false _ (v .if6 .left)) _ _
+    (c .before .before .read16 .ensures) (c .before .read32 .ensures) (c .if7 .left)
 
 pub read-spec : {M : Type 1} → statement M
 read-spec =
@@ -104,13 +106,13 @@ read-spec =
     returns-4
     sub-if5
     returns-5
-    add-read32
-    read32-requires
+    add-version-at
+    version-at-requires
     good-version-requires
     returns-6
     add-read16
     read16-requires
-    add-read32-2
-    read32-requires-2
+    add-read32
+    read32-requires
     returns-7
     returns-8)

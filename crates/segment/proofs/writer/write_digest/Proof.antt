@@ -24,12 +24,12 @@ write32-requires-2 : tie.Need-write32-requires-2
 unfolding edition1
 write32-requires-2 c κs = omega (arith, length-set (c .before .before .before .before .before .before .before .before .args .s .now) (c .before .before .before .before .before .before .before .before .args .at) 5)
 
-add-write32-3 : tie.Need-add-write32-3
-add-write32-3 c = search needs
+add-write-version : tie.Need-add-write-version
+add-write-version c = search needs
 
-write32-requires-3 : tie.Need-write32-requires-3
+write-version-requires : tie.Need-write-version-requires
 unfolding edition1
-write32-requires-3 c κs = omega (arith, length-set (c .before .before .before .before .before .before .before .before .before .before .before .before .args .s .now) (c .before .before .before .before .before .before .before .before .before .before .before .before .args .at) 5)
+write-version-requires c κs = omega (arith, length-set (c .before .before .before .before .before .before .before .before .before .before .before .before .args .s .now) (c .before .before .before .before .before .before .before .before .before .before .before .before .args .at) 5)
 
 same-length : tie.Need-same-length
 same-length c = omega (arith, length-set (c .before .before .before .before .before .before .before .before .before .before .before .before .before .before .before .args .s .now) (c .before .before .before .before .before .before .before .before .before .before .before .before .before .before .before .args .at) 5)
@@ -39,7 +39,7 @@ unfolding edition1
 returns c =
     let a = c .before .before .before .before .before .before .before .before .before .before .before .before .before .before .before .args in
     sets-packed 5 4 4 4 (a .d .number .0) (a .d .map) (a .d .next .0) (a .at) (a .s .now) _ _ _ (c .before .before .before .before .before .before .before .before .before .before .write32 .ensures)
-    (c .before .before .before .before .before .before .write322 .ensures) (c .before .before .write323 .ensures)
+    (c .before .before .before .before .before .before .write322 .ensures) (c .before .before .write-version .ensures)
 
 pub write-digest-spec : {M : Type 1} → statement M
 write-digest-spec =
@@ -50,7 +50,7 @@ write-digest-spec =
     write32-requires
     add-write32-2
     write32-requires-2
-    add-write32-3
-    write32-requires-3
+    add-write-version
+    write-version-requires
     same-length
     returns)

@@ -24,12 +24,12 @@ write32-requires : tie.Need-write32-requires
 unfolding edition1
 write32-requires c κs = omega (arith, length-set (c .before .before .before .before .before .before .args .s .now) (c .before .before .before .before .before .before .args .at) (c .before .before .before .before .before .before .args .kind))
 
-add-write32-2 : tie.Need-add-write32-2
-add-write32-2 c = search needs
+add-write-version : tie.Need-add-write-version
+add-write-version c = search needs
 
-write32-requires-2 : tie.Need-write32-requires-2
+write-version-requires : tie.Need-write-version-requires
 unfolding edition1
-write32-requires-2 c κs = omega (arith, length-set (c .before .before .before .before .before .before .before .before .before .before .args .s .now) (c .before .before .before .before .before .before .before .before .before .before .args .at) (c .before .before .before .before .before .before .before .before .before .before .args .kind))
+write-version-requires c κs = omega (arith, length-set (c .before .before .before .before .before .before .before .before .before .before .args .s .now) (c .before .before .before .before .before .before .before .before .before .before .args .at) (c .before .before .before .before .before .before .before .before .before .before .args .kind))
 
 same-length : tie.Need-same-length
 same-length c = omega (arith, length-set (c .before .before .before .before .before .before .before .before .before .before .before .before .before .args .s .now) (c .before .before .before .before .before .before .before .before .before .before .before .before .before .args .at) (c .before .before .before .before .before .before .before .before .before .before .before .before .before .args .kind))
@@ -39,7 +39,7 @@ unfolding edition1
 returns c =
     let a = c .before .before .before .before .before .before .before .before .before .before .before .before .before .args in
     sets-packed (a .kind) 2 4 4 (a .key .table) (a .key .key) (a .version .0) (a .at) (a .s .now) _ _ _ (c .before .before .before .before .before .before .before .before .before .before .write16 .ensures)
-    (c .before .before .before .before .before .before .write32 .ensures) (c .before .before .write322 .ensures)
+    (c .before .before .before .before .before .before .write32 .ensures) (c .before .before .write-version .ensures)
 
 pub write-head-spec : {M : Type 1} → statement M
 write-head-spec =
@@ -50,7 +50,7 @@ write-head-spec =
     write16-requires
     add-write32
     write32-requires
-    add-write32-2
-    write32-requires-2
+    add-write-version
+    write-version-requires
     same-length
     returns)

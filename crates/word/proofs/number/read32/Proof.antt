@@ -1,7 +1,7 @@
 -- `word::number::read32` meets its contract.
 use native.Mathlib.Omega.{arith}
 use borrow.Author.Needs.{needs}
-use Rattle.word.specs.Laws.{number-halves}
+use Rattle.word.specs.Laws.{number-parts}
 use Rattle.word.proofs.number.read32.Statement.{statement}
 use Rattle.word.proofs.number.read32.Tie as tie
 
@@ -27,7 +27,7 @@ add-result : tie.Need-add-result
 add-result c = search needs
 
 returns : tie.Need-returns
-returns c = rw number-halves (omega arith)
+returns c = rw (number-parts 2 2) (omega arith)
 
 pub read32-spec : {M : Type 1} → statement M
 read32-spec =

@@ -1,6 +1,6 @@
 -- `word::number::write32` meets its contract.
 use borrow.Author.Needs.{needs}
-use Rattle.word.specs.Laws.{sets-halves}
+use Rattle.word.specs.Laws.{sets-parts}
 use Rattle.word.proofs.number.write32.Statement.{statement}
 use Rattle.word.proofs.number.write32.Tie as tie
 
@@ -23,7 +23,7 @@ same-length : tie.Need-same-length
 same-length c = search needs
 
 returns : tie.Need-returns
-returns c = let a = c .before .before .before .before .before .before .before .before .before .args in cc (sets-halves (a .s .now) (a .at) (a .x))
+returns c = let a = c .before .before .before .before .before .before .before .before .before .args in cc (sets-parts 2 2 (a .s .now) (a .at) (a .x))
 
 pub write32-spec : {M : Type 1} → statement M
 write32-spec =
