@@ -17,7 +17,7 @@ use Rattle.record.specs.Answers.{Said, taken, saidBy, readSaid, fewestSaid, ref
 use Rattle.record.specs.Pairs.{PairSaid, joinSaid}
 use Rattle.record.specs.Reach.{holdsTable}
 use Rattle.record.specs.Range.{inRange, lengthsOwn, fitsLent}
-use Rattle.record.specs.RangeLaws.{Lent, lent, fits-lent, lent-pending}
+use Rattle.record.specs.RangeLaws.{lent, fits-lent, lent-next, lent-pending}
 use Rattle.record.specs.declared.Pending.{Pending}
 use Rattle.record.specs.declared.Pending.the-variants.{Idle}
 use Rattle.record.specs.declared.Joined.{Joined}
@@ -109,13 +109,17 @@ module _ (L : Layout) (laws : OperationLaws L) (n s : ℕ) where
       fitsLent L (h .rec) (length area) (length (h .cells)) ≡ true
   held-fits area m b h ab good =
       let left = pending-left area b h (good .phase) in
-      fits-lent L (h .rec) (length area) (length (h .cells)) (lent-pending (h .rec .pending) without (left .0) (left .1))
+      fits-lent L (h .rec) (length area) (length (h .cells))
+      (lent-pending (h .rec .pending) (lent L idle (length area) (length (h .cells)) idle-fits) (left .0) (left .1))
+      (lent-next L idle (length area) (length (h .cells)) idle-fits)
     where
-      without : Lent L (withPending (h .rec) Idle) (length area) (length (h .cells))
-      without =
-          lent L (withPending (h .rec) Idle) (length area) (length (h .cells))
-          (ap (λ (c : ℕ). fitsLent L (withPending (h .rec) Idle) (length area) c) (good .index-long) ∙
-          laws .own-lengths (h .rec .slots) (h .rec .size) (h .rec .cells) area (withPending (h .rec) Idle) ab (good .genuine .recovers))
+      idle : Record
+      idle = withPending (h .rec) Idle
+
+      idle-fits : fitsLent L idle (length area) (length (h .cells)) ≡ true
+      idle-fits =
+          ap (λ (c : ℕ). fitsLent L idle (length area) c) (good .index-long) ∙
+          laws .own-lengths (h .rec .slots) (h .rec .size) (h .rec .cells) area idle ab (good .genuine .recovers)
 
   -- ---- what the log holds of a key is what the book holds of it
 

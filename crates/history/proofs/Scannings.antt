@@ -52,7 +52,7 @@ module _ (L : Layout) (laws : OperationLaws L) (n s : ℕ) (w : World) (b : Book
   fits = ap (λ (c : ℕ). fitsLent L rec (length (w .area)) c) (length-replicate m 0) ∙ laws .own-lengths n s m (w .area) rec (inv .bytes) (inv .base)
 
   same-cause : firstCause (scanCauses L n s (w .area) v k) ≡ cause
-  same-cause = scan-first L n s m (w .area) rec (inv .base) v k cells (length-replicate m 0)
+  same-cause = scan-first L n s m (w .area) rec (inv .base) (inv .bytes) v k cells (length-replicate m 0)
 
   same-log : imageLog L n s (w .area) ≡ log
   same-log = scan-log L n s m (w .area) rec (inv .base)

@@ -4,7 +4,7 @@ use crate::Inserted;
 use crate::search::search;
 use segment::Key;
 use segment::Version;
-use word::number::read32;
+use segment::reader::version_at;
 ghost use Prim.Native.Nat.{_+_, _<_};
 ghost use mathlib.Core.Path.{_≡_};
 ghost use lib.ListN.{length, set};
@@ -38,7 +38,8 @@ pub fn insert(area: &[u8], cells: &mut [u32], place: usize, key: Key, version: V
         }
         Found::At(i) => {
             let old = cells[i] - 1;
-            if read32(area, old as usize + 7) < version.0 {
+            let there = version_at(area, old as usize + 7);
+            if there.0 < version.0 {
                 put(cells, i, place);
                 return Inserted::Newer(old);
             }

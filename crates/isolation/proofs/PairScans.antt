@@ -50,7 +50,7 @@ module _ (L : Layout) (laws : OperationLaws L) (n s m : ℕ) (area : List ℕ) (
 
     only-sought : firstCause (scanCauses L n s area u k) ≡ firstCause (soughtCauses (imageLog L n s area) u k)
     only-sought =
-        scan-first L n s m area rec base u k cells (length-replicate m 0) ∙
+        scan-first L n s m area rec base ab u k cells (length-replicate m 0) ∙
         cause-skip (when (recordBad L rec (readLengths area cells)) BadRecord) (soughtCauses (logNow L area rec) u k) (ap not fits) ∙
         ap (λ (l : List Placed). firstCause (soughtCauses l u k)) (sym image-log)
 

@@ -54,10 +54,10 @@ module _ (words : List ℕ) (w b : ℕ) (inside : w < length words) where
 
 -- ---- the marks of the suspects
 
--- The number of a version's mark, 0 to 2,047: the highest bits of its product with an odd number, so that versions with one bit in
--- the filter have different ones.
+-- The number of a version's mark, 0 to 2,047: its two halves are added, and of the product with an odd number the highest bits are
+-- taken, so that versions with one bit in the filter have different ones.
 abbrev pub markOf : ℕ → ℕ
-markOf v = v % 4294967296 * 2654435761 % 4294967296 / 2097152
+markOf v = (v % 4294967296 + v / 4294967296) % 4294967296 * 2654435761 % 4294967296 / 2097152
 
 unfoldable pub hasMark : List ℕ → ℕ → Bool
 hasMark marks v = bitIn marks (markOf v / 32) (markOf v % 32)

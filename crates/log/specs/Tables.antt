@@ -12,9 +12,9 @@ use borrow.Author.Tests.{eq-eqb, ne-eqb, eqb-true, eqb-false, lt-ltb, le-ltb, lt
 use native.Mathlib.Numerals.{add-one}
 use Rattle.segment.specs.Choice.{pick, pick-true, pick-false}
 
--- What an empty cell has: the version limit, above the version of any entry.
+-- What an empty cell has: the highest number of 64 bits, above the version of any entry.
 abbrev pub vacant : ℕ
-vacant = 4294967295
+vacant = 18446744073709551615
 
 -- ---- what a table holds
 

@@ -11,8 +11,8 @@ pub fn mark(filter: &mut [u32], version: Version) -> bool
     ensures was { λ r. ⌜ r ≡ isMarked (now (filter .entry)) (version .0) ⌝ }
     ensures now { λ _. ⌜ now (filter .exit) ≡ markedWith (now (filter .entry)) (version .0) ⌝ }
 {
-    let word = version.0 as usize / 32 % 512;
-    let bit = version.0 % 32;
+    let word = (version.0 / 32 % 512) as usize;
+    let bit = (version.0 % 32) as u32;
     let old = filter[word];
     filter[word] = slot_map::with_slot(old, bit);
     slot_map::has_slot(old, bit)

@@ -13,7 +13,8 @@ ghost use Rattle.log.specs.Marks.{markOf, hasMark, withMark, Marked};
 fn mark_of(version: Version) -> usize
     ensures { λ r. ⌜ (r ≡ markOf (version .0)) × (r < 2048) ⌝ }
 {
-    ((version.0 as u64 % 4294967296) * 2654435761 % 4294967296 / 2097152) as usize
+    let folded = (version.0 % 4294967296 + version.0 / 4294967296) % 4294967296;
+    (folded * 2654435761 % 4294967296 / 2097152) as usize
 }
 
 // Whether a version's mark is set.
@@ -37,7 +38,7 @@ fn set_mark(marks: &mut [u32], version: Version)
 }
 
 // Sets the marks of all cells of the table.
-pub fn mark_all(marks: &mut [u32], table: &[u32])
+pub fn mark_all(marks: &mut [u32], table: &[u64])
     requires { ⌜ length (now marks) ≡ 64 ⌝ }
     requires { ⌜ length (now table) ≡ 192 ⌝ }
     ensures { λ _. ⌜ Marked (now (marks .exit)) (now (table .entry)) ⌝ }
@@ -50,7 +51,7 @@ pub fn mark_all(marks: &mut [u32], table: &[u32])
 }
 
 // Whether a version is one of the suspects.
-pub fn is_suspect(marks: &[u32], table: &[u32], version: Version) -> bool
+pub fn is_suspect(marks: &[u32], table: &[u64], version: Version) -> bool
     requires { ⌜ Sorted (now table) ⌝ }
     requires { ⌜ Marked (now marks) (now table) ⌝ }
     ensures { λ r. ⌜ r ≡ holds (now (table .entry)) (version .0) ⌝ }

@@ -4,6 +4,7 @@
 use crate::marks::is_suspect;
 use crate::marks::mark_all;
 use crate::slots::is_named;
+use crate::table::VACANT;
 use crate::table::clear;
 use crate::table::insert;
 use crate::table::occupied;
@@ -15,7 +16,6 @@ use segment::Version;
 use segment::area::cut;
 use segment::entries::next;
 use segment::layout::DIGEST_SIZE;
-use segment::layout::VERSION_LIMIT;
 ghost use Prim.Native.Nat.{_≤_};
 ghost use mathlib.Core.Path.{_≡_};
 ghost use mathlib.Core.Bool.{true};
@@ -31,7 +31,7 @@ ghost use Rattle.log.specs.Suspects.{hits, Suspects, Suspecting};
 ghost use Rattle.log.specs.Counts.{CountIn};
 
 // How many entries of a segment have a suspect's version; 0 where it is damaged.
-fn count_in(part: &[u8], marks: &[u32], table: &[u32]) -> usize
+fn count_in(part: &[u8], marks: &[u32], table: &[u64]) -> usize
     requires { ⌜ Sorted (now table) ⌝ }
     requires { ⌜ Marked (now marks) (now table) ⌝ }
     ensures { λ r. ⌜ CountIn edition1 (now (part .entry)) (now (table .entry)) r ⌝ }
@@ -57,7 +57,7 @@ fn count_in(part: &[u8], marks: &[u32], table: &[u32]) -> usize
 }
 
 // How many entries of the log have a suspect's version.
-fn count(n: usize, s: usize, area: &[u8], map: u32, marks: &[u32], table: &[u32]) -> usize
+fn count(n: usize, s: usize, area: &[u8], map: u32, marks: &[u32], table: &[u64]) -> usize
     requires { ⌜ Shape n s (now area) ⌝ }
     requires { ⌜ Sorted (now table) ⌝ }
     requires { ⌜ Marked (now marks) (now table) ⌝ }
@@ -77,7 +77,7 @@ fn count(n: usize, s: usize, area: &[u8], map: u32, marks: &[u32], table: &[u32]
 }
 
 // Whether more entries of the log than suspects have a suspect's version.
-pub fn suspect_shared(n: usize, s: usize, area: &[u8], map: u32, table: &[u32]) -> bool
+pub fn suspect_shared(n: usize, s: usize, area: &[u8], map: u32, table: &[u64]) -> bool
     requires { ⌜ Shape n s (now area) ⌝ }
     requires { ⌜ Suspects (logOf (viewsOf edition1 (now area) s) (named map) n) (now table) ⌝ }
     ensures { λ r. ⌜ r ≡ ltb (occupied (now (table .entry))) (hits (now (table .entry)) (logOf (viewsOf edition1 (now (area .entry)) s) (named map) n)) ⌝ }
@@ -98,7 +98,7 @@ pub fn suspect(
     s: usize,
     area: &[u8],
     map: u32,
-    table: &mut [u32],
+    table: &mut [u64],
     version: Version,
 ) -> bool
     requires { ⌜ Shape n s (now area) ⌝ }
@@ -110,7 +110,7 @@ pub fn suspect(
     if stands_at(table, version, at) {
         return false;
     }
-    if table[191] == VERSION_LIMIT {
+    if table[191] == VACANT {
         insert(table, version, at);
         return false;
     }

@@ -1,17 +1,17 @@
 // Versions that two entries of the log share (cause 19), in one pass over a store's own log and a few where versions are
 // scattered. A filter of bits has one for each version modulo their number. While an entry's bit is not set, no entry
-// passed has its version; where it is set, the version is a suspect. The stack has 2 KiB of filter and 1 KiB of suspects with
+// passed has its version; where it is set, the version is a suspect. The stack has 2 KiB of filter and 1 3/4 KiB of suspects with
 // their marks.
 use crate::filter::mark;
 use crate::slots::is_named;
 use crate::suspects::suspect;
 use crate::suspects::suspect_shared;
+use crate::table::VACANT;
 use segment::Next;
 use segment::Version;
 use segment::area::cut;
 use segment::entries::next;
 use segment::layout::DIGEST_SIZE;
-use segment::layout::VERSION_LIMIT;
 ghost use Prim.Native.Nat.{_≤_};
 ghost use mathlib.Core.Path.{_≡_};
 ghost use mathlib.Core.Bool.{true, false};
@@ -32,7 +32,7 @@ fn pass(
     area: &[u8],
     map: u32,
     filter: &mut [u32],
-    table: &mut [u32],
+    table: &mut [u64],
     version: Version,
 ) -> bool
     requires { ⌜ Shape n s (now area) ⌝ }
@@ -57,7 +57,7 @@ fn filter_slot(
     map: u32,
     slot: usize,
     filter: &mut [u32],
-    table: &mut [u32],
+    table: &mut [u64],
 ) -> bool
     requires { ⌜ Shape n s (now area) ⌝ }
     requires { ⌜ Entering (viewsOf edition1 (now area) s) (named map) slot n (now filter) (now table) ⌝ }
@@ -92,7 +92,7 @@ fn search_shared(n: usize, s: usize, area: &[u8], map: u32) -> bool
     ensures { λ r. ⌜ r ≡ versionShared (logOf (viewsOf edition1 (now (area .entry)) s) (named map) n) ⌝ }
 {
     let mut filter = [0u32; 512];
-    let mut table = [VERSION_LIMIT; 192];
+    let mut table = [VACANT; 192];
     let mut i = 0;
     while i < n {
         let slot = i;

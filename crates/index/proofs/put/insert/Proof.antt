@@ -7,6 +7,7 @@ use mathlib.Core.List.{List}
 use Rattle.index.specs.declared.Inserted.{Inserted}
 use native.Mathlib.Omega.{arith}
 use Rattle.segment.specs.Layout.{edition1}
+use Rattle.segment.specs.declared.Version.{Version}
 use Rattle.index.specs.declared.Found.{Found}
 use Rattle.index.specs.Search.{searchFor}
 use Rattle.index.specs.SearchLaws.{Inside, search-inside, search-free}
@@ -54,18 +55,18 @@ slice-read-old c = inside (c .before .before) .below
 sub-old : tie.Need-sub-old
 sub-old c = inside (c .before .before) .taken
 
-cast-read32 : tie.Need-cast-read32
-cast-read32 c = omega (arith, c .slice-known3 .given (c .before .before .i2 .given .0 .0))
+cast-version-at : tie.Need-cast-version-at
+cast-version-at c = omega (arith, c .slice-known3 .given (c .before .before .i2 .given .0 .0))
 
-add-read32 : tie.Need-add-read32
-add-read32 c = omega (arith, c .slice-known3 .given (c .before .before .i2 .given .0 .0))
+add-version-at : tie.Need-add-version-at
+add-version-at c = omega (arith, c .slice-known3 .given (c .before .before .i2 .given .0 .0))
 
-read32-requires : tie.Need-read32-requires
+version-at-requires : tie.Need-version-at-requires
 unfolding edition1
-read32-requires c κs = omega (arith, inside (c .before .before) .fits)
+version-at-requires c κs = omega (arith, inside (c .before .before) .fits)
 
 put-requires-2 : tie.Need-put-requires-2
-put-requires-2 c κs = (inside (c .before .before .before .before .before .before) .below, omega arith)
+put-requires-2 c κs = (inside (c .before .before .before .before .before .before .before) .below, omega arith)
 
 same-length : tie.Need-same-length
 same-length c = search needs
@@ -74,13 +75,13 @@ returns : tie.Need-returns
 unfolding edition1
 returns c =
     let t = c .before .before .before .before in
-    let i = t .before .before .before .before .before in
+    let i = t .before .before .before .before .before .before in
     ap
     (λ (l : List ℕ).
     record { answer = Inserted.Newer (getD (now (i .before .before .before .before .before .before .args .cells)) (i .i2 .given .0 .0) 0 - 1); cells = l })
     (c .before .before .put2 .ensures)
     ∙ sym
-    (insert-newer edition1 _ _ _ _ _ _ (is-at (t .before .before .before .before .before)) (rw (t .before .before .read32 .ensures) at (t .if1 .taken)))
+    (insert-newer edition1 _ _ _ _ _ _ (is-at i) (rw (ap (λ (x : Version). x .0) (t .before .before .before .version-at .ensures)) at (t .if1 .taken)))
 
 same-length-2 : tie.Need-same-length-2
 same-length-2 c = search needs
@@ -103,7 +104,7 @@ returns-4 : tie.Need-returns-4
 unfolding edition1
 returns-4 c =
     sym
-    (insert-older edition1 _ _ _ _ _ _ (is-at (c .before .before .before .before .before)) (rw (c .before .before .read32 .ensures) at (c .if1 .left)))
+    (insert-older edition1 _ _ _ _ _ _ (is-at (c .before .before .before .before .before .before)) (rw (ap (λ (x : Version). x .0) (c .before .before .before .version-at .ensures)) at (c .if1 .left)))
 
 pub insert-spec : {M : Type 1} → statement M
 insert-spec =
@@ -117,9 +118,9 @@ insert-spec =
     mul-old
     slice-read-old
     sub-old
-    cast-read32
-    add-read32
-    read32-requires
+    cast-version-at
+    add-version-at
+    version-at-requires
     put-requires-2
     same-length
     returns

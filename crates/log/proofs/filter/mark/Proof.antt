@@ -7,8 +7,8 @@ use Rattle.log.specs.Filter.{isMarked, markedWith}
 use Rattle.log.proofs.filter.mark.Statement.{statement}
 use Rattle.log.proofs.filter.mark.Tie as tie
 
-cast-word : tie.Need-cast-word
-cast-word c = search needs
+cast-bit : tie.Need-cast-bit
+cast-bit c = search needs
 
 mul-old : tie.Need-mul-old
 mul-old c = search needs
@@ -41,7 +41,7 @@ pub mark-spec : {M : Type 1} → statement M
 mark-spec =
     tie.close
     (tie.spec
-    cast-word
+    cast-bit
     mul-old
     slice-read-old
     with-slot-requires
