@@ -22,7 +22,7 @@ use Rattle.slot_map.specs.Bit.{named, withBit, within}
 use Rattle.slot_map.specs.Count.{free}
 use Rattle.slot_map.specs.BitLaws.{named-true, set-named, bit-of-zero, bit-pow-same, with-clear, within-pow}
 use Rattle.record.specs.Range.{fitsLent}
-use Rattle.record.specs.RangeLaws.{Lent, lent}
+use Rattle.record.specs.RangeLaws.{Lent, lent, lent-next}
 use Rattle.record.specs.declared.Pending.the-variants.{Forget}
 use Rattle.record.specs.declared.Refusal.the-variants.{BadRecord}
 use Rattle.record.specs.declared.Start.{Start}
@@ -272,8 +272,11 @@ module _ (L : Layout) (t : Tables) (r : Record) (area cells work : List ℕ) (k 
   tests : DeletePassed L r (lentLengths area cells work) (reaching t) k (factsFor L r area cells k)
   tests = deleted L t r area cells work k passed
 
+  delete-fits : fitsLent L r (length area) (length cells) ≡ true
+  delete-fits = not-false (fitsLent L r (length area) (length cells)) (tests .record-good)
+
   pub delete-lent : Lent L r (length area) (length cells)
-  delete-lent = lent L r (length area) (length cells) (not-false (fitsLent L r (length area) (length cells)) (tests .record-good))
+  delete-lent = lent L r (length area) (length cells) delete-fits
 
   module _ (full : noRoom r (entrySize L 0) ≡ true) where
     pub forget-ready : ForgetReady L r area cells work
@@ -281,7 +284,7 @@ module _ (L : Layout) (t : Tables) (r : Record) (area cells work : List ℕ) (k 
     forget-ready =
         record {
           lent = delete-lent;
-          version-left = eqb-false (r .next .0) (versionLimit L) (tests .versions-left);
+          version-left = omega (arith, lent-next L r (length area) (length cells) delete-fits, eqb-false (r .next .0) (versionLimit L) (tests .versions-left));
           number-left = eqb-false (r .digest .0) numberLimit (rw (both-left (not (leb (r .end + entrySize L 0) (r .size))) (ltb (free (r .slots) (r .map)) 2) full) at (tests .number-left));
           long = ltb-false (length work) (r .size) (tests .work-long);
         }

@@ -35,7 +35,7 @@ use Rattle.forgetting.specs.declared.Live.{Live}
 -- A record in range with a version and a digest number left, and a work buffer of S bytes at least.
 pub record ForgetReady (L : Layout) (r : Record) (area cells work : List ℕ) : Type 0 where
   pub lent : Lent L r (length area) (length cells)
-  pub version-left : r .next .0 ≡ versionLimit L → ⊥
+  pub version-left : r .next .0 < versionLimit L
   pub number-left : NumberLeft r
   pub long : r .size ≤ length work
 
@@ -47,7 +47,7 @@ inLog r i = both (ltb i (r .slots)) (named (r .map) i)
 pub record VictimReady (L : Layout) (r : Record) (area marks work : List ℕ) (split : Split) (slot : ℕ) : Type 0 where
   pub indexLength : ℕ
   pub lent : Lent L r (length area) indexLength
-  pub version-left : r .next .0 ≡ versionLimit L → ⊥
+  pub version-left : r .next .0 < versionLimit L
   pub number-left : NumberLeft r
   pub long : r .size ≤ length work
   pub marks-long : length marks ≡ 128

@@ -1,5 +1,5 @@
 -- Encoding and decoding are inverse.
-use Prim.Native.Nat.{ℕ, zero, suc, _+_, _-_, _≤_, _<_}
+use Prim.Native.Nat.{ℕ, zero, suc, _+_, _-_, _*_, _/_, _%_, _≤_, _<_}
 use mathlib.Core.Path.{_≡_, refl, sym, ap, _∙_}
 use mathlib.Core.Bool.{Bool, true, false, not}
 use mathlib.Core.List.{List, [], _∷_, _++_, append-nil}
@@ -10,13 +10,14 @@ use lib.Seq.{sets, sets-eq, length-sets, drop-cons, length-take-le, take-add, ta
 use borrow.Author.Tests.{leb-true, le-leb, lt-leb, eqb-true, eqb-false, eq-eqb, ne-eqb}
 use Rattle.segment.specs.Choice.{pick, pick-true, pick-false, both, both-left, both-right, both-false-left, both-true, either}
 use Rattle.segment.specs.Layout.{Layout, digestSize}
+use Rattle.segment.specs.declared.Version.{Version}
 use Rattle.record.specs.Answers.{blank, bare, withPending}
 use Rattle.record.specs.Range.{countsGood, lengthsOwn, fitsLent}
 use Rattle.record.specs.RangeLaws.{frontGood, fits-front, blank-unfit, stop, go}
 use Rattle.record.specs.declared.Pending.{Pending}
 use Rattle.record.specs.declared.Pending.the-variants.{Idle, Append, NewHead, Clean, Forget}
 use Rattle.record.specs.declared.Record.{Record}
-use Rattle.words.specs.Words.{recordWords, numberWords, pendingWords, wordsOf, word, zeros, reserveZero, pendingFits, pendingOf, countsIn, recordIn, isRecord, decoded}
+use Rattle.words.specs.Words.{recordWords, numberWords, pendingWords, wordsOf, word, zeros, pendingFits, pendingOf, countsIn, recordIn, isRecord, decoded}
 use Rattle.words.specs.declared.Decoded.{Decoded}
 
 -- ---- what the code does, in its steps
@@ -43,6 +44,23 @@ pub copied-counts : (w cs : List ℕ) → recordWords ≤ length w → cs ≡ se
 copied-counts w cs h e =
     let l : length (countsIn w) ≡ 32 = length-take-le 32 (drop 17 w) (omega (arith, length-drop 17 w)) in
     e ∙ sets-eq (countsIn w) (replicate 32 0) 0 (omega arith) ∙ rw l (append-nil (countsIn w))
+
+-- the front of the record, with a next version and an operation that were found
+abbrev pub frontWith : List ℕ → Version → Pending → Record
+frontWith w v p =
+    record {
+      slots = word w 0;
+      size = word w 1;
+      cells = word w 2;
+      head = word w 3;
+      end = word w 4;
+      digest = record { 0 = word w 5 };
+      map = word w 6;
+      next = v;
+      keys = word w 9;
+      counts = replicate 32 0;
+      pending = p;
+    }
 
 -- in each arm the operation is known
 pub known-pending : (w w′ : List ℕ) {p q : Pending} → p ≡ q → w′ ≡ sets w 12 (pendingWords q) → w′ ≡ sets w 12 (pendingWords p)
@@ -130,7 +148,7 @@ unfolding isRecord
 too-short w h = both-false-left _ _ (lt-leb recordWords (length w) h)
 
 pub long-enough : (w : List ℕ) → recordWords ≤ length w
-    → isRecord w ≡ both (reserveZero (word w 8) (word w 10) (word w 11)) (pendingFits (word w 12) (word w 13) (word w 14) (word w 15) (word w 16))
+    → isRecord w ≡ both (zeros (word w 10) (word w 11)) (pendingFits (word w 12) (word w 13) (word w 14) (word w 15) (word w 16))
 unfolding isRecord both
 long-enough w h = rw (le-leb recordWords (length w) h)
 
@@ -194,9 +212,9 @@ pending-five (Forget s v n k) = refl
 all-words : (r : Record) → length (r .counts) ≡ 32 → length (wordsOf r) ≡ recordWords
 all-words r l = omega (arith, length-append (pendingWords (r .pending)) (r .counts), pending-five (r .pending))
 
--- a record whose numbers and counts are those of r
-abbrev likewise : Record → List ℕ → Pending → Decoded
-likewise r c p =
+-- a record whose numbers are those of r, but for the next version and the counts
+abbrev likewise : Record → ℕ → List ℕ → Pending → Decoded
+likewise r n c p =
     record {
       ok = true;
       rec =
@@ -208,7 +226,7 @@ likewise r c p =
             end = r .end;
             digest = r .digest;
             map = r .map;
-            next = r .next;
+            next = record { 0 = n };
             keys = r .keys;
             counts = c;
             pending = p;
@@ -222,23 +240,31 @@ module _ (r : Record) (rest : List ℕ) (l : length (r .counts) ≡ 32) where
   front : take 32 (r .counts ++ rest) ≡ r .counts
   front = take-at (r .counts) rest 32 l
 
+  -- the next version from its halves
+  halves : r .next .0 % 4294967296 + 4294967296 * (r .next .0 / 4294967296) ≡ r .next .0
+  halves = omega arith
+
+  likewise-same : (p : Pending) → likewise r (r .next .0 % 4294967296 + 4294967296 * (r .next .0 / 4294967296)) (take 32 (r .counts ++ rest)) p
+      ≡ record { ok = true; rec = withPending r p }
+  likewise-same p = λ i. likewise r (halves i) (front i) p
+
   says : (p : Pending) → decoded (numberWords r ++ pendingWords p ++ r .counts ++ rest) ≡ record { ok = true; rec = withPending r p }
-  unfolding reserveZero pendingFits pendingOf zeros pick both either
+  unfolding pendingFits pendingOf zeros pick both either
   says Idle =
       let w = numberWords r ++ pendingWords Idle ++ r .counts ++ rest in
-      decoded-record w (long-enough w (omega (arith, enough))) ∙ ap (λ (c : List ℕ). likewise r c Idle) front
+      decoded-record w (long-enough w (omega (arith, enough))) ∙ likewise-same Idle
   says (Append n k) =
       let w = numberWords r ++ pendingWords (Append n k) ++ r .counts ++ rest in
-      decoded-record w (long-enough w (omega (arith, enough))) ∙ ap (λ (c : List ℕ). likewise r c (Append n k)) front
+      decoded-record w (long-enough w (omega (arith, enough))) ∙ likewise-same (Append n k)
   says (NewHead s n k) =
       let w = numberWords r ++ pendingWords (NewHead s n k) ++ r .counts ++ rest in
-      decoded-record w (long-enough w (omega (arith, enough))) ∙ ap (λ (c : List ℕ). likewise r c (NewHead s n k)) front
+      decoded-record w (long-enough w (omega (arith, enough))) ∙ likewise-same (NewHead s n k)
   says (Clean s v n k) =
       let w = numberWords r ++ pendingWords (Clean s v n k) ++ r .counts ++ rest in
-      decoded-record w (long-enough w (omega (arith, enough))) ∙ ap (λ (c : List ℕ). likewise r c (Clean s v n k)) front
+      decoded-record w (long-enough w (omega (arith, enough))) ∙ likewise-same (Clean s v n k)
   says (Forget s v n k) =
       let w = numberWords r ++ pendingWords (Forget s v n k) ++ r .counts ++ rest in
-      decoded-record w (long-enough w (omega (arith, enough))) ∙ ap (λ (c : List ℕ). likewise r c (Forget s v n k)) front
+      decoded-record w (long-enough w (omega (arith, enough))) ∙ likewise-same (Forget s v n k)
 
 pub decode-encode : (r : Record) (w : List ℕ) → length (r .counts) ≡ 32 → recordWords ≤ length w
     → decoded (sets w 0 (wordsOf r)) ≡ record { ok = true; rec = r }
@@ -301,17 +327,19 @@ behind-sets : (vs w : List ℕ) (i n : ℕ) → i + length vs ≤ n → drop n (
 behind-sets [] w i n h = refl
 behind-sets (x ∷ vs) w i n h = behind-sets vs (set w i x) (suc i) n (omega arith) ∙ drop-set-lt n w i x (omega arith)
 
-module _ (w : List ℕ) (e : isRecord w ≡ true) where
-  tests : both (reserveZero (word w 8) (word w 10) (word w 11)) (pendingFits (word w 12) (word w 13) (word w 14) (word w 15) (word w 16)) ≡ true
+-- the words are those of 32 bits, of which the lower half of the next version has to be one
+module _ (w : List ℕ) (e : isRecord w ≡ true) (half : word w 7 < 4294967296) where
+  tests : both (zeros (word w 10) (word w 11)) (pendingFits (word w 12) (word w 13) (word w 14) (word w 15) (word w 16)) ≡ true
   tests = sym (long-enough w (record-long w e)) ∙ e
 
   numbers-same : sets w 0 (numberWords (recordIn w)) ≡ w
-  unfolding reserveZero wordsFrom
+  unfolding wordsFrom
   numbers-same =
       let reserve = both-left _ _ tests in
-      let high : word w 8 ≡ 0 = zeros-left (word w 8) (word w 10) (both-left _ _ reserve) in
-      let edition : word w 10 ≡ 0 = zeros-right (word w 8) (word w 10) (both-left _ _ reserve) in
-      let switch : word w 11 ≡ 0 = eqb-true (word w 11) 0 (both-right _ _ reserve) in
+      let low : (word w 7 + 4294967296 * word w 8) % 4294967296 ≡ word w 7 = omega (arith, half) in
+      let high : (word w 7 + 4294967296 * word w 8) / 4294967296 ≡ word w 8 = omega (arith, half) in
+      let edition : word w 10 ≡ 0 = zeros-left (word w 10) (word w 11) reserve in
+      let switch : word w 11 ≡ 0 = zeros-right (word w 10) (word w 11) reserve in
       let same : numberWords (recordIn w) ≡ take 12 w = sym (from-words w 0 12 (omega (arith, record-long w e)) ∙ cc) in
       ap (λ (l : List ℕ). sets w 0 l) same ∙ part-same w 0 12 (omega (arith, record-long w e))
 

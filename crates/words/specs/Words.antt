@@ -1,7 +1,7 @@
--- The store record as 49 words of 32 bits: its nine numbers in the order of its fields, with three words in reserve between them; then the pending operation: a tag, the new head's
+-- The store record as 49 words of 32 bits: its nine numbers in the order of its fields, the next version in two words, and two words in reserve behind them; then the pending operation: a tag, the new head's
 -- slot, the victims, the length of what the work buffer holds, and the stores left; then the present bytes of the 32 slots. A word in reserve is 0, and so is one that an operation has no
--- use for. The reserve is for a wider next version (its upper half, behind the lower), and for an edition and a switch, behind the number of keys.
-use Prim.Native.Nat.{ℕ}
+-- use for. The reserve is for an edition and a switch.
+use Prim.Native.Nat.{ℕ, _+_, _*_, _/_, _%_}
 use mathlib.Core.Bool.{Bool, true, false}
 use mathlib.Core.List.{List, [], _∷_, _++_}
 use lib.Dec.{eqb, leb}
@@ -27,7 +27,7 @@ pendingWords (Clean s v n k) = 3 ∷ s ∷ v ∷ n ∷ k ∷ []
 pendingWords (Forget s v n k) = 4 ∷ s ∷ v ∷ n ∷ k ∷ []
 
 abbrev pub numberWords : Record → List ℕ
-numberWords r = r .slots ∷ r .size ∷ r .cells ∷ r .head ∷ r .end ∷ r .digest .0 ∷ r .map ∷ r .next .0 ∷ 0 ∷ r .keys ∷ 0 ∷ 0 ∷ []
+numberWords r = r .slots ∷ r .size ∷ r .cells ∷ r .head ∷ r .end ∷ r .digest .0 ∷ r .map ∷ r .next .0 % 4294967296 ∷ r .next .0 / 4294967296 ∷ r .keys ∷ 0 ∷ 0 ∷ []
 
 abbrev pub wordsOf : Record → List ℕ
 wordsOf r = numberWords r ++ pendingWords (r .pending) ++ r .counts
@@ -36,10 +36,6 @@ wordsOf r = numberWords r ++ pendingWords (r .pending) ++ r .counts
 
 unfoldable pub zeros : ℕ → ℕ → Bool
 zeros a b = both (eqb a 0) (eqb b 0)
-
--- whether the words in reserve are 0
-unfoldable pub reserveZero : ℕ → ℕ → ℕ → Bool
-reserveZero a b c = both (zeros a b) (eqb c 0)
 
 -- whether five words are those of a pending operation
 unfoldable pub pendingFits : ℕ → ℕ → ℕ → ℕ → ℕ → Bool
@@ -66,7 +62,7 @@ recordIn w =
       end = word w 4;
       digest = record { 0 = word w 5 };
       map = word w 6;
-      next = record { 0 = word w 7 };
+      next = record { 0 = word w 7 + 4294967296 * word w 8 };
       keys = word w 9;
       counts = countsIn w;
       pending = pendingOf (word w 12) (word w 13) (word w 14) (word w 15) (word w 16);
@@ -76,7 +72,7 @@ recordIn w =
 unfoldable pub isRecord : List ℕ → Bool
 isRecord w =
     both (leb recordWords (length w))
-    (both (reserveZero (word w 8) (word w 10) (word w 11)) (pendingFits (word w 12) (word w 13) (word w 14) (word w 15) (word w 16)))
+    (both (zeros (word w 10) (word w 11)) (pendingFits (word w 12) (word w 13) (word w 14) (word w 15) (word w 16)))
 
 -- the record, or the blank one where the words are no record's
 unfoldable pub decoded : List ℕ → Decoded

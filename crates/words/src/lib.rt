@@ -8,7 +8,7 @@ use record::range::lengths_own;
 use segment::DigestNumber;
 use segment::Version;
 use segment::layout::DIGEST_SIZE;
-ghost use Prim.Native.Nat.{_+_, _≤_};
+ghost use Prim.Native.Nat.{_+_, _*_, _≤_};
 ghost use mathlib.Core.Path.{_≡_};
 ghost use mathlib.Core.Bool.{true};
 ghost use mathlib.Core.List.{[], _∷_};
@@ -17,7 +17,7 @@ ghost use lib.Seq.{sets};
 ghost use Rattle.segment.specs.Layout.{edition1};
 ghost use Rattle.record.specs.Answers.{bare};
 ghost use Rattle.record.specs.Range.{fitsLent};
-ghost use Rattle.words.specs.Words.{recordWords, numberWords, pendingWords, zeros, reserveZero, pendingFits, pendingOf, wordsOf, countsIn, recordIn, isRecord, decoded};
+ghost use Rattle.words.specs.Words.{recordWords, numberWords, pendingWords, zeros, pendingFits, pendingOf, wordsOf, countsIn, recordIn, isRecord, decoded};
 
 // How many words a record takes.
 pub const WORDS: usize = 49;
@@ -74,7 +74,7 @@ pub fn encode_pending(p: Pending, words: &mut [u32])
     }
 }
 
-// The numbers of a record before its pending operation, and the words in reserve between them.
+// The numbers of a record before its pending operation, and the words in reserve behind them.
 fn put_numbers(rec: Record, words: &mut [u32])
     requires { ⌜ recordWords ≤ length (now words) ⌝ }
     ensures { λ _. ⌜ now (words .exit) ≡ sets (now (words .entry)) 0 (numberWords rec) ⌝ }
@@ -88,8 +88,8 @@ fn put_numbers(rec: Record, words: &mut [u32])
     words[4] = rec.end;
     words[5] = number.0;
     words[6] = rec.map;
-    words[7] = next.0;
-    words[8] = 0;
+    words[7] = (next.0 % 4294967296) as u32;
+    words[8] = (next.0 / 4294967296) as u32;
     words[9] = rec.keys;
     words[10] = 0;
     words[11] = 0;
@@ -128,13 +128,6 @@ fn zeros(a: u32, b: u32) -> bool
     a == 0 && b == 0
 }
 
-// Whether the three words in reserve are 0.
-fn reserve_zero(high: u32, edition: u32, switch: u32) -> bool
-    ensures { λ r. ⌜ r ≡ reserveZero high edition switch ⌝ }
-{
-    zeros(high, edition) && switch == 0
-}
-
 // Whether five words are those of a pending operation: words that it has no use for are 0.
 fn pending_fits(tag: u32, slot: u32, victims: u32, length: u32, left: u32) -> bool
     ensures { λ r. ⌜ r ≡ pendingFits tag slot victims length left ⌝ }
@@ -147,6 +140,13 @@ fn pending_fits(tag: u32, slot: u32, victims: u32, length: u32, left: u32) -> bo
         4 => true,
         _ => false,
     }
+}
+
+// The next version from the two halves in which it crosses.
+fn next_of(low: u32, high: u32) -> Version
+    ensures { λ r. ⌜ r ≡ record { 0 = low + 4294967296 * high } ⌝ }
+{
+    Version(low as u64 + 4294967296 * (high as u64))
 }
 
 fn pending_of(tag: u32, slot: u32, victims: u32, length: u32, left: u32) -> Pending
@@ -196,7 +196,7 @@ fn record_in(words: &[u32]) -> Record
         end: words[4],
         digest: DigestNumber(words[5]),
         map: words[6],
-        next: Version(words[7]),
+        next: next_of(words[7], words[8]),
         keys: words[9],
         counts,
         pending,
@@ -210,7 +210,7 @@ fn is_record(words: &[u32]) -> bool
     if words.len() < WORDS {
         return false;
     }
-    reserve_zero(words[8], words[10], words[11])
+    zeros(words[10], words[11])
         && pending_fits(words[12], words[13], words[14], words[15], words[16])
 }
 
@@ -240,7 +240,7 @@ pub fn front_in(words: &[u32]) -> Record
         end: words[4],
         digest: DigestNumber(words[5]),
         map: words[6],
-        next: Version(words[7]),
+        next: next_of(words[7], words[8]),
         keys: words[9],
         counts: [0; 32],
         pending,

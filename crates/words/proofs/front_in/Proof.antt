@@ -1,5 +1,6 @@
 -- `words::front_in` meets its contract.
 use borrow.Author.Needs.{needs}
+use Rattle.words.specs.WordLaws.{frontWith}
 use Rattle.words.proofs.front_in.Statement.{statement}
 use Rattle.words.proofs.front_in.Tie as tie
 
@@ -42,14 +43,22 @@ shared-slice-read-t19 c = search needs
 shared-slice-read-t22 : tie.Need-shared-slice-read-t22
 shared-slice-read-t22 c = search needs
 
-shared-slice-read-t24 : tie.Need-shared-slice-read-t24
-shared-slice-read-t24 c = search needs
+shared-slice-read-next-of : tie.Need-shared-slice-read-next-of
+shared-slice-read-next-of c = search needs
 
-shared-slice-read-t27 : tie.Need-shared-slice-read-t27
-shared-slice-read-t27 c = search needs
+shared-slice-read-next-of-2 : tie.Need-shared-slice-read-next-of-2
+shared-slice-read-next-of-2 c = search needs
+
+next-of-requires : tie.Need-next-of-requires
+next-of-requires c κs = search needs
+
+shared-slice-read-t29 : tie.Need-shared-slice-read-t29
+shared-slice-read-t29 c = search needs
 
 returns : tie.Need-returns
-returns c = cc
+returns c =
+    let w = c .before .before .before .before .before .before .before .before .before .before .before .before .before .before .before .before .before .before .args .words .now in
+    λ i. frontWith w (c .before .next-of .ensures i) (c .before .before .before .before .before .before .before .before .before .before .before .pending-of .ensures i)
 
 pub front-in-spec : {M : Type 1} → statement M
 front-in-spec =
@@ -68,6 +77,8 @@ front-in-spec =
     shared-slice-read-t6
     shared-slice-read-t19
     shared-slice-read-t22
-    shared-slice-read-t24
-    shared-slice-read-t27
+    shared-slice-read-next-of
+    shared-slice-read-next-of-2
+    next-of-requires
+    shared-slice-read-t29
     returns)

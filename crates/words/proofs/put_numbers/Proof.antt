@@ -26,8 +26,14 @@ slice-write-words-6 c = simp length-set (omega arith)
 slice-write-words-7 : tie.Need-slice-write-words-7
 slice-write-words-7 c = simp length-set (omega arith)
 
+cast-words : tie.Need-cast-words
+cast-words c = search needs
+
 slice-write-words-8 : tie.Need-slice-write-words-8
 slice-write-words-8 c = simp length-set (omega arith)
+
+cast-words-2 : tie.Need-cast-words-2
+cast-words-2 c = search needs
 
 slice-write-words-9 : tie.Need-slice-write-words-9
 slice-write-words-9 c = simp length-set (omega arith)
@@ -42,7 +48,7 @@ slice-write-words-12 : tie.Need-slice-write-words-12
 slice-write-words-12 c = simp length-set (omega arith)
 
 same-length : tie.Need-same-length
-same-length c = search needs
+same-length c = simp length-set (omega arith)
 
 returns : tie.Need-returns
 returns c = search needs
@@ -58,7 +64,9 @@ put-numbers-spec =
     slice-write-words-5
     slice-write-words-6
     slice-write-words-7
+    cast-words
     slice-write-words-8
+    cast-words-2
     slice-write-words-9
     slice-write-words-10
     slice-write-words-11

@@ -45,11 +45,17 @@ shared-slice-read-t20 c = search needs
 shared-slice-read-t23 : tie.Need-shared-slice-read-t23
 shared-slice-read-t23 c = search needs
 
-shared-slice-read-t25 : tie.Need-shared-slice-read-t25
-shared-slice-read-t25 c = search needs
+shared-slice-read-next-of : tie.Need-shared-slice-read-next-of
+shared-slice-read-next-of c = search needs
 
-shared-slice-read-t28 : tie.Need-shared-slice-read-t28
-shared-slice-read-t28 c = search needs
+shared-slice-read-next-of-2 : tie.Need-shared-slice-read-next-of-2
+shared-slice-read-next-of-2 c = search needs
+
+next-of-requires : tie.Need-next-of-requires
+next-of-requires c κs = search needs
+
+shared-slice-read-t30 : tie.Need-shared-slice-read-t30
+shared-slice-read-t30 c = search needs
 
 returns : tie.Need-returns
 returns c = cc
@@ -72,6 +78,8 @@ record-in-spec =
     shared-slice-read-t7
     shared-slice-read-t20
     shared-slice-read-t23
-    shared-slice-read-t25
-    shared-slice-read-t28
+    shared-slice-read-next-of
+    shared-slice-read-next-of-2
+    next-of-requires
+    shared-slice-read-t30
     returns)
