@@ -85,13 +85,13 @@ unfolding keptWords
 kept-off words r e = rw e
 
 -- the words say the record that they said where it is handed back as it was
-pub same-words : (words : List ℕ) → words ≡ keptWords (decoded words .ok) words (decoded words .rec)
-same-words words = go (isRecord words) refl
+pub same-words : (words : List ℕ) → word words 7 < 4294967296 → words ≡ keptWords (decoded words .ok) words (decoded words .rec)
+same-words words half = go (isRecord words) refl
   where
     go : (t : Bool) → isRecord words ≡ t → words ≡ keptWords (decoded words .ok) words (decoded words .rec)
     go true f =
         kept-on words words (decoded words .rec) (ap (λ (d : Decoded). d .ok) (decoded-record words f))
-        (sym (encode-decode words f) ∙ ap (λ (d : Decoded). sets words 0 (wordsOf (d .rec))) (sym (decoded-record words f)))
+        (sym (encode-decode words f half) ∙ ap (λ (d : Decoded). sets words 0 (wordsOf (d .rec))) (sym (decoded-record words f)))
     go false f = kept-off words (decoded words .rec) (ap (λ (d : Decoded). d .ok) (decoded-none words f))
 
 pub said-long : (words : List ℕ) → decoded words .ok ≡ true → length (decoded words .rec .counts) ≡ 32

@@ -1,6 +1,6 @@
 -- The start of a write, made on the words of the record: what it promises, at each return of its code. No test of a write and nothing that it
 -- lays down looks at the present bytes, so that the record without them gives the same.
-use Prim.Native.Nat.{ℕ}
+use Prim.Native.Nat.{ℕ, _<_}
 use mathlib.Core.Path.{_≡_, refl, sym, _∙_, ap}
 use mathlib.Core.Bool.{Bool, true, false, not}
 use mathlib.Core.List.{List}
@@ -34,7 +34,7 @@ use Rattle.writing.specs.Tests.{presenceFor, factsFor}
 use Rattle.writing.specs.TestLaws.{first-bad, write-first}
 use Rattle.writing.specs.Laying.{laidBegun}
 use Rattle.writing.specs.StartLaws.{write-refused, write-laid}
-use Rattle.words.specs.Words.{pendingWords, wordsOf, recordIn, isRecord, decoded}
+use Rattle.words.specs.Words.{pendingWords, wordsOf, word, recordIn, isRecord, decoded}
 use Rattle.words.specs.WordLaws.{counts-long, decoded-record, pending-alone, fits-record}
 use Rattle.words.specs.declared.Decoded.{Decoded}
 use Rattle.kurdavel.specs.Crossing.{StartCrossed, storesAfter}
@@ -65,13 +65,13 @@ module _ (q : Terms) (words area cells work : List ℕ) (k : Key) (value : List 
   abbrev pub tests : Record → Check
   tests r = checked (firstCause (writeCauses edition1 r (lentLengths area cells work) q k (factsFor edition1 r area cells k) (length value)))
 
-  module _ (stores : ℕ) {t : Bool} (tested : t ≡ fitsLent edition1 says (length area) (length cells)) where
+  module _ (half : word words 7 < 4294967296) (stores : ℕ) {t : Bool} (tested : t ≡ fitsLent edition1 says (length area) (length cells)) where
     refused-crossed : (c : Refusal) {number : ℕ} → Check.Refused c ≡ tests says → number ≡ startSaid (StartAnswer.Refused c) .refused
         → StartCrossed q (write k value) words words area cells work work stores stores number
     unfolding storesAfter
     refused-crossed c e m =
         start-crossed refl (write-refused edition1 q says area cells work k value c e (refusedStart says c) refl)
-        (handed {b = StartAnswer.Refused c} (same-words words, said-long words) refl m refl)
+        (handed {b = StartAnswer.Refused c} (same-words words half, said-long words) refl m refl)
 
     pub write-bad : not t ≡ true → StartCrossed q (write k value) words words area cells work work stores stores 4
     write-bad e =
@@ -116,7 +116,7 @@ module _ (q : Terms) (words area cells work : List ℕ) (k : Key) (value : List 
           (write-laid edition1 q says area cells work k value (e ∙ same-tests) work′ (startedWith says p left) kind known begun)
           (handed {b = StartAnswer.Started left} (
             kept-on words words′ (withPending says p) (ap (λ (d : Decoded). d .ok) said)
-                (w ∙ pending-alone words are p ∙ ap (λ (d : Decoded). sets words 0 (wordsOf (withPending (d .rec) p))) (sym said)),
+                (w ∙ pending-alone words are half p ∙ ap (λ (d : Decoded). sets words 0 (wordsOf (withPending (d .rec) p))) (sym said)),
             said-long words,
           )
           refl refl refl)

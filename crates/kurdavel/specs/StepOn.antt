@@ -153,12 +153,12 @@ module _ (words area work : List ℕ) where
 
   -- ---- the step
 
-  module _ (cells : List ℕ) (left version : ℕ) where
+  module _ (half : word words 7 < 4294967296) (cells : List ℕ) (left version : ℕ) where
     pub on-refused : (c : Refusal) {number : ℕ} → found (length cells) ≡ TellAnswer.Refused c → number ≡ tellSaid (TellAnswer.Refused c) .refused
         → StepCrossed words words area area cells cells work left left version version number
     unfolding leftTold toldAfter
     on-refused c e m =
-        step-crossed {b = StepAnswer.Refused c} refl (found-refused edition1 edition1-roomy says area cells work c e refl) (same-words words, said-long words) refl m refl refl
+        step-crossed {b = StepAnswer.Refused c} refl (found-refused edition1 edition1-roomy says area cells work c e refl) (same-words words half, said-long words) refl m refl refl
 
     pub on-stored : (p b : ℕ) {words′ : List ℕ} → found (length cells) ≡ TellAnswer.At p b → 1 < word words 16
         → words′ ≡ set words 16 (word words 16 - 1)
@@ -179,12 +179,13 @@ module _ (words area work : List ℕ) where
         (advance-left edition1 says (set area p b) cells k-said more refl refl) refl) (
           kept-on words words′ after (ap (λ (d : Decoded). d .ok) is)
               (w
-              ∙ left-alone words are (word words 16 - 1) (oneLess (recordIn words .pending)) (less-words (recordIn words .pending) ∙ ap less five)
+              ∙ left-alone words are half (word words 16 - 1) (oneLess (recordIn words .pending)) (less-words (recordIn words .pending) ∙ ap less five)
               ∙ ap (λ (r : Record). sets words 0 (wordsOf r)) (sym its)),
           said-long words,
         )
         refl refl refl refl
 
+  module _ (cells : List ℕ) (left version : ℕ) where
     -- the last step, once its store is made
     pub on-last : (p b : ℕ) {words′ cells′ : List ℕ} {left′ version′ number : ℕ} → found (length cells) ≡ TellAnswer.At p b
         → Finished words words′ (set area p b) cells cells′ left left′ version version′ number

@@ -107,7 +107,7 @@ pub extern "C" fn kurdavel_read(
     last: u16,
     table: u16,
     key: u32,
-    version: &mut u32,
+    version: &mut u64,
     kind: &mut u32,
 ) -> u32
     ensures { λ r.
@@ -304,7 +304,7 @@ pub extern "C" fn kurdavel_write_expecting(
     last: u16,
     table: u16,
     key: u32,
-    expected: u32,
+    expected: u64,
     value: &[u8],
     stores: &mut u32,
 ) -> u32

@@ -17,7 +17,7 @@ pub extern "C" fn kurdavel_scan_read(
     last: u16,
     table: u16,
     key: u32,
-    version: &mut u32,
+    version: &mut u64,
     kind: &mut u32,
 ) -> u32
     ensures { λ r.

@@ -38,7 +38,7 @@ fn finish(
     area: &[u8],
     index: &mut [u32],
     left: &mut u32,
-    version: &mut u32,
+    version: &mut u64,
 ) -> u32
     requires { ⌜ AdvanceReady (decoded (now words) .rec) (now area) ⌝ }
     ensures { λ r.
@@ -76,7 +76,7 @@ pub extern "C" fn kurdavel_step(
     index: &mut [u32],
     work: &[u8],
     left: &mut u32,
-    version: &mut u32,
+    version: &mut u64,
 ) -> u32
     ensures { λ r.
         ⌜

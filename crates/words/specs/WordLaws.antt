@@ -327,27 +327,9 @@ behind-sets : (vs w : List ℕ) (i n : ℕ) → i + length vs ≤ n → drop n (
 behind-sets [] w i n h = refl
 behind-sets (x ∷ vs) w i n h = behind-sets vs (set w i x) (suc i) n (omega arith) ∙ drop-set-lt n w i x (omega arith)
 
--- the words are those of 32 bits, of which the lower half of the next version has to be one
-module _ (w : List ℕ) (e : isRecord w ≡ true) (half : word w 7 < 4294967296) where
+module _ (w : List ℕ) (e : isRecord w ≡ true) where
   tests : both (zeros (word w 10) (word w 11)) (pendingFits (word w 12) (word w 13) (word w 14) (word w 15) (word w 16)) ≡ true
   tests = sym (long-enough w (record-long w e)) ∙ e
-
-  numbers-same : sets w 0 (numberWords (recordIn w)) ≡ w
-  unfolding wordsFrom
-  numbers-same =
-      let reserve = both-left _ _ tests in
-      let low : (word w 7 + 4294967296 * word w 8) % 4294967296 ≡ word w 7 = omega (arith, half) in
-      let high : (word w 7 + 4294967296 * word w 8) / 4294967296 ≡ word w 8 = omega (arith, half) in
-      let edition : word w 10 ≡ 0 = zeros-left (word w 10) (word w 11) reserve in
-      let switch : word w 11 ≡ 0 = zeros-right (word w 10) (word w 11) reserve in
-      let same : numberWords (recordIn w) ≡ take 12 w = sym (from-words w 0 12 (omega (arith, record-long w e)) ∙ cc) in
-      ap (λ (l : List ℕ). sets w 0 l) same ∙ part-same w 0 12 (omega (arith, record-long w e))
-
-  counts-same : (p : Pending) → sets (sets w 12 (pendingWords p)) 17 (countsIn w) ≡ sets w 12 (pendingWords p)
-  counts-same p =
-      let v = sets w 12 (pendingWords p) in
-      ap (λ (l : List ℕ). sets v 17 (take 32 l)) (sym (behind-sets (pendingWords p) w 12 17 (omega (arith, pending-five p))))
-      ∙ part-same v 17 32 (omega (arith, record-long w e, length-sets w 12 (pendingWords p)))
 
   pub pending-words : pendingWords (recordIn w .pending) ≡ word w 12 ∷ word w 13 ∷ word w 14 ∷ word w 15 ∷ word w 16 ∷ []
   pending-words = pending-back (word w 12) (word w 13) (word w 14) (word w 15) (word w 16) (both-right _ _ tests)
@@ -360,18 +342,37 @@ module _ (w : List ℕ) (e : isRecord w ≡ true) (half : word w 7 < 4294967296)
       ∙ sym (from-words w 12 5 (omega (arith, record-long w e))))
       ∙ part-same w 12 5 (omega (arith, record-long w e))
 
-  -- Where a record differs from what the words say in its pending operation alone, its words are these with that operation's.
-  pub pending-alone : (p : Pending) → sets w 12 (pendingWords p) ≡ sets w 0 (wordsOf (withPending (recordIn w) p))
-  pending-alone p = in-order w w _ _ (withPending (recordIn w) p) (sym numbers-same) refl (sym (counts-same p))
+  counts-same : (p : Pending) → sets (sets w 12 (pendingWords p)) 17 (countsIn w) ≡ sets w 12 (pendingWords p)
+  counts-same p =
+      let v = sets w 12 (pendingWords p) in
+      ap (λ (l : List ℕ). sets v 17 (take 32 l)) (sym (behind-sets (pendingWords p) w 12 17 (omega (arith, pending-five p))))
+      ∙ part-same v 17 32 (omega (arith, record-long w e, length-sets w 12 (pendingWords p)))
 
-  pub encode-decode : sets w 0 (wordsOf (recordIn w)) ≡ w
-  encode-decode = sym (pending-alone (recordIn w .pending)) ∙ pending-same
+  -- the words have 32 bits, of which the lower half of the next version has to be one
+  module _ (half : word w 7 < 4294967296) where
+    numbers-same : sets w 0 (numberWords (recordIn w)) ≡ w
+    unfolding wordsFrom
+    numbers-same =
+        let reserve = both-left _ _ tests in
+        let low : (word w 7 + 4294967296 * word w 8) % 4294967296 ≡ word w 7 = omega (arith, half) in
+        let high : (word w 7 + 4294967296 * word w 8) / 4294967296 ≡ word w 8 = omega (arith, half) in
+        let edition : word w 10 ≡ 0 = zeros-left (word w 10) (word w 11) reserve in
+        let switch : word w 11 ≡ 0 = zeros-right (word w 10) (word w 11) reserve in
+        let same : numberWords (recordIn w) ≡ take 12 w = sym (from-words w 0 12 (omega (arith, record-long w e)) ∙ cc) in
+        ap (λ (l : List ℕ). sets w 0 l) same ∙ part-same w 0 12 (omega (arith, record-long w e))
 
-  -- and where it differs in the stores left alone, one word is another
-  pub left-alone : (j : ℕ) (p : Pending) → pendingWords p ≡ word w 12 ∷ word w 13 ∷ word w 14 ∷ word w 15 ∷ j ∷ []
-      → set w 16 j ≡ sets w 0 (wordsOf (withPending (recordIn w) p))
-  unfolding wordsFrom
-  left-alone j p f =
-      let same : sets w 12 (word w 12 ∷ word w 13 ∷ word w 14 ∷ word w 15 ∷ []) ≡ w =
-      ap (λ (l : List ℕ). sets w 12 l) (sym (from-words w 12 4 (omega (arith, record-long w e)))) ∙ part-same w 12 4 (omega (arith, record-long w e)) in
-      ap (λ (l : List ℕ). set l 16 j) (sym same) ∙ ap (λ (l : List ℕ). sets w 12 l) (sym f) ∙ pending-alone p
+    -- Where a record differs from what the words say in its pending operation alone, its words are these with that operation's.
+    pub pending-alone : (p : Pending) → sets w 12 (pendingWords p) ≡ sets w 0 (wordsOf (withPending (recordIn w) p))
+    pending-alone p = in-order w w _ _ (withPending (recordIn w) p) (sym numbers-same) refl (sym (counts-same p))
+
+    pub encode-decode : sets w 0 (wordsOf (recordIn w)) ≡ w
+    encode-decode = sym (pending-alone (recordIn w .pending)) ∙ pending-same
+
+    -- and where it differs in the stores left alone, one word is another
+    pub left-alone : (j : ℕ) (p : Pending) → pendingWords p ≡ word w 12 ∷ word w 13 ∷ word w 14 ∷ word w 15 ∷ j ∷ []
+        → set w 16 j ≡ sets w 0 (wordsOf (withPending (recordIn w) p))
+    unfolding wordsFrom
+    left-alone j p f =
+        let same : sets w 12 (word w 12 ∷ word w 13 ∷ word w 14 ∷ word w 15 ∷ []) ≡ w =
+        ap (λ (l : List ℕ). sets w 12 l) (sym (from-words w 12 4 (omega (arith, record-long w e)))) ∙ part-same w 12 4 (omega (arith, record-long w e)) in
+        ap (λ (l : List ℕ). set l 16 j) (sym same) ∙ ap (λ (l : List ℕ). sets w 12 l) (sym f) ∙ pending-alone p

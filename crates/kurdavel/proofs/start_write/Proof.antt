@@ -1,20 +1,27 @@
 -- `kurdavel::start_write` meets its contract.
 use borrow.Author.Needs.{needs}
+use Prim.Native.Nat.{_<_}
 use mathlib.Core.Path.{_≡_, sym, _∙_}
+use native.Mathlib.Omega.{arith}
 use borrow.Author.Tests.{not-false}
 use Rattle.segment.specs.Layout.{edition1}
 use Rattle.laws.specs.OperationsKept.{edition1-roomy}
 use Rattle.starting.specs.declared.Check.{Check}
 use Rattle.writing.specs.StartLaws.{write-ready, write-number, write-known}
+use Rattle.words.specs.Words.{word}
 use Rattle.kurdavel.specs.CrossingLaws.{fits-words}
 use Rattle.kurdavel.specs.StartOn.{tests, write-bad, front-fit, write-turned, write-begun}
 use Rattle.kurdavel.proofs.start_write.Statement.{statement}
 use Rattle.kurdavel.proofs.start_write.Tie as tie
 
+-- a word has 32 bits
+half : (k : tie.After-slice-known) → word (k .before .args .words .now) 7 < 4294967296
+half k = omega (arith, k .slice-known .given 7)
+
 returns : tie.Need-returns
 returns c =
     let a = c .before .before .before .before .before .before .before .before .args in
-    write-bad (record { tables = a .tables; expected = a .expected }) (a .words .now) (a .area .now) (a .index .now) (a .work .now) (a .key) (a .value .now) _ (c .before .fits2 .ensures) (c .if1 .taken)
+    write-bad (record { tables = a .tables; expected = a .expected }) (a .words .now) (a .area .now) (a .index .now) (a .work .now) (a .key) (a .value .now) (half (c .before .before .before .before .before .before .before)) _ (c .before .fits2 .ensures) (c .if1 .taken)
 
 front-in-requires : tie.Need-front-in-requires
 front-in-requires c κs = fits-words _ _ _ (sym (c .before .before .fits2 .ensures) ∙ not-false _ (c .before .if1 .left))
@@ -23,7 +30,7 @@ check-fitting-requires : tie.Need-check-fitting-requires
 check-fitting-requires c κs =
     let t = c .before .before in
     let a = t .before .before .before .before .before .before .before .before .args in
-    front-fit (record { tables = a .tables; expected = a .expected }) (a .words .now) (a .area .now) (a .index .now) (a .work .now) (a .key) (a .value .now) 0 (t .before .fits2 .ensures) (t .if1 .left) (c .front-in .ensures)
+    front-fit (record { tables = a .tables; expected = a .expected }) (a .words .now) (a .area .now) (a .index .now) (a .work .now) (a .key) (a .value .now) (half (t .before .before .before .before .before .before .before)) 0 (t .before .fits2 .ensures) (t .if1 .left) (c .front-in .ensures)
 
 -- the tests are passed
 passed : (e : tie.After-enum-told)
@@ -55,7 +62,7 @@ returns-2 c =
     let f = e .before .before .before in
     let t = f .before .before in
     let a = t .before .before .before .before .before .before .before .before .args in
-    write-turned (record { tables = a .tables; expected = a .expected }) (a .words .now) (a .area .now) (a .index .now) (a .work .now) (a .key) (a .value .now) _ (t .before .fits2 .ensures) (t .if1 .left) (f .front-in .ensures) _ (sym (e .cause .given .1) ∙ e .before .before .check-fitting .ensures) (c .number .ensures)
+    write-turned (record { tables = a .tables; expected = a .expected }) (a .words .now) (a .area .now) (a .index .now) (a .work .now) (a .key) (a .value .now) (half (t .before .before .before .before .before .before .before)) _ (t .before .fits2 .ensures) (t .if1 .left) (f .front-in .ensures) _ (sym (e .cause .given .1) ∙ e .before .before .check-fitting .ensures) (c .number .ensures)
 
 returns-3 : tie.Need-returns-3
 unfolding edition1
@@ -66,7 +73,7 @@ returns-3 c =
     let f = e .before .before .before in
     let t = f .before .before in
     let a = t .before .before .before .before .before .before .before .before .args in
-    write-begun (record { tables = a .tables; expected = a .expected }) (a .words .now) (a .area .now) (a .index .now) (a .work .now) (a .key) (a .value .now) _ (t .before .fits2 .ensures) (t .if1 .left) (f .front-in .ensures) (passed e) _ (o .object-kind .ensures) (l .lay-entry .ensures) (c .before .before .encode-pending .ensures)
+    write-begun (record { tables = a .tables; expected = a .expected }) (a .words .now) (a .area .now) (a .index .now) (a .work .now) (a .key) (a .value .now) (half (t .before .before .before .before .before .before .before)) _ (t .before .fits2 .ensures) (t .if1 .left) (f .front-in .ensures) (passed e) _ (o .object-kind .ensures) (l .lay-entry .ensures) (c .before .before .encode-pending .ensures)
 
 pub start-write-spec : {M : Type 1} → statement M
 start-write-spec =

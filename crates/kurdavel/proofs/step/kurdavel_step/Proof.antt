@@ -1,20 +1,24 @@
 -- `kurdavel::step::kurdavel_step` meets its contract.
 use borrow.Author.Needs.{needs}
-use Prim.Native.Nat.{_≤_}
+use Prim.Native.Nat.{_≤_, _<_}
 use mathlib.Core.Path.{_≡_, refl, sym, _∙_}
 use native.Mathlib.Omega.{arith}
 use lib.ListN.{length}
 use Rattle.segment.specs.Layout.{edition1}
 use Rattle.telling.specs.Told.{foundBy}
-use Rattle.words.specs.Words.{recordWords, decoded}
+use Rattle.words.specs.Words.{recordWords, word, decoded}
 use Rattle.kurdavel.specs.StepOn.{bad-found, front-long, front-lent, front-found, on-inside, on-left, on-ready, on-refused, on-stored, on-last}
 use Rattle.kurdavel.proofs.step.kurdavel_step.Statement.{statement}
 use Rattle.kurdavel.proofs.step.kurdavel_step.Tie as tie
 
+-- a word has 32 bits
+half : (k : tie.After-slice-known) → word (k .before .args .words .now) 7 < 4294967296
+half k = omega (arith, k .slice-known .given 7)
+
 returns : tie.Need-returns
 returns c =
     let a = c .before .before .before .before .before .before .before .args in
-    on-refused (a .words .now) (a .area .now) (a .work .now) (a .index .now) _ _ _ (bad-found (a .words .now) (a .area .now) (a .work .now) (length (a .index .now)) (c .before .fits2 .ensures) (c .if1 .taken)) refl
+    on-refused (a .words .now) (a .area .now) (a .work .now) (half (c .before .before .before .before .before .before)) (a .index .now) _ _ _ (bad-found (a .words .now) (a .area .now) (a .work .now) (length (a .index .now)) (c .before .fits2 .ensures) (c .if1 .taken)) refl
 
 found-in-requires : tie.Need-found-in-requires
 found-in-requires c κs =
@@ -71,14 +75,14 @@ returns-3 : tie.Need-returns-3
 returns-3 c =
     let p = c .before .before in
     let a = p .before .before .before .before .before .before .before .before .before .before .before .before .args in
-    on-refused (a .words .now) (a .area .now) (a .work .now) (a .index .now) _ _ _ (sym (found-is (p .before .before)) ∙ p .cause .given .1) (c .number .ensures)
+    on-refused (a .words .now) (a .area .now) (a .work .now) (half (p .before .before .before .before .before .before .before .before .before .before .before)) (a .index .now) _ _ _ (sym (found-is (p .before .before)) ∙ p .cause .given .1) (c .number .ensures)
 
 returns-4 : tie.Need-returns-4
 returns-4 c =
     let p = c .before .before .before in
     let a = p .before .before .before .before .before .before .before .before .before .before .before .before .args in
     let at = sym (found-is (p .before .before)) ∙ p .place .given .1 in
-    on-stored (a .words .now) (a .area .now) (a .work .now) (a .index .now) _ _ _ _ at (omega (arith, on-left (a .words .now) (a .area .now) (a .work .now) (a .index .now) 0 0 _ _ at, c .if2 .left)) refl
+    on-stored (a .words .now) (a .area .now) (a .work .now) (half (p .before .before .before .before .before .before .before .before .before .before .before)) (a .index .now) _ _ _ _ at (omega (arith, on-left (a .words .now) (a .area .now) (a .work .now) (a .index .now) 0 0 _ _ at, c .if2 .left)) refl
 
 pub kurdavel-step-spec : {M : Type 1} → statement M
 kurdavel-step-spec =
