@@ -6,12 +6,12 @@ ghost use Rattle.histories.specs.Book.{firstKey, secondKey, absent, fres
 
 // What a key has: its version, 0 where it is absent, and the byte that its value has eight times.
 pub struct Held {
-    pub version: u32,
+    pub version: u64,
     pub byte: u8,
 }
 
 pub struct Book {
-    pub next: u32,
+    pub next: u64,
     pub first: Held,
     pub second: Held,
 }
@@ -48,11 +48,11 @@ pub fn fresh() -> Book
     }
 }
 
-fn following(next: u32) -> u32
+fn following(next: u64) -> u64
     ensures { λ r. ⌜ r ≡ following next ⌝ }
 {
-    if next == 0xffff_ffff {
-        return next;
+    if 0xffff_ffff <= next {
+        return 0xffff_ffff;
     }
     next + 1
 }
@@ -93,7 +93,7 @@ pub fn finished(book: Book, l: Letter, place: u8) -> Book
     }
 }
 
-fn one_if(version: u32) -> usize
+fn one_if(version: u64) -> usize
     ensures { λ r. ⌜ r ≡ oneIf version ⌝ }
 {
     if version == 0 {

@@ -1,6 +1,7 @@
 // What is written of an item.
 use record::Record;
 use segment::Key;
+use segment::Version;
 
 pub fn text(name: &[u8]) {
     io::write_all(1, name);
@@ -12,10 +13,16 @@ pub fn field(name: &[u8], n: u32) {
     io::print_decimal(1, n as u64);
 }
 
+// A name and a version after it.
+pub fn version(name: &[u8], v: Version) {
+    io::write_all(1, name);
+    io::print_decimal(1, v.0);
+}
+
 pub fn record(rec: Record) {
     let number = rec.digest;
     let next = rec.next;
-    field(b": next ", next.0);
+    version(b": next ", next);
     field(b" digest ", number.0);
     field(b" head ", rec.head);
     field(b" end ", rec.end);

@@ -56,7 +56,7 @@ fn read_line(rec: Record, area: &[u8], index: &[u32], key: Key) {
     let answer = reading.answer;
     match answer {
         ReadAnswer::Present { version, kind } => {
-            lines::field(b" version ", version.0);
+            lines::version(b" version ", version);
             lines::field(b" kind ", kind as u32);
         }
         ReadAnswer::Refused(cause) => {

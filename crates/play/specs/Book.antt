@@ -1,5 +1,5 @@
 -- The book that `play` keeps, for four keys (01, "The book of a list"). Version 0 stands for a key that is not present.
-use Prim.Native.Nat.{ℕ, _+_, _<_, min}
+use Prim.Native.Nat.{ℕ, _+_, _≤_, _<_, min}
 use mathlib.Core.Path.{_≡_, _∙_, ap}
 use native.Mathlib.Omega.{arith}
 use mathlib.Core.List.{List, [], _∷_}
@@ -58,11 +58,11 @@ poweredOn area b = played (recovery edition1 4 256 16 (0 ∷ 1 ∷ 2 ∷ 3 ∷ [
 
 -- ---- their laws
 
-pub following-limit : (v : Version) → v .0 ≡ 4294967295 → v ≡ following v
-following-limit v e = let same : v .0 ≡ min (v .0 + 1) 4294967295 = omega (arith, e) in ap versioned same
+pub following-limit : (v : Version) → 4294967295 ≤ v .0 → versioned 4294967295 ≡ following v
+following-limit v h = let same : 4294967295 ≡ min (v .0 + 1) 4294967295 = omega (arith, h) in ap versioned same
 
-pub following-next : (v : Version) (n : ℕ) → v .0 < 4294967296 → (v .0 ≡ 4294967295 → ⊥) → n ≡ v .0 + 1 → versioned n ≡ following v
-following-next v n fits below e = let same : n ≡ min (v .0 + 1) 4294967295 = omega arith in ap versioned same
+pub following-next : (v : Version) → v .0 < 4294967295 → versioned (v .0 + 1) ≡ following v
+following-next v h = let same : v .0 + 1 ≡ min (v .0 + 1) 4294967295 = omega (arith, h) in ap versioned same
 
 pub powered : (area : List ℕ) (b : Book) (r : Recovery) (m : ℕ) → r ≡ recovery edition1 4 256 m (0 ∷ 1 ∷ 2 ∷ 3 ∷ []) area → m ≡ 16
     → played (r .rec) b ≡ poweredOn area b

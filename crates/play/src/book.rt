@@ -68,8 +68,8 @@ pub fn empty(next: Version) -> Book
 fn following(version: Version) -> Version
     ensures { λ r. ⌜ r ≡ following version ⌝ }
 {
-    if version.0 == VERSION_LIMIT {
-        return version;
+    if VERSION_LIMIT <= version.0 {
+        return Version(VERSION_LIMIT);
     }
     Version(version.0 + 1)
 }

@@ -1,10 +1,17 @@
 // What is written of an operation.
 use segment::Key;
+use segment::Version;
 
 // A name and a number after it.
 pub fn field(name: &[u8], n: u32) {
     io::write_all(1, name);
     io::print_decimal(1, n as u64);
+}
+
+// A name and a version after it.
+pub fn version(name: &[u8], v: Version) {
+    io::write_all(1, name);
+    io::print_decimal(1, v.0);
 }
 
 pub fn text(name: &[u8]) {
@@ -48,6 +55,13 @@ fn verdict(agrees: bool) {
 // A name, a number, and whether all was as it must be.
 pub fn compared(name: &[u8], n: u32, agrees: bool) {
     field(name, n);
+    text(b",");
+    verdict(agrees);
+}
+
+// The same of a version.
+pub fn version_compared(name: &[u8], v: Version, agrees: bool) {
+    version(name, v);
     text(b",");
     verdict(agrees);
 }

@@ -73,7 +73,7 @@ pub fn power_on(area: &[u8; 1024], index: &mut [u32; 16], book: Book) -> Played
     let rec = recovery.rec;
     let next = rec.next;
     let agrees = reads::agrees(rec, area, index, book);
-    lines::compared(b"recovery: next version ", next.0, agrees);
+    lines::version_compared(b"recovery: next version ", next, agrees);
     Played {
         rec,
         book,

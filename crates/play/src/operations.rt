@@ -192,7 +192,7 @@ fn accepted(
     let book = book_at(rest, due);
     let version = due.version;
     lines::field(b": ", stores);
-    lines::field(b" stores, version ", version.0);
+    lines::version(b" stores, version ", version);
     let rec = steps(rec, area, index, work, stores, rest, due);
     lines::bytes(b" ", work, count as usize);
     if due.fails == 0 {

@@ -62,7 +62,7 @@ key-at (k ∷ ks) (suc i) h =
 pub record LinesLeft (L : Layout) (log : List Placed) (ks : List Key) (out₀ : List ℕ) (at : ℕ) (out : List ℕ) (end i : ℕ) : Type 0 where
   pub long : length out ≡ length out₀
   pub inside : i ≤ length (ranks ks)
-  pub within : end ≤ at + 44 * i
+  pub within : end ≤ at + 54 * i
   pub finishes : (out′ : List ℕ) (r : ℕ) → Put out out′ end r (linesOf L log (drop i ks)) → Put out₀ out′ at r (linesOf L log ks)
 
 pub lines-start : (L : Layout) (log : List Placed) (ks : List Key) (out : List ℕ) (at : ℕ) → LinesLeft L log ks out at out at 0
@@ -98,7 +98,7 @@ length-ranks (k ∷ ks) = ap suc (length-ranks ks)
 
 module _ (L : Layout) (log : List Placed) (ks : List Key) (xs : List ℕ) (same : xs ≡ ranks ks) (out₀ : List ℕ) (at : ℕ) (out : List ℕ) (end i : ℕ)
     (left : LinesLeft L log ks out₀ at out end i) where
-  pub lines-end : length xs ≤ i → PutWithin out₀ out at end (linesOf L log ks) (44 * length xs)
+  pub lines-end : length xs ≤ i → PutWithin out₀ out at end (linesOf L log ks) (54 * length xs)
   unfolding linesOf
   lines-end h =
       record {
@@ -110,7 +110,7 @@ module _ (L : Layout) (log : List Placed) (ks : List Key) (xs : List ℕ) (same 
       none-left = drop-of-length-le ks {i = i} (omega (arith, ap length same, length-ranks ks))
 
   pub lines-turn : (typed : AllTyped ks) → i < length xs → (key : Key) → key ≡ ranked (getD xs i 0) → (out₁ : List ℕ) (e : ℕ)
-      → length out₁ ≡ length out → PutWithin out out₁ end e (lineOf L key (present log key)) 44 → LinesLeft L log ks out₀ at out₁ e (i + 1)
+      → length out₁ ≡ length out → PutWithin out out₁ end e (lineOf L key (present log key)) 54 → LinesLeft L log ks out₀ at out₁ e (i + 1)
   lines-turn typed h key its out₁ e long p =
       record {
         long = long ∙ left .long;

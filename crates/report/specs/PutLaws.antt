@@ -12,13 +12,17 @@ pub record PutWithin (out out′ : List ℕ) (at end : ℕ) (text : List ℕ) (r
   pub put : Put out out′ at end text
   pub within : end ≤ at + room
 
--- a number of 32 bits has at most ten digits
+-- a number of 32 bits has at most ten digits, one of 64 at most twenty
 pub number-room : (n : ℕ) → n < 2 ^ 32 → length (digits n) ≤ 10
 number-room n h = digits-length 9 n (omega arith)
 
-pub field-within : {out out₁ out₂ : List ℕ} {at e₁ e₂ n : ℕ} {word : List ℕ} → n < 2 ^ 32 → Put out out₁ at e₁ (digits n) → Put out₁ out₂ e₁ e₂ word
-    → PutWithin out out₂ at e₂ (field n word) (10 + length word)
-field-within {n = n} h p q = record { put = put-then p q; within = omega (arith, number-room n h, p .end, q .end) }
+pub version-room : (n : ℕ) → n < 2 ^ 64 → length (digits n) ≤ 20
+version-room n h = digits-length 19 n (omega arith)
+
+-- a number whose digits take no more than so many bytes, and a word
+pub field-within : {out out₁ out₂ : List ℕ} {at e₁ e₂ room : ℕ} {word : List ℕ} (n : ℕ) → length (digits n) ≤ room → Put out out₁ at e₁ (digits n)
+    → Put out₁ out₂ e₁ e₂ word → PutWithin out out₂ at e₂ (field n word) (room + length word)
+field-within n h p q = record { put = put-then p q; within = omega (arith, h, p .end, q .end) }
 
 -- one text after another
 pub within-then : {out out₁ out₂ : List ℕ} {at e₁ e₂ a b : ℕ} {s t : List ℕ} → PutWithin out out₁ at e₁ s a → PutWithin out₁ out₂ e₁ e₂ t b

@@ -77,10 +77,10 @@ dumpText input =
 
 -- ---- what is left in a caller's buffer
 
--- No text is longer: a number has at most ten digits, so a head line is at most 50 bytes long, and the line of a key at most
--- 44; there are fewer than M keys.
+-- No text is longer: a version has at most twenty digits and another number ten, so a head line is at most 60 bytes long, and the
+-- line of a key at most 54; there are fewer than M keys.
 abbrev pub textRoom : ℕ
-textRoom = 64 + 44 * cellsUsed
+textRoom = 64 + 54 * cellsUsed
 
 -- In a buffer that may be too short nothing is put.
 unfoldable pub textWithin : ℕ → List ℕ → List ℕ

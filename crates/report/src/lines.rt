@@ -17,7 +17,17 @@ fn put_field(out: &mut [u8], at: usize, n: u32, word: &[u8]) -> usize
     ensures { λ r.
         ⌜ PutWithin (now (out .entry)) (now (out .exit)) at r (field n (now (word .entry))) (10 + length (now (word .entry))) ⌝ }
 {
-    let end = put_number(out, at, n);
+    let end = put_number(out, at, n as u64);
+    put(out, end, word)
+}
+
+// A version, and a word behind it.
+fn put_version(out: &mut [u8], at: usize, version: Version, word: &[u8]) -> usize
+    requires { ⌜ at + 20 + length (now word) ≤ length (now out) ⌝ }
+    ensures { λ r.
+        ⌜ PutWithin (now (out .entry)) (now (out .exit)) at r (field (version .0) (now (word .entry))) (20 + length (now (word .entry))) ⌝ }
+{
+    let end = put_number(out, at, version.0);
     put(out, end, word)
 }
 
@@ -36,18 +46,18 @@ pub fn put_head(out: &mut [u8], next: Version, digest: DigestNumber, keys: u32) 
     ensures { λ r. ⌜ PutWithin (now (out .entry)) (now (out .exit)) 0 r (headLine next digest keys) 64 ⌝ }
 {
     let at = put(out, 0, b"next ");
-    let at = put_field(out, at, next.0, b" digest ");
+    let at = put_version(out, at, next, b" digest ");
     let at = put_field(out, at, digest.0, b" keys ");
     put_field(out, at, keys, b"\n")
 }
 
 // Table, key, version and kind.
 pub fn put_key(out: &mut [u8], at: usize, key: Key, version: Version, kind: u8) -> usize
-    requires { ⌜ at + 44 ≤ length (now out) ⌝ }
-    ensures { λ r. ⌜ PutWithin (now (out .entry)) (now (out .exit)) at r (keyLine key version kind) 44 ⌝ }
+    requires { ⌜ at + 54 ≤ length (now out) ⌝ }
+    ensures { λ r. ⌜ PutWithin (now (out .entry)) (now (out .exit)) at r (keyLine key version kind) 54 ⌝ }
 {
     let at = put_field(out, at, key.table as u32, b" ");
     let at = put_field(out, at, key.key, b" ");
-    let at = put_field(out, at, version.0, b" ");
+    let at = put_version(out, at, version, b" ");
     put_field(out, at, kind as u32, b"\n")
 }

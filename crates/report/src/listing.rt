@@ -21,10 +21,10 @@ ghost use Rattle.report.specs.Report.{lineOf, presentLines, listingText,
 
 // The line of a key; no line for a key that is not present.
 fn put_line(rec: Record, area: &[u8], index: &[u32], key: Key, out: &mut [u8], at: usize) -> usize
-    requires { ⌜ RecoveredArea edition1 (now area) rec (now index) × (at + 44 ≤ length (now out)) ⌝ }
+    requires { ⌜ RecoveredArea edition1 (now area) rec (now index) × (at + 54 ≤ length (now out)) ⌝ }
     ensures { λ r.
         ⌜ PutWithin (now (out .entry)) (now (out .exit)) at r
-        (lineOf edition1 key (present (logNow edition1 (now (area .entry)) rec) key)) 44 ⌝ }
+        (lineOf edition1 key (present (logNow edition1 (now (area .entry)) rec) key)) 54 ⌝ }
 {
     let table = key.table;
     let own = Tables {
@@ -55,10 +55,10 @@ fn put_lines(
 ) -> usize
     requires { ⌜ RecoveredArea edition1 (now area) rec (now index)
         × (now ranks ≡ presentRanks edition1 (now area) rec)
-        × (at + 44 * length (now ranks) ≤ length (now out)) ⌝ }
+        × (at + 54 * length (now ranks) ≤ length (now out)) ⌝ }
     ensures { λ r.
         ⌜ PutWithin (now (out .entry)) (now (out .exit)) at r (presentLines edition1 (now (area .entry)) rec)
-        (44 * length (now (ranks .entry))) ⌝ }
+        (54 * length (now (ranks .entry))) ⌝ }
 {
     let mut end = at;
     let mut i = 0;

@@ -63,7 +63,7 @@ fn key_as(rec: Record, area: &[u8], index: &[u32], key: Key, held: Held) -> bool
 }
 
 // The next version: the record's, or from log entries alone one more than their highest.
-fn next_of(rec: Record, area: &[u8], faulty: bool) -> u32
+fn next_of(rec: Record, area: &[u8], faulty: bool) -> u64
     requires { ⌜ (recovered edition1 4 256 16 (now area) ≡ some rec) × Bytes (now area) ⌝ }
     ensures { λ r. ⌜ r ≡ nextOf faulty (logNow edition1 (now (area .entry)) rec) rec ⌝ }
 {
@@ -73,8 +73,8 @@ fn next_of(rec: Record, area: &[u8], faulty: bool) -> u32
     }
     let passed = survey(4, 256, area, rec.map);
     let highest = passed.highest;
-    if highest.0 == 0xffff_ffff {
-        return highest.0;
+    if 0xffff_ffff <= highest.0 {
+        return 0xffff_ffff;
     }
     highest.0 + 1
 }

@@ -12,6 +12,6 @@ nine-and-ten : (digits 9 ≡ ascii "9") × (digits 10 ≡ ascii "10")
 unfolding digitsIn pick
 nine-and-ten = (refl, refl)
 
-highest : digits 4294967295 ≡ ascii "4294967295"
+highest : digits 18446744073709551615 ≡ ascii "18446744073709551615"
 unfolding digitsIn pick
 highest = refl

@@ -10,14 +10,14 @@ use Rattle.text.specs.Digits.{digit, digits, digits-small, digits-more}
 
 -- The digits of n stand from an offset on to the end of the bytes.
 pub record Spelled (n : ℕ) (bytes : List ℕ) (from : ℕ) : Type 0 where
-  pub long : length bytes ≡ 10
-  pub inside : from < 10
+  pub long : length bytes ≡ 20
+  pub inside : from < 20
   pub stands : drop from bytes ≡ digits n
 
 -- On the way: the digits of `rest` are still to come, and the last of them goes to `from`.
 pub record PartSpelled (n : ℕ) (bytes : List ℕ) (from rest : ℕ) : Type 0 where
-  pub long : length bytes ≡ 10
-  pub inside : from < 10
+  pub long : length bytes ≡ 20
+  pub inside : from < 20
   pub room : rest < 10 ^ suc from
   pub stands : digits n ≡ digits rest ++ drop (suc from) bytes
 
@@ -27,13 +27,13 @@ drop-set bytes from d h =
     ∙ ap (λ (x : ℕ). x ∷ drop (suc from) (set bytes from d)) (getD-set-same bytes from d 0 h)
     ∙ ap (λ (xs : List ℕ). d ∷ xs) (drop-set-lt (suc from) bytes from d (omega arith))
 
-pub spelling-starts : (n : ℕ) (bytes : List ℕ) → n < 10 ^ 10 → length bytes ≡ 10 → PartSpelled n bytes 9 n
+pub spelling-starts : (n : ℕ) (bytes : List ℕ) → n < 10 ^ 20 → length bytes ≡ 20 → PartSpelled n bytes 19 n
 spelling-starts n bytes h long =
     record {
       long = long;
       inside = omega arith;
       room = h;
-      stands = sym (ap (λ (xs : List ℕ). digits n ++ xs) (drop-of-length-le bytes {i = 10} (omega arith)) ∙ append-nil (digits n));
+      stands = sym (ap (λ (xs : List ℕ). digits n ++ xs) (drop-of-length-le bytes {i = 20} (omega arith)) ∙ append-nil (digits n));
     }
 
 module _ (n : ℕ) (bytes : List ℕ) (rest : ℕ) (large : 10 ≤ rest) where
@@ -67,6 +67,6 @@ spelling-ends n bytes from rest s h =
     }
 
 -- the part from there on is the digits
-pub spelled-part : {n : ℕ} {bytes : List ℕ} {from : ℕ} → Spelled n bytes from → take (10 - from) (drop from bytes) ≡ digits n
+pub spelled-part : {n : ℕ} {bytes : List ℕ} {from : ℕ} → Spelled n bytes from → take (20 - from) (drop from bytes) ≡ digits n
 spelled-part {n} {bytes} {from} s =
-    take-all (10 - from) (drop from bytes) (omega (arith, length-drop from bytes, s .long)) ∙ s .stands
+    take-all (20 - from) (drop from bytes) (omega (arith, length-drop from bytes, s .long)) ∙ s .stands

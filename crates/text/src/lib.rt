@@ -8,16 +8,16 @@ ghost use Rattle.text.specs.Spelled.{Spelled};
 
 // The digits of a number stand in `bytes` from `from` on.
 struct Spelling {
-    bytes: [u8; 10],
+    bytes: [u8; 20],
     from: usize,
 }
 
-// A u32 has at most ten digits; the last one is found first.
-fn spell(n: u32) -> Spelling
+// A u64 has at most twenty digits; the last one is found first.
+fn spell(n: u64) -> Spelling
     ensures { λ r. ⌜ Spelled n (r .bytes) (r .from) ⌝ }
 {
-    let mut bytes = [0; 10];
-    let mut from: usize = 9;
+    let mut bytes = [0; 20];
+    let mut from: usize = 19;
     let mut rest = n;
     while 10 <= rest {
         bytes[from] = b'0' + (rest % 10) as u8;
@@ -38,7 +38,7 @@ pub fn put(buffer: &mut [u8], at: usize, bytes: &[u8]) -> usize
 }
 
 // The decimal digits of a number.
-pub fn put_number(buffer: &mut [u8], at: usize, n: u32) -> usize
+pub fn put_number(buffer: &mut [u8], at: usize, n: u64) -> usize
     requires { ⌜ at + length (digits n) ≤ length (now buffer) ⌝ }
     ensures { λ r. ⌜ Put (now (buffer .entry)) (now (buffer .exit)) at r (digits n) ⌝ }
 {

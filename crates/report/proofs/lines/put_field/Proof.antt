@@ -19,7 +19,7 @@ same-length : tie.Need-same-length
 same-length c = search needs
 
 returns : tie.Need-returns
-returns c = field-within (omega arith) (c .before .before .before .before .before .before .put-number .ensures) (c .before .before .put .ensures)
+returns c = field-within _ (number-room _ (omega arith)) (c .before .before .before .before .before .before .put-number .ensures) (c .before .before .put .ensures)
 
 pub put-field-spec : {M : Type 1} → statement M
 put-field-spec = tie.close (tie.spec put-number-requires put-requires same-length returns)

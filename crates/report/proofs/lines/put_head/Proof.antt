@@ -11,6 +11,12 @@ slice-aggregate-put c = search needs
 put-requires : tie.Need-put-requires
 put-requires c κs = search needs
 
+slice-aggregate-put-version : tie.Need-slice-aggregate-put-version
+slice-aggregate-put-version c = search needs
+
+put-version-requires : tie.Need-put-version-requires
+put-version-requires c κs = search needs
+
 slice-aggregate-put-field : tie.Need-slice-aggregate-put-field
 slice-aggregate-put-field c = search needs
 
@@ -23,12 +29,6 @@ slice-aggregate-put-field-2 c = search needs
 put-field-requires-2 : tie.Need-put-field-requires-2
 put-field-requires-2 c κs = search needs
 
-slice-aggregate-put-field-3 : tie.Need-slice-aggregate-put-field-3
-slice-aggregate-put-field-3 c = search needs
-
-put-field-requires-3 : tie.Need-put-field-requires-3
-put-field-requires-3 c κs = search needs
-
 same-length : tie.Need-same-length
 same-length c = search needs
 
@@ -36,8 +36,8 @@ returns : tie.Need-returns
 returns c =
     within-more (omega arith)
     (within-then
-    (within-then (within-then (within-put (c .before .before .before .before .before .before .before .before .before .before .before .before .before .before .before .before .before .put .ensures)) (c .before .before .before .before .before .before .before .before .before .before .before .before .put-field .ensures)) (c .before .before .before .before .before .before .before .put-field2 .ensures))
-    (c .before .before .put-field3 .ensures))
+    (within-then (within-then (within-put (c .before .before .before .before .before .before .before .before .before .before .before .before .before .before .before .before .before .put .ensures)) (c .before .before .before .before .before .before .before .before .before .before .before .before .put-version .ensures)) (c .before .before .before .before .before .before .before .put-field .ensures))
+    (c .before .before .put-field2 .ensures))
 
 pub put-head-spec : {M : Type 1} → statement M
 put-head-spec =
@@ -45,11 +45,11 @@ put-head-spec =
     (tie.spec
     slice-aggregate-put
     put-requires
+    slice-aggregate-put-version
+    put-version-requires
     slice-aggregate-put-field
     put-field-requires
     slice-aggregate-put-field-2
     put-field-requires-2
-    slice-aggregate-put-field-3
-    put-field-requires-3
     same-length
     returns)
