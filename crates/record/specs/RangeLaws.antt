@@ -220,10 +220,18 @@ pub in-parts : (L : Layout) (r : Record) → inRange L r
 unfolding inRange limitsGood countersGood
 in-parts L r = simp both-assoc
 
+-- the test of all numbers but those of present bytes and of the pending operation
+unfoldable pub numbersGood : Layout → Record → Bool
+numbersGood L r = both (limitsGood r) (both (mapGood (r .slots) (r .head) (r .map)) (countersGood L r))
+
 -- the test of all numbers but those of present bytes, which no other looks at
 unfoldable pub frontGood : Layout → Record → Bool
 frontGood L r =
     both (limitsGood r) (both (mapGood (r .slots) (r .head) (r .map)) (both (countersGood L r) (leftGood (r .size) (r .pending))))
+
+pub front-numbers : (L : Layout) (r : Record) → frontGood L r ≡ both (numbersGood L r) (leftGood (r .size) (r .pending))
+unfolding frontGood numbersGood
+front-numbers L r = simp both-assoc
 
 pub front-bare : (L : Layout) (r : Record) → frontGood L (bare r) ≡ frontGood L r
 unfolding frontGood limitsGood countersGood
@@ -289,6 +297,10 @@ limits r e =
 pub front-limits : (L : Layout) (r : Record) → frontGood L r ≡ true → Limits r
 unfolding frontGood
 front-limits L r e = limits r (both-left _ _ e)
+
+pub numbers-limits : (L : Layout) (r : Record) → numbersGood L r ≡ true → Limits r
+unfolding numbersGood
+numbers-limits L r e = limits r (both-left _ _ e)
 
 pub range-limits : (L : Layout) (r : Record) → inRange L r ≡ true → Limits r
 range-limits L r e = limits r (both-left _ _ (sym (in-parts L r) ∙ e))

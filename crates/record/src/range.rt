@@ -8,13 +8,13 @@ use segment::layout::VERSION_LIMIT;
 ghost use Prim.Native.Nat.{_-_, _≤_};
 ghost use mathlib.Core.Path.{_≡_};
 ghost use Rattle.record.specs.Range.{between, slotsGood, sizeGood, cellsGood, mapGood, leftGood, nextGood, countsGood, inRange, fitsLent, lengthsOwn};
-ghost use Rattle.record.specs.RangeLaws.{limitsGood, countersGood, frontGood};
+ghost use Rattle.record.specs.RangeLaws.{limitsGood, countersGood, numbersGood, frontGood};
 ghost use lib.Dec.{leb};
 ghost use Rattle.segment.specs.Choice.{both};
 ghost use Rattle.segment.specs.Layout.{edition1, digestSize};
 
 // Whether x is from low to high.
-fn between(low: usize, high: usize, x: usize) -> bool
+pub fn between(low: usize, high: usize, x: usize) -> bool
     ensures { λ r. ⌜ r ≡ between low high x ⌝ }
 {
     low <= x && x <= high
@@ -129,18 +129,22 @@ fn bytes_good(rec: Record) -> bool
     counts_good(&counts, rec.size - DIGEST_SIZE as u32)
 }
 
-// Whether every number of the record is in range, those of present bytes left aside.
-pub fn front_good(rec: Record) -> bool
-    ensures { λ r. ⌜ r ≡ frontGood edition1 rec ⌝ }
+// Whether every number of the record is in range, those of present bytes and of the pending operation left aside.
+pub fn numbers_good(rec: Record) -> bool
+    ensures { λ r. ⌜ r ≡ numbersGood edition1 rec ⌝ }
 {
     if !limits_good(rec) {
         return false;
     }
-    if !map_good(rec.slots, rec.head, rec.map) {
-        return false;
-    }
+    map_good(rec.slots, rec.head, rec.map) && counters_good(rec)
+}
+
+// Whether every number of the record is in range, those of present bytes left aside.
+pub fn front_good(rec: Record) -> bool
+    ensures { λ r. ⌜ r ≡ frontGood edition1 rec ⌝ }
+{
     let pending = rec.pending;
-    counters_good(rec) && left_good(rec.size, pending)
+    numbers_good(rec) && left_good(rec.size, pending)
 }
 
 // Whether every number of the record is in range.

@@ -10,6 +10,7 @@ use lib.Dec.{eqb, ltb, leb}
 use lib.ListN.{length, getD}
 use borrow.Author.Tests.{lt-ltb, le-ltb, le-leb, lt-leb, not-true, not-false, eq-eqb, ne-eqb, ltb-true, leb-true}
 use Rattle.segment.specs.Choice.{pick, pick-true, pick-false, both, both-left, both-right, both-true, both-false-left, both-false-right}
+use Rattle.record.specs.Answers.{storesLeft}
 use Rattle.record.specs.declared.Pending.{Pending}
 use Rattle.record.specs.declared.Pending.the-variants.{Idle, Append, NewHead, Clean, Forget}
 use Rattle.record.specs.declared.Record.{Record}
@@ -170,6 +171,18 @@ first-most (Forget i v n k) head end = omega arith
 
 pub target-first : (p : Pending) (head end : ℕ) {t : Target} → t ≡ targetOf p head end → t .first ≤ 1
 target-first p head end e = subst⁻¹ (λ (t : Target). t .first ≤ 1) e (first-most p head end)
+
+-- and it has the operation's stores left
+left-same : (p : Pending) (head end : ℕ) → targetOf p head end .left ≡ storesLeft p
+unfolding targetOf
+left-same Idle head end = refl
+left-same (Append n k) head end = refl
+left-same (NewHead i n k) head end = refl
+left-same (Clean i v n k) head end = refl
+left-same (Forget i v n k) head end = refl
+
+pub target-left : (p : Pending) (head end : ℕ) {t : Target} → t ≡ targetOf p head end → t .left ≡ storesLeft p
+target-left p head end e = ap (λ (t : Target). t .left) e ∙ left-same p head end
 
 module _ (areaLength : ℕ) (work : List ℕ) (r : Record) where
   abbrev storeAt : Target → NextStore

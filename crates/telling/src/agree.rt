@@ -1,5 +1,8 @@
-// Whether the pending operation agrees with the record, as far as these two tell. A step that goes on without these tests would
-// find out only behind its store.
+// Whether the pending operation agrees with the record, as far as these two tell, and where its bytes go. A step that goes on without
+// these tests would find out only behind its store.
+use crate::Aim;
+use crate::Target;
+use crate::next::head_target;
 use record::Pending;
 use record::Record;
 use segment::layout::DIGEST_SIZE;
@@ -11,8 +14,10 @@ use slot_map::is_within;
 ghost use Prim.Native.Nat.{_≤_};
 ghost use mathlib.Core.Path.{_≡_};
 ghost use lib.Dec.{ltb};
-ghost use Rattle.segment.specs.Layout.{edition1, versionLimit};
+ghost use Rattle.segment.specs.Choice.{both};
+ghost use Rattle.segment.specs.Layout.{edition1, digestSize, versionLimit};
 ghost use Rattle.telling.specs.Agree.{entryAgrees, slotAgrees, victimsAgree, forgetAgrees, agreesWith};
+ghost use Rattle.telling.specs.Next.{targetOf};
 
 // Whether there is a version left.
 fn version_left(rec: Record) -> bool
@@ -71,31 +76,80 @@ fn forget_agrees(rec: Record, victims: u32, count: usize) -> bool
     victims_agree(rec, victims, count)
 }
 
-// Whether the pending operation agrees with the record, by its kind.
-pub fn agrees(rec: Record) -> bool
+// Whether a new head with one entry agrees.
+fn head_agrees(rec: Record, slot: u32, count: u32) -> bool
     requires { ⌜ rec .slots ≤ 32 ⌝ }
-    ensures { λ r. ⌜ r ≡ agreesWith edition1 rec (rec .pending) ⌝ }
+    ensures { λ r. ⌜ r ≡ both (slotAgrees rec slot) (entryAgrees edition1 rec (digestSize edition1) count) ⌝ }
+{
+    slot_agrees(rec, slot) && entry_agrees(rec, DIGEST_SIZE, count as usize)
+}
+
+// Whether a cleaning agrees.
+fn clean_agrees(rec: Record, slot: u32, victims: u32, count: u32) -> bool
+    requires { ⌜ rec .slots ≤ 32 ⌝ }
+    ensures { λ r. ⌜ r ≡ both (slotAgrees rec slot) (victimsAgree edition1 rec victims count) ⌝ }
+{
+    slot_agrees(rec, slot) && victims_agree(rec, victims, count as usize)
+}
+
+// Whether a delete that cleans agrees.
+fn delete_agrees(rec: Record, slot: u32, victims: u32, count: u32) -> bool
+    requires { ⌜ rec .slots ≤ 32 ⌝ }
+    ensures { λ r. ⌜ r ≡ both (slotAgrees rec slot) (forgetAgrees edition1 rec victims count) ⌝ }
+{
+    slot_agrees(rec, slot) && forget_agrees(rec, victims, count as usize)
+}
+
+// Whether the pending operation agrees with the record, and where its bytes go: an append commits at the head's end, a new head at
+// its start after a store of 0 there. Both by its kind, which is told apart once.
+pub fn aim_of(rec: Record) -> Aim
+    requires { ⌜ rec .slots ≤ 32 ⌝ }
+    ensures { λ r.
+        ⌜ r ≡ record { agreed = agreesWith edition1 rec (rec .pending); to = targetOf (rec .pending) (rec .head) (rec .end) } ⌝ }
 {
     let pending = rec.pending;
     match pending {
-        Pending::Idle => false,
-        Pending::Append { length, left: _ } => entry_agrees(rec, 0, length as usize),
-        Pending::NewHead {
-            slot,
-            length,
-            left: _,
-        } => slot_agrees(rec, slot) && entry_agrees(rec, DIGEST_SIZE, length as usize),
+        Pending::Idle => Aim {
+            agreed: false,
+            to: Target {
+                slot: 0,
+                offset: 0,
+                count: 0,
+                first: 0,
+                left: 0,
+            },
+        },
+        Pending::Append { length, left } => Aim {
+            agreed: entry_agrees(rec, 0, length as usize),
+            to: Target {
+                slot: rec.head,
+                offset: rec.end,
+                count: length,
+                first: 0,
+                left,
+            },
+        },
+        Pending::NewHead { slot, length, left } => Aim {
+            agreed: head_agrees(rec, slot, length),
+            to: head_target(slot, length, left),
+        },
         Pending::Clean {
             slot,
             victims,
             length,
-            left: _,
-        } => slot_agrees(rec, slot) && victims_agree(rec, victims, length as usize),
+            left,
+        } => Aim {
+            agreed: clean_agrees(rec, slot, victims, length),
+            to: head_target(slot, length, left),
+        },
         Pending::Forget {
             slot,
             victims,
             length,
-            left: _,
-        } => slot_agrees(rec, slot) && forget_agrees(rec, victims, length as usize),
+            left,
+        } => Aim {
+            agreed: delete_agrees(rec, slot, victims, length),
+            to: head_target(slot, length, left),
+        },
     }
 }

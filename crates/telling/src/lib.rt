@@ -18,3 +18,9 @@ pub struct Target {
     pub first: u32,
     pub left: u32,
 }
+
+// Whether a pending operation agrees with its record, and where its bytes go.
+pub struct Aim {
+    pub agreed: bool,
+    pub to: Target,
+}

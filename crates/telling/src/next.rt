@@ -1,8 +1,6 @@
 // Place and byte of the next store (01, "Operations, store by store"). Nothing here writes.
 use crate::NextStore;
 use crate::Target;
-use record::Pending;
-use record::Record;
 use starting::stores::commit_stores;
 ghost use Prim.Native.Nat.{_+_, _*_, _≤_, _<_};
 ghost use mathlib.Core.Path.{_≡_};
@@ -111,7 +109,7 @@ fn slot_next(
 }
 
 // Where the bytes of a new head go.
-fn head_target(slot: u32, length: u32, left: u32) -> Target
+pub fn head_target(slot: u32, length: u32, left: u32) -> Target
     ensures { λ r. ⌜ r ≡ headTarget slot length left ⌝ }
 {
     Target {
@@ -123,51 +121,15 @@ fn head_target(slot: u32, length: u32, left: u32) -> Target
     }
 }
 
-// Where the bytes of a pending operation go: an append commits at the head's end, a new head at its start after a store of 0 there.
-fn target_of(pending: Pending, head: u32, end: u32) -> Target
-    ensures { λ r. ⌜ r ≡ targetOf pending head end ⌝ }
+// Where the next store goes and what it stores, of an operation whose bytes go to `to`.
+pub fn next_store(size: u32, to: Target, area: &[u8], work: &[u8]) -> NextStore
+    requires { ⌜ to .first ≤ 1 ⌝ }
+    ensures { λ r. ⌜ r ≡ slotNext (length (now (area .entry))) (now (work .entry)) size (to .slot) (to .offset) (to .count) (to .first) (to .left) ⌝ }
 {
-    match pending {
-        Pending::Idle => Target {
-            slot: 0,
-            offset: 0,
-            count: 0,
-            first: 0,
-            left: 0,
-        },
-        Pending::Append { length, left } => Target {
-            slot: head,
-            offset: end,
-            count: length,
-            first: 0,
-            left,
-        },
-        Pending::NewHead { slot, length, left } => head_target(slot, length, left),
-        Pending::Clean {
-            slot,
-            victims: _,
-            length,
-            left,
-        } => head_target(slot, length, left),
-        Pending::Forget {
-            slot,
-            victims: _,
-            length,
-            left,
-        } => head_target(slot, length, left),
-    }
-}
-
-// Where the next store goes and what it stores.
-pub fn next_store(rec: Record, area: &[u8], work: &[u8]) -> NextStore
-    ensures { λ r. ⌜ r ≡ nextStore (length (now (area .entry))) (now (work .entry)) rec ⌝ }
-{
-    let pending = rec.pending;
-    let to = target_of(pending, rec.head, rec.end);
     slot_next(
         area,
         work,
-        rec.size as usize,
+        size as usize,
         to.slot as usize,
         to.offset as usize,
         to.count as usize,

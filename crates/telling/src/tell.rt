@@ -1,13 +1,12 @@
 // The next store told (for a medium that is no memory): what a step would store, and where. Nothing here writes.
 use crate::NextStore;
-use crate::agree::agrees;
+use crate::agree::aim_of;
 use crate::next::next_store;
 use record::Foretold;
 use record::Record;
 use record::Refusal;
 use record::TellAnswer;
 use record::range::fits_lent;
-use record::stores_left;
 ghost use mathlib.Core.Path.{_≡_};
 ghost use mathlib.Core.Bool.{true};
 ghost use lib.ListN.{length};
@@ -25,14 +24,15 @@ pub fn store_of(rec: Record, area: &[u8], work: &[u8]) -> TellAnswer
     if work.len() < rec.size as usize {
         return TellAnswer::Refused(Refusal::WorkShort);
     }
-    let pending = rec.pending;
-    if stores_left(pending) == 0 {
+    let aim = aim_of(rec);
+    let to = aim.to;
+    if to.left == 0 {
         return TellAnswer::Refused(Refusal::NonePending);
     }
-    if !agrees(rec) {
+    if !aim.agreed {
         return TellAnswer::Refused(Refusal::BadRecord);
     }
-    match next_store(rec, area, work) {
+    match next_store(rec.size, to, area, work) {
         NextStore::Bad => TellAnswer::Refused(Refusal::BadRecord),
         NextStore::At { place, byte } => TellAnswer::At {
             place: place as u32,

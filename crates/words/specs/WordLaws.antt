@@ -12,8 +12,8 @@ use Rattle.segment.specs.Choice.{pick, pick-true, pick-false, both, both-left, 
 use Rattle.segment.specs.Layout.{Layout, digestSize}
 use Rattle.segment.specs.declared.Version.{Version}
 use Rattle.record.specs.Answers.{blank, bare, withPending}
-use Rattle.record.specs.Range.{countsGood, lengthsOwn, fitsLent}
-use Rattle.record.specs.RangeLaws.{frontGood, fits-front, blank-unfit, stop, go}
+use Rattle.record.specs.Range.{between, leftGood, countsGood, lengthsOwn, fitsLent}
+use Rattle.record.specs.RangeLaws.{numbersGood, frontGood, front-numbers, fits-front, blank-unfit, stop, go}
 use Rattle.record.specs.declared.Pending.{Pending}
 use Rattle.record.specs.declared.Pending.the-variants.{Idle, Append, NewHead, Clean, Forget}
 use Rattle.record.specs.declared.Record.{Record}
@@ -128,6 +128,22 @@ module _ (t s v n k : ℕ) where
   unfolding pendingOf pick
   of-rest a b c d = rw (ne-eqb t 1 a, ne-eqb t 2 b, ne-eqb t 3 c, ne-eqb t 4 d)
 
+-- the stores left by the tag, as the code tests them
+unfoldable pub leftFits : ℕ → ℕ → ℕ → Bool
+leftFits S t k = pick (eqb t 0) true (between 1 (S + 1) k)
+
+left-tag : (S t s v n k : ℕ) → pendingFits t s v n k ≡ true → leftGood S (pendingOf t s v n k) ≡ leftFits S t k
+unfolding leftFits leftGood pick
+left-tag S zero s v n k f = ap (leftGood S) (of-rest 0 s v n k (λ e. omega arith) (λ e. omega arith) (λ e. omega arith) (λ e. omega arith))
+left-tag S (suc zero) s v n k f = ap (leftGood S) (of-append 1 s v n k refl)
+left-tag S (suc (suc zero)) s v n k f = ap (leftGood S) (of-head 2 s v n k refl)
+left-tag S (suc (suc (suc zero))) s v n k f = ap (leftGood S) (of-clean 3 s v n k refl)
+left-tag S (suc (suc (suc (suc zero)))) s v n k f = ap (leftGood S) (of-forget 4 s v n k refl)
+left-tag S (suc (suc (suc (suc (suc t))))) s v n k f =
+    let z : false ≡ true = sym (fits-none (suc (suc (suc (suc (suc t))))) s v n k (omega arith)) ∙ f in
+    let o : _≡_ {A = ℕ} 0 1 = cc in
+    absurd (omega arith)
+
 pub decoded-record : (w : List ℕ) → isRecord w ≡ true → decoded w ≡ record { ok = true; rec = recordIn w }
 unfolding decoded
 decoded-record w e = pick-true (isRecord w) _ _ e
@@ -165,6 +181,16 @@ module _ (L : Layout) (w : List ℕ) (a i : ℕ) where
       → tested (decoded w)
       ≡ both (frontGood L (bare (recordIn w))) (both (lengthsOwn (bare (recordIn w)) a i) (countsGood (word w 1 - digestSize L) (countsIn w)))
   fits-said e = ap tested (decoded-record w e) ∙ fits-front L (recordIn w) a i
+
+  -- the front's test with the stores left by their tag
+  pub front-tagged : isRecord w ≡ true → {f : Record} → f ≡ bare (recordIn w) → {t : Bool}
+      → t ≡ both (numbersGood L f) (leftFits (f .size) (word w 12) (word w 16)) → t ≡ frontGood L f
+  front-tagged are {f} front e =
+      let fit = both-right _ _ (sym (long-enough w (record-long w are)) ∙ are) in
+      e
+      ∙ ap (λ (r : Record). both (numbersGood L r) (leftFits (r .size) (word w 12) (word w 16))) front
+      ∙ ap (both (numbersGood L (bare (recordIn w)))) (sym (left-tag (word w 1) (word w 12) (word w 13) (word w 14) (word w 15) (word w 16) fit))
+      ∙ sym (ap (frontGood L) front ∙ front-numbers L (bare (recordIn w)))
 
   -- what the code finds of a record's words, test by test
   module _ (are : isRecord w ≡ true) {f : Record} (front : f ≡ bare (recordIn w)) {t : Bool} (first : t ≡ frontGood L f) where

@@ -2,9 +2,10 @@
 use record::Pending;
 use record::Record;
 use record::blank;
+use record::range::between;
 use record::range::counts_good;
-use record::range::front_good;
 use record::range::lengths_own;
+use record::range::numbers_good;
 use segment::DigestNumber;
 use segment::Version;
 use segment::layout::DIGEST_SIZE;
@@ -14,10 +15,13 @@ ghost use mathlib.Core.Bool.{true};
 ghost use mathlib.Core.List.{[], _∷_};
 ghost use lib.ListN.{length};
 ghost use lib.Seq.{sets};
+ghost use Rattle.segment.specs.Choice.{both};
 ghost use Rattle.segment.specs.Layout.{edition1};
 ghost use Rattle.record.specs.Answers.{bare};
 ghost use Rattle.record.specs.Range.{fitsLent};
+ghost use Rattle.record.specs.RangeLaws.{numbersGood};
 ghost use Rattle.words.specs.Words.{recordWords, numberWords, pendingWords, zeros, pendingFits, pendingOf, wordsOf, countsIn, recordIn, isRecord, decoded};
+ghost use Rattle.words.specs.WordLaws.{leftFits};
 
 // How many words a record takes.
 pub const WORDS: usize = 49;
@@ -247,6 +251,24 @@ pub fn front_in(words: &[u32]) -> Record
     }
 }
 
+// Whether the stores left can be so, by the tag of the pending operation.
+fn left_fits(size: u32, tag: u32, left: u32) -> bool
+    requires { ⌜ size ≤ 2048 ⌝ }
+    ensures { λ r. ⌜ r ≡ leftFits size tag left ⌝ }
+{
+    if tag == 0 {
+        return true;
+    }
+    between(1, size as usize + 1, left as usize)
+}
+
+// Whether all numbers before the present bytes are in range. The operation is not taken out of its words for that.
+fn front_fits(front: Record, tag: u32, left: u32) -> bool
+    ensures { λ r. ⌜ r ≡ both (numbersGood edition1 front) (leftFits (front .size) tag left) ⌝ }
+{
+    numbers_good(front) && left_fits(front.size, tag, left)
+}
+
 // The test of 4 that needs no look at the log, on a record where it stands: the 32 numbers are looked at among the words.
 pub fn fits(words: &[u32], area: usize, index: usize) -> bool
     ensures { λ r. ⌜ r ≡ fitsLent edition1 (decoded (now (words .entry)) .rec) area index ⌝ }
@@ -255,7 +277,7 @@ pub fn fits(words: &[u32], area: usize, index: usize) -> bool
         return false;
     }
     let front = front_in(words);
-    if !front_good(front) {
+    if !front_fits(front, words[12], words[LEFT]) {
         return false;
     }
     if !lengths_own(front, area, index) {

@@ -5,9 +5,9 @@ use mathlib.Core.Bool.{true}
 use borrow.Author.Tests.{not-true, not-false}
 use native.Mathlib.Omega.{arith}
 use Rattle.segment.specs.Layout.{edition1}
-use Rattle.record.specs.RangeLaws.{Limits, front-limits}
+use Rattle.record.specs.RangeLaws.{Limits, frontGood, front-limits}
 use Rattle.words.specs.Words.{isRecord}
-use Rattle.words.specs.WordLaws.{record-long, none-unfit, front-unfit, lengths-unfit, counts-decide}
+use Rattle.words.specs.WordLaws.{record-long, none-unfit, front-tagged, front-unfit, lengths-unfit, counts-decide}
 use Rattle.words.proofs.fits.Statement.{statement}
 use Rattle.words.proofs.fits.Tie as tie
 
@@ -20,12 +20,25 @@ returns c = sym (none-unfit edition1 _ _ _ (sym (c .before .is-record .ensures) 
 front-in-requires : tie.Need-front-in-requires
 front-in-requires c κs = record-long _ (are-record c)
 
+-- the words of the tag and of the stores left are there
+tag-there : tie.Need-shared-slice-read-front-fits
+tag-there c = omega (arith, record-long _ (are-record (c .before .before)))
+
+left-there : tie.Need-shared-slice-read-front-fits-2
+left-there c = omega (arith, record-long _ (are-record (c .before .before .before)))
+
+-- what is found of the front
+front-is : (k : tie.After-front-fits) → k .front-fits .result ≡ frontGood edition1 (k .before .before .before .front-in .result)
+front-is k =
+    front-tagged edition1 _ (k .before .before .before .before .before .before .before .args .area) (k .before .before .before .before .before .before .before .args .index)
+    (are-record (k .before .before .before .before)) (k .before .before .before .front-in .ensures) (k .front-fits .ensures)
+
 returns-2 : tie.Need-returns-2
-returns-2 c = front-unfit edition1 _ _ _ (are-record (c .before .before .before)) (c .before .before .front-in .ensures) (c .before .front-good .ensures) (c .if2 .taken)
+returns-2 c = front-unfit edition1 _ _ _ (are-record (c .before .before .before .before .before)) (c .before .before .before .before .front-in .ensures) (front-is (c .before)) (c .if2 .taken)
 
 -- what is known once the front is tested
-within : (c : tie.Else2) → Limits (c .before .before .front-in .result)
-within c = front-limits edition1 _ (sym (c .before .front-good .ensures) ∙ not-false _ (c .if2 .left))
+within : (c : tie.Else2) → Limits (c .before .before .before .before .front-in .result)
+within c = front-limits edition1 _ (sym (front-is (c .before)) ∙ not-false _ (c .if2 .left))
 
 lengths-own-requires : tie.Need-lengths-own-requires
 lengths-own-requires c κs = omega (arith, within c)
@@ -33,10 +46,10 @@ lengths-own-requires c κs = omega (arith, within c)
 returns-3 : tie.Need-returns-3
 returns-3 c =
     let d = c .before .before .before in
-    lengths-unfit edition1 _ _ _ (are-record (d .before .before)) (d .before .front-in .ensures) (d .front-good .ensures) (c .before .before .if2 .left) (c .before .lengths-own .ensures) (c .if3 .taken)
+    lengths-unfit edition1 _ _ _ (are-record (d .before .before .before .before)) (d .before .before .before .front-in .ensures) (front-is d) (c .before .before .if2 .left) (c .before .lengths-own .ensures) (c .if3 .taken)
 
 part-counts-good-end : tie.Need-part-counts-good-end
-part-counts-good-end c = omega (arith, record-long _ (are-record (c .before .before .before .before .before)))
+part-counts-good-end c = omega (arith, record-long _ (are-record (c .before .before .before .before .before .before .before)))
 
 sub-counts-good-2 : tie.Need-sub-counts-good-2
 sub-counts-good-2 c = omega (arith, within (c .before .before .before .before))
@@ -45,7 +58,7 @@ returns-4 : tie.Need-returns-4
 unfolding edition1
 returns-4 c =
     let d = c .before .before .before .before .before .before in
-    counts-decide edition1 _ _ _ (are-record (d .before .before)) (d .before .front-in .ensures) (d .front-good .ensures) (c .before .before .before .before .before .if2 .left) (c .before .before .before .before .lengths-own .ensures) (c .before .before .before .if3 .left) (c .counts-good .ensures)
+    counts-decide edition1 _ _ _ (are-record (d .before .before .before .before)) (d .before .before .before .front-in .ensures) (front-is d) (c .before .before .before .before .before .if2 .left) (c .before .before .before .before .lengths-own .ensures) (c .before .before .before .if3 .left) (c .counts-good .ensures)
 
 pub fits-spec : {M : Type 1} → statement M
 fits-spec =
@@ -54,6 +67,8 @@ fits-spec =
     (λ c κs. search needs)
     returns
     front-in-requires
+    tag-there
+    left-there
     (λ c κs. search needs)
     returns-2
     lengths-own-requires
