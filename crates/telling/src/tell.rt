@@ -16,16 +16,17 @@ ghost use Rattle.model.specs.Promises.{TellPromise};
 ghost use Rattle.telling.specs.Told.{toldBy};
 
 // The store that the next step makes, of a record that has passed the tests of range and lengths: refused with 3 or 6, and with 4 where
-// the pending operation does not agree with the record.
+// the pending operation does not agree with the record. Its aim is found before 3 is tested, so that the compiler joins it with what
+// takes the operation out of its words.
 pub fn store_of(rec: Record, area: &[u8], work: &[u8]) -> TellAnswer
     requires { ⌜ fitsLent edition1 rec (length (now area)) (rec .cells) ≡ true ⌝ }
     ensures { λ r. ⌜ r ≡ toldBy edition1 rec (now (area .entry)) (now (work .entry)) .answer ⌝ }
 {
+    let aim = aim_of(rec);
+    let to = aim.to;
     if work.len() < rec.size as usize {
         return TellAnswer::Refused(Refusal::WorkShort);
     }
-    let aim = aim_of(rec);
-    let to = aim.to;
     if to.left == 0 {
         return TellAnswer::Refused(Refusal::NonePending);
     }
