@@ -120,7 +120,7 @@ impl Store {
                 record.write(area, index, work, PROVED_ALL, proved_key(key), value)
             }
             Operation::WriteExpecting(key, version, value) => {
-                let (key, expected) = (proved_key(key), kurdavel::Version(version.0 as u32));
+                let (key, expected) = (proved_key(key), kurdavel::Version(version.0));
                 record.write_expecting(area, index, work, PROVED_ALL, key, expected, value)
             }
             Operation::Delete(key) => record.delete(area, index, work, PROVED_ALL, proved_key(key)),

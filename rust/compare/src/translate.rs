@@ -18,23 +18,14 @@ pub fn tables(tables: reference::Tables) -> kurdavel::Tables {
     }
 }
 
-/// The word that is 0 in every record of the library, in which its fields have versions of 32 bits: it is for the
-/// next version's high half.
-const NEXT_HIGH: usize = 8;
-
-/// The wrapper's version. No key has one above 32 bits, nor the highest of 32, which stands for all of them.
+/// The wrapper's version.
 pub fn version(version: reference::Version) -> kurdavel::Version {
-    kurdavel::Version(u32::try_from(version.0).unwrap_or(u32::MAX))
+    kurdavel::Version(version.0)
 }
 
-/// A version that the wrapper tells.
-pub fn told_version(version: kurdavel::Version) -> u64 {
-    version.0.into()
-}
-
-/// The record's words. Those of a next version above 32 bits are no record's.
+/// The record's words.
 pub fn record(record: reference::Record) -> Record {
-    let fields = Fields {
+    Record::of(Fields {
         slots: record.slots,
         slot_bytes: record.slot_bytes,
         cells: record.cells,
@@ -42,14 +33,11 @@ pub fn record(record: reference::Record) -> Record {
         end: record.end,
         digest: kurdavel::DigestNumber(record.digest.0),
         map: kurdavel::SlotMap(record.map.0),
-        next: kurdavel::Version(record.next.0 as u32),
+        next: version(record.next),
         keys: record.keys,
         pending: pending(record.pending),
         present_bytes: record.present_bytes,
-    };
-    let mut words = *Record::of(fields).words();
-    words[NEXT_HIGH] = (record.next.0 >> 32) as u32;
-    Record::from_words(words)
+    })
 }
 
 fn pending(pending: reference::Pending) -> Pending {
@@ -96,7 +84,7 @@ pub fn reference<T>(answer: Result<T, reference::Refusal>) -> Result<T, u32> {
 
 /// Version and kind that the wrapper tells.
 pub fn proved_found(found: kurdavel::Found) -> (u64, u8) {
-    (told_version(found.version), found.kind)
+    (found.version.0, found.kind)
 }
 
 /// Version and kind that the reference tells.
@@ -108,7 +96,7 @@ pub fn reference_found(found: reference::Found) -> (u64, u8) {
 pub fn proved_progress(progress: kurdavel::Progress) -> (u32, u64) {
     match progress {
         kurdavel::Progress::More { left } => (left, 0),
-        kurdavel::Progress::Done { version } => (0, told_version(version)),
+        kurdavel::Progress::Done { version } => (0, version.0),
     }
 }
 

@@ -16,12 +16,6 @@ fn refused(refusal: Refusal) -> No {
     No::Refused(refusal.number())
 }
 
-/// A version as the implementation has it: of 32 bits.
-fn narrow(version: u64) -> Answer<Version> {
-    let narrow = u32::try_from(version).map_err(|_| No::Missing("versions of 64 bits"))?;
-    Ok(Version(narrow))
-}
-
 /// Tables and key, as the implementation takes them.
 fn of(asked: Asked) -> (Tables, Key) {
     let range = range_of(asked);
@@ -56,7 +50,7 @@ impl Subject for Library {
         let stores = match start {
             Start::Write(writing) => {
                 let ((tables, key), value) = (of(writing.asked), writing.value);
-                match writing.expected.map(narrow).transpose()? {
+                match writing.expected.map(Version) {
                     None => record.write(area, index, work, tables, key, value),
                     Some(expected) => {
                         record.write_expecting(area, index, work, tables, key, expected, value)
@@ -76,7 +70,7 @@ impl Subject for Library {
         let Memory { area, index, work } = memory;
         match record.step(area, index, work).map_err(refused)? {
             kurdavel::Progress::More { left } => Ok(Progress::More(left)),
-            kurdavel::Progress::Done { version } => Ok(Progress::Done(version.0.into())),
+            kurdavel::Progress::Done { version } => Ok(Progress::Done(version.0)),
         }
     }
 
@@ -91,7 +85,7 @@ impl Subject for Library {
         let (tables, key) = of(asked);
         let found = record.read(&memory.area, &memory.index, tables, key);
         let found = found.map_err(refused)?;
-        Ok((found.version.0.into(), found.kind.into()))
+        Ok((found.version.0, found.kind.into()))
     }
 
     fn read_value(
@@ -117,7 +111,7 @@ impl Subject for Library {
         let (slots, slot_bytes) = (geometry.slots, geometry.slot_bytes);
         let found = kurdavel::scan_read(slots, slot_bytes, area, tables, key);
         let found = found.map_err(refused)?;
-        Ok((found.version.0.into(), found.kind.into()))
+        Ok((found.version.0, found.kind.into()))
     }
 
     fn scan_read_value(geometry: Geometry, area: &[u8], asked: Asked) -> Answer<(usize, usize)> {
@@ -145,7 +139,7 @@ impl Subject for Library {
             end: fields.end,
             number: fields.digest.0,
             map: fields.map.0,
-            next: fields.next.0.into(),
+            next: fields.next.0,
             keys: fields.keys,
             left: (fields.pending != Pending::Idle).then_some(fields.pending.left()),
             present_bytes: Some(present_of(fields.slots, &fields.present_bytes)),
@@ -173,7 +167,7 @@ fn change(fields: &mut Fields, field: Field, value: u64) -> Answer<()> {
         Field::End => fields.end = number,
         Field::Number => fields.digest = DigestNumber(number),
         Field::Map => fields.map = SlotMap(number),
-        Field::Next => fields.next = narrow(value)?,
+        Field::Next => fields.next = Version(value),
         Field::Keys => fields.keys = number,
         Field::Left => fields.pending = with_left(fields.pending, number),
         Field::Edition => return Err(No::Missing("a record with an edition")),
