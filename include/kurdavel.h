@@ -19,8 +19,8 @@
  *   record  at least KURDAVEL_RECORD_WORDS words; only the first so many are used.
  *
  * Every buffer is a pointer with its length counted in elements (bytes or words). No pointer may be NULL, also where
- * its length is 0; a pointer to words is aligned to 4; and no two buffers of a call may overlap if the call may
- * change one of them (it may change what is not const).
+ * its length is 0; a pointer to words is aligned to 4, one to a version to 8; and no two buffers of a call may overlap
+ * if the call may change one of them (it may change what is not const).
  *
  * ANSWERS
  *   Every call answers 0 if it is accepted and otherwise the number of the first cause that refuses it, in the order
@@ -177,8 +177,8 @@ extern "C" {
  * The version of this interface. MAJOR goes up when a program written for an earlier one may have to change, or an area
  * written by an earlier one may be refused; MINOR when something is added.
  */
-#define KURDAVEL_VERSION_MAJOR 4u
-#define KURDAVEL_VERSION_MINOR 2u
+#define KURDAVEL_VERSION_MAJOR 5u
+#define KURDAVEL_VERSION_MINOR 0u
 #define KURDAVEL_VERSION (KURDAVEL_VERSION_MAJOR * 1000u + KURDAVEL_VERSION_MINOR)
 
 /* Sizes. */
@@ -198,7 +198,7 @@ extern "C" {
  * and without what memcpy and memset take. `.ci/firmware` counts them in the machine code and holds them to these.
  */
 #define KURDAVEL_STACK_FORMAT 64u
-#define KURDAVEL_STACK_RECOVER 4096u
+#define KURDAVEL_STACK_RECOVER 4864u
 #define KURDAVEL_STACK_READ 192u
 #define KURDAVEL_STACK_READ_VALUE 192u
 #define KURDAVEL_STACK_WRITE 704u
@@ -209,8 +209,8 @@ extern "C" {
 #define KURDAVEL_STACK_FEWEST 640u
 #define KURDAVEL_STACK_NEXT_STORE 320u
 #define KURDAVEL_STACK_JOIN 8960u
-#define KURDAVEL_STACK_SCAN_READ 3840u
-#define KURDAVEL_STACK_SCAN_READ_VALUE 3840u
+#define KURDAVEL_STACK_SCAN_READ 4608u
+#define KURDAVEL_STACK_SCAN_READ_VALUE 4608u
 #define KURDAVEL_STACK_FROM_FLOAT 64u
 #define KURDAVEL_STACK_TO_FLOAT 64u
 
@@ -223,10 +223,10 @@ enum kurdavel_word {
     KURDAVEL_WORD_END = 4,        /* end of the head's entries */
     KURDAVEL_WORD_DIGEST = 5,     /* digest number of the head */
     KURDAVEL_WORD_MAP = 6,        /* slots of the log: bit i, from the lowest, is slot i */
-    KURDAVEL_WORD_NEXT = 7,       /* next version */
-    KURDAVEL_WORD_RESERVE_8 = 8,  /* in reserve, as are 10 and 11: 0, or the words are no record */
+    KURDAVEL_WORD_NEXT = 7,       /* next version, its low half */
+    KURDAVEL_WORD_NEXT_HIGH = 8,  /* its high half: 0, since no next version is above 4,294,967,295 */
     KURDAVEL_WORD_KEYS = 9,       /* keys that have entries in the log, deleted ones too */
-    KURDAVEL_WORD_RESERVE_10 = 10,
+    KURDAVEL_WORD_RESERVE_10 = 10, /* in reserve, as is 11: 0, or the words are no record */
     KURDAVEL_WORD_RESERVE_11 = 11,
     KURDAVEL_WORD_PENDING = 12,   /* see below */
     KURDAVEL_WORD_SLOT = 13,      /* slot of the new head, or 0 */
@@ -252,8 +252,9 @@ enum kurdavel_answer {
     KURDAVEL_REFUSED_GEOMETRY = 1,         /* N or S out of its limits, or the area not N * S bytes long */
     KURDAVEL_REFUSED_CELLS = 2,            /* M out of its limits */
     KURDAVEL_REFUSED_WORK_SHORT = 3,       /* work buffer of fewer than S bytes */
-    KURDAVEL_REFUSED_BAD_RECORD = 4,       /* the words are no record, or too few; a number of it out of range; area or
-                                              index not as long as it says; or a byte in the log that no store makes */
+    KURDAVEL_REFUSED_BAD_RECORD = 4,       /* the words are no record, or too few; a number of it out of range, as a
+                                              next version above 4,294,967,295; area or index not as long as it says;
+                                              or a byte in the log that no store makes */
     KURDAVEL_REFUSED_BUSY = 5,             /* another operation is under way */
     KURDAVEL_REFUSED_NONE_PENDING = 6,     /* no operation is under way */
     KURDAVEL_REFUSED_VALUE_LENGTH = 7,     /* a value is 8, 24, 56 or 120 bytes long, and this is not */
@@ -309,7 +310,7 @@ uint32_t kurdavel_recover(uint32_t slots, uint32_t slot_bytes, const uint8_t *or
  */
 uint32_t kurdavel_read(const uint32_t *record, size_t record_words, const uint8_t *area, size_t area_bytes,
                        const uint32_t *index, size_t index_words, uint16_t first, uint16_t last, uint16_t table,
-                       uint32_t key, uint32_t *version, uint32_t *kind);
+                       uint32_t key, uint64_t *version, uint32_t *kind);
 
 /*
  * Tells where the value of a key's object lies in the area: at area + *place, *bytes long. Where it is refused, both
@@ -341,7 +342,7 @@ uint32_t kurdavel_write(uint32_t *record, size_t record_words, const uint8_t *ar
  */
 uint32_t kurdavel_write_expecting(uint32_t *record, size_t record_words, const uint8_t *area, size_t area_bytes,
                                   const uint32_t *index, size_t index_words, uint8_t *work, size_t work_bytes,
-                                  uint16_t first, uint16_t last, uint16_t table, uint32_t key, uint32_t expected,
+                                  uint16_t first, uint16_t last, uint16_t table, uint32_t key, uint64_t expected,
                                   const uint8_t *value, size_t value_bytes, uint32_t *stores);
 
 /*
@@ -371,7 +372,7 @@ uint32_t kurdavel_clean(uint32_t *record, size_t record_words, const uint8_t *ar
  * Refused: 4, 3, 6, in this order.
  */
 uint32_t kurdavel_step(uint32_t *record, size_t record_words, uint8_t *area, size_t area_bytes, uint32_t *index,
-                       size_t index_words, const uint8_t *work, size_t work_bytes, uint32_t *left, uint32_t *version);
+                       size_t index_words, const uint8_t *work, size_t work_bytes, uint32_t *left, uint64_t *version);
 
 /*
  * Tells the store that the next kurdavel_step will make: *byte, at area + *place. It changes nothing, so that it may be
@@ -406,7 +407,7 @@ uint32_t kurdavel_join(const uint32_t *record, size_t record_words, const uint8_
  * Refused: 1, 16, 17, 24, 25, 18, 19, 22, 8, in this order.
  */
 uint32_t kurdavel_scan_read(uint32_t slots, uint32_t slot_bytes, const uint8_t *area, size_t area_bytes, uint16_t first,
-                            uint16_t last, uint16_t table, uint32_t key, uint32_t *version, uint32_t *kind);
+                            uint16_t last, uint16_t table, uint32_t key, uint64_t *version, uint32_t *kind);
 
 /*
  * Tells where the value of a key's object lies in the area, by the same scan: at area + *place, *bytes long, as
@@ -501,8 +502,14 @@ static inline uint32_t kurdavel_store_recover(struct kurdavel_store *store, cons
     return answer;
 }
 
+/* The next version, from the two words of the record that have it. */
+static inline uint64_t kurdavel_store_next_version(const struct kurdavel_store *store) {
+    uint64_t high = store->record.words[KURDAVEL_WORD_NEXT_HIGH];
+    return high << 32 | store->record.words[KURDAVEL_WORD_NEXT];
+}
+
 static inline uint32_t kurdavel_store_read(const struct kurdavel_store *store, struct kurdavel_tables tables,
-                                           struct kurdavel_key key, uint32_t *version, uint32_t *kind) {
+                                           struct kurdavel_key key, uint64_t *version, uint32_t *kind) {
     return kurdavel_read(store->record.words, KURDAVEL_RECORD_WORDS, store->area.bytes, store->area.length,
                          store->index.cells, store->index.length, tables.first, tables.last, key.table, key.key,
                          version, kind);
@@ -527,7 +534,7 @@ static inline uint32_t kurdavel_store_write(struct kurdavel_store *store, struct
 }
 
 static inline uint32_t kurdavel_store_write_expecting(struct kurdavel_store *store, struct kurdavel_tables tables,
-                                                      struct kurdavel_key key, uint32_t expected, const uint8_t *value,
+                                                      struct kurdavel_key key, uint64_t expected, const uint8_t *value,
                                                       size_t value_bytes, uint32_t *stores) {
     return kurdavel_write_expecting(store->record.words, KURDAVEL_RECORD_WORDS, store->area.bytes, store->area.length,
                                     store->index.cells, store->index.length, store->work.bytes, store->work.length,
@@ -548,7 +555,7 @@ static inline uint32_t kurdavel_store_clean(struct kurdavel_store *store, uint32
                           stores);
 }
 
-static inline uint32_t kurdavel_store_step(struct kurdavel_store *store, uint32_t *left, uint32_t *version) {
+static inline uint32_t kurdavel_store_step(struct kurdavel_store *store, uint32_t *left, uint64_t *version) {
     return kurdavel_step(store->record.words, KURDAVEL_RECORD_WORDS, store->area.bytes, store->area.length,
                          store->index.cells, store->index.length, store->work.bytes, store->work.length, left,
                          version);
@@ -569,7 +576,7 @@ static inline uint32_t kurdavel_store_join(const struct kurdavel_store *store, u
 }
 
 static inline uint32_t kurdavel_store_scan_read(const struct kurdavel_area *area, struct kurdavel_tables tables,
-                                                struct kurdavel_key key, uint32_t *version, uint32_t *kind) {
+                                                struct kurdavel_key key, uint64_t *version, uint32_t *kind) {
     return kurdavel_scan_read(area->slots, area->slot_bytes, area->bytes, area->length, tables.first, tables.last,
                               key.table, key.key, version, kind);
 }

@@ -5,6 +5,7 @@
  */
 #include "kurdavel.h"
 
+#include <inttypes.h>
 #include <stdio.h>
 #include <stdlib.h>
 #include <string.h>
@@ -69,7 +70,7 @@ static void power_on(struct kurdavel_store *store) {
     for (place = 0; place < AREA_BYTES; place++) copy[place] = read_byte(place);
     lend(store);
     expect_accepted("recover", kurdavel_store_recover(store, order, sizeof order));
-    printf("power on: next version %u", (unsigned)store->record.words[KURDAVEL_WORD_NEXT]);
+    printf("power on: next version %" PRIu64, kurdavel_store_next_version(store));
 }
 
 /* What a read of the key answers. */
@@ -97,7 +98,8 @@ static uint32_t start_write(struct kurdavel_store *store, int byte) {
  * step, the device never gets the byte.
  */
 static uint32_t store_through(struct kurdavel_store *store, int power_fails) {
-    uint32_t place = 0, byte = 0, left = 0, version = 0;
+    uint32_t place = 0, byte = 0, left = 0;
+    uint64_t version = 0;
     expect_accepted("next store", kurdavel_store_next_store(store, &place, &byte));
     expect_accepted("step", kurdavel_store_step(store, &left, &version));
     if (power_fails) return left;

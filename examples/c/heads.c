@@ -51,7 +51,8 @@ static void power_on(struct kurdavel_store *store) {
 
 /* Makes the stores of a started operation; 0 if the power fails before the last. */
 static int finish(struct kurdavel_store *store, uint32_t stores) {
-    uint32_t left, version;
+    uint32_t left;
+    uint64_t version;
     for (; stores > 0; stores--) {
         if (power == 0) return 0;
         power--;

@@ -7,6 +7,7 @@
  */
 #include "kurdavel.h"
 
+#include <inttypes.h>
 #include <stdio.h>
 #include <stdlib.h>
 #include <string.h>
@@ -49,8 +50,9 @@ static void lend(struct kurdavel_store *store) {
 }
 
 /* Makes all stores of the pending operation; gives the version that the last one tells. */
-static uint32_t finish(struct kurdavel_store *store, uint32_t stores) {
-    uint32_t left = stores, version = 0;
+static uint64_t finish(struct kurdavel_store *store, uint32_t stores) {
+    uint32_t left = stores;
+    uint64_t version = 0;
     while (left > 0) expect_accepted("step", kurdavel_store_step(store, &left, &version));
     return version;
 }
@@ -64,7 +66,8 @@ static uint32_t start_write(struct kurdavel_store *store, uint32_t number) {
 }
 
 static unsigned present(const struct kurdavel_store *store) {
-    uint32_t version = 0, kind = 0, number;
+    uint64_t version = 0;
+    uint32_t kind = 0, number;
     unsigned count = 0;
     for (number = 0; number < KEYS; number++) {
         count += kurdavel_store_read(store, servo, key_of(number), &version, &kind) == KURDAVEL_ACCEPTED;
@@ -75,11 +78,11 @@ static unsigned present(const struct kurdavel_store *store) {
 /* What refused calls do to the numbers that they would tell. */
 static void outputs(const struct kurdavel_store *store) {
     struct kurdavel_value value = {work, 77};
-    uint32_t version = 77, kind = 77, left = 77;
+    uint64_t version = 77;
+    uint32_t kind = 77, left = 77;
     struct kurdavel_store copy = *store;
     unsigned answer = (unsigned)kurdavel_store_read(store, servo, key_of(KEYS), &version, &kind);
-    printf("read of an absent key: %u, version %u and kind %u\n", answer, (unsigned)version,
-           (unsigned)kind);
+    printf("read of an absent key: %u, version %" PRIu64 " and kind %u\n", answer, version, (unsigned)kind);
     answer = (unsigned)kurdavel_store_read_value(store, servo, key_of(KEYS), &value);
     printf("its value: %u, %u bytes at %u\n", answer, (unsigned)value.length, (unsigned)(value.bytes - medium));
     answer = (unsigned)kurdavel_step(copy.record.words, KURDAVEL_RECORD_WORDS - 1, medium, sizeof medium, cells, CELLS,
@@ -94,7 +97,8 @@ static void outputs(const struct kurdavel_store *store) {
 
 /* A recovery gives up a write of which some stores are made. */
 static void give_up(struct kurdavel_store *store) {
-    uint32_t left = start_write(store, 0), version = 0;
+    uint32_t left = start_write(store, 0);
+    uint64_t version = 0;
     expect_accepted("step", kurdavel_store_step(store, &left, &version));
     printf("a second start meanwhile: %u\n", (unsigned)kurdavel_store_clean(store, 1, &left));
     expect_accepted("recover", kurdavel_store_recover(store, order, sizeof order));
@@ -115,7 +119,7 @@ static void too_few_cells(struct kurdavel_store *store) {
 }
 
 /* Starts a write of eight equal bytes over the version that the caller expects; gives the answer. */
-static uint32_t start_over(struct kurdavel_store *store, uint32_t number, uint32_t expected, int byte,
+static uint32_t start_over(struct kurdavel_store *store, uint32_t number, uint64_t expected, int byte,
                            uint32_t *stores) {
     uint8_t value[8];
     memset(value, byte, sizeof value);
@@ -126,20 +130,21 @@ static uint32_t start_over(struct kurdavel_store *store, uint32_t number, uint32
  * Two passes read the value of a key, and each writes over the version that it read. The second one comes too late: it
  * is refused, and has to read again. A deleted key has version 0, whatever version its delete took.
  */
-static void two_passes(struct kurdavel_store *store, uint32_t deleted, uint32_t version_of_delete) {
-    uint32_t version = 0, kind = 0, stores = 0;
+static void two_passes(struct kurdavel_store *store, uint32_t deleted, uint64_t version_of_delete) {
+    uint64_t version = 0;
+    uint32_t kind = 0, stores = 0;
     expect_accepted("read", kurdavel_store_read(store, servo, key_of(0), &version, &kind));
     expect_accepted("first pass", start_over(store, 0, version, 0xa1, &stores));
-    printf("first pass, over version %u: version %u\n", (unsigned)version, (unsigned)finish(store, stores));
-    printf("second pass, over version %u: %u\n", (unsigned)version,
+    printf("first pass, over version %" PRIu64 ": version %" PRIu64 "\n", version, finish(store, stores));
+    printf("second pass, over version %" PRIu64 ": %u\n", version,
            (unsigned)start_over(store, 0, version, 0xa2, &stores));
     expect_accepted("read", kurdavel_store_read(store, servo, key_of(0), &version, &kind));
     expect_accepted("second pass", start_over(store, 0, version, 0xa2, &stores));
-    printf("second pass, over version %u: version %u\n", (unsigned)version, (unsigned)finish(store, stores));
-    printf("deleted key, over version %u: %u\n", (unsigned)version_of_delete,
+    printf("second pass, over version %" PRIu64 ": version %" PRIu64 "\n", version, finish(store, stores));
+    printf("deleted key, over version %" PRIu64 ": %u\n", version_of_delete,
            (unsigned)start_over(store, deleted, version_of_delete, 0xa3, &stores));
     expect_accepted("write of a deleted key", start_over(store, deleted, 0, 0xa3, &stores));
-    printf("deleted key, over version 0: version %u\n", (unsigned)finish(store, stores));
+    printf("deleted key, over version 0: version %" PRIu64 "\n", finish(store, stores));
 }
 
 /* Reads a key for an owner and prints what is answered. */
@@ -178,7 +183,8 @@ static void two_owners(struct kurdavel_store *store) {
 /* A value of the longest kind, in a store that is formatted anew; one byte more is no value. */
 static void longest_value(struct kurdavel_store *store) {
     static const uint8_t adaptives[KURDAVEL_VALUE_MAX + 1] = {0x78};
-    uint32_t stores = 0, version = 0, kind = 0;
+    uint32_t stores = 0, kind = 0;
+    uint64_t version = 0;
     expect_accepted("format", kurdavel_store_format(&store->area));
     expect_accepted("recover", kurdavel_store_recover(store, order, sizeof order));
     printf("a value of %u bytes: %u\n", KURDAVEL_VALUE_MAX + 1,
@@ -188,7 +194,7 @@ static void longest_value(struct kurdavel_store *store) {
     printf("a value of %u bytes: %u stores", KURDAVEL_VALUE_MAX, (unsigned)stores);
     finish(store, stores);
     expect_accepted("read", kurdavel_store_read(store, servo, key_of(0), &version, &kind));
-    printf(", version %u, kind %u\n", (unsigned)version, (unsigned)kind);
+    printf(", version %" PRIu64 ", kind %u\n", version, (unsigned)kind);
 }
 
 /*
@@ -198,7 +204,8 @@ static void longest_value(struct kurdavel_store *store) {
 static void full_store(struct kurdavel_store *store) {
     static const uint8_t value[KURDAVEL_VALUE_MAX] = {0xf1};
     static const size_t lengths[3] = {120, 56, 24};
-    uint32_t stores = 0, number = 0, filled = 0, version = 0;
+    uint32_t stores = 0, number = 0, filled = 0;
+    uint64_t version = 0;
     expect_accepted("format", kurdavel_store_format(&store->area));
     expect_accepted("recover", kurdavel_store_recover(store, order, sizeof order));
     while (kurdavel_store_write(store, servo, key_of(filled), value, lengths[filled % 3], &stores) ==
@@ -216,11 +223,11 @@ static void full_store(struct kurdavel_store *store) {
         }
         version = finish(store, stores);
     }
-    printf("all deleted, the last with version %u: %u keys present\n", (unsigned)version, present(store));
+    printf("all deleted, the last with version %" PRIu64 ": %u keys present\n", version, present(store));
     expect_accepted("clean", kurdavel_store_clean(store, store->record.words[KURDAVEL_WORD_MAP], &stores));
     finish(store, stores);
     expect_accepted("write", kurdavel_store_write(store, servo, key_of(0), value, sizeof value, &stores));
-    printf("cleaned, and written again with version %u\n", (unsigned)finish(store, stores));
+    printf("cleaned, and written again with version %" PRIu64 "\n", finish(store, stores));
 }
 
 /*
@@ -272,7 +279,7 @@ static void join(struct kurdavel_store *store) {
     expect_accepted("clean", kurdavel_store_clean(store, (uint32_t)1 << first | (uint32_t)1 << second, &stores));
     finish(store, stores);
     expect_accepted("write", kurdavel_store_write(store, servo, key_of(number % 4), value, sizeof value, &stores));
-    printf(", and it is accepted: version %u\n", (unsigned)finish(store, stores));
+    printf(", and it is accepted: version %" PRIu64 "\n", finish(store, stores));
 }
 
 /* What a recovery tells of a damaged digest: one byte of the head's digest is another each time. */
@@ -297,7 +304,8 @@ static void damaged_digest(struct kurdavel_store *store) {
 static void boot_loader(struct kurdavel_store *store) {
     struct kurdavel_area area = store->area;
     struct kurdavel_value value;
-    uint32_t stores = 0, version = 0, kind = 0;
+    uint32_t stores = 0, kind = 0;
+    uint64_t version = 0;
     expect_accepted("format", kurdavel_store_format(&area));
     expect_accepted("recover", kurdavel_store_recover(store, order, sizeof order));
     finish(store, start_write(store, 5));
@@ -308,7 +316,7 @@ static void boot_loader(struct kurdavel_store *store) {
     memset(cells, 0xa5, sizeof cells);
     expect_accepted("scan", kurdavel_store_scan_read(&area, servo, key_of(5), &version, &kind));
     expect_accepted("scan", kurdavel_store_scan_read_value(&area, servo, key_of(5), &value));
-    printf("boot loader: version %u, kind %u, %u bytes of %02x", (unsigned)version, (unsigned)kind,
+    printf("boot loader: version %" PRIu64 ", kind %u, %u bytes of %02x", version, (unsigned)kind,
            (unsigned)value.length, value.bytes[0]);
     printf("; another key: %u", (unsigned)kurdavel_store_scan_read(&area, servo, key_of(6), &version, &kind));
     printf("; a table of another owner: %u\n",
@@ -316,12 +324,13 @@ static void boot_loader(struct kurdavel_store *store) {
     medium[0] = 0;
     printf("boot loader on an area without a digest: %u",
            (unsigned)kurdavel_store_scan_read(&area, servo, key_of(5), &version, &kind));
-    printf(", version %u and kind %u\n", (unsigned)version, (unsigned)kind);
+    printf(", version %" PRIu64 " and kind %u\n", version, (unsigned)kind);
 }
 
 int main(void) {
     struct kurdavel_store store;
-    uint32_t number, stores = 0, version;
+    uint32_t number, stores = 0;
+    uint64_t version;
     lend(&store);
     expect_accepted("format", kurdavel_store_format(&store.area));
     printf("cleaning before a recovery: %u\n", (unsigned)kurdavel_store_clean(&store, 1, &stores));
@@ -335,7 +344,7 @@ int main(void) {
 
     expect_accepted("delete", kurdavel_store_delete(&store, servo, key_of(3), &stores));
     version = finish(&store, stores);
-    printf("deleted with version %u\n", (unsigned)version);
+    printf("deleted with version %" PRIu64 "\n", version);
     expect_accepted("clean", kurdavel_store_clean(&store, 1, &stores));
     finish(&store, stores);
     printf("slot 0 cleaned: %u keys present, slots of the log %u\n", present(&store),

@@ -5,6 +5,7 @@
  */
 #include "kurdavel.h"
 
+#include <inttypes.h>
 #include <stdio.h>
 #include <stdlib.h>
 #include <string.h>
@@ -48,7 +49,7 @@ static void power_on(struct kurdavel_store *store) {
     memset(work, 0xa5, sizeof work);
     lend(store);
     expect_accepted("recover", kurdavel_store_recover(store, order, sizeof order));
-    printf("power on: next version %u, keys %u\n", (unsigned)store->record.words[KURDAVEL_WORD_NEXT],
+    printf("power on: next version %" PRIu64 ", keys %u\n", kurdavel_store_next_version(store),
            (unsigned)store->record.words[KURDAVEL_WORD_KEYS]);
 }
 
@@ -67,17 +68,19 @@ static void barrier(void) {}
 
 /* Makes so many stores of the pending operation. */
 static void steps(struct kurdavel_store *store, uint32_t count) {
-    uint32_t left = 0, version = 0, i;
+    uint32_t left = 0, i;
+    uint64_t version = 0;
     for (i = 0; i < count; i++) {
         expect_accepted("step", kurdavel_store_step(store, &left, &version));
         barrier();
     }
-    printf("%u stores made, %u left, version %u\n", (unsigned)count, (unsigned)left, (unsigned)version);
+    printf("%u stores made, %u left, version %" PRIu64 "\n", (unsigned)count, (unsigned)left, version);
 }
 
 static void show(const struct kurdavel_store *store, struct kurdavel_key key) {
     struct kurdavel_value value;
-    uint32_t version = 0, kind = 0, i;
+    uint64_t version = 0;
+    uint32_t kind = 0, i;
     uint32_t answer = kurdavel_store_read(store, all, key, &version, &kind);
     if (kurdavel_store_read_value(store, all, key, &value) != answer) exit(1);
     if (answer == KURDAVEL_REFUSED_ABSENT) {
@@ -85,7 +88,7 @@ static void show(const struct kurdavel_store *store, struct kurdavel_key key) {
         return;
     }
     expect_accepted("read", answer);
-    printf("read %u/%u: version %u, kind %u, value", (unsigned)key.table, (unsigned)key.key, (unsigned)version,
+    printf("read %u/%u: version %" PRIu64 ", kind %u, value", (unsigned)key.table, (unsigned)key.key, version,
            (unsigned)kind);
     for (i = 0; i < value.length; i++) printf(" %02x", value.bytes[i]);
     printf("\n");

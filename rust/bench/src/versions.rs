@@ -2,8 +2,9 @@
 //!
 //! The search has a filter with a bit for each version modulo 2^14. A version whose bit is set already is a suspect and
 //! goes to a table. When the table is full, one walk over the log looks at all suspects, and the table is emptied. In that
-//! walk an entry is searched for among the suspects if its mark is set: a bit that the highest 11 bits of its version's
-//! product with an odd number name. A change of the filter's size or of the product needs one here.
+//! walk an entry is searched for among the suspects if its mark is set: a bit that the highest 11 bits of a product with an
+//! odd number name, that of the sum of its version's two halves. The high one is 0 here. A change of the filter's size or of
+//! the product needs one here.
 
 use crate::image::TOMBSTONES;
 use crate::store::LOG;

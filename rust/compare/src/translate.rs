@@ -18,6 +18,11 @@ pub fn tables(tables: reference::Tables) -> kurdavel::Tables {
     }
 }
 
+/// The wrapper's version.
+pub fn version(version: reference::Version) -> kurdavel::Version {
+    kurdavel::Version(version.0)
+}
+
 /// The record's words.
 pub fn record(record: reference::Record) -> Record {
     Record::of(Fields {
@@ -28,7 +33,7 @@ pub fn record(record: reference::Record) -> Record {
         end: record.end,
         digest: kurdavel::DigestNumber(record.digest.0),
         map: kurdavel::SlotMap(record.map.0),
-        next: kurdavel::Version(record.next.0),
+        next: version(record.next),
         keys: record.keys,
         pending: pending(record.pending),
         present_bytes: record.present_bytes,
@@ -77,8 +82,18 @@ pub fn reference<T>(answer: Result<T, reference::Refusal>) -> Result<T, u32> {
     answer.map_err(reference::Refusal::number)
 }
 
+/// Version and kind that the wrapper tells.
+pub fn proved_found(found: kurdavel::Found) -> (u64, u8) {
+    (found.version.0, found.kind)
+}
+
+/// Version and kind that the reference tells.
+pub fn reference_found(found: reference::Found) -> (u64, u8) {
+    (found.version.0, found.kind)
+}
+
 /// Stores left and version of the wrapper's step.
-pub fn proved_progress(progress: kurdavel::Progress) -> (u32, u32) {
+pub fn proved_progress(progress: kurdavel::Progress) -> (u32, u64) {
     match progress {
         kurdavel::Progress::More { left } => (left, 0),
         kurdavel::Progress::Done { version } => (0, version.0),
@@ -86,7 +101,7 @@ pub fn proved_progress(progress: kurdavel::Progress) -> (u32, u32) {
 }
 
 /// Stores left and version of the reference's step.
-pub fn reference_progress(progress: reference::Progress) -> (u32, u32) {
+pub fn reference_progress(progress: reference::Progress) -> (u32, u64) {
     match progress {
         reference::Progress::More { left } => (left, 0),
         reference::Progress::Done { version } => (0, version.0),

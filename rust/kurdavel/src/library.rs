@@ -33,7 +33,7 @@ extern "C" {
         last: u16,
         table: u16,
         key: u32,
-        version: *mut u32,
+        version: *mut u64,
         kind: *mut u32,
     ) -> u32;
 
@@ -83,7 +83,7 @@ extern "C" {
         last: u16,
         table: u16,
         key: u32,
-        expected: u32,
+        expected: u64,
         value: *const u8,
         value_bytes: usize,
         stores: *mut u32,
@@ -128,7 +128,7 @@ extern "C" {
         work: *const u8,
         work_bytes: usize,
         left: *mut u32,
-        version: *mut u32,
+        version: *mut u64,
     ) -> u32;
 
     pub(crate) fn kurdavel_next_store(
@@ -164,7 +164,7 @@ extern "C" {
         last: u16,
         table: u16,
         key: u32,
-        version: *mut u32,
+        version: *mut u64,
         kind: *mut u32,
     ) -> u32;
 

@@ -5,6 +5,9 @@ use crate::values::{DigestNumber, SlotMap, Version};
 /// How many words a record takes.
 pub const WORDS: usize = 49;
 
+/// The words of the next version, its low and its high half.
+const NEXT: usize = 7;
+const NEXT_HIGH: usize = 8;
 /// The words of the pending operation: what it is, its slot, its victims, its length and the stores left.
 const PENDING: usize = 12;
 const LEFT: usize = 16;
@@ -185,7 +188,7 @@ impl Record {
     /// ```
     pub fn of(fields: Fields) -> Record {
         let mut words = [0; WORDS];
-        words[..8].copy_from_slice(&[
+        words[..10].copy_from_slice(&[
             fields.slots,
             fields.slot_bytes,
             fields.cells,
@@ -193,9 +196,10 @@ impl Record {
             fields.end,
             fields.digest.0,
             fields.map.0,
-            fields.next.0,
+            fields.next.0 as u32,
+            (fields.next.0 >> 32) as u32,
+            fields.keys,
         ]);
-        words[9] = fields.keys;
         words[PENDING..PRESENT].copy_from_slice(&fields.pending.words());
         words[PRESENT..].copy_from_slice(&fields.present_bytes);
         Record { words }
@@ -203,7 +207,7 @@ impl Record {
 
     /// What the record says; nothing if its words are no record's.
     pub fn fields(&self) -> Option<Fields> {
-        let [slots, slot_bytes, cells, head, end, digest, map, next, 0, keys, 0, 0, pending @ ..] =
+        let [slots, slot_bytes, cells, head, end, digest, map, _, _, keys, 0, 0, pending @ ..] =
             self.words
         else {
             return None;
@@ -217,7 +221,7 @@ impl Record {
             end,
             digest: DigestNumber(digest),
             map: SlotMap(map),
-            next: Version(next),
+            next: self.next(),
             keys,
             pending: Pending::of_words(pending.try_into().ok()?)?,
             present_bytes: present.try_into().ok()?,
@@ -226,7 +230,7 @@ impl Record {
 
     /// The version that the next write or delete takes.
     pub const fn next(&self) -> Version {
-        Version(self.words[7])
+        Version(self.words[NEXT] as u64 | (self.words[NEXT_HIGH] as u64) << 32)
     }
 
     /// The slots of the log.

@@ -73,7 +73,7 @@ pub fn read(
     last: u16,
     table: u16,
     key: u32,
-    version: &mut u32,
+    version: &mut u64,
     kind: &mut u32,
 ) -> u32 {
     // SAFETY: each pointer and length are those of one slice; `version` and `kind` are exclusive.
@@ -177,7 +177,7 @@ pub fn write_expecting(
     last: u16,
     table: u16,
     key: u32,
-    expected: u32,
+    expected: u64,
     value: &[u8],
     stores: &mut u32,
 ) -> u32 {
@@ -274,7 +274,7 @@ pub fn step(
     index: &mut [u32],
     work: &[u8],
     left: &mut u32,
-    version: &mut u32,
+    version: &mut u64,
 ) -> u32 {
     // SAFETY: each pointer and length are those of one slice; all but `work` are exclusive.
     unsafe {
@@ -353,7 +353,7 @@ pub fn scan_read(
     last: u16,
     table: u16,
     key: u32,
-    version: &mut u32,
+    version: &mut u64,
     kind: &mut u32,
 ) -> u32 {
     // SAFETY: the pointer and length are those of one slice; `version` and `kind` are exclusive.

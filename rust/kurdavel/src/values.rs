@@ -2,7 +2,7 @@
 
 /// The version of an entry, or the next one to be given.
 #[derive(Clone, Copy, PartialEq, Eq, PartialOrd, Ord, Hash, Debug)]
-pub struct Version(pub u32);
+pub struct Version(pub u64);
 
 impl Version {
     /// What an absent key has, for a write that expects absence; also what the last step of a cleaning tells.

@@ -69,13 +69,13 @@ fn fields_of_a_record() {
         end: 5,
         digest: DigestNumber(6),
         map: SlotMap(7),
-        next: Version(8),
-        keys: 9,
+        next: Version(8 | 9 << 32),
+        keys: 10,
         pending: Pending::Forget {
-            slot: 10,
-            victims: SlotMap(11),
-            length: 12,
-            left: 13,
+            slot: 11,
+            victims: SlotMap(12),
+            length: 13,
+            left: 14,
         },
         present_bytes: std::array::from_fn(|slot| 100 + slot as u32),
     };
@@ -90,21 +90,23 @@ fn fields_of_a_record() {
         "DIGEST",
         "MAP",
         "NEXT",
+        "NEXT_HIGH",
         "KEYS",
     ];
-    assert_eq!(order.map(word), [1, 2, 3, 4, 5, 6, 7, 8, 9]);
+    assert_eq!(order.map(word), [1, 2, 3, 4, 5, 6, 7, 8, 9, 10]);
     let pending = ["PENDING", "SLOT", "VICTIMS", "LENGTH", "LEFT"];
-    assert_eq!(pending.map(word), [4, 10, 11, 12, 13]);
+    assert_eq!(pending.map(word), [4, 11, 12, 13, 14]);
     let present = &record.words()[named["PRESENT"] as usize..];
     assert_eq!(present, fields.present_bytes);
     assert_eq!(record.fields(), Some(fields));
+    assert_eq!(record.next(), fields.next);
 }
 
 /// Words in reserve are 0, or the words are no record's.
 #[test]
 fn words_in_reserve() {
     let reserve = numbers("KURDAVEL_WORD_RESERVE_");
-    assert_eq!(reserve.len(), 3);
+    assert_eq!(reserve.len(), 2);
     for &word in reserve.values() {
         let mut words = [0; WORDS];
         assert!(Record::from_words(words).fields().is_some());

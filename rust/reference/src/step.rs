@@ -175,7 +175,7 @@ pub fn step_kept(
     step_kept_by::<AsWritten>(record, area, index, work)
 }
 
-#[inline]
+#[inline(always)]
 fn step_kept_by<R: Rules>(
     record: &mut Record,
     area: &mut [u8],
@@ -233,9 +233,9 @@ fn finish<R: Rules>(
             victims,
             ..
         } => {
-            let next = record.next.0.checked_add(1).ok_or(Refusal::Record)?;
+            let next = record.next_after()?;
             let mut after = finish_cleaning(record, area, index, slot, length, victims)?;
-            after.next = Version(next);
+            after.next = next;
             Ok((after, record.next))
         }
     }
@@ -276,10 +276,10 @@ fn finish_entry<R: Rules>(
     place: usize,
 ) -> Result<(Record, Version), Refusal> {
     let leading = entry.first_chunk().ok_or(Refusal::Record)?;
-    let next = record.next.0.checked_add(1).ok_or(Refusal::Record)?;
+    let next = record.next_after()?;
     let entered = point_to(area, index, Key::of_entry(leading), place)?;
     let mut after = Record {
-        next: Version(next),
+        next,
         keys: record.keys + u32::from(entered == Entered::New),
         pending: Pending::None,
         ..record

@@ -4,8 +4,8 @@ use kurdavel::{DigestNumber, Fields, Key, Pending, Refusal, SlotMap, Tables, Ver
 
 use super::event::{Field, Geometry, Record};
 use super::subject::{
-    narrow_expected, part_of, present_of, range_of, without_edition, Answer, Asked, Memory, No,
-    Progress, Start, Subject,
+    part_of, present_of, range_of, without_edition, Answer, Asked, Memory, No, Progress, Start,
+    Subject,
 };
 
 /// The static library.
@@ -50,7 +50,7 @@ impl Subject for Library {
         let stores = match start {
             Start::Write(writing) => {
                 let ((tables, key), value) = (of(writing.asked), writing.value);
-                match narrow_expected(writing)?.map(Version) {
+                match writing.expected.map(Version) {
                     None => record.write(area, index, work, tables, key, value),
                     Some(expected) => {
                         record.write_expecting(area, index, work, tables, key, expected, value)
@@ -70,7 +70,7 @@ impl Subject for Library {
         let Memory { area, index, work } = memory;
         match record.step(area, index, work).map_err(refused)? {
             kurdavel::Progress::More { left } => Ok(Progress::More(left)),
-            kurdavel::Progress::Done { version } => Ok(Progress::Done(version.0.into())),
+            kurdavel::Progress::Done { version } => Ok(Progress::Done(version.0)),
         }
     }
 
@@ -85,7 +85,7 @@ impl Subject for Library {
         let (tables, key) = of(asked);
         let found = record.read(&memory.area, &memory.index, tables, key);
         let found = found.map_err(refused)?;
-        Ok((found.version.0.into(), found.kind.into()))
+        Ok((found.version.0, found.kind.into()))
     }
 
     fn read_value(
@@ -111,7 +111,7 @@ impl Subject for Library {
         let (slots, slot_bytes) = (geometry.slots, geometry.slot_bytes);
         let found = kurdavel::scan_read(slots, slot_bytes, area, tables, key);
         let found = found.map_err(refused)?;
-        Ok((found.version.0.into(), found.kind.into()))
+        Ok((found.version.0, found.kind.into()))
     }
 
     fn scan_read_value(geometry: Geometry, area: &[u8], asked: Asked) -> Answer<(usize, usize)> {
@@ -139,7 +139,7 @@ impl Subject for Library {
             end: fields.end,
             number: fields.digest.0,
             map: fields.map.0,
-            next: fields.next.0.into(),
+            next: fields.next.0,
             keys: fields.keys,
             left: (fields.pending != Pending::Idle).then_some(fields.pending.left()),
             present_bytes: Some(present_of(fields.slots, &fields.present_bytes)),
@@ -158,7 +158,7 @@ impl Subject for Library {
 }
 
 fn change(fields: &mut Fields, field: Field, value: u64) -> Answer<()> {
-    let number = u32::try_from(value).map_err(|_| No::Missing("a record with wide versions"))?;
+    let number = value as u32;
     match field {
         Field::Slots => fields.slots = number,
         Field::SlotBytes => fields.slot_bytes = number,
@@ -167,7 +167,7 @@ fn change(fields: &mut Fields, field: Field, value: u64) -> Answer<()> {
         Field::End => fields.end = number,
         Field::Number => fields.digest = DigestNumber(number),
         Field::Map => fields.map = SlotMap(number),
-        Field::Next => fields.next = Version(number),
+        Field::Next => fields.next = Version(value),
         Field::Keys => fields.keys = number,
         Field::Left => fields.pending = with_left(fields.pending, number),
         Field::Edition => return Err(No::Missing("a record with an edition")),

@@ -26,14 +26,17 @@ struct Tally {
     refused: [u32; 28],
 }
 
-/// Tries every number up to the next version and beyond it, with a value of each length and one of none. Where the write
-/// without expectation has an answer other than 7, the one with it has the same or 21.
+/// Tries every number up to the next version and beyond it, and those that differ from them in their high half alone, with
+/// a value of each length and one of none. Where the write without expectation has an answer other than 7, the one with it
+/// has the same or 21.
 fn try_all(pair: &Pair, tally: &mut Tally) -> Result<(), Fault> {
     let next = pair.record().next.0;
-    let near = next.saturating_sub(4)..=next;
-    let numbers = (0..6)
-        .chain(near)
-        .chain([u32::MAX / 2, u32::MAX - 1, u32::MAX]);
+    let low = (0..6).chain(next.saturating_sub(4)..=next);
+    let high = low.clone().map(|low| low + (1 << 32));
+    let numbers = low
+        .chain(high)
+        .chain([u64::from(u32::MAX) / 2, u64::MAX - 1])
+        .chain([Version::LAST.0, Version::SPENT.0]);
     for (expected, key) in numbers.flat_map(|number| [A, B, NEVER].map(|key| (number, key))) {
         for bytes in [7, 8, 24, 56, 120] {
             let write = Operation::Write(key, vec![3; bytes]);

@@ -11,6 +11,10 @@ use reference::Key;
 
 const KEY: Key = Key { table: 7, key: 9 };
 
+/// The words of the next version, its low and its high half.
+const NEXT: usize = 7;
+const NEXT_HIGH: usize = 8;
+
 /// A store with a written key, and with a write pending if asked.
 fn store(rng: &mut Rng, pending: bool) -> Pair {
     let (slots, slot_bytes) = (rng.within(4, 32), rng.within(256, 300));
@@ -33,7 +37,7 @@ fn refuse_all(words: &[u32], area: &[u8], index: &[u32], work_bytes: usize) {
     let mut record = Guarded::new(words, 9);
     let (mut lent_area, mut lent_index) = (Guarded::new(area, 5), Guarded::new(index, 1));
     let mut work = Guarded::new(&vec![0x77; work_bytes], 5);
-    let (mut first, mut second) = (71, 72);
+    let (mut first, mut second, mut version) = (71, 72, 73);
     let (table, key) = (KEY.table, KEY.key);
     // Tables that do not hold the key's: 4 comes before 22.
     let (low, high) = (table + 1, table - 1);
@@ -46,11 +50,11 @@ fn refuse_all(words: &[u32], area: &[u8], index: &[u32], work_bytes: usize) {
         high,
         table,
         key,
-        &mut first,
+        &mut version,
         &mut second,
     );
-    assert_eq!((read, first, second), (4, 0, 0));
-    (first, second) = (71, 72);
+    assert_eq!((read, version, second), (4, 0, 0));
+    (second, version) = (72, 73);
     let answers = [
         slices::write(
             record,
@@ -95,11 +99,11 @@ fn refuse_all(words: &[u32], area: &[u8], index: &[u32], work_bytes: usize) {
             &mut lent_index,
             &work,
             &mut first,
-            &mut second,
+            &mut version,
         ),
     ];
     assert_eq!(answers, [4; 5], "{words:?}");
-    assert_eq!((first, second), (71, 72));
+    assert_eq!((first, version), (71, 73));
     let value = slices::read_value(
         record,
         &lent_area,
@@ -143,13 +147,13 @@ fn refuse_fewest(words: &[u32]) {
 #[test]
 fn records_that_are_none() {
     let mut rng = Rng::new(11);
-    for round in 0..20_000 {
+    for round in 0..24_000 {
         let pending = rng.one_in(2);
         let pair = store(&mut rng, pending);
         let genuine = *translate::record(pair.record()).words();
         let (mut area, mut index) = (pair.area().to_vec(), pair.index().to_vec());
         let mut words = genuine.to_vec();
-        match round % 5 {
+        match round % 6 {
             0 => {
                 let record = forged::out_of_range(&mut rng, pair.record());
                 words = translate::record(record).words().to_vec();
@@ -157,12 +161,60 @@ fn records_that_are_none() {
             1 => area.truncate(area.len() - 1),
             2 => index.push(0),
             3 => words.truncate(rng.below(WORDS as u32) as usize),
+            4 => words[NEXT_HIGH] = rng.bits() as u32 | 1 << rng.below(32),
             _ => spoil(&mut rng, &mut words),
         }
         refuse_all(&words, &area, &index, pair.work_bytes());
         if words != genuine {
             refuse_fewest(&words);
         }
+    }
+}
+
+/// The highest next version is a record's, and no version is left to give; the one above it stands in the high half alone,
+/// and is refused by every call.
+#[test]
+fn next_version_above_the_limit() {
+    for pending in [false, true] {
+        let pair = store(&mut Rng::new(3), pending);
+        let (area, index) = (pair.area(), pair.index());
+        let mut words = *translate::record(pair.record()).words();
+        (words[NEXT], words[NEXT_HIGH]) = (u32::MAX, 0);
+        let mut highest = Record::from_words(words);
+        assert_eq!(highest.next(), kurdavel::Version(u32::MAX.into()));
+        let (tables, key) = (kurdavel::Tables::ALL, translate::key(KEY));
+        assert!(highest.read(area, index, tables, key).is_ok());
+        let mut work = vec![0; pair.work_bytes()];
+        let spent = highest.delete(area, index, &mut work, tables, key);
+        let cause = [Refusal::VersionsSpent, Refusal::Busy][usize::from(pending)];
+        assert_eq!(spent, Err(cause));
+
+        (words[NEXT], words[NEXT_HIGH]) = (0, 1);
+        let above = Record::from_words(words);
+        assert_eq!(above.next(), kurdavel::Version(1 << 32));
+        refuse_all(&words, area, index, pair.work_bytes());
+        refuse_fewest(&words);
+    }
+}
+
+/// A write that expects the key's version with another high half is refused with 21, and accepted without one.
+#[test]
+fn expected_version_in_all_its_bits() {
+    let pair = store(&mut Rng::new(4), false);
+    let (area, index) = (pair.area(), pair.index());
+    let (tables, key) = (kurdavel::Tables::ALL, translate::key(KEY));
+    let found = translate::record(pair.record()).read(area, index, tables, key);
+    let version = found.unwrap().version.0;
+    for high in (0..32).map(|bit| 1u64 << (32 + bit)).chain([0]) {
+        let mut work = vec![0; pair.work_bytes()];
+        let mut record = translate::record(pair.record());
+        let expected = kurdavel::Version(high + version);
+        let answer = record.write_expecting(area, index, &mut work, tables, key, expected, &[3; 8]);
+        let owed = match high {
+            0 => Ok(20),
+            _ => Err(Refusal::OtherVersion),
+        };
+        assert_eq!(answer, owed, "{expected:?}");
     }
 }
 
@@ -174,7 +226,7 @@ fn spoil(rng: &mut Rng, words: &mut [u32]) {
         1 => words[12..17].copy_from_slice(&[0, 0, 0, 0, other]),
         2 => words[12..17].copy_from_slice(&[1, other, 0, 19, 20]),
         3 => words[12..17].copy_from_slice(&[2, 1, other, 32, 33]),
-        _ => words[*rng.pick(&[8, 10, 11])] = other,
+        _ => words[*rng.pick(&[10, 11])] = other,
     }
     assert_eq!(Record::from_words(words.try_into().unwrap()).fields(), None);
 }
