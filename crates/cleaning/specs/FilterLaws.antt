@@ -27,7 +27,7 @@ use Rattle.cleaning.specs.Entries.{slotItems}
 use Rattle.cleaning.specs.Marks.{isMarked, markedWith, length-marked, mark-own, mark-other, markFound, markEntry, markItems, markSlot, markPart, markBelow, markOutside}
 use Rattle.cleaning.specs.MarksLaws.{length-found, length-entry}
 use Rattle.cleaning.specs.Tombstones.{anyTombstone}
-use Rattle.cleaning.specs.Walks.{walkItems, walkSlot, walkPart, walkBelow, items-keep, part-keeps, below-keeps}
+use Rattle.cleaning.specs.Walks.{walkItems, walkSlot, walkPart, walkBelow, walk-empty, items-keep, part-keeps, below-keeps}
 use Rattle.cleaning.specs.Filter.{spread, spread-low, filterHas, filterWith, noteEntry, noteVictims, siftEntry, siftOutside, siftNeeded}
 use Rattle.cleaning.specs.declared.Split.{Split}
 
@@ -58,6 +58,18 @@ module _ (L : Layout) (area cells filter marks : List ℕ) (h : Header) where
     sift-marks e g = g ∙ sym (pick-false (h .tombstone) marks _ object ∙ pick-true (filterHas filter (h .key)) _ marks e)
 
 module _ (L : Layout) (area cells : List ℕ) (split : Split) (marks : List ℕ) where
+  -- where no slot is outside the victims
+  pub no-outside : split .outside ≡ 0 → marks ≡ siftNeeded L area cells split marks
+  unfolding siftNeeded pick
+  no-outside e = go (anyTombstone L area split)
+    where
+      filter : List ℕ
+      filter = noteVictims L area split (replicate 128 0)
+
+      go : (t : Bool) → marks ≡ pick t (siftOutside L area cells filter split marks) marks
+      go true = rw e (walk-empty L (siftEntry L area cells filter) area (split .size) marks (split .slots))
+      go false = refl
+
   pub not-needed : anyTombstone L area split ≡ false → marks ≡ siftNeeded L area cells split marks
   unfolding siftNeeded
   not-needed e = sym (pick-false (anyTombstone L area split) _ marks e)

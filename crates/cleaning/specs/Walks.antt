@@ -10,6 +10,7 @@ use Rattle.segment.specs.Layout.{Layout, digestSize}
 use Rattle.segment.specs.Entries.{headerOf}
 use Rattle.segment.specs.declared.Header.{Header}
 use Rattle.slot_map.specs.Bit.{named}
+use Rattle.slot_map.specs.BitLaws.{bit-of-zero, clear-named}
 use Rattle.model.specs.Log.{Item, segmentOf}
 use Rattle.index.specs.Build.{entriesAt}
 use Rattle.cleaning.specs.Entries.{slotItems}
@@ -73,6 +74,13 @@ module _ (L : Layout) (step : Step) where
   pub walk-none : (area : List ℕ) (S map : ℕ) (words : List ℕ) → words ≡ walkBelow L step area S map words 0
   unfolding walkBelow
   walk-none area S map words = refl
+
+  -- where the map names no slot
+  pub walk-empty : (area : List ℕ) (S : ℕ) (words : List ℕ) (n : ℕ) → words ≡ walkBelow L step area S 0 words n
+  unfolding walkBelow
+  walk-empty area S words zero = refl
+  walk-empty area S words (suc n) =
+      walk-empty area S words n ∙ walk-other area S (walkBelow L step area S 0 words n) n 0 (clear-named 0 n (bit-of-zero n))
 
   -- ---- what every step keeps stays
 

@@ -132,11 +132,15 @@ pub fn mark_outside(area: &[u8], cells: &[u32], filter: &[u32], marks: &mut [u32
     }
 }
 
-// The same by the keys of the victims' tombstones, nothing where no victim holds one, as no mark is looked at then.
+// The same by the keys of the victims' tombstones. Nothing where no slot is outside the victims, as no cell would be marked, nor
+// where no victim holds a tombstone, as no mark is looked at then.
 pub fn mark_needed(area: &[u8], cells: &[u32], marks: &mut [u32], split: Split)
     requires { ⌜ SplitFits split (now area) (now marks) ⌝ }
     ensures { λ _. ⌜ now (marks .exit) ≡ siftNeeded edition1 (now (area .entry)) (now (cells .entry)) split (now (marks .entry)) ⌝ }
 {
+    if split.outside == 0 {
+        return;
+    }
     if !any_tombstone(area, split) {
         return;
     }
