@@ -13,7 +13,7 @@ use Rattle.model.specs.Recovery.{recordFrom}
 use Rattle.model.specs.Operations.{clean, logNow}
 use Rattle.model.specs.Joining.{SlotPair, joinFits, orElse, firstOf, pairWith, joinPair, joinCauses, pairSaid, pairSaidBy}
 use Rattle.model.specs.Play.{opened, keyed, tombstone, startNumber}
-use Rattle.model.specs.MoreCases.{idle, busy, small, large, seg, vacant}
+use Rattle.model.specs.Areas.{small, large, seg, vacant, idle, busy}
 use Rattle.model.specs.Table.{Row, row, failing, Hold, rows-hold}
 
 abbrev told : PairSaid → List ℕ

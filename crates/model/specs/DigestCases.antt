@@ -3,8 +3,8 @@ use Prim.Native.Nat.{ℕ}
 use mathlib.Core.Path.{_≡_, refl}
 use mathlib.Core.List.{List, [], _∷_, _++_, map}
 use lib.ListN.{replicate}
-use Rattle.model.specs.Play.{opened, keyed, slotWith, segmentWith, recovers}
-use Rattle.model.specs.MoreCases.{small, seg, bare, vacant, refuses, damagedHead}
+use Rattle.model.specs.Play.{opened, keyed, slotWith, segmentWith, recovers, refuses}
+use Rattle.model.specs.Areas.{small, seg, bare, vacant, damagedHead}
 use Rattle.model.specs.Table.{Row, row, failing, Hold, rows-hold}
 
 -- a damaged head in slot 0 with this number, map and next version, in front of slots that begin with no digest

@@ -1,6 +1,6 @@
 -- 01 as definitions, a file for each section: the log and its map, recovery, the index, operations store by store, refusals, and what
--- each call promises. Recovery and the index come before the operations, which speak of them. Then tables of worked cases, 02's last, and what the
--- promises leave no freedom in.
+-- each call promises. Recovery and the index come before the operations, which speak of them. Then what the promises leave no freedom in,
+-- and tables of worked cases, 02's last; more of them stand in crate `rows`.
 pub mod Log
 pub mod Counts
 pub mod Causes
@@ -15,10 +15,10 @@ pub mod PromiseLaws
 pub mod Table
 pub mod Expected
 pub mod Play
+pub mod Areas
 pub mod Cases
-pub mod MoreCases
+pub mod Pinned
 pub mod RequestCases
-pub mod FullCases
 pub mod Fewest
 pub mod FewestCases
 pub mod DigestCases

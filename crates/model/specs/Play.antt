@@ -23,7 +23,7 @@ use Rattle.record.specs.Reach.{holdsTable, allTables}
 use Rattle.model.specs.Log.{Placed, itemFirst, scanFrom, itemsOf, endOf, isDamaged, digestIn, newer, headOf, placedIn, logOf, sameKeys, sameKey, laterOf, latest, objectOnly, present, isVersion, hasKey, keysOf, hasVersion, versionShared, highest}
 use Rattle.model.specs.Counts.{tally, objectBytes, withoutLive, withoutVictims}
 use Rattle.model.specs.Causes.{Cause, firstCause}
-use Rattle.model.specs.Recovery.{lists, listsBelow, headElse, hasNumber, sharing, namesNoDigest, logDamaged, recoveryFor, recovery, recordFrom}
+use Rattle.model.specs.Recovery.{lists, listsBelow, headElse, hasNumber, sharing, namesNoDigest, logDamaged, recoverCauses, recoveryFor, recovery, recordFrom}
 use Rattle.model.specs.Operations.{Operation, logNow, objectOutside, keptOf, kept, allEncoded, replaced, replacedBy, slotOf, laid, storesFrom, planOf, planFor, storesFor, stored, toldVersion, countNew, placedFrom, finishedRecord, cleared, formatted}
 use Rattle.model.specs.Refused.{Lengths, Terms, freely, versionIn, expectsOther, isPending, readCauses, startCauses}
 use Rattle.model.specs.Promises.{presentAnswer, readAnswer, partOf, valuePart, valueAnswer, Begun, begun, stepped}
@@ -89,6 +89,13 @@ recoveryNumbers r = recoverSaid (r .answer) .refused ∷ numbers (r .rec)
 -- with 16 cells and the slots in order
 abbrev pub recovers : List ℕ → List ℕ
 recovers area = recoveryNumbers (recovery edition1 4 256 16 (0 ∷ 1 ∷ 2 ∷ 3 ∷ []) area)
+
+-- the number of its first cause; with 16 cells and the slots in some order
+abbrev pub refusesWith : (cells : ℕ) → (order area : List ℕ) → ℕ
+refusesWith cells order area = first (recoverCauses edition1 4 256 cells order area)
+
+abbrev pub refuses : List ℕ → ℕ
+refuses area = refusesWith 16 (2 ∷ 0 ∷ 3 ∷ 1 ∷ []) area
 
 -- the record that this recovery gives, and the log under it
 abbrev pub recordNow : List ℕ → Record

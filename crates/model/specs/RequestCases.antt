@@ -14,7 +14,7 @@ use Rattle.model.specs.Operations.{Operation, write, delete, clean}
 use Rattle.model.specs.Refused.{Terms, freely, reaching, readCauses, startCauses}
 use Rattle.model.specs.Play.{opened, keyed, first, lentWith, numberOn, readsWithin}
 use Rattle.model.specs.Expected.{refusedBy, shows}
-use Rattle.model.specs.MoreCases.{idle, busy, crowded, limit}
+use Rattle.model.specs.Areas.{limit, crowded, idle, busy}
 use Rattle.model.specs.Table.{Row, row, failing, Hold, rows-hold}
 
 -- ---- R-1: a write over the version that was read

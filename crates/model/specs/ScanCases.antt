@@ -13,9 +13,9 @@ use Rattle.model.specs.Causes.{firstCause}
 use Rattle.model.specs.Operations.{write, delete}
 use Rattle.model.specs.Promises.{readAnswer, partOf}
 use Rattle.model.specs.Scanned.{imageLog, scanCauses, scannedPart}
-use Rattle.model.specs.Play.{opened, freshOver, keyed, tombstone, slotWith, segmentWith, said, first, cutAfter, played, reads}
+use Rattle.model.specs.Play.{opened, freshOver, keyed, tombstone, said, first, refuses, cutAfter, played, reads}
 use Rattle.model.specs.Expected.{refusedBy, shows}
-use Rattle.model.specs.MoreCases.{small, large, seg, bare, vacant, refuses, sixteenKeys, damagedHead}
+use Rattle.model.specs.Areas.{a, b, c, small, large, seg, vacant, damagedHead, sixteenKeys}
 use Rattle.model.specs.Table.{Row, row, failing, Hold, rows-hold}
 
 -- what a scan with N 4 and S 256 answers for a key within these tables, and the value
@@ -30,15 +30,6 @@ scans = scansWithin allTables
 -- its number with another N and S
 abbrev scansAs : ℕ × ℕ → List ℕ → ℕ
 scansAs g area = first (scanCauses edition1 (g .0) (g .1) area allTables (keyed 1 1))
-
-abbrev a : Key
-a = keyed 1 1
-
-abbrev b : Key
-b = keyed 1 2
-
-abbrev c : Key
-c = keyed 1 3
 
 -- Of a an older object stands behind a newer one, and a newer one in a slot outside the log; of b a tombstone stands before an older
 -- object, in a lower slot; c stands outside the log alone.

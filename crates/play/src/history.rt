@@ -30,8 +30,10 @@ pub enum Event {
 // How many events there are.
 pub const EVENTS: usize = 158;
 
-// 01's cases, with the cuts of case 3, and a longer history.
-const HISTORY: [Event; EVENTS] = [
+// The history stands in parts, each with a function of its own: the check of one table of all events takes far longer.
+
+// 01's cases, with the cuts of case 3.
+const CASES: [Event; 28] = [
     Event::Case(2),
     Event::Write(0, 8, 0x11, 0),
     Event::Case(4),
@@ -60,7 +62,10 @@ const HISTORY: [Event; EVENTS] = [
     Event::Clean(0b10),
     Event::Spread,
     Event::Clean(0b11),
-    // Keys overwritten and deleted, and an entry that does not fit the head.
+];
+
+// Keys overwritten and deleted, and an entry that does not fit the head.
+const CHANGES: [Event; 30] = [
     Event::Format,
     Event::Delete(0),
     Event::Write(0, 56, 0x20, 1),
@@ -95,8 +100,11 @@ const HISTORY: [Event; EVENTS] = [
     Event::Clean(0b1),
     Event::Write(3, 56, 0xc0, 1),
     Event::Recover,
-    // A store filled until writes are refused for want of room. Each key is then deleted by a cleaning of the slot with its live
-    // object, the head here, and what that frees is filled again; key 3 has no object outside, and its tombstone is not needed.
+];
+
+// A store filled until writes are refused for want of room. Each key is then deleted by a cleaning of the slot with its live
+// object, the head here, and what that frees is filled again; key 3 has no object outside, and its tombstone is not needed.
+const FILLED: [Event; 38] = [
     Event::Format,
     Event::Write(0, 56, 0x01, 1),
     Event::Write(1, 56, 0x02, 1),
@@ -135,8 +143,11 @@ const HISTORY: [Event; EVENTS] = [
     Event::Recover,
     Event::Write(0, 8, 0x1d, 1),
     Event::Recover,
-    // All slots that a log may have are in use, and keys are overwritten for long: a write that meets 12 is made again when
-    // two slots are joined.
+];
+
+// All slots that a log may have are in use, and keys are overwritten for long: a write that meets 12 is made again when
+// two slots are joined.
+const JOINS: [Event; 31] = [
     Event::Format,
     Event::Write(0, 56, 0x20, 1),
     Event::Write(1, 120, 0x21, 1),
@@ -168,6 +179,10 @@ const HISTORY: [Event; EVENTS] = [
     Event::Join,
     Event::Write(0, 56, 0x34, 1),
     Event::Write(1, 120, 0x35, 1),
+];
+
+// The same for longer.
+const MORE_JOINS: [Event; 31] = [
     Event::Write(2, 24, 0x36, 1),
     Event::Write(3, 56, 0x37, 1),
     Event::Write(0, 56, 0x38, 1),
@@ -201,11 +216,51 @@ const HISTORY: [Event; EVENTS] = [
     Event::Recover,
 ];
 
+fn cases(i: usize) -> Event
+    requires { ⌜ i < 28 ⌝ }
+{
+    CASES[i]
+}
+
+fn changes(i: usize) -> Event
+    requires { ⌜ i < 30 ⌝ }
+{
+    CHANGES[i]
+}
+
+fn filled(i: usize) -> Event
+    requires { ⌜ i < 38 ⌝ }
+{
+    FILLED[i]
+}
+
+fn joins(i: usize) -> Event
+    requires { ⌜ i < 31 ⌝ }
+{
+    JOINS[i]
+}
+
+fn more_joins(i: usize) -> Event
+    requires { ⌜ i < 31 ⌝ }
+{
+    MORE_JOINS[i]
+}
+
 // The event of a number, which is below that of all events.
 pub fn scheduled(i: usize) -> Event
     requires { ⌜ i < 158 ⌝ }
 {
-    HISTORY[i]
+    if i < 28 {
+        cases(i)
+    } else if i < 58 {
+        changes(i - 28)
+    } else if i < 96 {
+        filled(i - 58)
+    } else if i < 127 {
+        joins(i - 96)
+    } else {
+        more_joins(i - 127)
+    }
 }
 
 fn failing(played: Played, fails: u32) -> Played

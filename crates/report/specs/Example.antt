@@ -5,7 +5,7 @@ use mathlib.Core.List.{List, [], _∷_, _++_}
 use lib.ListN.{replicate}
 use Rattle.model.specs.Operations.{Operation, write, delete}
 use Rattle.model.specs.Play.{opened, freshOver, keyed, playedAll}
-use Rattle.model.specs.MoreCases.{seg, vacant}
+use Rattle.model.specs.Areas.{seg, vacant}
 use Rattle.text.specs.Ascii.{ascii}
 use Rattle.text.specs.Digits.{digitsIn}
 use Rattle.report.specs.Listing.{before, inOrder, ascending, presentOf}

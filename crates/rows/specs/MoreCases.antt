@@ -1,68 +1,28 @@
--- Cases beyond 01's: every refusal, picked as the first of several causes that hold, and the corners of the log.
+-- Cases beyond 01's: every refusal, picked as the first of several causes that hold, and the corners of the log. Two rows more, of 23
+-- and 35, are in model/specs/Pinned.antt.
 use Prim.Native.Nat.{ℕ, zero, suc, _*_}
 use mathlib.Core.Path.{_≡_, refl}
 use mathlib.Core.List.{List, [], _∷_, _++_, map}
 use lib.ListN.{length, take, drop, replicate}
 use Rattle.segment.specs.Layout.{edition1}
 use Rattle.segment.specs.Entry.{Entry}
-use Rattle.segment.specs.declared.Key.{Key}
-use Rattle.record.specs.declared.Pending.{Pending}
 use Rattle.record.specs.declared.Pending.the-variants.{Idle, Append, NewHead, Clean, Forget}
 use Rattle.record.specs.declared.Record.{Record}
 use Rattle.record.specs.Reach.{allTables}
-use Rattle.model.specs.Recovery.{recoverCauses, recovery}
+use Rattle.model.specs.Recovery.{recovery}
 use Rattle.model.specs.Operations.{Operation, write, delete, clean, formatted, allEncoded}
 use Rattle.model.specs.Refused.{freely, formatCauses, readCauses, startCauses, stepCauses}
-use Rattle.model.specs.Play.{opened, freshOver, keyed, object, tombstone, slotWith, segmentWith, first, recoveryNumbers, recovers, lentWith, startNumber, starts, begins, ends, stores, cutAfter, played, playedAll, reads, keeps}
-use Rattle.model.specs.Expected.{holds, gives, refusedBy, toCome, remaining, done, shows}
+use Rattle.model.specs.Play.{opened, freshOver, keyed, object, tombstone, slotWith, segmentWith, first, recoveryNumbers, recovers, refusesWith, refuses, lentWith, startNumber, starts, begins, ends, stores, cutAfter, played, playedAll, reads, keeps}
+use Rattle.model.specs.Expected.{holds, gives, refusedBy, toCome, done, shows}
+use Rattle.model.specs.Areas.{a, b, c, d, small, large, long, tombstones, limit, seg, bare, vacant, damagedHead, sixteenKeys, crowded, recordOf, idle, busy}
 use Rattle.model.specs.Table.{Row, row, failing, Hold, joined, rows-hold}
-
--- an object of 8 bytes, one of 56 and one of 120
-abbrev pub small : Key → ℕ → Entry
-small k v = object k v (replicate 8 v)
-
-abbrev pub large : Key → ℕ → Entry
-large k v = object k v (replicate 56 v)
-
-abbrev long : Key → ℕ → Entry
-long k v = object k v (replicate 120 v)
-
--- tombstones of n keys of table 1, at the versions 1 to n
-abbrev tombstones : ℕ → List Entry
-tombstones zero = []
-tombstones (suc n) = tombstones n ++ tombstone (keyed 1 (suc n)) (suc n) ∷ []
-
--- a slot with a digest and entries, and 255 behind them; one with a digest whose map and next version are nonsense; one with none
-abbrev pub seg : (number map next : ℕ) → List Entry → List ℕ
-seg number map next es = slotWith 255 (segmentWith number map next es)
-
-abbrev pub bare : ℕ → List ℕ
-bare number = seg number 0 0 []
-
-abbrev pub vacant : List ℕ
-vacant = slotWith 255 []
 
 -- ---- what recovery refuses: a row's number is the refusal's
-
-abbrev refusesWith : (cells : ℕ) → (order area : List ℕ) → ℕ
-refusesWith cells order area = first (recoverCauses edition1 4 256 cells order area)
-
--- with 16 cells and the slots in some order
-abbrev pub refuses : List ℕ → ℕ
-refuses area = refusesWith 16 (2 ∷ 0 ∷ 3 ∷ 1 ∷ []) area
-
--- a head in slot 0 with damage behind its digest
-abbrev pub damagedHead : (number map next : ℕ) → List ℕ
-damagedHead number map next = slotWith 255 (segmentWith number map next [] ++ 6 ∷ [])
 
 -- one version twice in slot 0, and in slot 1 these bytes
 abbrev sharedAnd : List ℕ → List ℕ
 sharedAnd bytes =
     seg 2 3 1 (small (keyed 1 1) 1 ∷ small (keyed 1 2) 1 ∷ []) ++ slotWith 255 (segmentWith 1 0 0 [] ++ bytes) ++ vacant ++ vacant
-
--- 16 keys; the last entry has this version
-abbrev pub sixteenKeys : ℕ → List ℕ
-sixteenKeys v = seg 1 1 1 (tombstones 15 ++ tombstone (keyed 2 1) v ∷ []) ++ vacant ++ vacant ++ vacant
 
 abbrev formats : ℕ × ℕ × ℕ → ℕ
 formats g = first (formatCauses (g .0) (g .1) (g .2))
@@ -114,33 +74,10 @@ recoveryRefusals =
 
 -- ---- what the other calls refuse
 
--- a record: N, S, M, end, digest number, map, next version, keys; its head is slot 0
-abbrev recordOf : (n s m end number map next keys : ℕ) → Pending → Record
-recordOf n s m end number map next keys p =
-    record {
-      slots = n;
-      size = s;
-      cells = m;
-      head = 0;
-      end = end;
-      digest = record { 0 = number };
-      map = map;
-      next = record { 0 = next };
-      keys = keys;
-      counts = replicate 32 0;
-      pending = p;
-    }
-
 -- reading a key of an empty log, with memory as long as the record says: 4, or 8
 abbrev readsOf : Record → ℕ
 readsOf r =
     first (readCauses edition1 r [] (record { area = r .slots * r .size; index = r .cells; work = 0 }) allTables (keyed 7 9))
-
-abbrev pub idle : Record
-idle = recordOf 4 256 16 13 1 1 1 0 Idle
-
-abbrev pub busy : Pending → Record
-busy p = recordOf 4 256 16 13 1 1 1 0 p
 
 abbrev steps : Record → ℕ → ℕ
 steps r work = first (stepCauses edition1 r (lentWith work))
@@ -151,12 +88,8 @@ startsOf r work o = first (startCauses edition1 r [] (lentWith work) freely o)
 abbrev badOnes : List Operation
 badOnes = write (keyed 7 9) (replicate 7 1) ∷ delete (keyed 7 9) ∷ clean 0 ∷ []
 
--- 15 keys in the head, which ends at 245, so that a tombstone fits it and no object does; slots 1 and 2 have digests
-abbrev pub crowded : (number map next : ℕ) → List ℕ
-crowded number map next = seg number map next (tombstones 15 ++ large (keyed 1 1) 16 ∷ []) ++ bare 1 ++ bare 2 ++ vacant
-
--- the same with one more tombstone, so that nothing fits
-abbrev pub filled : (number map next : ℕ) → List ℕ
+-- a crowded area with one tombstone more, so that nothing fits the head
+abbrev filled : (number map next : ℕ) → List ℕ
 filled number map next =
     seg number map next (tombstones 15 ++ large (keyed 1 1) 16 ∷ tombstone (keyed 1 2) 17 ∷ []) ++ bare 1 ++ bare 2 ++ vacant
 
@@ -165,9 +98,6 @@ abbrev wide : ℕ → List ℕ
 wide number =
     seg 1 1 1 (large (keyed 1 1) 1 ∷ large (keyed 1 2) 2 ∷ large (keyed 1 3) 3 ∷ []) ++
     seg number 3 4 (large (keyed 2 1) 4 ∷ large (keyed 2 2) 5 ∷ large (keyed 2 3) 6 ∷ []) ++ vacant ++ vacant
-
-abbrev pub limit : ℕ
-limit = 4294967295
 
 abbrev newKey : ℕ → Operation
 newKey n = write (keyed 2 1) (replicate n 1)
@@ -257,18 +187,6 @@ cutsBelow (suc k) area o = cutsBelow k area o ++ recovers (cutAfter k area o)
 abbrev times : ℕ → List ℕ → List ℕ
 times zero xs = []
 times (suc n) xs = xs ++ times n xs
-
-abbrev a : Key
-a = keyed 1 1
-
-abbrev b : Key
-b = keyed 1 2
-
-abbrev c : Key
-c = keyed 1 3
-
-abbrev d : Key
-d = keyed 1 4
 
 -- slot 3 is the head, and slots 0 and 2 are free
 abbrev high : List ℕ
@@ -398,8 +316,7 @@ threeLong = seg 1 1 1 (long a 1 ∷ []) ++ seg 2 3 2 (long b 2 ∷ []) ++ seg 3 
 
 abbrev longRows : List Row
 longRows =
-    row 35 (starts (freshOver 4) lengthy) (toCome 132 ++ holds (record { head = 0; end = 13; digest = 1; map = 1; next = 1; keys = 0; left = 132 }))
-    ∷ row 35 (take 145 (played (freshOver 4) lengthy)) (segmentWith 1 1 1 [] ++ lengthyBytes ++ 0 ∷ [])
+    row 35 (take 145 (played (freshOver 4) lengthy)) (segmentWith 1 1 1 [] ++ lengthyBytes ++ 0 ∷ [])
     ∷ row 35 (ends (freshOver 4) lengthy) (done 1 ++ holds (record { head = 0; end = 144; digest = 1; map = 1; next = 2; keys = 1; left = 0 }))
     ∷ row 35 (reads (cutAfter 131 (freshOver 4) lengthy) (keyed 7 9)) (refusedBy 8)
     ∷ row 35 (recovers (cutAfter 132 (freshOver 4) lengthy)) (gives (record { head = 0; end = 144; digest = 1; map = 1; next = 2; keys = 1; left = 0 }))
