@@ -29,7 +29,7 @@ fn fewer_of(map: u32, counts: &[u32], i: usize, held: usize) -> usize
 }
 
 // The lowest of the slots with the fewest bytes. From the highest slot down, so that of two with as many the lower one stays.
-fn fewest_slot(slots: u32, head: u32, map: u32, counts: &[u32]) -> u32
+pub fn fewest_slot(slots: u32, head: u32, map: u32, counts: &[u32]) -> u32
     requires { ⌜ (slots ≤ 32) × (slots ≤ length (now counts)) × (head < slots) × (named map head ≡ true) ⌝ }
     ensures { λ r. ⌜ r ≡ lowestFrom (hasFewest slots map (now (counts .entry))) 0 slots ⌝ }
 {

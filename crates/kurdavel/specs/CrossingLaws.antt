@@ -8,14 +8,16 @@ use native.Mathlib.Nat.{mul-le-mul}
 use native.Mathlib.Omega.{arith}
 use lib.ListN.{length}
 use lib.Seq.{sets}
-use borrow.Author.Tests.{not-false}
+use borrow.Author.Tests.{not-true, not-false, eq-eqb}
+use Rattle.segment.specs.Choice.{both, both-true}
 use Rattle.segment.specs.Layout.{edition1}
 use Rattle.segment.specs.declared.Key.{Key}
 use Rattle.segment.specs.declared.Version.{Version}
-use Rattle.record.specs.Answers.{bare, formatSaid, recoverSaid, readSaid, startSaid, stepSaid, fewestSaid}
-use Rattle.record.specs.Range.{fitsLent}
-use Rattle.record.specs.RangeLaws.{lent}
+use Rattle.record.specs.Answers.{bare, formatSaid, recoverSaid, readSaid, startSaid, stepSaid}
+use Rattle.record.specs.Range.{inRange, lengthsOwn, fitsLent}
+use Rattle.record.specs.RangeLaws.{Lent, lent, blank-out}
 use Rattle.record.specs.declared.Refusal.{Refusal}
+use Rattle.record.specs.declared.Refusal.the-variants.{BadRecord}
 use Rattle.record.specs.declared.Record.{Record}
 use Rattle.record.specs.declared.FormatAnswer.{FormatAnswer}
 use Rattle.record.specs.declared.Recovery.{Recovery}
@@ -25,9 +27,9 @@ use Rattle.record.specs.declared.Start.{Start}
 use Rattle.record.specs.declared.StartAnswer.{StartAnswer}
 use Rattle.record.specs.declared.Stepped.{Stepped}
 use Rattle.record.specs.declared.StepAnswer.{StepAnswer}
-use Rattle.record.specs.declared.Fewest.{Fewest}
 use Rattle.record.specs.declared.FewestAnswer.{FewestAnswer}
-use Rattle.model.specs.Fewest.{FewestPromise}
+use Rattle.model.specs.Fewest.{fewestSlot}
+use Rattle.fullness.specs.FewestLaws.{refused-promise, told-promise}
 use Rattle.model.specs.Operations.{Operation}
 use Rattle.record.specs.Reach.{holdsTable}
 use Rattle.record.specs.declared.Tables.{Tables}
@@ -40,8 +42,8 @@ use Rattle.index.specs.declared.Found.{Found}
 use Rattle.recovery.specs.Lookups.{Reached, lookupAt, lookedUp, toldBy, partBy}
 use Rattle.recovery.specs.LookupLaws.{reached, looked-unfit, looked-fit, read-promise, value-promise, looked-outside}
 use Rattle.recovery.specs.declared.Lookup.{Lookup}
-use Rattle.words.specs.Words.{recordWords, wordsOf, word, recordIn, isRecord, decoded}
-use Rattle.words.specs.WordLaws.{record-long, counts-long, decoded-record, decoded-none, encode-decode, fits-record, fits-decoded}
+use Rattle.words.specs.Words.{recordWords, wordsOf, word, countsIn, recordIn, isRecord, decoded}
+use Rattle.words.specs.WordLaws.{record-long, counts-long, decoded-record, decoded-none, too-short, none-unfit, encode-decode, fits-record, fits-decoded}
 use Rattle.words.specs.declared.Decoded.{Decoded}
 use Rattle.kurdavel.specs.Crossing.{FormatCrossed, RecoverCrossed, wordsAfter, ReadCrossed, ValueCrossed, Handed, storesAfter, StartCrossed, keptWords, StepCrossed, leftTold, toldAfter, slotTold, FewestCrossed, ScanCrossed, ScanValueCrossed}
 use Rattle.model.specs.Scanned.{ScanValue}
@@ -290,12 +292,72 @@ step-crossed {words = words} {left = left} {version = version} {x = x} f p w e m
 
 -- ---- the slot with the fewest present bytes
 
-pub fewest-crossed : {words : List ℕ} {slot number : ℕ} {d : Decoded} {x : Fewest} {b : FewestAnswer} → d ≡ decoded words
-    → FewestPromise edition1 (d .rec) x → x .answer ≡ b → number ≡ fewestSaid b .refused → slot ≡ slotTold b → FewestCrossed words slot number
-fewest-crossed {x = x} f p e m l =
-    record {
-      fewest = x;
-      promised = subst (λ (a : Decoded). FewestPromise edition1 (a .rec) x) f p;
-      numbered = m ∙ ap (λ (a : FewestAnswer). fewestSaid a .refused) (sym e);
-      slot-told = l ∙ ap slotTold (sym e);
-    }
+both-done : (t : Bool) → both t true ≡ t
+unfolding both
+both-done true = refl
+both-done false = refl
+
+-- with the lengths that the record says, 4's test is that of the range
+own-tested : (r : Record) → fitsLent edition1 r (r .slots * r .size) (r .cells) ≡ inRange edition1 r
+unfolding fitsLent lengthsOwn
+own-tested r =
+    ap (both (inRange edition1 r)) (both-true _ _ (eq-eqb (r .slots * r .size) (r .slots * r .size) refl) (eq-eqb (r .cells) (r .cells) refl)) ∙
+    both-done (inRange edition1 r)
+
+none-range : (words : List ℕ) → isRecord words ≡ false → inRange edition1 (decoded words .rec) ≡ false
+none-range words f = ap (λ (d : Decoded). inRange edition1 (d .rec)) (decoded-none words f) ∙ blank-out edition1
+
+words-range : (words : List ℕ)
+    → fitsLent edition1 (decoded words .rec) (word words 0 * word words 1) (word words 2) ≡ inRange edition1 (decoded words .rec)
+words-range words = turn (isRecord words) refl
+  where
+    turn : (t : Bool) → isRecord words ≡ t
+        → fitsLent edition1 (decoded words .rec) (word words 0 * word words 1) (word words 2) ≡ inRange edition1 (decoded words .rec)
+    turn true f =
+        subst (λ (d : Decoded). fitsLent edition1 (d .rec) (word words 0 * word words 1) (word words 2) ≡ inRange edition1 (d .rec))
+        (sym (decoded-record words f)) (own-tested (recordIn words))
+    turn false f = none-unfit edition1 words (word words 0 * word words 1) (word words 2) f ∙ sym (none-range words f)
+
+module _ (words : List ℕ) where
+  refused-fewest : inRange edition1 (decoded words .rec) ≡ false → FewestCrossed words 0 4
+  unfolding slotTold
+  refused-fewest e =
+      record {
+        fewest = record { answer = FewestAnswer.Refused BadRecord; rec = decoded words .rec };
+        promised = refused-promise edition1 (decoded words .rec) e;
+        numbered = refl;
+        slot-told = refl;
+      }
+
+  pub fewest-few : length words < recordWords → FewestCrossed words 0 4
+  fewest-few h = refused-fewest (none-range words (too-short words h))
+
+  -- t is what the code finds for the range
+  module _ {t : Bool} (tested : t ≡ fitsLent edition1 (decoded words .rec) (word words 0 * word words 1) (word words 2)) where
+    pub fewest-bad : not t ≡ true → FewestCrossed words 0 4
+    fewest-bad e = refused-fewest (sym (tested ∙ words-range words) ∙ not-true t e)
+
+    module _ (passed : not t ≡ false) where
+      in-range : inRange edition1 (decoded words .rec) ≡ true
+      in-range = sym (tested ∙ words-range words) ∙ not-false t passed
+
+      said : decoded words ≡ record { ok = true; rec = recordIn words }
+      said = fits-decoded edition1 words (word words 0 * word words 1) (word words 2) (sym tested ∙ not-false t passed)
+
+      pub fewest-counts : length (countsIn words) ≡ 32
+      fewest-counts = counts-long words (fits-record edition1 words (word words 0 * word words 1) (word words 2) (sym tested ∙ not-false t passed))
+
+      pub fewest-lent : Lent edition1 (recordIn words) (word words 0 * word words 1) (word words 2)
+      fewest-lent =
+          lent edition1 (recordIn words) (word words 0 * word words 1) (word words 2)
+          (ap (λ (d : Decoded). fitsLent edition1 (d .rec) (word words 0 * word words 1) (word words 2)) (sym said) ∙ sym tested ∙ not-false t passed)
+
+      pub fewest-told : {slot : ℕ} → slot ≡ fewestSlot (recordIn words) → FewestCrossed words slot 0
+      unfolding slotTold
+      fewest-told {slot} e =
+          record {
+            fewest = record { answer = FewestAnswer.Slot slot; rec = decoded words .rec };
+            promised = told-promise edition1 (decoded words .rec) slot in-range (e ∙ ap (λ (d : Decoded). fewestSlot (d .rec)) (sym said));
+            numbered = refl;
+            slot-told = refl;
+          }

@@ -2,12 +2,12 @@
 // The reads, the start of a write and the step go by the record's words as they are; the others decode the record from them, make the
 // call, and encode what it hands back. Nothing is required of the caller's values: words that are no record are refused with 4. The
 // answer is 0 or the refusal's number.
+use fullness::fewest_slot;
 use index::search::search;
 use position::from_float;
 use position::hand_over;
 use position::to_float;
 use record::Expected;
-use record::FewestAnswer;
 use record::FormatAnswer;
 use record::JoinAnswer;
 use record::ReadAnswer;
@@ -28,10 +28,11 @@ use segment::layout::object_kind;
 use starting::Check;
 use store::clean;
 use store::delete;
-use store::fewest_present;
 use store::format;
 use store::join;
 use store::recover;
+use words::CELLS;
+use words::COUNTS;
 use words::SIZE;
 use words::WORDS;
 use words::decode;
@@ -376,23 +377,22 @@ pub extern "C" fn kurdavel_clean(
     hand_back(words, decoded.ok, start, stores)
 }
 
-// The slot of the log with the fewest present bytes, by the record alone; 0 where it is refused.
+// The slot of the log with the fewest present bytes, by the record alone; 0 where it is refused. No lengths are lent, so that those
+// stand in for them which the record itself says.
 #[no_mangle]
 pub extern "C" fn kurdavel_fewest(words: &[u32], slot: &mut u32) -> u32
     ensures { λ r. ⌜ FewestCrossed (now (words .entry)) (now (slot .exit)) r ⌝ }
 {
     *slot = 0;
-    let decoded = decode(words);
-    let rec = decoded.rec;
-    let fewest = fewest_present(rec);
-    let answer = fewest.answer;
-    match answer {
-        FewestAnswer::Refused(cause) => number(cause),
-        FewestAnswer::Slot(found) => {
-            *slot = found;
-            0
-        }
+    if words.len() < WORDS {
+        return 4;
     }
+    let area = words[0] as usize * words[SIZE] as usize;
+    if !fits(words, area, words[CELLS] as usize) {
+        return 4;
+    }
+    *slot = fewest_slot(words[0], words[3], words[6], &words[COUNTS..WORDS]);
+    0
 }
 
 // Which two slots to join; both are 0 where it is refused.

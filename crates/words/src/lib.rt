@@ -34,7 +34,7 @@ pub const CELLS: usize = 2;
 pub const LEFT: usize = 16;
 
 // The word of the first count.
-const COUNTS: usize = 17;
+pub const COUNTS: usize = 17;
 
 // Whether words are a record, and the record; the blank one where they are not.
 pub struct Decoded {
