@@ -22,7 +22,7 @@ pub enum Operation<'a> {
     /// A write of a value.
     Write(u32, &'a [u8]),
     /// A write of a value under a key that has this version.
-    WriteExpecting(u32, u32, &'a [u8]),
+    WriteExpecting(u32, reference::Version, &'a [u8]),
     /// A delete.
     Delete(u32),
     /// A cleaning of a map of victims.
@@ -56,8 +56,8 @@ pub fn start(
             reference::write(record, area, index, work, ALL, reference_key(key), value)
         }
         Operation::WriteExpecting(key, version, value) => {
-            let (key, expected) = (reference_key(key), reference::Version(version));
-            reference::write_expecting(record, area, index, work, ALL, key, expected, value)
+            let key = reference_key(key);
+            reference::write_expecting(record, area, index, work, ALL, key, version, value)
         }
         Operation::Delete(key) => {
             reference::delete(record, area, index, work, ALL, reference_key(key))
@@ -104,10 +104,10 @@ impl Store {
     }
 
     /// The version of a present key.
-    pub fn version(&self, key: u32) -> u32 {
+    pub fn version(&self, key: u32) -> reference::Version {
         let (area, index) = (&self.area, &self.index);
         let found = reference::read(&self.reference, area, index, ALL, reference_key(key));
-        found.expect("a present key").version.0
+        found.expect("a present key").version
     }
 
     /// Starts an operation of the proved store, whose own record stays.
@@ -120,7 +120,7 @@ impl Store {
                 record.write(area, index, work, PROVED_ALL, proved_key(key), value)
             }
             Operation::WriteExpecting(key, version, value) => {
-                let (key, expected) = (proved_key(key), kurdavel::Version(version));
+                let (key, expected) = (proved_key(key), kurdavel::Version(version.0 as u32));
                 record.write_expecting(area, index, work, PROVED_ALL, key, expected, value)
             }
             Operation::Delete(key) => record.delete(area, index, work, PROVED_ALL, proved_key(key)),

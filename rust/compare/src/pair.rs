@@ -17,7 +17,7 @@ const LOST_CELL: u32 = 0xDEAD_BEEF;
 const LOST_BYTE: u8 = 0x5A;
 
 /// What a read tells: version and kind, or the refusal.
-pub type Told = Result<(u32, u8), u32>;
+pub type Told = Result<(u64, u8), u32>;
 
 /// One implementation's memory.
 #[derive(Clone, Debug)]
@@ -53,7 +53,7 @@ impl Memory {
         let answer = match operation {
             Operation::Write(key, value) => {
                 let key = translate::key(*key);
-                match given.expected.map(|version| kurdavel::Version(version.0)) {
+                match given.expected.map(translate::version) {
                     None => record.write(area, index, work, tables, key, value),
                     Some(expected) => {
                         record.write_expecting(area, index, work, tables, key, expected, value)
@@ -362,7 +362,7 @@ impl Pair {
     }
 
     /// Makes one step on both, which stores what was told before.
-    pub fn step(&mut self) -> Result<Result<(u32, u32), u32>, Fault> {
+    pub fn step(&mut self) -> Result<Result<(u32, u64), u32>, Fault> {
         let told = self.next_store()?;
         let (mut record, before) = self.records.expect("an accepted recovery came before");
         let Memory { area, index, work } = &mut self.proved;
@@ -446,13 +446,9 @@ impl Pair {
         let owed_found = reference::read(&owed, area, index, tables, key);
         let owed_value = reference::read_value(&owed, area, index, tables, key);
         let owed_place = owed_value.as_ptr() as usize - area.as_ptr() as usize;
-        let found = translate::proved(found.map(|found| (found.version.0, found.kind)));
-        let owed_found = owed_found.map(|found| (found.version.0, found.kind));
-        same!(
-            format!("read of {key:?}"),
-            found,
-            translate::reference(owed_found)
-        );
+        let found = translate::proved(found.map(translate::proved_found));
+        let owed_found = translate::reference(owed_found.map(translate::reference_found));
+        same!(format!("read of {key:?}"), found, owed_found);
         same!(format!("value of {key:?}"), value, owed_value);
         same!(format!("place of {key:?}"), place, owed_place);
         Ok((found, value))
@@ -470,11 +466,11 @@ pub fn scan(
     let lent = Guarded::new(area, 5);
     let (proved_tables, proved_key) = (translate::tables(tables), translate::key(key));
     let told = kurdavel::scan_read(slots, slot_bytes, &lent, proved_tables, proved_key);
-    let told = translate::proved(told.map(|found| (found.version.0, found.kind)));
+    let told = translate::proved(told.map(translate::proved_found));
     let part = kurdavel::scan_read_value(slots, slot_bytes, &lent, proved_tables, proved_key);
     let part = (part.as_ptr() as usize - lent.as_ptr() as usize, part.len());
     let owed = reference::scan_read(slots, slot_bytes, area, tables, key);
-    let owed = translate::reference(owed.map(|found| (found.version.0, found.kind)));
+    let owed = translate::reference(owed.map(translate::reference_found));
     same!(format!("scan for {key:?}"), told, owed);
     let owed = reference::scan_read_value(slots, slot_bytes, area, tables, key);
     let owed = (owed.as_ptr() as usize - area.as_ptr() as usize, owed.len());

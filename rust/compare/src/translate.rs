@@ -18,9 +18,23 @@ pub fn tables(tables: reference::Tables) -> kurdavel::Tables {
     }
 }
 
-/// The record's words.
+/// The word that is 0 in every record of the library, in which its fields have versions of 32 bits: it is for the
+/// next version's high half.
+const NEXT_HIGH: usize = 8;
+
+/// The wrapper's version. No key has one above 32 bits, nor the highest of 32, which stands for all of them.
+pub fn version(version: reference::Version) -> kurdavel::Version {
+    kurdavel::Version(u32::try_from(version.0).unwrap_or(u32::MAX))
+}
+
+/// A version that the wrapper tells.
+pub fn told_version(version: kurdavel::Version) -> u64 {
+    version.0.into()
+}
+
+/// The record's words. Those of a next version above 32 bits are no record's.
 pub fn record(record: reference::Record) -> Record {
-    Record::of(Fields {
+    let fields = Fields {
         slots: record.slots,
         slot_bytes: record.slot_bytes,
         cells: record.cells,
@@ -28,11 +42,14 @@ pub fn record(record: reference::Record) -> Record {
         end: record.end,
         digest: kurdavel::DigestNumber(record.digest.0),
         map: kurdavel::SlotMap(record.map.0),
-        next: kurdavel::Version(record.next.0),
+        next: kurdavel::Version(record.next.0 as u32),
         keys: record.keys,
         pending: pending(record.pending),
         present_bytes: record.present_bytes,
-    })
+    };
+    let mut words = *Record::of(fields).words();
+    words[NEXT_HIGH] = (record.next.0 >> 32) as u32;
+    Record::from_words(words)
 }
 
 fn pending(pending: reference::Pending) -> Pending {
@@ -77,16 +94,26 @@ pub fn reference<T>(answer: Result<T, reference::Refusal>) -> Result<T, u32> {
     answer.map_err(reference::Refusal::number)
 }
 
+/// Version and kind that the wrapper tells.
+pub fn proved_found(found: kurdavel::Found) -> (u64, u8) {
+    (told_version(found.version), found.kind)
+}
+
+/// Version and kind that the reference tells.
+pub fn reference_found(found: reference::Found) -> (u64, u8) {
+    (found.version.0, found.kind)
+}
+
 /// Stores left and version of the wrapper's step.
-pub fn proved_progress(progress: kurdavel::Progress) -> (u32, u32) {
+pub fn proved_progress(progress: kurdavel::Progress) -> (u32, u64) {
     match progress {
         kurdavel::Progress::More { left } => (left, 0),
-        kurdavel::Progress::Done { version } => (0, version.0),
+        kurdavel::Progress::Done { version } => (0, told_version(version)),
     }
 }
 
 /// Stores left and version of the reference's step.
-pub fn reference_progress(progress: reference::Progress) -> (u32, u32) {
+pub fn reference_progress(progress: reference::Progress) -> (u32, u64) {
     match progress {
         reference::Progress::More { left } => (left, 0),
         reference::Progress::Done { version } => (0, version.0),

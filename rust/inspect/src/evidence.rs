@@ -34,7 +34,7 @@ impl Range {
 pub struct Known {
     record: Record,
     /// The next version in the head's digest; no older digest has a higher one.
-    head_next: u32,
+    head_next: u64,
     /// Whether the slot of the next head was in the log since the format.
     pub is_reused: bool,
 }
@@ -118,10 +118,10 @@ fn is_finished(plan: &Plan, before: &[u8], after: &[u8], differing: usize) -> bo
 struct Field {
     offset: usize,
     number: u32,
-    bound: u32,
+    bound: u64,
 }
 
-fn field(bytes: &[u8], offset: usize, bound: u32) -> Option<Field> {
+fn field(bytes: &[u8], offset: usize, bound: u64) -> Option<Field> {
     let number = u32::from_le_bytes(*bytes.get(offset..)?.first_chunk()?);
     Some(Field {
         offset,
@@ -141,7 +141,7 @@ fn tail_fields(plan: &Plan, known: Known) -> Vec<Field> {
 
 /// A new head has the next digest number, and its next version may be above that of every older digest.
 fn new_head_fields(plan: &Plan, known: Known) -> Vec<Field> {
-    let number = field(&plan.bytes, NUMBER, known.record.digest.0);
+    let number = field(&plan.bytes, NUMBER, known.record.digest.0.into());
     let next = field(&plan.bytes, NEXT, known.head_next);
     number.into_iter().chain(next).collect()
 }
@@ -151,13 +151,13 @@ const ERASED: u32 = u32::MAX;
 
 /// How many low bytes of a number must have been stored, if what stood there before was no higher than the bound, or
 /// erased memory: the fewest over all such numbers. None if the number can have stood there itself.
-fn new_bytes(number: u32, bound: u32) -> Option<usize> {
+fn new_bytes(number: u32, bound: u64) -> Option<usize> {
     let above = |count: u32| {
         number
             .checked_shr(8 * count)
             .map_or(0, |high| high << (8 * count))
     };
-    let over_numbers = (0..=4).find(|&count| above(count) <= bound)?;
+    let over_numbers = (0..=4).find(|&count| u64::from(above(count)) <= bound)?;
     let over_erased = 4 - (number ^ ERASED).leading_zeros() / 8;
     let fewest = over_numbers.min(over_erased);
     (fewest > 0).then_some(fewest as usize)
@@ -181,7 +181,8 @@ mod tests {
         for number in numbers.into_iter().chain([ERASED, ERASED - 1, 0xFFFF_FF00]) {
             for bound in bounds {
                 let expected = tried(number, bound);
-                assert_eq!(new_bytes(number, bound), expected, "{number} {bound}");
+                let told = new_bytes(number, bound.into());
+                assert_eq!(told, expected, "{number} {bound}");
             }
         }
         assert_eq!(new_bytes(0x0100_0000, 0x00FF_FFFF), Some(4));

@@ -88,7 +88,7 @@ pub(crate) fn forget<R: Rules>(
     if !R::NO_TOMBSTONE_OF_FORGOTTEN {
         choice.keep_needed_tombstones(record, area, index, victims)?;
     }
-    let taken = u32::from(!R::FORGOTTEN_VERSION_NOT_IN_DIGEST);
+    let taken = u64::from(!R::FORGOTTEN_VERSION_NOT_IN_DIGEST);
     let next = Version(record.next.0 + taken);
     lay_digest(record, work, slot, victims, next);
     let length = copy_kept(record, area, work, victims, &choice)?;

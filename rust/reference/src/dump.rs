@@ -2,6 +2,7 @@
 
 use std::fmt::Write;
 
+use crate::counters::Version;
 use crate::layout::CELLS;
 use crate::record::Record;
 use crate::recovery::recover;
@@ -31,7 +32,7 @@ fn describe(input: &[u8]) -> Result<String, Refusal> {
         record.digest.0,
         present.len()
     );
-    for (key, version, kind) in present {
+    for (key, Version(version), kind) in present {
         let Key { table, key } = key;
         // Writing to a string does not fail.
         let _ = writeln!(lines, "{table} {key} {version} {kind}");
@@ -40,15 +41,15 @@ fn describe(input: &[u8]) -> Result<String, Refusal> {
 }
 
 /// Key, version and kind of each present key, by table and key.
-fn present_keys(record: &Record, area: &[u8], index: &[u32]) -> Vec<(Key, u32, u8)> {
-    let mut present: Vec<(Key, u32, u8)> = index
+fn present_keys(record: &Record, area: &[u8], index: &[u32]) -> Vec<(Key, Version, u8)> {
+    let mut present: Vec<(Key, Version, u8)> = index
         .iter()
         .filter(|&&mark| mark != 0)
         .filter_map(|&mark| area.get(mark as usize - 1..)?.first_chunk())
         .filter_map(|entry: &[u8; TOMBSTONE_BYTES]| {
             let key = Key::of_entry(entry);
             let found = crate::read::read(record, area, index, Tables::ALL, key).ok()?;
-            Some((key, found.version.0, found.kind))
+            Some((key, found.version, found.kind))
         })
         .collect();
     present.sort_unstable();

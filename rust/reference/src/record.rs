@@ -80,8 +80,10 @@ impl Pending {
     }
 }
 
-/// What the calls know of the store besides its area and index.
+/// What the calls know of the store besides its area and index. In memory the fields lie in this
+/// order: the present bytes, of which every test of range reads all, last and on their own.
 #[derive(Clone, Copy, PartialEq, Eq, Hash, Debug)]
+#[repr(C)]
 pub struct Record {
     /// Number of slots (N).
     pub slots: u32,
@@ -121,7 +123,7 @@ impl Record {
             && self.end >= DIGEST_BYTES as u32
             && self.end <= self.slot_bytes
             && self.digest.0 != 0
-            && self.next.0 != 0
+            && self.next.is_next_version()
             && self.keys < self.cells
             && self.is_pending_in_range()
             && self.are_present_bytes_in_range()
@@ -201,6 +203,16 @@ impl Record {
             return Err(Refusal::Pending);
         }
         Ok(())
+    }
+
+    /// The next version once the one that is next now is given; 4 if none is left to give, which no
+    /// start overlooks.
+    #[inline]
+    pub(crate) fn next_after(&self) -> Result<Version, Refusal> {
+        if self.next == Version::SPENT {
+            return Err(Refusal::Record);
+        }
+        Ok(Version(self.next.0 + 1))
     }
 
     /// How many slots are outside the log.

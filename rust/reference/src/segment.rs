@@ -57,7 +57,7 @@ impl Key {
 #[inline]
 pub(crate) fn version_of_entry(entry: &[u8; TOMBSTONE_BYTES]) -> Version {
     let [.., v0, v1, v2, v3] = *entry;
-    Version(u32::from_le_bytes([v0, v1, v2, v3]))
+    Version::of_stored([v0, v1, v2, v3])
 }
 
 /// The kind of an object with a value of this length, if there is one.
@@ -155,7 +155,7 @@ pub fn read_entry(segment: &[u8], offset: usize) -> Entry {
 pub(crate) fn lay_entry(out: &mut [u8], kind: u8, key: Key, version: Version, value: &[u8]) {
     out[0] = kind;
     out[1..7].copy_from_slice(&key.stored());
-    out[7..TOMBSTONE_BYTES].copy_from_slice(&version.0.to_le_bytes());
+    out[7..TOMBSTONE_BYTES].copy_from_slice(&version.stored());
     out[TOMBSTONE_BYTES..].copy_from_slice(value);
 }
 
@@ -178,7 +178,7 @@ impl Digest {
         (kind == DIGEST).then_some(Digest {
             number: DigestNumber(u32::from_le_bytes([n0, n1, n2, n3])),
             map: SlotMap(u32::from_le_bytes([m0, m1, m2, m3])),
-            next: Version(u32::from_le_bytes([v0, v1, v2, v3])),
+            next: Version::of_stored([v0, v1, v2, v3]),
         })
     }
 
@@ -187,7 +187,7 @@ impl Digest {
         let mut bytes = [DIGEST; DIGEST_BYTES];
         bytes[1..5].copy_from_slice(&self.number.0.to_le_bytes());
         bytes[5..9].copy_from_slice(&self.map.0.to_le_bytes());
-        bytes[9..].copy_from_slice(&self.next.0.to_le_bytes());
+        bytes[9..].copy_from_slice(&self.next.stored());
         bytes
     }
 }

@@ -34,6 +34,15 @@ pub enum Progress {
 }
 
 impl Progress {
+    /// The progress with so many stores left, and this version if there are none.
+    #[inline]
+    fn of(left: u32, version: Version) -> Progress {
+        match left {
+            0 => Progress::Done { version },
+            _ => Progress::More { left },
+        }
+    }
+
     /// Stores left; 0 once the operation counts.
     #[inline]
     pub fn left(self) -> u32 {
@@ -161,38 +170,54 @@ pub fn step_by<R: Rules>(
     index: &mut [u32],
     work: &[u8],
 ) -> Stepped {
-    let answer = step_kept_by::<R>(&mut record, area, index, work);
-    (record, answer)
+    let mut version = Version::NONE;
+    let left = make_store::<R>(&mut record, area, index, work, &mut version);
+    (record, left.map(|left| Progress::of(left, version)))
 }
 
-/// [`step`] on a record that the caller keeps.
+/// [`step`] on a record that the caller keeps. Inlined, so that the progress is put together where
+/// it is looked at.
+#[inline]
 pub fn step_kept(
     record: &mut Record,
     area: &mut [u8],
     index: &mut [u32],
     work: &[u8],
 ) -> Result<Progress, Refusal> {
-    step_kept_by::<AsWritten>(record, area, index, work)
+    let mut version = Version::NONE;
+    let left = make_store_as_written(record, area, index, work, &mut version)?;
+    Ok(Progress::of(left, version))
 }
 
-#[inline]
-fn step_kept_by<R: Rules>(
+fn make_store_as_written(
     record: &mut Record,
     area: &mut [u8],
     index: &mut [u32],
     work: &[u8],
-) -> Result<Progress, Refusal> {
+    version: &mut Version,
+) -> Result<u32, Refusal> {
+    make_store::<AsWritten>(record, area, index, work, version)
+}
+
+/// Makes one store and gives the stores left; puts the version down with the last one.
+#[inline(always)]
+fn make_store<R: Rules>(
+    record: &mut Record,
+    area: &mut [u8],
+    index: &mut [u32],
+    work: &[u8],
+    version: &mut Version,
+) -> Result<u32, Refusal> {
     record.check(area, index)?;
     let store = coming_store::<R>(record, area, work)?;
     area[store.place] = store.byte;
     let left = record.pending.left() - 1;
     if left > 0 {
         record.pending.set_left(left);
-        return Ok(Progress::More { left });
+    } else {
+        (*record, *version) = finish::<R>(record, area, index, work)?;
     }
-    let (after, version) = finish::<R>(record, area, index, work)?;
-    *record = after;
-    Ok(Progress::Done { version })
+    Ok(left)
 }
 
 /// Record, index and version after the last store. Refuses with 4 only if record, index
@@ -233,9 +258,9 @@ fn finish<R: Rules>(
             victims,
             ..
         } => {
-            let next = record.next.0.checked_add(1).ok_or(Refusal::Record)?;
+            let next = record.next_after()?;
             let mut after = finish_cleaning(record, area, index, slot, length, victims)?;
-            after.next = Version(next);
+            after.next = next;
             Ok((after, record.next))
         }
     }
@@ -276,10 +301,10 @@ fn finish_entry<R: Rules>(
     place: usize,
 ) -> Result<(Record, Version), Refusal> {
     let leading = entry.first_chunk().ok_or(Refusal::Record)?;
-    let next = record.next.0.checked_add(1).ok_or(Refusal::Record)?;
+    let next = record.next_after()?;
     let entered = point_to(area, index, Key::of_entry(leading), place)?;
     let mut after = Record {
-        next: Version(next),
+        next,
         keys: record.keys + u32::from(entered == Entered::New),
         pending: Pending::None,
         ..record

@@ -13,10 +13,10 @@ const FILTER_BITS: u32 = 8192;
 const SUSPECTS: usize = 180;
 const MARK_BITS: u32 = 2048;
 
-/// The filter and the suspects gathered so far; with [`Marks`], under 2 KiB in all.
+/// The filter and the suspects gathered so far; with [`Marks`], under 3 KiB in all.
 pub(crate) struct Filter {
     seen: [u32; (FILTER_BITS / 32) as usize],
-    suspects: [u32; SUSPECTS],
+    suspects: [Version; SUSPECTS],
     count: usize,
     overflowed: bool,
 }
@@ -25,7 +25,7 @@ impl Filter {
     pub(crate) fn new() -> Filter {
         Filter {
             seen: [0; (FILTER_BITS / 32) as usize],
-            suspects: [0; SUSPECTS],
+            suspects: [Version::NONE; SUSPECTS],
             count: 0,
             overflowed: false,
         }
@@ -34,7 +34,7 @@ impl Filter {
     /// Takes note of the version of one entry.
     #[inline]
     pub(crate) fn note(&mut self, version: Version) {
-        let bit = version.0 % FILTER_BITS;
+        let bit = version.0 as u32 % FILTER_BITS;
         let word = &mut self.seen[(bit / 32) as usize];
         let mask = 1 << (bit % 32);
         let is_suspect = *word & mask != 0;
@@ -48,7 +48,7 @@ impl Filter {
     fn suspect(&mut self, version: Version) {
         match self.suspects.get_mut(self.count) {
             Some(free) => {
-                *free = version.0;
+                *free = version;
                 self.count += 1;
             }
             None => self.overflowed = true,
@@ -116,7 +116,7 @@ impl Filter {
         let marks = Marks::of(suspects);
         let mut entries = 0;
         walk(area, slot_bytes, slots, Refusal::Entry, |_, fields| {
-            let version = fields.version.0;
+            let version = fields.version;
             if marks.may_have(version) && suspects.binary_search(&version).is_ok() {
                 entries += 1;
             }
@@ -133,7 +133,7 @@ impl Filter {
 struct Marks([u32; (MARK_BITS / 32) as usize]);
 
 impl Marks {
-    fn of(versions: &[u32]) -> Marks {
+    fn of(versions: &[Version]) -> Marks {
         let mut marks = Marks([0; (MARK_BITS / 32) as usize]);
         for &version in versions {
             let (word, mask) = Marks::bit(version);
@@ -143,13 +143,14 @@ impl Marks {
     }
 
     #[inline]
-    fn bit(version: u32) -> (usize, u32) {
-        let number = version.wrapping_mul(0x9E37_79B1) / (u32::MAX / MARK_BITS + 1);
+    fn bit(version: Version) -> (usize, u32) {
+        let folded = (version.0 ^ version.0 >> 32) as u32;
+        let number = folded.wrapping_mul(0x9E37_79B1) / (u32::MAX / MARK_BITS + 1);
         ((number / 32) as usize, 1 << (number % 32))
     }
 
     #[inline]
-    fn may_have(&self, version: u32) -> bool {
+    fn may_have(&self, version: Version) -> bool {
         let (word, mask) = Marks::bit(version);
         self.0[word] & mask != 0
     }

@@ -4,8 +4,8 @@ use kurdavel::{DigestNumber, Fields, Key, Pending, Refusal, SlotMap, Tables, Ver
 
 use super::event::{Field, Geometry, Record};
 use super::subject::{
-    narrow_expected, part_of, present_of, range_of, without_edition, Answer, Asked, Memory, No,
-    Progress, Start, Subject,
+    part_of, present_of, range_of, without_edition, Answer, Asked, Memory, No, Progress, Start,
+    Subject,
 };
 
 /// The static library.
@@ -14,6 +14,12 @@ pub struct Library;
 
 fn refused(refusal: Refusal) -> No {
     No::Refused(refusal.number())
+}
+
+/// A version as the implementation has it: of 32 bits.
+fn narrow(version: u64) -> Answer<Version> {
+    let narrow = u32::try_from(version).map_err(|_| No::Missing("versions of 64 bits"))?;
+    Ok(Version(narrow))
 }
 
 /// Tables and key, as the implementation takes them.
@@ -50,7 +56,7 @@ impl Subject for Library {
         let stores = match start {
             Start::Write(writing) => {
                 let ((tables, key), value) = (of(writing.asked), writing.value);
-                match narrow_expected(writing)?.map(Version) {
+                match writing.expected.map(narrow).transpose()? {
                     None => record.write(area, index, work, tables, key, value),
                     Some(expected) => {
                         record.write_expecting(area, index, work, tables, key, expected, value)
@@ -158,7 +164,7 @@ impl Subject for Library {
 }
 
 fn change(fields: &mut Fields, field: Field, value: u64) -> Answer<()> {
-    let number = u32::try_from(value).map_err(|_| No::Missing("a record with wide versions"))?;
+    let number = value as u32;
     match field {
         Field::Slots => fields.slots = number,
         Field::SlotBytes => fields.slot_bytes = number,
@@ -167,7 +173,7 @@ fn change(fields: &mut Fields, field: Field, value: u64) -> Answer<()> {
         Field::End => fields.end = number,
         Field::Number => fields.digest = DigestNumber(number),
         Field::Map => fields.map = SlotMap(number),
-        Field::Next => fields.next = Version(number),
+        Field::Next => fields.next = narrow(value)?,
         Field::Keys => fields.keys = number,
         Field::Left => fields.pending = with_left(fields.pending, number),
         Field::Edition => return Err(No::Missing("a record with an edition")),

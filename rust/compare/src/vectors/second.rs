@@ -4,8 +4,8 @@ use reference::{DigestNumber, Key, Pending, Refusal, SlotMap, Tables, Version};
 
 use super::event::{Field, Geometry, Record};
 use super::subject::{
-    narrow_expected, part_of, present_of, range_of, without_edition, Answer, Asked, Memory, No,
-    Progress, Start, Subject,
+    part_of, present_of, range_of, without_edition, Answer, Asked, Memory, No, Progress, Start,
+    Subject,
 };
 
 /// The reference.
@@ -50,7 +50,7 @@ impl Subject for Second {
         let (after, stores) = match start {
             Start::Write(writing) => {
                 let ((tables, key), value) = (of(writing.asked), writing.value);
-                match narrow_expected(writing)?.map(Version) {
+                match writing.expected.map(Version) {
                     None => reference::write(*record, area, index, work, tables, key, value),
                     Some(expected) => reference::write_expecting(
                         *record, area, index, work, tables, key, expected, value,
@@ -73,7 +73,7 @@ impl Subject for Second {
         *record = after;
         match progress.map_err(refused)? {
             reference::Progress::More { left } => Ok(Progress::More(left)),
-            reference::Progress::Done { version } => Ok(Progress::Done(version.0.into())),
+            reference::Progress::Done { version } => Ok(Progress::Done(version.0)),
         }
     }
 
@@ -86,7 +86,7 @@ impl Subject for Second {
         let (tables, key) = of(asked);
         let found = reference::read(record, &memory.area, &memory.index, tables, key);
         let found = found.map_err(refused)?;
-        Ok((found.version.0.into(), found.kind.into()))
+        Ok((found.version.0, found.kind.into()))
     }
 
     fn read_value(
@@ -116,7 +116,7 @@ impl Subject for Second {
         ) = (of(asked), geometry);
         let found = reference::scan_read(slots, slot_bytes, area, tables, key);
         let found = found.map_err(refused)?;
-        Ok((found.version.0.into(), found.kind.into()))
+        Ok((found.version.0, found.kind.into()))
     }
 
     fn scan_read_value(geometry: Geometry, area: &[u8], asked: Asked) -> Answer<(usize, usize)> {
@@ -147,7 +147,7 @@ impl Subject for Second {
             end: record.end,
             number: record.digest.0,
             map: record.map.0,
-            next: record.next.0.into(),
+            next: record.next.0,
             keys: record.keys,
             left: (record.pending != Pending::None).then_some(record.pending.left()),
             present_bytes: Some(present_of(record.slots, &record.present_bytes)),
@@ -158,8 +158,7 @@ impl Subject for Second {
 
     fn forged(record: &reference::Record, field: Field, value: u64) -> Answer<reference::Record> {
         let mut record = *record;
-        let number =
-            u32::try_from(value).map_err(|_| No::Missing("a record with wide versions"))?;
+        let number = value as u32;
         match field {
             Field::Slots => record.slots = number,
             Field::SlotBytes => record.slot_bytes = number,
@@ -168,7 +167,7 @@ impl Subject for Second {
             Field::End => record.end = number,
             Field::Number => record.digest = DigestNumber(number),
             Field::Map => record.map = SlotMap(number),
-            Field::Next => record.next = Version(number),
+            Field::Next => record.next = Version(value),
             Field::Keys => record.keys = number,
             Field::Left => record.pending = with_left(record.pending, number),
             Field::Edition => return Err(No::Missing("a record with an edition")),

@@ -144,12 +144,6 @@ pub fn range_of(asked: Asked) -> Range {
     })
 }
 
-/// Refuses an expected version that is too wide for an implementation with versions of 32 bits.
-pub fn narrow_expected(writing: Writing<'_>) -> Answer<Option<u32>> {
-    let narrow = |version: u64| u32::try_from(version).map_err(|_| No::Missing("wide versions"));
-    writing.expected.map(narrow).transpose()
-}
-
 /// Refuses an edition for an implementation that takes none.
 pub fn without_edition(geometry: Geometry) -> Answer<(u32, u32)> {
     match geometry.edition {

@@ -33,7 +33,8 @@ fn try_all(pair: &Pair, tally: &mut Tally) -> Result<(), Fault> {
     let near = next.saturating_sub(4)..=next;
     let numbers = (0..6)
         .chain(near)
-        .chain([u32::MAX / 2, u32::MAX - 1, u32::MAX]);
+        .chain([u64::from(u32::MAX) / 2, u64::MAX - 1])
+        .chain([Version::LAST.0, Version::SPENT.0, 1 << 32]);
     for (expected, key) in numbers.flat_map(|number| [A, B, NEVER].map(|key| (number, key))) {
         for bytes in [7, 8, 24, 56, 120] {
             let write = Operation::Write(key, vec![3; bytes]);

@@ -41,8 +41,8 @@ fn check_present(image: &Image, report: &Report, record: &kurdavel::Record, inde
     for entry in &report.entries {
         let key = translate::key(entry.fields.key);
         let found = record.read(&image.area, index, Tables::ALL, key);
-        let told = found.map(|found| (found.version.0, u32::from(found.kind)));
-        let fields = (entry.fields.version.0, u32::from(entry.fields.kind));
+        let told = found.map(translate::proved_found);
+        let fields = (entry.fields.version.0, entry.fields.kind);
         if is_present(entry.reason) {
             assert_eq!(told, Ok(fields));
             let value = record.read_value(&image.area, index, Tables::ALL, key);

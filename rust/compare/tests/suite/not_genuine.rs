@@ -57,7 +57,8 @@ impl Lent {
             1 => self.record.map.0 & rng.bits() as u32,
             _ => rng.bits() as u32,
         });
-        let expected = kurdavel::Version(*rng.pick(&[0, 1, self.record.next.0, u32::MAX]));
+        let expected = *rng.pick(&[0, 1, self.record.next.0, u32::MAX.into()]);
+        let expected = translate::version(reference::Version(expected));
         let starts = [
             records[0].write(area, index, work, tables, key, &value),
             records[1].write_expecting(area, index, work, tables, key, expected, &value),

@@ -27,7 +27,7 @@ impl Run {
         pair.age(9, &next.to_le_bytes());
         pair.must_recover(&pair.ascending())?;
         let mut book = Book::new();
-        book.next = Version(next);
+        book.next = Version(next.into());
         Ok(Run { pair, book })
     }
 
@@ -38,7 +38,7 @@ impl Run {
         Ok(answer)
     }
 
-    fn step(&mut self) -> Result<Result<(u32, u32), u32>, Fault> {
+    fn step(&mut self) -> Result<Result<(u32, u64), u32>, Fault> {
         let answer = self.pair.step()?;
         self.book.feed(&Event::Step(answer.is_ok()));
         Ok(answer)

@@ -97,7 +97,7 @@ fn check_present(image: &Image, report: &Report) {
     let mut input = vec![image.slots as u8];
     input.extend((image.slot_bytes as u16).to_le_bytes());
     input.extend(&image.area);
-    let mut present: Vec<(u16, u32, u32, u8)> = report
+    let mut present: Vec<(u16, u32, u64, u8)> = report
         .entries
         .iter()
         .filter(|entry| entry.reason == Reason::Present)

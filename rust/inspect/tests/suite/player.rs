@@ -120,14 +120,14 @@ impl Player {
             (Doubt::CutShort, Site::Tail) => self.cut_since_version,
             (Doubt::CutShort, Site::NewHead) => self.cut_since_head,
             (Doubt::ByChance, _) => {
-                let version = self.record.next.0.to_le_bytes();
+                let version = (self.record.next.0 as u32).to_le_bytes();
                 under.before.area[at + 7..at + 11] == version
             }
             (Doubt::BeforeFormat, _) => {
                 let held = |offset: usize, number: u32| {
                     self.original[at + offset..at + offset + 4] == number.to_le_bytes()
                 };
-                let next = self.record.next.0;
+                let next = self.record.next.0 as u32;
                 held(1, self.record.digest.0 + 1) || held(9, next) || held(9, next.wrapping_add(1))
             }
         }
@@ -230,7 +230,7 @@ impl Player {
     }
 
     /// Version, kind and value of a key that a read finds.
-    pub fn read(&self, key: Key) -> Option<(u32, u8, Vec<u8>)> {
+    pub fn read(&self, key: Key) -> Option<(u64, u8, Vec<u8>)> {
         let (area, index) = (&self.image.area, &self.index);
         let found = read(&self.record, area, index, Tables::ALL, key).ok()?;
         let value = read_value(&self.record, area, index, Tables::ALL, key);

@@ -105,18 +105,19 @@ pub fn tables(rng: &mut Rng, table: u16) -> Tables {
 }
 
 /// What a write expects of a key with this version: nothing, the version itself, absence, or
-/// another number, such as that of an older entry or of the next one.
+/// another number, such as that of an older entry or of the next one, or one that differs in its
+/// high half alone.
 fn expected(rng: &mut Rng, version: Version, next: Version) -> Option<Version> {
     match rng.below(12) {
         0..=5 => None,
         6..=8 => Some(version),
         9 => Some(Version::NONE),
-        10 => Some(Version(next.0.wrapping_sub(rng.below(4)))),
+        10 => Some(Version(next.0.wrapping_sub(rng.below(4).into()))),
         _ => Some(Version(match rng.below(4) {
             0 => version.0.wrapping_add(1),
             1 => version.0.wrapping_sub(1),
-            2 => u32::MAX - rng.below(2),
-            _ => rng.bits() as u32,
+            2 => (u32::MAX - rng.below(2)).into(),
+            _ => version.0 ^ rng.bits() << 32,
         })),
     }
 }

@@ -12,6 +12,15 @@ fn number(rng: &mut Rng, likely: u32) -> u32 {
     }
 }
 
+/// A next version, sometimes above all that there may be.
+fn version(rng: &mut Rng) -> Version {
+    let low = number(rng, u32::MAX).into();
+    match rng.below(4) {
+        0 => Version(low | rng.bits() << 32),
+        _ => Version(low),
+    }
+}
+
 /// A pending operation, often one that a start could have given somewhere.
 fn pending(rng: &mut Rng, slots: u32) -> Pending {
     let slot = number(rng, slots);
@@ -58,7 +67,7 @@ pub fn record(rng: &mut Rng, genuine: Record) -> Record {
             1 => record.end = number(rng, record.slot_bytes),
             2 => record.digest = DigestNumber(number(rng, u32::MAX)),
             3 => record.map = SlotMap(rng.bits() as u32 | 1 << (record.head % 32)),
-            4 => record.next = Version(number(rng, u32::MAX)),
+            4 => record.next = version(rng),
             5 => record.keys = number(rng, record.cells),
             6 => record.slots = number(rng, 33),
             7 => record.slot_bytes = number(rng, 2049),
@@ -83,7 +92,7 @@ pub fn out_of_range(rng: &mut Rng, genuine: Record) -> Record {
         5 => record.head = *rng.pick(&[genuine.slots, 32, 64, u32::MAX]),
         6 => record.end = *rng.pick(&[0, 12, genuine.slot_bytes + 1, u32::MAX]),
         7 => record.digest = DigestNumber(0),
-        8 => record.next = Version(0),
+        8 => record.next = Version(*rng.pick(&[0, 1 << 32, u64::MAX])),
         9 => record.keys = *rng.pick(&[genuine.cells, u32::MAX]),
         14 => {
             let above = *rng.pick(&[genuine.slot_bytes - 12, u32::MAX]);

@@ -12,7 +12,7 @@ pub struct Line {
     pub slot: u32,
     pub place: usize,
     pub key: Key,
-    pub version: u32,
+    pub version: u64,
     pub bytes: Vec<u8>,
 }
 
@@ -36,6 +36,9 @@ pub struct Plan {
     pub work: Vec<u8>,
     pub stores: Vec<(usize, u8)>,
 }
+
+/// The highest next version.
+const LAST_NEXT: u64 = u32::MAX as u64;
 
 fn number(bytes: &[u8], at: usize, width: usize) -> u32 {
     (0..width)
@@ -61,8 +64,8 @@ fn lines_of(area: &[u8], slot_bytes: u32, slot: u32) -> Result<(Vec<Line>, u32),
         if at + length > segment.len() {
             return Err(18);
         }
-        let version = number(segment, at + 7, 4);
-        if version == 0 || version == u32::MAX {
+        let version = u64::from(number(segment, at + 7, 4));
+        if version == 0 || version == LAST_NEXT {
             return Err(18);
         }
         lines.push(Line {
@@ -116,7 +119,7 @@ pub fn scan(
     area: &[u8],
     tables: (u16, u16),
     key: Key,
-) -> Result<(u32, u8, usize, usize), u32> {
+) -> Result<(u64, u8, usize, usize), u32> {
     check_geometry(slots, slot_bytes, area)?;
     let head = head_of(slots, slot_bytes, area)?;
     let map = number(area, (head * slot_bytes) as usize + 5, 4);
@@ -124,7 +127,7 @@ pub fn scan(
     for slot in (0..slots).filter(|slot| map >> slot & 1 == 1) {
         lines.extend(lines_of(area, slot_bytes, slot)?.0);
     }
-    let versions: BTreeSet<u32> = lines.iter().map(|line| line.version).collect();
+    let versions: BTreeSet<u64> = lines.iter().map(|line| line.version).collect();
     if versions.len() != lines.len() {
         return Err(19);
     }
@@ -190,7 +193,7 @@ pub fn view(
             end = stop;
         }
     }
-    let versions: BTreeSet<u32> = lines.iter().map(|line| line.version).collect();
+    let versions: BTreeSet<u64> = lines.iter().map(|line| line.version).collect();
     if versions.len() != lines.len() {
         return Err(19);
     }
@@ -207,7 +210,7 @@ pub fn view(
         end,
         digest: DigestNumber(number(digest, 1, 4)),
         map,
-        next: Version(after.max(number(digest, 9, 4))),
+        next: Version(after.max(number(digest, 9, 4).into())),
         keys: keys.len() as u32,
         pending: Pending::None,
         present_bytes: [0; 32],
@@ -253,7 +256,7 @@ impl View {
         let mut bytes = vec![kind];
         bytes.extend(key.table.to_le_bytes());
         bytes.extend(key.key.to_le_bytes());
-        bytes.extend(self.record.next.0.to_le_bytes());
+        bytes.extend((self.record.next.0 as u32).to_le_bytes());
         bytes.extend(value);
         bytes
     }
@@ -288,7 +291,7 @@ impl View {
         if expected.is_some_and(|expected| expected.0 != version) {
             return Err(21);
         }
-        if self.record.next.0 == u32::MAX {
+        if self.record.next.0 == LAST_NEXT {
             return Err(9);
         }
         if !newest.contains_key(&key) && newest.len() as u32 == self.record.cells - 1 {
@@ -301,7 +304,7 @@ impl View {
         if !self.newest().get(&key).is_some_and(|line| line.is_object()) {
             return Err(8);
         }
-        if self.record.next.0 == u32::MAX {
+        if self.record.next.0 == LAST_NEXT {
             return Err(9);
         }
         match self.plan_entry(self.entry(4, key, &[])) {
@@ -401,7 +404,7 @@ impl View {
         let mut work = vec![5];
         work.extend((self.record.digest.0 + 1).to_le_bytes());
         work.extend(map.to_le_bytes());
-        work.extend(self.record.next.0.to_le_bytes());
+        work.extend((self.record.next.0 as u32).to_le_bytes());
         work.extend(entries);
         let start = (slot * self.record.slot_bytes) as usize;
         let mut stores = vec![(start, 0)];

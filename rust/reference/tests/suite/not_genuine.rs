@@ -20,7 +20,7 @@ fn call_all(rng: &mut Rng, record: Record, area: &mut [u8], index: &mut [u32], w
     let _ = read(&record, area, index, tables, key);
     assert!(read_value(&record, area, index, tables, key).len() <= 120);
     let _ = write(record, area, index, work, tables, key, &value);
-    let expected = Version(*rng.pick(&[0, 1, record.next.0, u32::MAX]));
+    let expected = Version(*rng.pick(&[0, 1, record.next.0, Version::SPENT.0]));
     let _ = write_expecting(record, area, index, work, tables, key, expected, &value);
     let _ = delete(record, area, index, work, tables, key);
     let victims = match rng.below(3) {

@@ -142,7 +142,7 @@ fn numbers_out_of_range() {
 #[test]
 fn fewest_refuses_every_record_out_of_range() {
     let genuine = after(&[write(1, 8)]).record();
-    let changes: [fn(&mut Record); 12] = [
+    let changes: [fn(&mut Record); 14] = [
         |record| record.slots = 3,
         |record| record.slot_bytes = 255,
         |record| record.cells = 15,
@@ -153,6 +153,8 @@ fn fewest_refuses_every_record_out_of_range() {
         |record| record.end = 257,
         |record| record.digest = DigestNumber(0),
         |record| record.next.0 = 0,
+        |record| record.next.0 = 1 << 32,
+        |record| record.next.0 = u64::MAX,
         |record| record.keys = 16,
         |record| {
             record.pending = Pending::Append {

@@ -266,7 +266,7 @@ fn age(rng: &mut Rng, rig: &mut Rig<AsWritten>) {
     if rng.one_in(6) {
         let next = u32::MAX - rng.below(12);
         rig.area[9..13].copy_from_slice(&next.to_le_bytes());
-        rig.book.next = Version(next);
+        rig.book.next = Version(next.into());
     }
     if rng.one_in(6) {
         let number = u32::MAX - rng.below(4);

@@ -27,7 +27,7 @@ fn store(cells: usize, number: u32, next: u32) -> Rig<AsWritten> {
     let mut rig = Rig::new(4, 256, cells, vec![0xEE; 1024]);
     rig.area[1..5].copy_from_slice(&number.to_le_bytes());
     rig.area[9..13].copy_from_slice(&next.to_le_bytes());
-    rig.book.next.0 = next;
+    rig.book.next.0 = next.into();
     rig.must_recover(&ORDER).unwrap();
     rig
 }
@@ -82,7 +82,7 @@ fn refused(rig: &Rig<AsWritten>, operation: &Operation) -> u32 {
 }
 
 /// The number with which a write of so many bytes is refused that expects a version.
-fn refused_expecting(rig: &Rig<AsWritten>, number: u32, expected: u32, bytes: usize) -> u32 {
+fn refused_expecting(rig: &Rig<AsWritten>, number: u32, expected: u64, bytes: usize) -> u32 {
     refused_expecting_in(rig, Tables::ALL, number, expected, bytes)
 }
 
@@ -91,7 +91,7 @@ fn refused_expecting_in(
     rig: &Rig<AsWritten>,
     tables: Tables,
     number: u32,
-    expected: u32,
+    expected: u64,
     bytes: usize,
 ) -> u32 {
     let (record, area, index) = (rig.record(), &rig.area, &rig.index);
@@ -103,11 +103,13 @@ fn refused_expecting_in(
 
 /// The one version that a write of 8 bytes may expect, of all that are worth a try; the others
 /// are refused with 21.
-fn accepted_expectation(rig: &Rig<AsWritten>, number: u32) -> u32 {
+fn accepted_expectation(rig: &Rig<AsWritten>, number: u32) -> u64 {
     let next = rig.record().next.0;
-    let accepted: Vec<u32> = (0..20)
+    let wide = |low: u64| low | 1 << 32;
+    let accepted: Vec<u64> = (0..20)
         .chain(next.saturating_sub(3)..=next)
-        .chain([u32::MAX - 1, u32::MAX])
+        .chain([Version::LAST.0, Version::SPENT.0, u64::MAX])
+        .chain((0..20).chain([next]).map(wide))
         .filter(
             |&expected| match refused_expecting(rig, number, expected, 8) {
                 0 => true,
@@ -304,7 +306,7 @@ fn cause_8_absent() {
 fn cause_9_versions_spent() {
     let mut rig = store(16, 1, u32::MAX - 1);
     run(&mut rig, &[write_of(1, 8)]);
-    assert_eq!(rig.book.keys[&key(1)].0 .0, u32::MAX - 1);
+    assert_eq!(rig.book.version(key(1)), Version::LAST);
     assert_eq!(refused(&rig, &write_of(1, 8)), 9);
     assert_eq!(refused(&rig, &Operation::Delete(key(1))), 9);
     assert_eq!(refused(&rig, &Operation::Delete(key(2))), 8);
@@ -375,14 +377,14 @@ fn full_store_refuses_a_delete_with_the_other_causes() {
     }
     run(&mut rig, &[write_of(1, 24)]);
     let delete = Operation::Delete(key(1));
-    assert_eq!(rig.record().next.0, u32::MAX - 1);
+    assert_eq!(rig.record().next, Version::LAST);
     assert_eq!(refused_with(&rig, &delete, 255), 3);
     assert_eq!(refused_in(&rig, tables(8, 9), &delete, 256), 22);
     assert_eq!(refused(&rig, &Operation::Delete(key(2))), 8);
     assert_eq!(refused(&rig, &delete), 0);
     let mut last = rig.clone();
     run(&mut last, std::slice::from_ref(&delete));
-    assert_eq!(last.record().next.0, u32::MAX);
+    assert_eq!(last.record().next, Version::SPENT);
     assert_eq!(last.record().digest.0, u32::MAX);
     last.cut();
     last.must_recover(&ORDER).unwrap();
@@ -605,7 +607,11 @@ fn cause_21_in_order() {
 
     let mut spent = store(16, 1, u32::MAX - 1);
     run(&mut spent, &[write_of(1, 8)]);
-    for (expected, cause) in [(u32::MAX - 1, 9), (u32::MAX, 21), (0, 21)] {
+    for (Version(expected), cause) in [
+        (Version::LAST, 9),
+        (Version::SPENT, 21),
+        (Version::NONE, 21),
+    ] {
         assert_eq!(refused_expecting(&spent, 1, expected, 8), cause);
     }
     assert_eq!(refused_expecting(&spent, 2, 0, 8), 9);

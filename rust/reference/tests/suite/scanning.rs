@@ -33,7 +33,7 @@ fn image(first: &[Vec<u8>], second: &[Vec<u8>]) -> Vec<u8> {
 }
 
 /// Version, place and length that a scan tells, held to the naive reading.
-fn told(area: &[u8], tables: (u16, u16), key: Key) -> Result<(u32, usize, usize), u32> {
+fn told(area: &[u8], tables: (u16, u16), key: Key) -> Result<(u64, usize, usize), u32> {
     told_of(4, 256, area, tables, key).map(|(version, _, place, length)| (version, place, length))
 }
 
@@ -43,7 +43,7 @@ fn told_of(
     area: &[u8],
     (first, last): (u16, u16),
     key: Key,
-) -> Result<(u32, u8, usize, usize), u32> {
+) -> Result<(u64, u8, usize, usize), u32> {
     let tables = Tables { first, last };
     let value = scan_read_value(slots, slot_bytes, area, tables, key);
     let place = value.as_ptr() as usize - area.as_ptr() as usize;

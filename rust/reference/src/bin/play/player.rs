@@ -135,7 +135,7 @@ impl Player {
     }
 
     /// Lays a digest and what follows it into a slot.
-    fn lay(&mut self, slot: usize, number: u32, map: SlotMap, next: u32, entries: &[u8]) {
+    fn lay(&mut self, slot: usize, number: u32, map: SlotMap, next: u64, entries: &[u8]) {
         let digest = Digest {
             number: DigestNumber(number),
             map,
