@@ -18,9 +18,15 @@ pub fn tables(tables: reference::Tables) -> kurdavel::Tables {
     }
 }
 
-/// The word that is 0 in every record of the library, in which its fields have versions of 32 bits: it is for the
-/// next version's high half.
+/// Words that are 0 in every record of the library, whose versions have 32 bits and which has one edition: the first is
+/// for the next version's high half, the other takes what makes an edition another.
 const NEXT_HIGH: usize = 8;
+const OTHER_EDITION: usize = 10;
+
+/// Whether both can be held to an image: the library has one edition, and takes no digest of the second for one.
+pub fn is_comparable(image: &reference::testing::images::Image) -> bool {
+    !image.has_digest_of(reference::Edition::SECOND)
+}
 
 /// The wrapper's version. No key has one above 32 bits, nor the highest of 32, which stands for all of them.
 pub fn version(version: reference::Version) -> kurdavel::Version {
@@ -32,7 +38,7 @@ pub fn told_version(version: kurdavel::Version) -> u64 {
     version.0.into()
 }
 
-/// The record's words. Those of a next version above 32 bits are no record's.
+/// The record's words. Those of a next version above 32 bits or of another edition than the first are no record's.
 pub fn record(record: reference::Record) -> Record {
     let fields = Fields {
         slots: record.slots,
@@ -49,6 +55,7 @@ pub fn record(record: reference::Record) -> Record {
     };
     let mut words = *Record::of(fields).words();
     words[NEXT_HIGH] = (record.next.0 >> 32) as u32;
+    words[OTHER_EDITION] = record.edition.0 ^ reference::Edition::FIRST.0;
     Record::from_words(words)
 }
 

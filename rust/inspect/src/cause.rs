@@ -5,8 +5,9 @@
 
 use std::collections::{BTreeMap, BTreeSet};
 
+use reference::edition::{FIRST, MAP, NEXT, NUMBER};
 use reference::layout::CELLS;
-use reference::segment::{entry_bytes, Digest, DIGEST, TOMBSTONE_BYTES};
+use reference::segment::Digest;
 use reference::{DigestNumber, Key, SlotMap, Version};
 
 use crate::entries::{chain, of_slots, Entry};
@@ -34,13 +35,6 @@ pub struct Cause {
     /// Whether each entry of the log is right, and only their keys are too many.
     pub entries_hold: bool,
 }
-
-/// Offset of the digest number.
-pub const NUMBER: usize = 1;
-/// Offset of the slot map.
-pub const MAP: usize = 5;
-/// Offset of the next version.
-pub const NEXT: usize = 9;
 
 /// The cause of the refusal of an image.
 pub fn find(image: &Image) -> Cause {
@@ -82,7 +76,10 @@ fn digest_fault(what: String, spots: Vec<Spot>) -> Cause {
 
 fn no_digest(image: &Image) -> Cause {
     let spots = (0..image.slots).map(|slot| spot(image, slot, 0, 1));
-    digest_fault(format!("byte 0 of no slot is {DIGEST}"), spots.collect())
+    digest_fault(
+        format!("byte 0 of no slot is {}", FIRST.digest),
+        spots.collect(),
+    )
 }
 
 fn bad_number(image: &Image, heads: &[&(u32, Digest)], highest: DigestNumber) -> Option<Cause> {
@@ -135,8 +132,11 @@ fn missing_digest(image: &Image, head: u32, digest: Digest) -> Option<Cause> {
     let slot = digest
         .map
         .slots()
-        .find(|&slot| image.segment(slot).first() != Some(&DIGEST))?;
-    let what = format!("the head's map names slot {slot}, whose byte 0 is not {DIGEST}");
+        .find(|&slot| image.segment(slot).first() != Some(&FIRST.digest))?;
+    let what = format!(
+        "the head's map names slot {slot}, whose byte 0 is not {}",
+        FIRST.digest
+    );
     let spots = vec![spot(image, slot, 0, 1), spot(image, head, MAP, 4)];
     Some(digest_fault(what, spots))
 }
@@ -162,7 +162,7 @@ fn damage(image: &Image, map: SlotMap) -> Option<(String, Vec<Spot>)> {
     })?;
     let segment = image.segment(slot);
     let kind = segment[offset];
-    let what = match entry_bytes(kind) {
+    let what = match FIRST.entry_bytes(kind) {
         None => format!("no entry has kind {kind}"),
         Some(length) if offset + length > segment.len() => format!(
             "an entry of kind {kind} has {length} bytes, and the slot has {} left",
@@ -170,11 +170,13 @@ fn damage(image: &Image, map: SlotMap) -> Option<(String, Vec<Spot>)> {
         ),
         Some(_) => "no entry has this version".into(),
     };
-    Some((what, vec![spot(image, slot, offset, TOMBSTONE_BYTES)]))
+    let leading = FIRST.tombstone_bytes();
+    Some((what, vec![spot(image, slot, offset, leading)]))
 }
 
 fn entry_spot(image: &Image, entry: &Entry) -> Spot {
-    spot(image, entry.place.slot, entry.place.offset, TOMBSTONE_BYTES)
+    let leading = FIRST.tombstone_bytes();
+    spot(image, entry.place.slot, entry.place.offset, leading)
 }
 
 fn shared_version(image: &Image, entries: &[Entry]) -> Option<(String, Vec<Spot>)> {

@@ -6,10 +6,10 @@
 //! and so are all stores before them. Digests have a place of their own, so that nothing else is mistaken for one; where
 //! entries stand, any older bytes may read as a version by chance.
 
-use reference::segment::{Digest, TOMBSTONE_BYTES};
+use reference::edition::{NEXT, NUMBER, VERSION};
+use reference::segment::Digest;
 use reference::{Record, Store};
 
-use crate::cause::{NEXT, NUMBER};
 use crate::image::Image;
 use crate::plans::{Plan, Site};
 
@@ -129,9 +129,6 @@ fn field(bytes: &[u8], offset: usize, bound: u64) -> Option<Field> {
         bound,
     })
 }
-
-/// Offset of the version in an entry.
-const VERSION: usize = TOMBSTONE_BYTES - 4;
 
 /// An entry behind the head's end has the next version; all others are lower.
 fn tail_fields(plan: &Plan, known: Known) -> Vec<Field> {

@@ -1,6 +1,7 @@
 //! The history of one key: its entries in the log, then what other bytes still show of it.
 
-use reference::segment::{read_entry, Entry as Read, Fields, DIGEST_BYTES, TOMBSTONE_BYTES};
+use reference::edition::FIRST;
+use reference::segment::{read_entry, Entry as Read, Fields};
 use reference::Key;
 
 use crate::entries::{chain, Entry};
@@ -60,14 +61,14 @@ fn remains_in(image: &Image, report: &Report, slot: u32, key: Key) -> Vec<Remain
     let from = if is_listed {
         chain(segment).end
     } else {
-        DIGEST_BYTES
+        FIRST.digest_bytes()
     };
     (from..segment.len())
-        .filter_map(|offset| match read_entry(segment, offset) {
+        .filter_map(|offset| match read_entry(&FIRST, segment, offset) {
             Read::Object(fields) | Read::Tombstone(fields) if fields.key == key => Some(Remains {
                 place: Place { slot, offset },
                 fields,
-                value: segment[offset + TOMBSTONE_BYTES..offset + fields.length].to_vec(),
+                value: segment[offset + fields.value..offset + fields.length].to_vec(),
                 is_in_free_slot: !is_listed,
             }),
             _ => None,

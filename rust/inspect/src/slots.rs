@@ -1,6 +1,7 @@
 //! What each slot holds.
 
-use reference::segment::{Digest, DIGEST_BYTES};
+use reference::edition::FIRST;
+use reference::segment::Digest;
 use reference::{clean, DigestNumber, Pending, Record, SlotMap};
 
 use crate::entries::{chain, Entry, Reason};
@@ -105,7 +106,7 @@ fn kept(image: &Image, recovered: &Recovered, slot: u32) -> Option<usize> {
     let victims = SlotMap::EMPTY.with(slot);
     let (started, _) = clean(record, &image.area, &recovered.index, &mut work, victims);
     match started.pending {
-        Pending::Clean { length, .. } => Some(length as usize - DIGEST_BYTES),
+        Pending::Clean { length, .. } => Some(length as usize - FIRST.digest_bytes()),
         _ => None,
     }
 }

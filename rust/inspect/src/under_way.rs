@@ -1,6 +1,6 @@
 //! What was under way when the supply failed, as far as one image tells.
 
-use reference::segment::{DIGEST_BYTES, END, TOMBSTONE_BYTES};
+use reference::edition::{END, FIRST};
 use reference::{Record, SlotMap};
 
 use crate::evidence::{range, Known, Range};
@@ -9,9 +9,9 @@ use crate::plans::{Operation, Plan, Planner, Site};
 use crate::verdict::Recovered;
 
 /// Stores after which an appended entry shows key and version whole.
-const ENTRY_STORES: usize = TOMBSTONE_BYTES - 1;
+const ENTRY_STORES: usize = FIRST.tombstone_bytes() - 1;
 /// The same for an entry in a new head: the byte at the head's start, the digest's others and the entry's kind come first.
-const NEW_HEAD_ENTRY_STORES: usize = DIGEST_BYTES + 1 + ENTRY_STORES;
+const NEW_HEAD_ENTRY_STORES: usize = FIRST.digest_bytes() + 1 + ENTRY_STORES;
 
 /// An operation that may have been under way, and how far it can have come.
 #[derive(Clone, Copy, PartialEq, Eq, Debug)]
@@ -167,7 +167,7 @@ pub fn candidate(plan: &Plan, range: Range) -> Candidate {
         Operation::Delete(key) => Operation::Delete(key.filter(|_| is_told)),
         // The digest alone names the victim and not the key.
         Operation::FullDelete(key, slot) => {
-            Operation::FullDelete(key.filter(|_| range.most > DIGEST_BYTES), slot)
+            Operation::FullDelete(key.filter(|_| range.most > FIRST.digest_bytes()), slot)
         }
         other => other,
     };

@@ -1,5 +1,6 @@
 //! Small pieces of text that every view uses.
 
+use reference::edition::FIRST;
 use reference::{Key, SlotMap};
 
 fn digits(bytes: &[u8]) -> Vec<String> {
@@ -52,9 +53,9 @@ pub fn count(number: usize, noun: &str) -> String {
 
 /// The name of a kind of entry.
 pub fn kind(kind: u8) -> String {
-    match reference::segment::entry_bytes(kind) {
-        _ if kind == reference::segment::TOMBSTONE => "tombstone".into(),
-        Some(length) => format!("object {}", length - reference::segment::TOMBSTONE_BYTES),
+    match FIRST.entry_bytes(kind) {
+        _ if kind == FIRST.tombstone => "tombstone".into(),
+        Some(length) => format!("object {}", length - FIRST.tombstone_bytes()),
         None => format!("kind {kind}"),
     }
 }

@@ -1,6 +1,6 @@
 //! The second implementation, as a replay drives it.
 
-use reference::{DigestNumber, Key, Pending, Refusal, SlotMap, Tables, Version};
+use reference::{DigestNumber, Edition, Key, Pending, Refusal, SlotMap, Tables, Version};
 
 use super::event::{Field, Geometry, Record};
 use super::subject::{
@@ -37,7 +37,7 @@ impl Subject for Second {
 
     fn format(geometry: Geometry, area: &mut [u8]) -> Answer<()> {
         let (slots, slot_bytes) = without_edition(geometry)?;
-        reference::format(slots, slot_bytes, area).map_err(refused)
+        reference::format(slots, slot_bytes, Edition::FIRST, area).map_err(refused)
     }
 
     fn recover(geometry: Geometry, order: &[u8], memory: &mut Memory) -> Answer<reference::Record> {

@@ -2,7 +2,7 @@
 
 use std::fmt::Write;
 
-use reference::segment::DIGEST_BYTES;
+use reference::edition::FIRST;
 
 use super::{escaped, Part};
 use crate::entries::Entry;
@@ -138,7 +138,7 @@ fn digest(row: &Row) -> Option<Piece> {
     Some(Piece {
         part: Part::Digest,
         from: 0,
-        to: DIGEST_BYTES,
+        to: FIRST.digest_bytes(),
         label: "#".into(),
         title: format!(
             "slot {}, offset 0: digest {}, slots {}, next version {}",

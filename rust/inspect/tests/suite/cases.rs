@@ -4,6 +4,7 @@ use inspect::entries::Reason;
 use inspect::image::{Geometry, Image, Place};
 use inspect::plans::Operation;
 use inspect::report::Report;
+use reference::edition::FIRST;
 use reference::segment::Digest;
 use reference::{DigestNumber, Key, SlotMap, Version};
 
@@ -14,18 +15,19 @@ fn store(map: u32) -> Vec<u8> {
     let mut area = vec![0; 1024];
     for (number, slot) in (1..).zip(SlotMap(map).slots()) {
         let digest = Digest {
+            layout: &FIRST,
             number: DigestNumber(number),
             map: SlotMap(map),
             next: Version(1),
         };
         let start = slot as usize * 256;
-        area[start..start + 13].copy_from_slice(&digest.stored());
+        digest.lay(&mut area[start..]);
     }
     area
 }
 
 fn entry(kind: u8, version: u32) -> Vec<u8> {
-    let length = reference::segment::entry_bytes(kind).unwrap();
+    let length = FIRST.entry_bytes(kind).unwrap();
     let mut bytes = vec![kind];
     bytes.extend(KEY.stored());
     bytes.extend(version.to_le_bytes());

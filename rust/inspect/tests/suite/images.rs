@@ -7,11 +7,11 @@ use inspect::history::history;
 use inspect::image::{Geometry, Image};
 use inspect::report::Report;
 use inspect::{json, page, text};
+use reference::edition::FIRST;
 use reference::layout::CELLS;
 use reference::rng::Rng;
-use reference::segment::DIGEST;
 use reference::testing::images::{Image as Made, Shape};
-use reference::{dump, recover, Refusal};
+use reference::{dump, recover, Edition, Refusal};
 
 fn image(made: Made) -> Image {
     let geometry = Geometry {
@@ -85,7 +85,7 @@ fn check_cause(image: &Image, refusal: Refusal, report: &Report) {
         assert_eq!(spot.bytes, image.area[at..at + spot.bytes.len()]);
     }
     match refusal {
-        Refusal::NoDigest => assert!(cause.spots.iter().all(|spot| spot.bytes[0] != DIGEST)),
+        Refusal::NoDigest => assert!(cause.spots.iter().all(|spot| spot.bytes[0] != FIRST.digest)),
         Refusal::VersionShared => assert_eq!(cause.spots[0].bytes[7..], cause.spots[1].bytes[7..]),
         Refusal::Entry | Refusal::TooManyKeys => assert!(cause.log.is_some()),
         _ => assert!(cause.log.is_none(), "{refusal:?}"),
@@ -132,7 +132,7 @@ fn whole_images() {
     let mut rng = Rng::new(1);
     let made = (0..120).map(|_| {
         look(
-            &image(Shape::random(&mut rng).make(&mut rng)),
+            &image(Shape::random(&mut rng, Edition::FIRST).make(&mut rng)),
             &mut Rng::new(1),
         )
     });
@@ -145,7 +145,7 @@ fn damaged_images() {
     let mut rng = Rng::new(2);
     let mut met = [0; 64];
     for _ in 0..300 {
-        let mut made = Shape::random(&mut rng).make(&mut rng);
+        let mut made = Shape::random(&mut rng, Edition::FIRST).make(&mut rng);
         let whole = made.area.clone();
         for _ in 0..rng.within(1, 6) {
             made.damage(&mut rng);
@@ -187,9 +187,10 @@ fn too_many_keys() {
         let mut made = Shape {
             slots: 32,
             slot_bytes: 2048,
+            layout: &FIRST,
             keys: 200_000,
             versions: reference::testing::images::Versions::InARow,
-            kinds: vec![4, 4, 4, 1],
+            values: vec![0, 0, 0, 8],
             full: true,
         }
         .make(&mut rng);

@@ -8,8 +8,8 @@ use reference::book::Operation;
 use reference::rng::Rng;
 use reference::testing::{calls, full};
 use reference::{
-    clean, delete, format, read, read_value, recover, step, write, Key, Pending, Record, Store,
-    Tables,
+    clean, delete, format, read, read_value, recover, step, write, Edition, Key, Pending, Record,
+    Store, Tables,
 };
 
 /// An operation that was accepted, and the store as it was before.
@@ -76,7 +76,8 @@ impl Player {
     fn over(mut rng: Rng, geometry: Geometry, area: Vec<u8>, is_small: bool) -> Player {
         let original = area.clone();
         let mut image = Image::new(geometry, area).unwrap();
-        format(geometry.slots, geometry.slot_bytes, &mut image.area).unwrap();
+        let Geometry { slots, slot_bytes } = geometry;
+        format(slots, slot_bytes, Edition::FIRST, &mut image.area).unwrap();
         age(&mut rng, &mut image.area);
         let keys = (0..rng.within(2, 16)).map(|number| match is_small {
             true => Key {
