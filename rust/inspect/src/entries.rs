@@ -2,11 +2,10 @@
 
 use std::collections::BTreeMap;
 
-use reference::edition::FIRST;
 use reference::segment::{read_entry, Entry as Read, Fields};
 use reference::{Key, SlotMap, Version};
 
-use crate::image::{Image, Place};
+use crate::image::{layout_of, Image, Place};
 
 /// Version and place of an entry, such as one that is newer than another of its key.
 #[derive(Clone, Copy, PartialEq, Eq, Debug)]
@@ -77,10 +76,11 @@ pub struct Chain {
 
 /// Reads the entries of a segment from the digest's end on.
 pub fn chain(segment: &[u8]) -> Chain {
+    let layout = layout_of(segment);
     let mut entries = Vec::new();
-    let mut end = FIRST.digest_bytes();
+    let mut end = layout.digest_bytes();
     let damaged = loop {
-        match read_entry(&FIRST, segment, end) {
+        match read_entry(layout, segment, end) {
             Read::Object(fields) | Read::Tombstone(fields) => {
                 entries.push((end, fields));
                 end += fields.length;

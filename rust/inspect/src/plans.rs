@@ -3,14 +3,14 @@
 //! The second implementation plans them. What the image cannot tell, such as the value of a write, is taken as it stands
 //! where the operation would store it.
 
-use reference::edition::{FIRST, VALUES};
+use reference::edition::{Layout, MAP, NEXT, VALUES};
 use reference::segment::{read_entry, Digest, Entry as Read, Key as StoreKey};
 use reference::{
     clean, delete, next_store, write, DigestNumber, Pending, Record, SlotMap, Started, Store,
     Tables, Version,
 };
 
-use crate::image::Image;
+use crate::image::{layout_of, Image};
 use crate::verdict::Recovered;
 
 /// An operation, as far as the bytes name it.
@@ -50,6 +50,8 @@ pub struct Plan {
     pub is_whole: bool,
     /// The bytes that it lays down, from the first one on.
     pub bytes: Vec<u8>,
+    /// Kinds and sizes of its edition.
+    pub layout: &'static Layout,
 }
 
 /// Plans operations on a store, the bytes of which `standing` shows, perhaps some stores later.
@@ -57,6 +59,7 @@ pub struct Planner<'a> {
     image: &'a Image,
     index: &'a [u32],
     record: Record,
+    layout: &'static Layout,
     standing: &'a [u8],
 }
 
@@ -72,6 +75,7 @@ impl<'a> Planner<'a> {
             image,
             index: &recovered.index,
             record,
+            layout: layout_of(image.segment(record.head)),
             standing,
         }
     }
@@ -104,7 +108,7 @@ impl<'a> Planner<'a> {
         if end + length <= slot_bytes {
             return Some(self.record.head as usize * slot_bytes + end);
         }
-        Some(self.new_head_slot()? as usize * slot_bytes + FIRST.digest_bytes())
+        Some(self.new_head_slot()? as usize * slot_bytes + self.layout.digest_bytes())
     }
 
     fn start(&self, start: impl FnOnce(Record, &mut [u8]) -> Started) -> Option<(Record, Vec<u8>)> {
@@ -114,7 +118,7 @@ impl<'a> Planner<'a> {
     }
 
     fn write(&self, bytes: usize) -> Option<Plan> {
-        let leading = FIRST.tombstone_bytes();
+        let leading = self.layout.tombstone_bytes();
         let at = self.room(leading + bytes)?;
         let entry = self.standing.get(at..at + leading + bytes)?;
         let (key, value) = (standing_key(entry), &entry[leading..]);
@@ -147,7 +151,7 @@ impl<'a> Planner<'a> {
         self.index.iter().filter_map(|&mark| {
             let at = mark.checked_sub(1)? as usize;
             let place = self.image.place(at);
-            match read_entry(&FIRST, self.image.segment(place.slot), place.offset) {
+            match read_entry(self.layout, self.image.segment(place.slot), place.offset) {
                 Read::Object(fields) => Some((place.slot, fields.key)),
                 _ => None,
             }
@@ -160,7 +164,7 @@ impl<'a> Planner<'a> {
             return Vec::new();
         };
         let start = (slot * self.record.slot_bytes) as usize;
-        let map_bytes = &self.standing[start + 5..start + 9];
+        let map_bytes = &self.standing[start + MAP..start + NEXT];
         let map = self.record.map.with(slot);
         let stood = SlotMap(u32::from_le_bytes([
             map_bytes[0],
@@ -196,13 +200,13 @@ impl<'a> Planner<'a> {
             })
             .count();
         let digest = Digest {
-            layout: &FIRST,
+            layout: self.layout,
             number: DigestNumber(self.record.digest.0 + 1),
             map: stood,
             next: Version::NONE,
         };
-        let known = 5 + possible.min(3);
-        let mut bytes = vec![0; FIRST.digest_bytes()];
+        let known = MAP + possible.min(3);
+        let mut bytes = vec![0; self.layout.digest_bytes()];
         digest.lay(&mut bytes);
         bytes.truncate(known);
         bytes[0] = 0;
@@ -217,6 +221,7 @@ impl<'a> Planner<'a> {
             stores: stores.collect(),
             is_whole: false,
             bytes,
+            layout: self.layout,
         }
     }
 
@@ -237,6 +242,7 @@ impl<'a> Planner<'a> {
             stores,
             is_whole: true,
             bytes: work,
+            layout: self.layout,
         }
     }
 }
