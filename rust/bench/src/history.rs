@@ -1,7 +1,8 @@
 //! A store that a long history of writes, deletes and cleanings has filled with tombstones, made by calls alone.
 
+use reference::edition::FIRST;
 use reference::rng::Rng;
-use reference::{Pending, Record, Refusal};
+use reference::{Edition, Pending, Record, Refusal};
 
 use crate::image::SLOT_BYTES;
 use crate::recoveries::recovery;
@@ -37,7 +38,8 @@ impl Drive {
         let mut area = vec![0; SLOTS * SLOT_BYTES];
         let mut index = vec![0; CELLS];
         let order: Vec<u8> = (0..SLOTS as u8).collect();
-        reference::format(slots, slot_bytes, &mut area).expect("the sizes are right");
+        let formatted = reference::format(slots, slot_bytes, Edition::FIRST, &mut area);
+        formatted.expect("the sizes are right");
         let record = reference::recover(slots, slot_bytes, &area, &mut index, &order);
         Drive {
             record: record.expect("a formatted area"),
@@ -120,10 +122,7 @@ impl Drive {
 fn tombstones(area: &[u8], slot: u32) -> u32 {
     let segment = &area[slot as usize * SLOT_BYTES..][..SLOT_BYTES];
     let (mut at, mut count) = (13, 0);
-    while let Some(length) = segment
-        .get(at)
-        .and_then(|&kind| reference::segment::entry_bytes(kind))
-    {
+    while let Some(length) = segment.get(at).and_then(|&kind| FIRST.entry_bytes(kind)) {
         count += u32::from(length == 11);
         at += length;
     }

@@ -2,7 +2,7 @@
 
 use reference::book::Operation as Called;
 use reference::testing::load::{entry_bytes, Load, Spread};
-use reference::{Record, Refusal, SlotMap};
+use reference::{Edition, Record, Refusal, SlotMap};
 
 use crate::image::SLOT_BYTES;
 use crate::store::{ALL, CELLS, SLOTS};
@@ -40,7 +40,8 @@ impl Drive {
         let mut area = vec![0; SLOTS * SLOT_BYTES];
         let mut index = vec![0; CELLS];
         let order: Vec<u8> = (0..SLOTS as u8).collect();
-        reference::format(slots, slot_bytes, &mut area).expect("the sizes are right");
+        let formatted = reference::format(slots, slot_bytes, Edition::FIRST, &mut area);
+        formatted.expect("the sizes are right");
         let record = reference::recover(slots, slot_bytes, &area, &mut index, &order);
         Drive {
             record: record.expect("a formatted area"),

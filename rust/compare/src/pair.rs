@@ -7,7 +7,7 @@ use reference::index::rule_holds;
 use reference::rng::Rng;
 use reference::testing::calls::Given;
 use reference::testing::full;
-use reference::{Key, SlotMap, Started, Tables, Version};
+use reference::{Edition, Key, SlotMap, Started, Tables, Version};
 
 use crate::guarded::Guarded;
 use crate::{same, translate, Fault};
@@ -196,7 +196,8 @@ impl Pair {
     pub fn format(&mut self, slots: u32, slot_bytes: u32) -> Result<Result<(), u32>, Fault> {
         self.tell(format_args!("format {slots} {slot_bytes}"));
         let proved = kurdavel::format(slots, slot_bytes, &mut self.proved.area);
-        let owed = reference::format(slots, slot_bytes, &mut self.reference.area);
+        let area = &mut self.reference.area;
+        let owed = reference::format(slots, slot_bytes, Edition::FIRST, area);
         let answer = translate::proved(proved);
         same!("format", answer, translate::reference(owed));
         if answer.is_ok() {

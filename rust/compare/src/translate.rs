@@ -18,14 +18,22 @@ pub fn tables(tables: reference::Tables) -> kurdavel::Tables {
     }
 }
 
+/// The word in reserve that takes what makes an edition another: it is 0 in every record of the library, which has one edition.
+const OTHER_EDITION: usize = 10;
+
+/// Whether both can be held to an image: the library has one edition, and takes no digest of the second for one.
+pub fn is_comparable(image: &reference::testing::images::Image) -> bool {
+    !image.has_digest_of(reference::Edition::SECOND)
+}
+
 /// The wrapper's version.
 pub fn version(version: reference::Version) -> kurdavel::Version {
     kurdavel::Version(version.0)
 }
 
-/// The record's words.
+/// The record's words. Those of another edition than the first are no record's.
 pub fn record(record: reference::Record) -> Record {
-    Record::of(Fields {
+    let fields = Fields {
         slots: record.slots,
         slot_bytes: record.slot_bytes,
         cells: record.cells,
@@ -37,7 +45,10 @@ pub fn record(record: reference::Record) -> Record {
         keys: record.keys,
         pending: pending(record.pending),
         present_bytes: record.present_bytes,
-    })
+    };
+    let mut words = *Record::of(fields).words();
+    words[OTHER_EDITION] = record.edition.0 ^ reference::Edition::FIRST.0;
+    Record::from_words(words)
 }
 
 fn pending(pending: reference::Pending) -> Pending {

@@ -5,12 +5,13 @@
 
 use std::collections::{BTreeMap, BTreeSet};
 
+use reference::edition::{FIRST, MAP, NEXT, NUMBER, SECOND};
 use reference::layout::CELLS;
-use reference::segment::{entry_bytes, Digest, DIGEST, TOMBSTONE_BYTES};
-use reference::{DigestNumber, Key, SlotMap, Version};
+use reference::segment::Digest;
+use reference::{DigestNumber, Edition, Key, SlotMap, Version};
 
 use crate::entries::{chain, of_slots, Entry};
-use crate::image::{Image, Log, Place};
+use crate::image::{layout_of, Image, Log, Place};
 use crate::words;
 
 /// Bytes that brought a refusal about.
@@ -35,13 +36,6 @@ pub struct Cause {
     pub entries_hold: bool,
 }
 
-/// Offset of the digest number.
-pub const NUMBER: usize = 1;
-/// Offset of the slot map.
-pub const MAP: usize = 5;
-/// Offset of the next version.
-pub const NEXT: usize = 9;
-
 /// The cause of the refusal of an image.
 pub fn find(image: &Image) -> Cause {
     let digests: Vec<(u32, Digest)> = (0..image.slots)
@@ -59,6 +53,7 @@ pub fn find(image: &Image) -> Cause {
         .or_else(|| bad_next(image, head, digest))
         .or_else(|| bad_map(image, head, digest))
         .or_else(|| missing_digest(image, head, digest))
+        .or_else(|| other_edition(image, head, digest))
         .unwrap_or_else(|| bad_log(image, head, digest.map))
 }
 
@@ -82,7 +77,13 @@ fn digest_fault(what: String, spots: Vec<Spot>) -> Cause {
 
 fn no_digest(image: &Image) -> Cause {
     let spots = (0..image.slots).map(|slot| spot(image, slot, 0, 1));
-    digest_fault(format!("byte 0 of no slot is {DIGEST}"), spots.collect())
+    let what = format!("byte 0 of no slot is {}", digest_kinds("or"));
+    digest_fault(what, spots.collect())
+}
+
+/// The kind bytes of digests, of either edition.
+fn digest_kinds(or: &str) -> String {
+    format!("{} {or} {}", FIRST.digest, SECOND.digest)
 }
 
 fn bad_number(image: &Image, heads: &[&(u32, Digest)], highest: DigestNumber) -> Option<Cause> {
@@ -109,7 +110,8 @@ fn bad_number(image: &Image, heads: &[&(u32, Digest)], highest: DigestNumber) ->
 fn bad_next(image: &Image, head: u32, digest: Digest) -> Option<Cause> {
     (digest.next == Version(0)).then(|| {
         let what = "the next version in the head's digest is 0".into();
-        digest_fault(what, vec![spot(image, head, NEXT, 4)])
+        let width = digest.layout.version_bytes;
+        digest_fault(what, vec![spot(image, head, NEXT, width)])
     })
 }
 
@@ -135,9 +137,25 @@ fn missing_digest(image: &Image, head: u32, digest: Digest) -> Option<Cause> {
     let slot = digest
         .map
         .slots()
-        .find(|&slot| image.segment(slot).first() != Some(&DIGEST))?;
-    let what = format!("the head's map names slot {slot}, whose byte 0 is not {DIGEST}");
+        .find(|&slot| Edition::of_segment(image.segment(slot)).is_none())?;
+    let what = format!(
+        "the head's map names slot {slot}, whose byte 0 is neither {}",
+        digest_kinds("nor")
+    );
     let spots = vec![spot(image, slot, 0, 1), spot(image, head, MAP, 4)];
+    Some(digest_fault(what, spots))
+}
+
+fn other_edition(image: &Image, head: u32, digest: Digest) -> Option<Cause> {
+    let own = digest.layout.edition;
+    let edition = |slot: u32| layout_of(image.segment(slot)).edition;
+    let slot = digest.map.slots().find(|&slot| edition(slot) != own)?;
+    let what = format!(
+        "slot {slot} of the log is of edition {}, and the head, slot {head}, of edition {}",
+        edition(slot).0,
+        own.0
+    );
+    let spots = vec![spot(image, slot, 0, 1), spot(image, head, 0, 1)];
     Some(digest_fault(what, spots))
 }
 
@@ -161,20 +179,23 @@ fn damage(image: &Image, map: SlotMap) -> Option<(String, Vec<Spot>)> {
         chain.damaged.then_some((slot, chain.end))
     })?;
     let segment = image.segment(slot);
+    let layout = layout_of(segment);
     let kind = segment[offset];
-    let what = match entry_bytes(kind) {
-        None => format!("no entry has kind {kind}"),
+    let what = match layout.entry_bytes(kind) {
+        None => format!("no entry of edition {} has kind {kind}", layout.edition.0),
         Some(length) if offset + length > segment.len() => format!(
             "an entry of kind {kind} has {length} bytes, and the slot has {} left",
             segment.len() - offset
         ),
         Some(_) => "no entry has this version".into(),
     };
-    Some((what, vec![spot(image, slot, offset, TOMBSTONE_BYTES)]))
+    let leading = layout.tombstone_bytes();
+    Some((what, vec![spot(image, slot, offset, leading)]))
 }
 
 fn entry_spot(image: &Image, entry: &Entry) -> Spot {
-    spot(image, entry.place.slot, entry.place.offset, TOMBSTONE_BYTES)
+    let Place { slot, offset } = entry.place;
+    spot(image, slot, offset, entry.fields.value)
 }
 
 fn shared_version(image: &Image, entries: &[Entry]) -> Option<(String, Vec<Spot>)> {

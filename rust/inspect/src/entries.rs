@@ -2,12 +2,10 @@
 
 use std::collections::BTreeMap;
 
-use reference::segment::{
-    read_entry, Entry as Read, Fields, DIGEST_BYTES, TOMBSTONE, TOMBSTONE_BYTES,
-};
+use reference::segment::{read_entry, Entry as Read, Fields};
 use reference::{Key, SlotMap, Version};
 
-use crate::image::{Image, Place};
+use crate::image::{layout_of, Image, Place};
 
 /// Version and place of an entry, such as one that is newer than another of its key.
 #[derive(Clone, Copy, PartialEq, Eq, Debug)]
@@ -53,7 +51,7 @@ pub struct Entry {
 impl Entry {
     /// Whether it deletes its key.
     pub fn is_tombstone(&self) -> bool {
-        self.fields.kind == TOMBSTONE
+        self.fields.is_tombstone()
     }
 
     /// Its version and place.
@@ -78,10 +76,11 @@ pub struct Chain {
 
 /// Reads the entries of a segment from the digest's end on.
 pub fn chain(segment: &[u8]) -> Chain {
+    let layout = layout_of(segment);
     let mut entries = Vec::new();
-    let mut end = DIGEST_BYTES;
+    let mut end = layout.digest_bytes();
     let damaged = loop {
-        match read_entry(segment, end) {
+        match read_entry(layout, segment, end) {
             Read::Object(fields) | Read::Tombstone(fields) => {
                 entries.push((end, fields));
                 end += fields.length;
@@ -111,7 +110,7 @@ pub fn of_slots(image: &Image, slots: impl Iterator<Item = u32>) -> Vec<Entry> {
             Entry {
                 place,
                 fields,
-                value: image.area[at + TOMBSTONE_BYTES..at + fields.length].to_vec(),
+                value: image.area[at + fields.value..at + fields.length].to_vec(),
                 reason: Reason::Undecided,
             }
         })

@@ -6,10 +6,10 @@
 //! and so are all stores before them. Digests have a place of their own, so that nothing else is mistaken for one; where
 //! entries stand, any older bytes may read as a version by chance.
 
-use reference::segment::{Digest, TOMBSTONE_BYTES};
+use reference::edition::{MAP, NEXT, NUMBER, VERSION};
+use reference::segment::Digest;
 use reference::{Record, Store};
 
-use crate::cause::{NEXT, NUMBER};
 use crate::image::Image;
 use crate::plans::{Plan, Site};
 
@@ -62,8 +62,8 @@ pub fn range(plan: &Plan, known: Known, area: &[u8]) -> Range {
     let shift = usize::from(plan.site == Site::NewHead);
     let proved = fields
         .iter()
-        .filter(|field| field.offset + 3 + shift <= most)
-        .filter_map(|field| Some(field.offset + new_bytes(field.number, field.bound)? - 1 + shift));
+        .filter(|field| field.offset + field.width - 1 + shift <= most)
+        .filter_map(|field| Some(field.offset + field.new_bytes()? - 1 + shift));
     // A slot that was in the log has a digest until a new head is begun in it.
     let begun = usize::from(plan.site == Site::NewHead && known.is_reused && most > 0);
     Range {
@@ -114,78 +114,109 @@ fn is_finished(plan: &Plan, before: &[u8], after: &[u8], differing: usize) -> bo
         && others().filter(changed).count() + usize::from(changed(&last)) == differing
 }
 
-/// A field of four bytes and a bound on what can have stood there before.
+/// A number in a field of so many bytes, and a bound on what can have stood there before.
 struct Field {
     offset: usize,
-    number: u32,
+    width: usize,
+    number: u64,
     bound: u64,
 }
 
-fn field(bytes: &[u8], offset: usize, bound: u64) -> Option<Field> {
-    let number = u32::from_le_bytes(*bytes.get(offset..)?.first_chunk()?);
+fn field(bytes: &[u8], offset: usize, width: usize, bound: u64) -> Option<Field> {
+    let stored = bytes.get(offset..offset + width)?;
+    let number = stored
+        .iter()
+        .rev()
+        .fold(0, |number, &byte| number << 8 | u64::from(byte));
     Some(Field {
         offset,
+        width,
         number,
         bound,
     })
 }
 
-/// Offset of the version in an entry.
-const VERSION: usize = TOMBSTONE_BYTES - 4;
-
 /// An entry behind the head's end has the next version; all others are lower.
 fn tail_fields(plan: &Plan, known: Known) -> Vec<Field> {
-    let bound = known.record.next.0 - 1;
-    field(&plan.bytes, VERSION, bound).into_iter().collect()
+    let (width, bound) = (plan.layout.version_bytes, known.record.next.0 - 1);
+    field(&plan.bytes, VERSION, width, bound)
+        .into_iter()
+        .collect()
 }
 
 /// A new head has the next digest number, and its next version may be above that of every older digest.
 fn new_head_fields(plan: &Plan, known: Known) -> Vec<Field> {
-    let number = field(&plan.bytes, NUMBER, known.record.digest.0.into());
-    let next = field(&plan.bytes, NEXT, known.head_next);
+    let digest = known.record.digest.0.into();
+    let number = field(&plan.bytes, NUMBER, MAP - NUMBER, digest);
+    let width = plan.layout.version_bytes;
+    let next = field(&plan.bytes, NEXT, width, known.head_next);
     number.into_iter().chain(next).collect()
 }
 
-/// What four bytes of erased memory read as.
-const ERASED: u32 = u32::MAX;
+impl Field {
+    /// How many low bytes of the number must have been stored, if what stood there before was no higher than the bound, or
+    /// erased memory: the fewest over all such numbers. None if the number can have stood there itself.
+    fn new_bytes(&self) -> Option<usize> {
+        let above = |count: usize| match 8 * count as u32 {
+            64 => 0,
+            bits => self.number >> bits << bits,
+        };
+        let over_numbers = (0..=self.width).find(|&count| above(count) <= self.bound)?;
+        let erased = u64::MAX >> (64 - 8 * self.width);
+        let over_erased = differing_bytes(self.number, erased);
+        let fewest = over_numbers.min(over_erased);
+        (fewest > 0).then_some(fewest)
+    }
+}
 
-/// How many low bytes of a number must have been stored, if what stood there before was no higher than the bound, or
-/// erased memory: the fewest over all such numbers. None if the number can have stood there itself.
-fn new_bytes(number: u32, bound: u64) -> Option<usize> {
-    let above = |count: u32| {
-        number
-            .checked_shr(8 * count)
-            .map_or(0, |high| high << (8 * count))
-    };
-    let over_numbers = (0..=4).find(|&count| u64::from(above(count)) <= bound)?;
-    let over_erased = 4 - (number ^ ERASED).leading_zeros() / 8;
-    let fewest = over_numbers.min(over_erased);
-    (fewest > 0).then_some(fewest as usize)
+/// How many low bytes of two numbers there are up to the highest one that differs.
+fn differing_bytes(one: u64, other: u64) -> usize {
+    (u64::BITS - (one ^ other).leading_zeros()).div_ceil(8) as usize
 }
 
 #[cfg(test)]
 mod tests {
-    use super::{new_bytes, ERASED};
+    use super::{differing_bytes, Field};
+
+    fn new_bytes(width: usize, number: u64, bound: u64) -> Option<usize> {
+        let field = Field {
+            offset: 0,
+            width,
+            number,
+            bound,
+        };
+        field.new_bytes()
+    }
 
     /// The same by trying all numbers.
-    fn tried(number: u32, bound: u32) -> Option<usize> {
-        let differing = |old: u32| (4 - (old ^ number).leading_zeros() / 8) as usize;
-        let fewest = (0..=bound).chain([ERASED]).map(differing).min();
+    fn tried(number: u64, bound: u64, erased: u64) -> Option<usize> {
+        let old = (0..=bound).chain([erased]);
+        let fewest = old.map(|old| differing_bytes(old, number)).min();
         fewest.filter(|&count| count > 0)
     }
 
+    const BOUNDS: [u64; 11] = [0, 1, 4, 254, 255, 256, 511, 65_535, 65_536, 69_999, 80_000];
+
     #[test]
     fn new_bytes_are_the_fewest_that_any_old_number_leaves() {
-        let numbers = [1, 5, 255, 256, 257, 512, 65_535, 65_536, 65_537, 70_000];
-        let bounds = [0, 1, 4, 254, 255, 256, 511, 65_535, 65_536, 69_999, 80_000];
-        for number in numbers.into_iter().chain([ERASED, ERASED - 1, 0xFFFF_FF00]) {
-            for bound in bounds {
-                let expected = tried(number, bound);
-                let told = new_bytes(number, bound.into());
-                assert_eq!(told, expected, "{number} {bound}");
+        let small = [1, 5, 255, 256, 257, 512, 65_535, 65_536, 65_537, 70_000];
+        for (width, erased) in [(4, u64::from(u32::MAX)), (8, u64::MAX)] {
+            let large = [erased, erased - 1, erased - 255, erased >> 8, 1 << 31];
+            for number in small.into_iter().chain(large) {
+                for bound in BOUNDS {
+                    let expected = tried(number, bound, erased);
+                    assert_eq!(
+                        new_bytes(width, number, bound),
+                        expected,
+                        "{number} {bound}"
+                    );
+                }
             }
         }
-        assert_eq!(new_bytes(0x0100_0000, 0x00FF_FFFF), Some(4));
-        assert_eq!(new_bytes(0xFFFF_FF00, 0xFFFF_FEFF), Some(1));
+        assert_eq!(new_bytes(4, 0x0100_0000, 0x00FF_FFFF), Some(4));
+        assert_eq!(new_bytes(4, 0xFFFF_FF00, 0xFFFF_FEFF), Some(1));
+        assert_eq!(new_bytes(8, 1 << 32, (1 << 32) - 1), Some(5));
+        assert_eq!(new_bytes(8, 1 << 56, (1 << 56) - 1), Some(8));
+        assert_eq!(new_bytes(8, u64::MAX - 255, u64::MAX - 256), Some(1));
     }
 }

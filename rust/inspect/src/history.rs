@@ -1,10 +1,10 @@
 //! The history of one key: its entries in the log, then what other bytes still show of it.
 
-use reference::segment::{read_entry, Entry as Read, Fields, DIGEST_BYTES, TOMBSTONE_BYTES};
-use reference::Key;
+use reference::segment::{read_entry, Entry as Read, Fields};
+use reference::{Edition, Key};
 
 use crate::entries::{chain, Entry};
-use crate::image::{Image, Place};
+use crate::image::{layout_of, Image, Place};
 use crate::report::Report;
 
 /// Bytes outside the log's entries that read as an entry of the key. They do not count.
@@ -50,7 +50,7 @@ pub fn history(image: &Image, report: &Report, key: Key) -> History {
     }
 }
 
-/// What reads as an entry of the key at any offset of a slot that no listed entry covers.
+/// What reads as an entry of the key, of either edition, at any offset of a slot that no listed entry covers.
 fn remains_in(image: &Image, report: &Report, slot: u32, key: Key) -> Vec<Remains> {
     let segment = image.segment(slot);
     let is_listed = match report.log {
@@ -60,17 +60,23 @@ fn remains_in(image: &Image, report: &Report, slot: u32, key: Key) -> Vec<Remain
     let from = if is_listed {
         chain(segment).end
     } else {
-        DIGEST_BYTES
+        layout_of(segment).digest_bytes()
     };
+    let layouts = || Edition::ALL.into_iter().filter_map(Edition::layout);
     (from..segment.len())
-        .filter_map(|offset| match read_entry(segment, offset) {
-            Read::Object(fields) | Read::Tombstone(fields) if fields.key == key => Some(Remains {
-                place: Place { slot, offset },
-                fields,
-                value: segment[offset + TOMBSTONE_BYTES..offset + fields.length].to_vec(),
-                is_in_free_slot: !is_listed,
-            }),
-            _ => None,
-        })
+        .flat_map(|offset| layouts().map(move |layout| (layout, offset)))
+        .filter_map(
+            |(layout, offset)| match read_entry(layout, segment, offset) {
+                Read::Object(fields) | Read::Tombstone(fields) if fields.key == key => {
+                    Some(Remains {
+                        place: Place { slot, offset },
+                        fields,
+                        value: segment[offset + fields.value..offset + fields.length].to_vec(),
+                        is_in_free_slot: !is_listed,
+                    })
+                }
+                _ => None,
+            },
+        )
         .collect()
 }

@@ -3,8 +3,9 @@
 use std::fmt;
 use std::path::Path;
 
+use reference::edition::{Layout, FIRST};
 use reference::layout::{self, geometry_holds, SLOTS, SLOT_BYTES};
-use reference::SlotMap;
+use reference::{Edition, SlotMap};
 
 /// An area of N slots of S bytes; both are within their limits, and the area is exactly as long.
 #[derive(Clone, PartialEq, Eq, Debug)]
@@ -48,6 +49,12 @@ pub struct Log {
     pub map: SlotMap,
     /// Its newest slot.
     pub head: u32,
+}
+
+/// The layout that a segment is read by: of the edition of its digest, and of the first where it has none.
+pub fn layout_of(segment: &[u8]) -> &'static Layout {
+    let edition = Edition::of_segment(segment);
+    edition.and_then(Edition::layout).unwrap_or(&FIRST)
 }
 
 impl Image {

@@ -137,6 +137,7 @@ pub fn verdict(report: &Report) -> Json {
     Json::Object(match &report.verdict {
         Ok(Recovered { record, .. }) => vec![
             ("accepted", Json::Bool(true)),
+            ("edition", number(record.edition.0)),
             ("next_version", number(record.next.0)),
             ("digest", number(record.digest.0)),
             ("head", number(record.head)),
@@ -183,6 +184,10 @@ fn row(row: &Row) -> Json {
     Json::Object(vec![
         ("slot", number(row.slot)),
         ("role", text_of(text::role(row.role))),
+        (
+            "edition",
+            optional(digest.map(|digest| digest.layout.edition.0)),
+        ),
         ("digest", optional(digest.map(|digest| digest.number.0))),
         ("map", digest.map_or(Json::Null, |digest| slots(digest.map))),
         ("next_version", optional(digest.map(|digest| digest.next.0))),

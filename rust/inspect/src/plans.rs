@@ -3,18 +3,15 @@
 //! The second implementation plans them. What the image cannot tell, such as the value of a write, is taken as it stands
 //! where the operation would store it.
 
-use reference::segment::read_entry;
-use reference::segment::{Digest, Entry as Read, Key as StoreKey, DIGEST_BYTES, TOMBSTONE_BYTES};
+use reference::edition::{Layout, MAP, NEXT, VALUES};
+use reference::segment::{read_entry, Digest, Entry as Read, Key as StoreKey};
 use reference::{
     clean, delete, next_store, write, DigestNumber, Pending, Record, SlotMap, Started, Store,
     Tables, Version,
 };
 
-use crate::image::Image;
+use crate::image::{layout_of, Image};
 use crate::verdict::Recovered;
-
-/// The lengths that a value can have.
-const LENGTHS: [usize; 4] = [8, 24, 56, 120];
 
 /// An operation, as far as the bytes name it.
 #[derive(Clone, Copy, PartialEq, Eq, Debug)]
@@ -53,6 +50,8 @@ pub struct Plan {
     pub is_whole: bool,
     /// The bytes that it lays down, from the first one on.
     pub bytes: Vec<u8>,
+    /// Kinds and sizes of its edition.
+    pub layout: &'static Layout,
 }
 
 /// Plans operations on a store, the bytes of which `standing` shows, perhaps some stores later.
@@ -60,6 +59,7 @@ pub struct Planner<'a> {
     image: &'a Image,
     index: &'a [u32],
     record: Record,
+    layout: &'static Layout,
     standing: &'a [u8],
 }
 
@@ -75,13 +75,14 @@ impl<'a> Planner<'a> {
             image,
             index: &recovered.index,
             record,
+            layout: layout_of(image.segment(record.head)),
             standing,
         }
     }
 
     /// The plans of every operation that the standing bytes may be a part of.
     pub fn all(&self) -> Vec<Plan> {
-        let mut plans: Vec<Plan> = LENGTHS
+        let mut plans: Vec<Plan> = VALUES
             .into_iter()
             .filter_map(|bytes| self.write(bytes))
             .collect();
@@ -107,7 +108,7 @@ impl<'a> Planner<'a> {
         if end + length <= slot_bytes {
             return Some(self.record.head as usize * slot_bytes + end);
         }
-        Some(self.new_head_slot()? as usize * slot_bytes + DIGEST_BYTES)
+        Some(self.new_head_slot()? as usize * slot_bytes + self.layout.digest_bytes())
     }
 
     fn start(&self, start: impl FnOnce(Record, &mut [u8]) -> Started) -> Option<(Record, Vec<u8>)> {
@@ -117,9 +118,10 @@ impl<'a> Planner<'a> {
     }
 
     fn write(&self, bytes: usize) -> Option<Plan> {
-        let at = self.room(TOMBSTONE_BYTES + bytes)?;
-        let entry = self.standing.get(at..at + TOMBSTONE_BYTES + bytes)?;
-        let (key, value) = (standing_key(entry), &entry[TOMBSTONE_BYTES..]);
+        let leading = self.layout.tombstone_bytes();
+        let at = self.room(leading + bytes)?;
+        let entry = self.standing.get(at..at + leading + bytes)?;
+        let (key, value) = (standing_key(entry), &entry[leading..]);
         let (area, index) = (&self.image.area, self.index);
         let (record, work) =
             self.start(|record, work| write(record, area, index, work, Tables::ALL, key, value))?;
@@ -149,7 +151,7 @@ impl<'a> Planner<'a> {
         self.index.iter().filter_map(|&mark| {
             let at = mark.checked_sub(1)? as usize;
             let place = self.image.place(at);
-            match read_entry(self.image.segment(place.slot), place.offset) {
+            match read_entry(self.layout, self.image.segment(place.slot), place.offset) {
                 Read::Object(fields) => Some((place.slot, fields.key)),
                 _ => None,
             }
@@ -162,7 +164,7 @@ impl<'a> Planner<'a> {
             return Vec::new();
         };
         let start = (slot * self.record.slot_bytes) as usize;
-        let map_bytes = &self.standing[start + 5..start + 9];
+        let map_bytes = &self.standing[start + MAP..start + NEXT];
         let map = self.record.map.with(slot);
         let stood = SlotMap(u32::from_le_bytes([
             map_bytes[0],
@@ -198,12 +200,15 @@ impl<'a> Planner<'a> {
             })
             .count();
         let digest = Digest {
+            layout: self.layout,
             number: DigestNumber(self.record.digest.0 + 1),
             map: stood,
             next: Version::NONE,
         };
-        let known = 5 + possible.min(3);
-        let mut bytes = digest.stored()[..known].to_vec();
+        let known = MAP + possible.min(3);
+        let mut bytes = vec![0; self.layout.digest_bytes()];
+        digest.lay(&mut bytes);
+        bytes.truncate(known);
         bytes[0] = 0;
         let start = (slot * self.record.slot_bytes) as usize;
         let stores = bytes.iter().enumerate().map(|(offset, &byte)| Store {
@@ -216,6 +221,7 @@ impl<'a> Planner<'a> {
             stores: stores.collect(),
             is_whole: false,
             bytes,
+            layout: self.layout,
         }
     }
 
@@ -236,6 +242,7 @@ impl<'a> Planner<'a> {
             stores,
             is_whole: true,
             bytes: work,
+            layout: self.layout,
         }
     }
 }
@@ -257,23 +264,5 @@ fn standing_key(entry: &[u8]) -> StoreKey {
     StoreKey {
         table: u16::from_le_bytes([entry[1], entry[2]]),
         key: u32::from_le_bytes([entry[3], entry[4], entry[5], entry[6]]),
-    }
-}
-
-/// The kinds of value are those that an entry can have.
-#[cfg(test)]
-mod tests {
-    use super::{LENGTHS, TOMBSTONE_BYTES};
-    use reference::segment::{entry_bytes, object_kind};
-
-    #[test]
-    fn every_length_has_its_kind() {
-        for bytes in 0..2048 {
-            let kind = object_kind(bytes);
-            assert_eq!(kind.is_some(), LENGTHS.contains(&bytes), "{bytes}");
-            if let Some(kind) = kind {
-                assert_eq!(entry_bytes(kind), Some(TOMBSTONE_BYTES + bytes));
-            }
-        }
     }
 }

@@ -1,10 +1,10 @@
 //! What each slot holds.
 
-use reference::segment::{Digest, DIGEST_BYTES};
+use reference::segment::Digest;
 use reference::{clean, DigestNumber, Pending, Record, SlotMap};
 
 use crate::entries::{chain, Entry, Reason};
-use crate::image::{Image, Log};
+use crate::image::{layout_of, Image, Log};
 use crate::verdict::Recovered;
 
 /// What a slot is to the log.
@@ -105,7 +105,10 @@ fn kept(image: &Image, recovered: &Recovered, slot: u32) -> Option<usize> {
     let victims = SlotMap::EMPTY.with(slot);
     let (started, _) = clean(record, &image.area, &recovered.index, &mut work, victims);
     match started.pending {
-        Pending::Clean { length, .. } => Some(length as usize - DIGEST_BYTES),
+        Pending::Clean { length, .. } => {
+            let head = layout_of(image.segment(recovered.record.head));
+            Some(length as usize - head.digest_bytes())
+        }
         _ => None,
     }
 }

@@ -1,6 +1,6 @@
 //! What was under way when the supply failed, as far as one image tells.
 
-use reference::segment::{DIGEST_BYTES, END, TOMBSTONE_BYTES};
+use reference::edition::{END, MAP, NUMBER};
 use reference::{Record, SlotMap};
 
 use crate::evidence::{range, Known, Range};
@@ -8,10 +8,15 @@ use crate::image::{Image, Place};
 use crate::plans::{Operation, Plan, Planner, Site};
 use crate::verdict::Recovered;
 
-/// Stores after which an appended entry shows key and version whole.
-const ENTRY_STORES: usize = TOMBSTONE_BYTES - 1;
-/// The same for an entry in a new head: the byte at the head's start, the digest's others and the entry's kind come first.
-const NEW_HEAD_ENTRY_STORES: usize = DIGEST_BYTES + 1 + ENTRY_STORES;
+/// Stores after which an entry shows key and version whole. In a new head the byte at the head's start, the digest's others
+/// and the entry's kind come before them.
+fn entry_stores(plan: &Plan) -> usize {
+    let appended = plan.layout.tombstone_bytes() - 1;
+    match plan.site {
+        Site::Tail => appended,
+        Site::NewHead => plan.layout.digest_bytes() + 1 + appended,
+    }
+}
 
 /// An operation that may have been under way, and how far it can have come.
 #[derive(Clone, Copy, PartialEq, Eq, Debug)]
@@ -103,7 +108,7 @@ fn strays(image: &Image, record: &Record, next_head: Option<u32>) -> Vec<u32> {
     let number = record.digest.0.checked_add(1).map(u32::to_le_bytes);
     let begins = |slot: &u32| {
         let segment = image.segment(*slot);
-        segment[0] == END && number.is_some_and(|number| segment[1..5] == number)
+        segment[0] == END && number.is_some_and(|number| segment[NUMBER..MAP] == number)
     };
     let free = SlotMap::below(record.slots).without(record.map);
     let others = free.slots().filter(|&slot| Some(slot) != next_head);
@@ -157,18 +162,15 @@ fn doubts(site: Site, least: usize, known: Known) -> Vec<Doubt> {
 
 /// A plan as a candidate. Its key is told where the entry's key and version stand whole.
 pub fn candidate(plan: &Plan, range: Range) -> Candidate {
-    let needed = match plan.site {
-        Site::Tail => ENTRY_STORES,
-        Site::NewHead => NEW_HEAD_ENTRY_STORES,
-    };
-    let is_told = range.most >= needed;
+    let is_told = range.most >= entry_stores(plan);
     let operation = match plan.operation {
         Operation::Write(bytes, key) => Operation::Write(bytes, key.filter(|_| is_told)),
         Operation::Delete(key) => Operation::Delete(key.filter(|_| is_told)),
         // The digest alone names the victim and not the key.
-        Operation::FullDelete(key, slot) => {
-            Operation::FullDelete(key.filter(|_| range.most > DIGEST_BYTES), slot)
-        }
+        Operation::FullDelete(key, slot) => Operation::FullDelete(
+            key.filter(|_| range.most > plan.layout.digest_bytes()),
+            slot,
+        ),
         other => other,
     };
     Candidate {

@@ -1,6 +1,6 @@
 //! Small pieces of text that every view uses.
 
-use reference::{Key, SlotMap};
+use reference::{Edition, Key, SlotMap};
 
 fn digits(bytes: &[u8]) -> Vec<String> {
     bytes.iter().map(|byte| format!("{byte:02x}")).collect()
@@ -52,9 +52,10 @@ pub fn count(number: usize, noun: &str) -> String {
 
 /// The name of a kind of entry.
 pub fn kind(kind: u8) -> String {
-    match reference::segment::entry_bytes(kind) {
-        _ if kind == reference::segment::TOMBSTONE => "tombstone".into(),
-        Some(length) => format!("object {}", length - reference::segment::TOMBSTONE_BYTES),
+    let mut layouts = Edition::ALL.into_iter().filter_map(Edition::layout);
+    match layouts.find_map(|layout| Some((layout, layout.entry_bytes(kind)?))) {
+        Some((layout, _)) if kind == layout.tombstone => "tombstone".into(),
+        Some((layout, length)) => format!("object {}", length - layout.tombstone_bytes()),
         None => format!("kind {kind}"),
     }
 }

@@ -2,6 +2,7 @@
 //! one (02, R-4).
 
 use crate::counters::Version;
+use crate::edition::{by_edition, Fixed, FIRST};
 use crate::index::{search, Search};
 use crate::layout::MAX_AREA_BYTES;
 use crate::log::walk;
@@ -9,7 +10,7 @@ use crate::operations::{hand_back, lay_digest, Started};
 use crate::record::{Pending, Record};
 use crate::refusal::Refusal;
 use crate::rules::{AsWritten, Rules};
-use crate::segment::{lay_entry, Fields, Key, DIGEST_BYTES, TOMBSTONE, TOMBSTONE_BYTES};
+use crate::segment::{lay_entry, Fields, Key};
 use crate::slot_map::SlotMap;
 use crate::step::new_head_stores;
 
@@ -32,34 +33,35 @@ pub fn clean_by<R: Rules>(
     work: &mut [u8],
     victims: SlotMap,
 ) -> Started {
-    let pending = start::<R>(&record, area, index, work, victims);
+    let pending =
+        by_edition!(record.edition, E => start::<E, R>(&record, area, index, work, victims));
     hand_back(record, pending)
 }
 
 /// The checks in 01's order, then digest and kept entries into the work buffer.
-fn start<R: Rules>(
+fn start<E: Fixed, R: Rules>(
     record: &Record,
     area: &[u8],
     index: &[u32],
     work: &mut [u8],
     victims: SlotMap,
 ) -> Result<Pending, Refusal> {
-    record.check(area, index)?;
+    record.check::<E>(area, index)?;
     record.check_idle(work)?;
     if victims == SlotMap::EMPTY || !victims.is_within(record.map) {
         return Err(Refusal::Victims);
     }
-    let mut choice = Choice::of_victims(record, area, index, victims, None)?;
-    choice.keep_needed_tombstones(record, area, index, victims)?;
+    let mut choice = Choice::of_victims::<E>(record, area, index, victims, None)?;
+    choice.keep_needed_tombstones::<E>(record, area, index, victims)?;
     if R::TOMBSTONE_GOES_WITH_NEWEST_OBJECT {
-        choice.drop_by_newest_object(record, area, victims)?;
+        choice.drop_by_newest_object::<E>(record, area, victims)?;
     }
-    if DIGEST_BYTES + choice.bytes > record.slot_bytes as usize {
+    if E::LAYOUT.digest_bytes() + choice.bytes > record.slot_bytes as usize {
         return Err(Refusal::KeptLength);
     }
     let slot = record.new_head_slot()?;
-    lay_digest(record, work, slot, victims, record.next);
-    let length = copy_kept(record, area, work, victims, &choice)?;
+    lay_digest::<E>(record, work, slot, victims, record.next);
+    let length = copy_kept::<E>(record, area, work, victims, &choice)?;
     Ok(Pending::Clean {
         slot,
         length,
@@ -71,7 +73,7 @@ fn start<R: Rules>(
 /// Starts a delete of the key whose live object stands at a place, as a cleaning of the slot
 /// that holds it. Nothing is longer in the new head than it was in the victim, so it fits. A
 /// place outside the log is one that no index leads to.
-pub(crate) fn forget<R: Rules>(
+pub(crate) fn forget<E: Fixed, R: Rules>(
     record: &Record,
     area: &[u8],
     index: &[u32],
@@ -84,14 +86,14 @@ pub(crate) fn forget<R: Rules>(
         return Err(Refusal::Record);
     }
     let victims = SlotMap::EMPTY.with(victim);
-    let mut choice = Choice::of_victims(record, area, index, victims, Some(live))?;
+    let mut choice = Choice::of_victims::<E>(record, area, index, victims, Some(live))?;
     if !R::NO_TOMBSTONE_OF_FORGOTTEN {
-        choice.keep_needed_tombstones(record, area, index, victims)?;
+        choice.keep_needed_tombstones::<E>(record, area, index, victims)?;
     }
     let taken = u64::from(!R::FORGOTTEN_VERSION_NOT_IN_DIGEST);
     let next = Version(record.next.0 + taken);
-    lay_digest(record, work, slot, victims, next);
-    let length = copy_kept(record, area, work, victims, &choice)?;
+    lay_digest::<E>(record, work, slot, victims, next);
+    let length = copy_kept::<E>(record, area, work, victims, &choice)?;
     Ok(Pending::Forget {
         slot,
         length,
@@ -102,21 +104,23 @@ pub(crate) fn forget<R: Rules>(
 
 /// Copies the kept entries by ascending slot and offset behind the digest, a new tombstone in
 /// the place of the object to be forgotten; gives the length of all.
-fn copy_kept(
+fn copy_kept<E: Fixed>(
     record: &Record,
     area: &[u8],
     work: &mut [u8],
     victims: SlotMap,
     choice: &Choice,
 ) -> Result<u32, Refusal> {
-    let mut at = DIGEST_BYTES;
-    walk_slots(record, area, victims, |place, fields| {
+    let layout = &E::LAYOUT;
+    let mut at = layout.digest_bytes();
+    walk_slots::<E>(record, area, victims, |place, fields| {
         if !choice.kept.has(place) {
             return Ok(());
         }
         if choice.forgotten == Some(place) {
-            let end = at + TOMBSTONE_BYTES;
-            lay_entry(&mut work[at..end], TOMBSTONE, fields.key, record.next, &[]);
+            let end = at + layout.tombstone_bytes();
+            let (tombstone, out) = (layout.tombstone, &mut work[at..end]);
+            lay_entry(layout, out, tombstone, fields.key, record.next, &[]);
             at = end;
         } else {
             let end = at + fields.length;
@@ -130,14 +134,14 @@ fn copy_kept(
 
 /// Walks slots of the log; damage is a byte that no log holds.
 #[inline]
-pub(crate) fn walk_slots(
+pub(crate) fn walk_slots<E: Fixed>(
     record: &Record,
     area: &[u8],
     slots: SlotMap,
     visit: impl FnMut(usize, Fields) -> Result<(), Refusal>,
 ) -> Result<(), Refusal> {
     let damage = Refusal::Record;
-    walk(area, record.slot_bytes, slots.slots(), damage, visit)
+    walk::<E>(area, record.slot_bytes, slots.slots(), damage, visit)
 }
 
 /// The place of the newest entry of a key that has one.
@@ -166,7 +170,7 @@ struct Choice {
 impl Choice {
     /// Keeps the objects that are their key's newest entry and notes such tombstones. The object
     /// to be forgotten counts as one.
-    fn of_victims(
+    fn of_victims<E: Fixed>(
         record: &Record,
         area: &[u8],
         index: &[u32],
@@ -180,11 +184,11 @@ impl Choice {
             tombstones: EntrySet::new(),
             tombstone_keys: KeyFilter::new(),
         };
-        walk_slots(record, area, victims, |place, fields| {
+        walk_slots::<E>(record, area, victims, |place, fields| {
             if newest(area, index, fields.key)? != place {
                 return Ok(());
             }
-            if fields.kind == TOMBSTONE || forgotten == Some(place) {
+            if fields.is_tombstone() || forgotten == Some(place) {
                 choice.tombstones.add(place);
                 choice.tombstone_keys.add(fields.key);
             } else {
@@ -197,7 +201,7 @@ impl Choice {
     }
 
     /// Keeps the noted tombstones whose key has an object in a slot that stays.
-    fn keep_needed_tombstones(
+    fn keep_needed_tombstones<E: Fixed>(
         &mut self,
         record: &Record,
         area: &[u8],
@@ -207,14 +211,14 @@ impl Choice {
         if self.tombstone_keys.is_empty() {
             return Ok(());
         }
-        walk_slots(record, area, record.map.without(victims), |_, fields| {
-            if fields.kind == TOMBSTONE || !self.tombstone_keys.may_have(fields.key) {
+        walk_slots::<E>(record, area, record.map.without(victims), |_, fields| {
+            if fields.is_tombstone() || !self.tombstone_keys.may_have(fields.key) {
                 return Ok(());
             }
             let place = newest(area, index, fields.key)?;
             if self.tombstones.has(place) && !self.kept.has(place) {
                 self.kept.add(place);
-                self.bytes += TOMBSTONE_BYTES;
+                self.bytes += E::LAYOUT.tombstone_bytes();
             }
             Ok(())
         })
@@ -222,38 +226,41 @@ impl Choice {
 
     /// A rule that 01 calls wrong, for tests: drops the kept tombstones of keys whose
     /// newest object is in a victim.
-    fn drop_by_newest_object(
+    fn drop_by_newest_object<E: Fixed>(
         &mut self,
         record: &Record,
         area: &[u8],
         victims: SlotMap,
     ) -> Result<(), Refusal> {
-        walk_slots(record, area, victims, |place, tombstone| {
-            if tombstone.kind != TOMBSTONE || !self.kept.has(place) {
+        walk_slots::<E>(record, area, victims, |place, tombstone| {
+            if !tombstone.is_tombstone() || !self.kept.has(place) {
                 return Ok(());
             }
             let mut newest = (Version(0), 0);
-            walk_slots(record, area, record.map, |place, fields| {
-                if fields.kind != TOMBSTONE && fields.key == tombstone.key {
+            walk_slots::<E>(record, area, record.map, |place, fields| {
+                if !fields.is_tombstone() && fields.key == tombstone.key {
                     newest = newest.max((fields.version, place));
                 }
                 Ok(())
             })?;
             if victims.has(newest.1 as u32 / record.slot_bytes) {
                 self.kept.remove(place);
-                self.bytes -= TOMBSTONE_BYTES;
+                self.bytes -= tombstone.length;
             }
             Ok(())
         })
     }
 }
 
-/// A set of entries of the log, one bit each. No two entries start within the length of
-/// the shortest, so the place divided by that length tells them apart.
+/// The length of the shortest entry. No two entries start within it, so the place divided by it
+/// tells them apart.
+pub(crate) const SHORTEST: usize = FIRST.tombstone_bytes();
+
+/// A set of entries of the log, one bit each.
 struct EntrySet([u32; EntrySet::WORDS]);
 
 impl EntrySet {
-    const WORDS: usize = MAX_AREA_BYTES / TOMBSTONE_BYTES / 32 + 1;
+    const WORDS: usize = MAX_AREA_BYTES / SHORTEST / 32 + 1;
 
     fn new() -> EntrySet {
         EntrySet([0; EntrySet::WORDS])
@@ -261,7 +268,7 @@ impl EntrySet {
 
     #[inline]
     fn bit(place: usize) -> (usize, u32) {
-        let number = place / TOMBSTONE_BYTES;
+        let number = place / SHORTEST;
         (number / 32, 1 << (number % 32))
     }
 

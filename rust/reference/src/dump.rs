@@ -7,7 +7,7 @@ use crate::layout::CELLS;
 use crate::record::Record;
 use crate::recovery::recover;
 use crate::refusal::Refusal;
-use crate::segment::{Key, TOMBSTONE_BYTES};
+use crate::segment::Key;
 use crate::tables::Tables;
 
 /// The output for an input of N (1 byte), S (2 bytes) and the area.
@@ -46,7 +46,7 @@ fn present_keys(record: &Record, area: &[u8], index: &[u32]) -> Vec<(Key, Versio
         .iter()
         .filter(|&&mark| mark != 0)
         .filter_map(|&mark| area.get(mark as usize - 1..)?.first_chunk())
-        .filter_map(|entry: &[u8; TOMBSTONE_BYTES]| {
+        .filter_map(|entry| {
             let key = Key::of_entry(entry);
             let found = crate::read::read(record, area, index, Tables::ALL, key).ok()?;
             Some((key, found.version, found.kind))

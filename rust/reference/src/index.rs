@@ -3,10 +3,11 @@
 use std::collections::{HashMap, HashSet};
 
 use crate::counters::Version;
+use crate::edition::{by_edition, Edition, Fixed, VERSION};
 use crate::layout::{geometry_holds, index_holds, segment};
-use crate::log::{walk, walk_segment};
+use crate::log::walk_segment;
 use crate::refusal::Refusal;
-use crate::segment::{read_entry, version_of_entry, Entry, Fields, Key, TOMBSTONE_BYTES};
+use crate::segment::{read_entry, Entry, Fields, Key};
 use crate::slot_map::SlotMap;
 
 /// Where the search for a key ended.
@@ -31,9 +32,9 @@ fn home(key: Key, cells: usize) -> usize {
     }
 }
 
-/// The leading bytes of the entry that a cell other than 0 leads to.
+/// The bytes up to the version of the entry that a cell other than 0 leads to.
 #[inline]
-fn entry_of(area: &[u8], mark: u32) -> Option<&[u8; TOMBSTONE_BYTES]> {
+fn entry_of(area: &[u8], mark: u32) -> Option<&[u8; VERSION]> {
     area.get(mark as usize - 1..)?.first_chunk()
 }
 
@@ -65,9 +66,12 @@ pub(crate) fn search(area: &[u8], index: &[u32], key: Key) -> Search {
 /// Place and fields of the object that a search came to; none if the key is absent. Refuses
 /// with 4 what no log leads to.
 #[inline]
-pub(crate) fn object_at(area: &[u8], found: Search) -> Result<Option<(usize, Fields)>, Refusal> {
+pub(crate) fn object_at<E: Fixed>(
+    area: &[u8],
+    found: Search,
+) -> Result<Option<(usize, Fields)>, Refusal> {
     match found {
-        Search::Found { place, .. } => match read_entry(area, place) {
+        Search::Found { place, .. } => match read_entry(&E::LAYOUT, area, place) {
             Entry::Object(fields) => Ok(Some((place, fields))),
             Entry::Tombstone(_) => Ok(None),
             Entry::End | Entry::Damage => Err(Refusal::Record),
@@ -109,7 +113,7 @@ pub(crate) fn point_to(
 /// Fills the index from the entries of the given slots and counts the keys; tells `entered` of
 /// each entry, by its slot and place. Refuses with 20 if there are more than M - 1 keys; the
 /// index is then all 0.
-pub(crate) fn rebuild(
+pub(crate) fn rebuild<E: Fixed>(
     area: &[u8],
     slot_bytes: u32,
     slots: impl Iterator<Item = u32>,
@@ -122,9 +126,9 @@ pub(crate) fn rebuild(
     let mut slots = slots;
     let built = slots.try_for_each(|slot| {
         let start = (slot * slot_bytes) as usize;
-        walk_segment(segment(area, slot_bytes, slot), damage, |offset, fields| {
+        walk_segment::<E>(segment(area, slot_bytes, slot), damage, |offset, fields| {
             let place = start + offset;
-            let met = enter(area, index, place, fields, keys)?;
+            let met = enter::<E>(area, index, place, fields, keys)?;
             keys += u32::from(met == Entered::New);
             entered(slot, place, met);
             Ok(())
@@ -139,7 +143,7 @@ pub(crate) fn rebuild(
 
 /// Brings one entry into an index that holds `keys` keys.
 #[inline]
-fn enter(
+fn enter<E: Fixed>(
     area: &[u8],
     index: &mut [u32],
     place: usize,
@@ -148,8 +152,9 @@ fn enter(
 ) -> Result<Entered, Refusal> {
     match search(area, index, fields.key) {
         Search::Found { cell, place: known } => {
-            let leading = area.get(known..).and_then(<[u8]>::first_chunk);
-            if leading.map(version_of_entry) >= Some(fields.version) {
+            let version = area.get(known + VERSION..);
+            let version = version.and_then(|bytes| E::LAYOUT.version_in(bytes));
+            if version >= Some(fields.version) {
                 return Ok(Entered::Older);
             }
             index[cell] = place as u32 + 1;
@@ -200,19 +205,18 @@ fn newest_entries(
     area: &[u8],
 ) -> Option<HashMap<Key, (Version, usize)>> {
     let mut newest: HashMap<Key, (Version, usize)> = HashMap::new();
-    walk(
-        area,
-        slot_bytes,
-        map.slots(),
-        Refusal::Entry,
-        |place, fields| {
-            let entry = (fields.version, place);
+    for slot in map.slots() {
+        let bytes = segment(area, slot_bytes, slot);
+        let start = (slot * slot_bytes) as usize;
+        let visit = |offset, fields: Fields| {
+            let entry = (fields.version, start + offset);
             let best = newest.entry(fields.key).or_insert(entry);
             *best = entry.max(*best);
             Ok(())
-        },
-    )
-    .ok()?;
+        };
+        let edition = Edition::of_segment(bytes)?;
+        by_edition!(edition, E => walk_segment::<E>(bytes, Refusal::Entry, visit)).ok()?;
+    }
     Some(newest)
 }
 

@@ -3,22 +3,27 @@
 //! What a cleaning of two slots keeps is what each of them keeps alone, less the tombstones of one
 //! whose only objects elsewhere are in the other. So two walks of the log are enough for all pairs.
 
-use crate::cleaning::{newest, walk_slots};
+use crate::cleaning::{newest, walk_slots, SHORTEST};
+use crate::edition::{by_edition, Fixed};
 use crate::layout::{MAX_AREA_BYTES, MOST_SLOTS};
 use crate::record::Record;
 use crate::refusal::Refusal;
-use crate::segment::{DIGEST_BYTES, TOMBSTONE, TOMBSTONE_BYTES};
 use crate::slot_map::SlotMap;
 
 /// The lowest two slots of the log, the first of them deciding first, whose kept entries fit one
 /// new head when exactly these two are cleaned. Refuses with 4, 5 and 23.
 pub fn join(record: &Record, area: &[u8], index: &[u32]) -> Result<(u32, u32), Refusal> {
-    record.check(area, index)?;
+    by_edition!(record.edition, E => pair::<E>(record, area, index))
+}
+
+fn pair<E: Fixed>(record: &Record, area: &[u8], index: &[u32]) -> Result<(u32, u32), Refusal> {
+    record.check::<E>(area, index)?;
     record.check_none_pending()?;
-    let kept = Kept::of(record, area, index)?;
+    let kept = Kept::of::<E>(record, area, index)?;
+    let digest = E::LAYOUT.digest_bytes() as u32;
     for first in record.map.slots() {
         for second in record.map.slots().filter(|&second| second > first) {
-            if DIGEST_BYTES as u32 + kept.by_both(first, second) <= record.slot_bytes {
+            if digest + kept.by_both(first, second) <= record.slot_bytes {
                 return Ok((first, second));
             }
         }
@@ -52,12 +57,11 @@ impl Elsewhere {
     }
 }
 
-/// The same for each newest tombstone of the log. No two entries start within the length of the
-/// shortest, so the place divided by that length tells them apart.
+/// The same for each newest tombstone of the log.
 struct Tombstones([Elsewhere; Tombstones::PLACES]);
 
 impl Tombstones {
-    const PLACES: usize = MAX_AREA_BYTES / TOMBSTONE_BYTES + 1;
+    const PLACES: usize = MAX_AREA_BYTES / SHORTEST + 1;
 }
 
 /// Bytes that cleanings keep.
@@ -69,24 +73,24 @@ struct Kept {
 }
 
 impl Kept {
-    fn of(record: &Record, area: &[u8], index: &[u32]) -> Result<Kept, Refusal> {
+    fn of<E: Fixed>(record: &Record, area: &[u8], index: &[u32]) -> Result<Kept, Refusal> {
         let mut kept = Kept {
             alone: [0; MOST_SLOTS],
             less: [[0; MOST_SLOTS]; MOST_SLOTS],
         };
         let mut tombstones = Tombstones([Elsewhere::NOWHERE; Tombstones::PLACES]);
         for slot in record.map.slots() {
-            kept.count_objects(record, area, index, slot, &mut tombstones)?;
+            kept.count_objects::<E>(record, area, index, slot, &mut tombstones)?;
         }
         for slot in record.map.slots() {
-            kept.count_tombstones(record, area, slot, &tombstones)?;
+            kept.count_tombstones::<E>(record, area, slot, &tombstones)?;
         }
         Ok(kept)
     }
 
     /// Counts the objects of a slot that are their key's newest entry. Any other may be what a
     /// newest tombstone in another slot stands for.
-    fn count_objects(
+    fn count_objects<E: Fixed>(
         &mut self,
         record: &Record,
         area: &[u8],
@@ -95,15 +99,15 @@ impl Kept {
         tombstones: &mut Tombstones,
     ) -> Result<(), Refusal> {
         let own = (slot * record.slot_bytes) as usize..((slot + 1) * record.slot_bytes) as usize;
-        walk_slots(record, area, SlotMap::EMPTY.with(slot), |place, fields| {
-            if fields.kind == TOMBSTONE {
+        walk_slots::<E>(record, area, SlotMap::EMPTY.with(slot), |place, fields| {
+            if fields.is_tombstone() {
                 return Ok(());
             }
             let newest = newest(area, index, fields.key)?;
             if newest == place {
                 self.alone[slot as usize] += fields.length as u32;
-            } else if area[newest] == TOMBSTONE && !own.contains(&newest) {
-                let known = &mut tombstones.0[newest / TOMBSTONE_BYTES];
+            } else if area[newest] == E::LAYOUT.tombstone && !own.contains(&newest) {
+                let known = &mut tombstones.0[newest / SHORTEST];
                 *known = known.and(slot);
             }
             Ok(())
@@ -111,7 +115,7 @@ impl Kept {
     }
 
     /// Counts the tombstones of a slot that have an object elsewhere, which are newest ones.
-    fn count_tombstones(
+    fn count_tombstones<E: Fixed>(
         &mut self,
         record: &Record,
         area: &[u8],
@@ -119,16 +123,16 @@ impl Kept {
         tombstones: &Tombstones,
     ) -> Result<(), Refusal> {
         let own = slot as usize;
-        walk_slots(record, area, SlotMap::EMPTY.with(slot), |place, fields| {
-            if fields.kind != TOMBSTONE {
+        walk_slots::<E>(record, area, SlotMap::EMPTY.with(slot), |place, fields| {
+            if !fields.is_tombstone() {
                 return Ok(());
             }
-            let elsewhere = tombstones.0[place / TOMBSTONE_BYTES];
+            let elsewhere = tombstones.0[place / SHORTEST];
             if elsewhere != Elsewhere::NOWHERE {
-                self.alone[own] += TOMBSTONE_BYTES as u32;
+                self.alone[own] += fields.length as u32;
             }
             if let Some(other) = elsewhere.in_one() {
-                self.less[own.min(other)][own.max(other)] += TOMBSTONE_BYTES as u16;
+                self.less[own.min(other)][own.max(other)] += fields.length as u16;
             }
             Ok(())
         })

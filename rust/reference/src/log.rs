@@ -1,20 +1,21 @@
 //! Walking the entries of the log (01, "The log and its map").
 
+use crate::edition::Fixed;
 use crate::layout::segment;
 use crate::refusal::Refusal;
-use crate::segment::{read_entry, Entry, Fields, DIGEST_BYTES};
+use crate::segment::{read_entry, Entry, Fields};
 
 /// Visits the objects and tombstones of one segment by ascending offset and gives the
 /// offset at which they end. Damage stops the walk with the given refusal.
 #[inline]
-pub(crate) fn walk_segment(
+pub(crate) fn walk_segment<E: Fixed>(
     segment: &[u8],
     damage: Refusal,
     mut visit: impl FnMut(usize, Fields) -> Result<(), Refusal>,
 ) -> Result<usize, Refusal> {
-    let mut offset = DIGEST_BYTES;
+    let mut offset = E::LAYOUT.digest_bytes();
     loop {
-        match read_entry(segment, offset) {
+        match read_entry(&E::LAYOUT, segment, offset) {
             Entry::Object(fields) | Entry::Tombstone(fields) => {
                 visit(offset, fields)?;
                 offset += fields.length;
@@ -28,7 +29,7 @@ pub(crate) fn walk_segment(
 /// Visits the entries of several slots in the order given, each with its place in the
 /// area.
 #[inline]
-pub(crate) fn walk(
+pub(crate) fn walk<E: Fixed>(
     area: &[u8],
     slot_bytes: u32,
     slots: impl Iterator<Item = u32>,
@@ -37,7 +38,8 @@ pub(crate) fn walk(
 ) -> Result<(), Refusal> {
     for slot in slots {
         let start = (slot * slot_bytes) as usize;
-        walk_segment(segment(area, slot_bytes, slot), damage, |offset, fields| {
+        let bytes = segment(area, slot_bytes, slot);
+        walk_segment::<E>(bytes, damage, |offset, fields| {
             visit(start + offset, fields)
         })?;
     }

@@ -1,16 +1,15 @@
-//! Format, and the starts of write and delete (01, "Operations, store by store"; 02, R-1, R-2
-//! and R-4).
+//! Format, and the starts of write and delete (01, "Operations, store by store"; 02, R-1, R-2,
+//!
 
 use crate::cleaning::forget;
 use crate::counters::{DigestNumber, Version};
+use crate::edition::{by_edition, Edition, Fixed, END};
 use crate::index::{object_at, search, Search};
 use crate::layout::geometry_holds;
 use crate::record::{Pending, Record};
 use crate::refusal::Refusal;
 use crate::rules::{AsWritten, Rules};
-use crate::segment::{
-    lay_entry, object_kind, Digest, Key, DIGEST_BYTES, END, TOMBSTONE, TOMBSTONE_BYTES,
-};
+use crate::segment::{lay_entry, Digest, Key};
 use crate::slot_map::SlotMap;
 use crate::step::{append_stores, new_head_stores};
 use crate::tables::Tables;
@@ -19,21 +18,29 @@ use crate::tables::Tables;
 /// many stores are to come or the refusal.
 pub type Started = (Record, Result<u32, Refusal>);
 
-/// Lays down an empty store: no slot has a digest but slot 0, which holds nothing else.
-pub fn format(slots: u32, slot_bytes: u32, area: &mut [u8]) -> Result<(), Refusal> {
+/// Lays down an empty store of an edition: no slot has a digest but slot 0, which holds nothing
+/// else.
+pub fn format(
+    slots: u32,
+    slot_bytes: u32,
+    edition: Edition,
+    area: &mut [u8],
+) -> Result<(), Refusal> {
     if !geometry_holds(slots, slot_bytes, area.len()) {
         return Err(Refusal::Geometry);
     }
+    let layout = edition.layout().ok_or(Refusal::Geometry)?;
     for segment in area.chunks_exact_mut(slot_bytes as usize) {
         segment[0] = END;
     }
     let digest = Digest {
+        layout,
         number: DigestNumber::FIRST,
         map: SlotMap::EMPTY.with(0),
         next: Version(1),
     };
-    area[..DIGEST_BYTES].copy_from_slice(&digest.stored());
-    area[DIGEST_BYTES] = END;
+    let end = digest.lay(area);
+    area[end] = END;
     Ok(())
 }
 
@@ -87,8 +94,10 @@ pub fn write_by<R: Rules>(
     expected: Option<Version>,
     value: &[u8],
 ) -> Started {
-    let pending = check_write(&record, area, index, work, tables, key, expected, value)
-        .map(|(kind, room)| lay::<R>(&record, work, room, kind, key, value));
+    let pending = by_edition!(record.edition, E => {
+        check_write::<E>(&record, area, index, work, tables, key, expected, value)
+            .map(|(kind, room)| lay::<E, R>(&record, work, room, kind, key, value))
+    });
     hand_back(record, pending)
 }
 
@@ -113,12 +122,15 @@ pub fn delete_by<R: Rules>(
     tables: Tables,
     key: Key,
 ) -> Started {
-    let pending = start_delete::<R>(&record, area, index, work, tables, key);
+    let pending = by_edition!(
+        record.edition,
+        E => start_delete::<E, R>(&record, area, index, work, tables, key)
+    );
     hand_back(record, pending)
 }
 
 /// A delete with its checks. Where a write would meet 12, the slot with the live object is cleaned.
-fn start_delete<R: Rules>(
+fn start_delete<E: Fixed, R: Rules>(
     record: &Record,
     area: &[u8],
     index: &[u32],
@@ -126,10 +138,11 @@ fn start_delete<R: Rules>(
     tables: Tables,
     key: Key,
 ) -> Result<Pending, Refusal> {
-    let live = check_delete(record, area, index, work, tables, key)?;
-    match find_room(record, TOMBSTONE_BYTES) {
-        Ok(room) => Ok(lay::<R>(record, work, room, TOMBSTONE, key, &[])),
-        Err(Refusal::SlotsFull) => forget::<R>(record, area, index, work, live),
+    let live = check_delete::<E>(record, area, index, work, tables, key)?;
+    let layout = &E::LAYOUT;
+    match find_room(record, layout.tombstone_bytes()) {
+        Ok(room) => Ok(lay::<E, R>(record, work, room, layout.tombstone, key, &[])),
+        Err(Refusal::SlotsFull) => forget::<E, R>(record, area, index, work, live),
         Err(refusal) => Err(refusal),
     }
 }
@@ -153,7 +166,7 @@ enum Room {
 /// The checks of a write in 02's order; gives the kind of the object and its room. The key is
 /// looked for only where the answer depends on it.
 #[allow(clippy::too_many_arguments)]
-fn check_write(
+fn check_write<E: Fixed>(
     record: &Record,
     area: &[u8],
     index: &[u32],
@@ -163,14 +176,15 @@ fn check_write(
     expected: Option<Version>,
     value: &[u8],
 ) -> Result<(u8, Room), Refusal> {
-    record.check_start_on(area, index, work, tables, key)?;
-    let kind = object_kind(value.len()).ok_or(Refusal::ValueLength)?;
+    record.check_start_on::<E>(area, index, work, tables, key)?;
+    let kind = E::LAYOUT.object_kind(value.len());
+    let kind = kind.ok_or(Refusal::ValueLength)?;
     let full = record.keys == record.cells - 1;
     let found = (full || expected.is_some()).then(|| search(area, index, key));
     if let (Some(expected), Some(found)) = (expected, found) {
-        check_expected(area, found, expected)?;
+        check_expected::<E>(area, found, expected)?;
     }
-    if record.next == Version::SPENT {
+    if record.has_no_version::<E>() {
         return Err(Refusal::VersionsSpent);
     }
     match found {
@@ -178,13 +192,13 @@ fn check_write(
         Some(Search::Broken) => return Err(Refusal::Record),
         _ => {}
     }
-    let room = find_room(record, TOMBSTONE_BYTES + value.len())?;
+    let room = find_room(record, E::LAYOUT.tombstone_bytes() + value.len())?;
     Ok((kind, room))
 }
 
 /// Refuses with 21 unless the key that was looked for has the expected version.
-fn check_expected(area: &[u8], found: Search, expected: Version) -> Result<(), Refusal> {
-    let object = object_at(area, found)?;
+fn check_expected<E: Fixed>(area: &[u8], found: Search, expected: Version) -> Result<(), Refusal> {
+    let object = object_at::<E>(area, found)?;
     let version = object.map_or(Version::NONE, |(_, fields)| fields.version);
     if version == expected {
         Ok(())
@@ -194,7 +208,7 @@ fn check_expected(area: &[u8], found: Search, expected: Version) -> Result<(), R
 }
 
 /// The checks of a delete in 02's order, but for 10; gives the place of the live object.
-fn check_delete(
+fn check_delete<E: Fixed>(
     record: &Record,
     area: &[u8],
     index: &[u32],
@@ -202,9 +216,10 @@ fn check_delete(
     tables: Tables,
     key: Key,
 ) -> Result<usize, Refusal> {
-    record.check_start_on(area, index, work, tables, key)?;
-    let (live, _) = object_at(area, search(area, index, key))?.ok_or(Refusal::Absent)?;
-    if record.next == Version::SPENT {
+    record.check_start_on::<E>(area, index, work, tables, key)?;
+    let object = object_at::<E>(area, search(area, index, key))?;
+    let (live, _) = object.ok_or(Refusal::Absent)?;
+    if record.has_no_version::<E>() {
         return Err(Refusal::VersionsSpent);
     }
     Ok(live)
@@ -223,7 +238,7 @@ fn find_room(record: &Record, length: usize) -> Result<Room, Refusal> {
 }
 
 /// Fills the work buffer with the entry, after a digest if there is a new head.
-fn lay<R: Rules>(
+fn lay<E: Fixed, R: Rules>(
     record: &Record,
     work: &mut [u8],
     room: Room,
@@ -233,10 +248,11 @@ fn lay<R: Rules>(
 ) -> Pending {
     let start = match room {
         Room::Head => 0,
-        Room::NewHead(slot) => lay_digest(record, work, slot, SlotMap::EMPTY, record.next),
+        Room::NewHead(slot) => lay_digest::<E>(record, work, slot, SlotMap::EMPTY, record.next),
     };
-    let end = start + TOMBSTONE_BYTES + value.len();
-    lay_entry(&mut work[start..end], kind, key, record.next, value);
+    let layout = &E::LAYOUT;
+    let end = start + layout.tombstone_bytes() + value.len();
+    lay_entry(layout, &mut work[start..end], kind, key, record.next, value);
     let length = end as u32;
     match room {
         Room::Head => Pending::Append {
@@ -253,7 +269,7 @@ fn lay<R: Rules>(
 
 /// Lays the digest of a new head with this next version into the work buffer and gives its
 /// length. The record has a digest number to spare.
-pub(crate) fn lay_digest(
+pub(crate) fn lay_digest<E: Fixed>(
     record: &Record,
     work: &mut [u8],
     slot: u32,
@@ -261,10 +277,10 @@ pub(crate) fn lay_digest(
     next: Version,
 ) -> usize {
     let digest = Digest {
+        layout: &E::LAYOUT,
         number: DigestNumber(record.digest.0 + 1),
         map: record.map.without(victims).with(slot),
         next,
     };
-    work[..DIGEST_BYTES].copy_from_slice(&digest.stored());
-    DIGEST_BYTES
+    digest.lay(work)
 }

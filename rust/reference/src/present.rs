@@ -1,11 +1,11 @@
 //! How full each slot is with objects that count (02, R-5).
 
+use crate::edition::Fixed;
 use crate::layout::{segment, MOST_SLOTS};
 use crate::log::walk_segment;
 use crate::record::Record;
 use crate::refusal::Refusal;
 use crate::rules::Rules;
-use crate::segment::{object_bytes, TOMBSTONE, TOMBSTONE_BYTES};
 use crate::slot_map::SlotMap;
 
 /// The slot of the log with the fewest present bytes by the record's own numbers, the lowest of
@@ -40,31 +40,31 @@ impl<'a> Counts<'a> {
         Counts::new(record.slot_bytes, &mut record.present_bytes)
     }
 
-    /// An entry of a slot has become its key's newest: an object counts.
+    /// An entry of a slot, of this kind, has become its key's newest: an object counts.
     #[inline]
-    pub(crate) fn add<R: Rules>(&mut self, slot: u32, entry: &[u8; TOMBSTONE_BYTES]) {
-        let length = match entry[0] {
-            TOMBSTONE if R::TOMBSTONES_COUNTED => TOMBSTONE_BYTES as u32,
-            _ => object_bytes(entry),
+    pub(crate) fn add<E: Fixed, R: Rules>(&mut self, slot: u32, kind: u8) {
+        let length = match R::TOMBSTONES_COUNTED {
+            true => E::LAYOUT.entry_bytes(kind),
+            false => E::LAYOUT.object_bytes(kind),
         };
+        let length = length.unwrap_or(0) as u32;
         self.change(slot, |bytes| bytes.saturating_add(length));
     }
 
     /// The entry at a place of the area is no longer its key's newest: it counts no more.
     #[inline]
-    pub(crate) fn displace<R: Rules>(&mut self, area: &[u8], place: usize) {
+    pub(crate) fn displace<E: Fixed, R: Rules>(&mut self, area: &[u8], place: usize) {
         if R::OVERWRITTEN_STILL_COUNTED {
             return;
         }
-        let length = area[place..].first_chunk().map_or(0, object_bytes);
-        if length != 0 {
+        if let Some(length) = E::LAYOUT.object_bytes(area[place]) {
             let slot = place as u32 / self.slot_bytes;
-            self.change(slot, |bytes| bytes.saturating_sub(length));
+            self.change(slot, |bytes| bytes.saturating_sub(length as u32));
         }
     }
 
     /// Victims have left the log, and of the objects in the new head all count.
-    pub(crate) fn clean(
+    pub(crate) fn clean<E: Fixed>(
         &mut self,
         area: &[u8],
         victims: SlotMap,
@@ -75,8 +75,8 @@ impl<'a> Counts<'a> {
         }
         let mut kept = 0;
         let bytes = segment(area, self.slot_bytes, head);
-        walk_segment(bytes, Refusal::Record, |_, fields| {
-            if fields.kind != TOMBSTONE {
+        walk_segment::<E>(bytes, Refusal::Record, |_, fields| {
+            if !fields.is_tombstone() {
                 kept += fields.length as u32;
             }
             Ok(())

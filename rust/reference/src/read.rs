@@ -1,10 +1,11 @@
 //! Read and the value read (01, "Read"; 02, R-2).
 
 use crate::counters::Version;
+use crate::edition::{by_edition, Fixed};
 use crate::index::{object_at, search};
 use crate::record::Record;
 use crate::refusal::Refusal;
-use crate::segment::{Fields, Key, TOMBSTONE_BYTES};
+use crate::segment::{Fields, Key};
 use crate::tables::Tables;
 
 /// What a read tells of a present key besides its value.
@@ -12,7 +13,7 @@ use crate::tables::Tables;
 pub struct Found {
     /// The version.
     pub version: Version,
-    /// The kind of the object: 1, 2, 3 or 7.
+    /// The kind of the object.
     pub kind: u8,
 }
 
@@ -24,7 +25,8 @@ pub fn read(
     tables: Tables,
     key: Key,
 ) -> Result<Found, Refusal> {
-    let (_, fields) = find(record, area, index, tables, key)?;
+    let found = by_edition!(record.edition, E => find::<E>(record, area, index, tables, key));
+    let (_, fields) = found?;
     Ok(Found {
         version: fields.version,
         kind: fields.kind,
@@ -40,22 +42,22 @@ pub fn read_value<'a>(
     tables: Tables,
     key: Key,
 ) -> &'a [u8] {
-    match find(record, area, index, tables, key) {
-        Ok((place, fields)) => &area[place + TOMBSTONE_BYTES..place + fields.length],
+    match by_edition!(record.edition, E => find::<E>(record, area, index, tables, key)) {
+        Ok((place, fields)) => &area[place + fields.value..place + fields.length],
         Err(_) => &area[..0],
     }
 }
 
 /// The object that a key's cell leads to.
-#[inline]
-fn find(
+#[inline(always)]
+fn find<E: Fixed>(
     record: &Record,
     area: &[u8],
     index: &[u32],
     tables: Tables,
     key: Key,
 ) -> Result<(usize, Fields), Refusal> {
-    record.check(area, index)?;
+    record.check::<E>(area, index)?;
     tables.check(key)?;
-    object_at(area, search(area, index, key))?.ok_or(Refusal::Absent)
+    object_at::<E>(area, search(area, index, key))?.ok_or(Refusal::Absent)
 }

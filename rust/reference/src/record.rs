@@ -1,10 +1,11 @@
 //! The store record and when it is out of range (01, "Memory the caller lends" and
-//! "Refused calls"; 02, R-5).
+//! "Refused calls"; 02, R-5 and R-11).
 
 use crate::counters::{DigestNumber, Version};
+use crate::edition::{by_edition, Edition, Fixed};
 use crate::layout::{geometry_holds, CELLS, MOST_SLOTS, SLOTS, SLOT_BYTES};
 use crate::refusal::Refusal;
-use crate::segment::{Key, DIGEST_BYTES};
+use crate::segment::Key;
 use crate::slot_map::SlotMap;
 use crate::tables::Tables;
 
@@ -99,6 +100,8 @@ pub struct Record {
     pub digest: DigestNumber,
     /// The slots of the log.
     pub map: SlotMap,
+    /// The edition of the head.
+    pub edition: Edition,
     /// The version that the next write or delete takes.
     pub next: Version,
     /// How many keys have an entry in the log, tombstones included.
@@ -114,19 +117,27 @@ impl Record {
     /// Whether every field lies where 01 wants it; otherwise a call answers 4.
     #[inline]
     pub fn is_in_range(&self) -> bool {
-        SLOTS.contains(&self.slots)
+        by_edition!(self.edition, E => self.is_in_range_of::<E>())
+    }
+
+    /// Whether they do, and the head is of this edition.
+    #[inline]
+    fn is_in_range_of<E: Fixed>(&self) -> bool {
+        let layout = &E::LAYOUT;
+        self.edition == layout.edition
+            && SLOTS.contains(&self.slots)
             && SLOT_BYTES.contains(&self.slot_bytes)
             && CELLS.contains(&self.cells)
             && self.map.is_within(SlotMap::below(self.slots))
             && self.map.has(self.head)
             && self.map != SlotMap::below(self.slots)
-            && self.end >= DIGEST_BYTES as u32
+            && self.end >= layout.digest_bytes() as u32
             && self.end <= self.slot_bytes
             && self.digest.0 != 0
-            && self.next.is_next_version()
+            && layout.has_next(self.next)
             && self.keys < self.cells
             && self.is_pending_in_range()
-            && self.are_present_bytes_in_range()
+            && self.are_present_bytes_in_range::<E>()
     }
 
     #[inline]
@@ -137,8 +148,8 @@ impl Record {
 
     /// No slot has room for more than S less a digest, and all 32 numbers are held to it.
     #[inline]
-    fn are_present_bytes_in_range(&self) -> bool {
-        let most = self.slot_bytes - DIGEST_BYTES as u32;
+    fn are_present_bytes_in_range<E: Fixed>(&self) -> bool {
+        let most = self.slot_bytes - E::LAYOUT.digest_bytes() as u32;
         self.present_bytes
             .iter()
             .fold(true, |all, &bytes| all & (bytes <= most))
@@ -146,8 +157,8 @@ impl Record {
 
     /// Refuses with 4 unless the record is in range and the lent lengths are its own.
     #[inline]
-    pub(crate) fn check(&self, area: &[u8], index: &[u32]) -> Result<(), Refusal> {
-        self.check_area(area)?;
+    pub(crate) fn check<E: Fixed>(&self, area: &[u8], index: &[u32]) -> Result<(), Refusal> {
+        self.check_area::<E>(area)?;
         if index.len() != self.cells as usize {
             return Err(Refusal::Record);
         }
@@ -156,8 +167,9 @@ impl Record {
 
     /// The same where no index is lent.
     #[inline]
-    pub(crate) fn check_area(&self, area: &[u8]) -> Result<(), Refusal> {
-        let fits = self.is_in_range() && geometry_holds(self.slots, self.slot_bytes, area.len());
+    pub(crate) fn check_area<E: Fixed>(&self, area: &[u8]) -> Result<(), Refusal> {
+        let fits =
+            self.is_in_range_of::<E>() && geometry_holds(self.slots, self.slot_bytes, area.len());
         if fits {
             Ok(())
         } else {
@@ -167,7 +179,7 @@ impl Record {
 
     /// The checks that every start on a key begins with: 4, 22, 3 and 5.
     #[inline]
-    pub(crate) fn check_start_on(
+    pub(crate) fn check_start_on<E: Fixed>(
         &self,
         area: &[u8],
         index: &[u32],
@@ -175,7 +187,7 @@ impl Record {
         tables: Tables,
         key: Key,
     ) -> Result<(), Refusal> {
-        self.check(area, index)?;
+        self.check::<E>(area, index)?;
         tables.check(key)?;
         self.check_idle(work)
     }
@@ -208,11 +220,17 @@ impl Record {
     /// The next version once the one that is next now is given; 4 if none is left to give, which no
     /// start overlooks.
     #[inline]
-    pub(crate) fn next_after(&self) -> Result<Version, Refusal> {
-        if self.next == Version::SPENT {
+    pub(crate) fn next_after<E: Fixed>(&self) -> Result<Version, Refusal> {
+        if self.has_no_version::<E>() {
             return Err(Refusal::Record);
         }
         Ok(Version(self.next.0 + 1))
+    }
+
+    /// Whether no version is left to give.
+    #[inline]
+    pub(crate) fn has_no_version<E: Fixed>(&self) -> bool {
+        self.next == E::LAYOUT.spent()
     }
 
     /// How many slots are outside the log.

@@ -1,6 +1,7 @@
-//! Recovery (01, "Operations, store by store" and causes 1, 2 and 15 to 20; 02, R-5 and R-8).
+//! Recovery (01, "Operations, store by store" and causes 1, 2 and 15 to 20; 02, R-5, R-8 and R-11).
 
 use crate::counters::{DigestNumber, Version};
+use crate::edition::{by_edition, Edition, Fixed};
 use crate::index::{rebuild, Entered};
 use crate::layout::{geometry_holds, index_holds, segment, MOST_SLOTS};
 use crate::log::walk_segment;
@@ -8,7 +9,7 @@ use crate::present::Counts;
 use crate::record::{Pending, Record};
 use crate::refusal::Refusal;
 use crate::rules::{AsWritten, Rules};
-use crate::segment::{Digest, Fields, DIGEST, DIGEST_BYTES};
+use crate::segment::{Digest, Fields};
 use crate::slot_map::SlotMap;
 use crate::versions::Filter;
 
@@ -43,16 +44,32 @@ pub fn recover_by<R: Rules>(
     if !is_order(slots, order) {
         return Err(Refusal::Order);
     }
-    let (head, digest) = checked_head::<R>(slots, slot_bytes, area)?;
+    let head = checked_head::<R>(slots, slot_bytes, area)?;
+    let edition = head.1.layout.edition;
+    by_edition!(edition, E => read_log::<E, R>(slots, slot_bytes, area, index, order, head))
+}
+
+/// The record, and the index filled, once the head is known.
+fn read_log<E: Fixed, R: Rules>(
+    slots: u32,
+    slot_bytes: u32,
+    area: &[u8],
+    index: &mut [u32],
+    order: &[u8],
+    (head, digest): (u32, Digest),
+) -> Result<Record, Refusal> {
     let log = order
         .iter()
         .map(|&slot| u32::from(slot))
         .filter(|&slot| digest.map.has(slot));
-    let survey = survey(slot_bytes, area, log.clone(), head, |_, _| {})?;
+    let survey = survey::<E>(slot_bytes, area, log.clone(), head, |_, _| {})?;
+    if R::EDITIONS_AFTER_ENTRIES {
+        check_editions(slot_bytes, area, digest)?;
+    }
     let mut present_bytes = [0; MOST_SLOTS];
     let mut present = Counts::new(slot_bytes, &mut present_bytes);
-    let count = |slot, place, entered| count_newest(&mut present, area, slot, place, entered);
-    let keys = rebuild(area, slot_bytes, log, index, Refusal::Entry, count)?;
+    let count = |slot, place, entered| count_newest::<E>(&mut present, area, slot, place, entered);
+    let keys = rebuild::<E>(area, slot_bytes, log, index, Refusal::Entry, count)?;
     Ok(Record {
         slots,
         slot_bytes,
@@ -61,6 +78,7 @@ pub fn recover_by<R: Rules>(
         end: survey.end,
         digest: digest.number,
         map: digest.map,
+        edition: digest.layout.edition,
         next: next_version::<R>(digest, survey.highest),
         keys,
         pending: Pending::None,
@@ -70,15 +88,19 @@ pub fn recover_by<R: Rules>(
 
 /// Counts an entry that is its key's newest so far, and no longer the one that it displaces.
 #[inline]
-fn count_newest(present: &mut Counts, area: &[u8], slot: u32, place: usize, entered: Entered) {
+fn count_newest<E: Fixed>(
+    present: &mut Counts,
+    area: &[u8],
+    slot: u32,
+    place: usize,
+    entered: Entered,
+) {
     if entered == Entered::Older {
         return;
     }
-    if let Some(entry) = area[place..].first_chunk() {
-        present.add::<AsWritten>(slot, entry);
-    }
+    present.add::<E, AsWritten>(slot, area[place]);
     if let Entered::Displacing(older) = entered {
-        present.displace::<AsWritten>(area, older);
+        present.displace::<E, AsWritten>(area, older);
     }
 }
 
@@ -90,7 +112,7 @@ fn is_order(slots: u32, order: &[u8]) -> bool {
     order.len() == slots as usize && named == SlotMap::below(slots)
 }
 
-/// The slot and digest of the head, or 16, 17, 24 or 25.
+/// The slot and digest of the head, or 16, 17, 24, 25 or 28.
 pub(crate) fn checked_head<R: Rules>(
     slots: u32,
     slot_bytes: u32,
@@ -109,11 +131,15 @@ fn find_head<R: Rules>(slots: u32, slot_bytes: u32, area: &[u8]) -> Result<(u32,
         let Some(digest) = Digest::read(segment(area, slot_bytes, slot)) else {
             continue;
         };
+        if R::FIRST_DIGESTS_ALONE && digest.layout.edition != Edition::FIRST {
+            continue;
+        }
         match best {
             Some((_, head)) if R::HEAD_IS_HIGHEST_SLOT || digest.number > head.number => {
                 best = Some((slot, digest));
                 shared = false;
             }
+            Some((_, head)) if R::SHARED_WITHIN_AN_EDITION && digest.layout != head.layout => {}
             Some((_, head)) => shared |= digest.number == head.number,
             None => best = Some((slot, digest)),
         }
@@ -125,8 +151,8 @@ fn find_head<R: Rules>(slots: u32, slot_bytes: u32, area: &[u8]) -> Result<(u32,
     Ok((head, digest))
 }
 
-/// Refuses what cannot be the head's digest: with 17 for its next version, 24 for its map and 25
-/// for a slot in the map that has no digest.
+/// Refuses what cannot be the head's digest: with 17 for its next version, 24 for its map, 25 for
+/// a slot in the map that has no digest and 28 for one of the other edition.
 fn check_head<R: Rules>(
     slots: u32,
     slot_bytes: u32,
@@ -143,7 +169,11 @@ fn check_head<R: Rules>(
     if R::LOG_SLOTS_BEFORE_MAP {
         return next.and(in_log).and(map);
     }
-    next.and(map).and(in_log)
+    next.and(map).and(in_log)?;
+    if R::EDITIONS_AFTER_ENTRIES {
+        return Ok(());
+    }
+    check_editions(slot_bytes, area, digest)
 }
 
 fn check_next(digest: Digest) -> Result<(), Refusal> {
@@ -167,11 +197,22 @@ fn check_map<R: Rules>(slots: u32, head: u32, map: SlotMap) -> Result<(), Refusa
 
 /// Byte 0 of every slot in the map, of those that there are, is a digest's.
 fn check_log(slots: u32, slot_bytes: u32, area: &[u8], map: SlotMap) -> Result<(), Refusal> {
-    let has_digest = |slot| segment(area, slot_bytes, slot).first() == Some(&DIGEST);
+    let has_digest = |slot| Edition::of_segment(segment(area, slot_bytes, slot)).is_some();
     if (0..slots).all(|slot| !map.has(slot) || has_digest(slot)) {
         Ok(())
     } else {
         Err(Refusal::NotADigest)
+    }
+}
+
+/// Every slot of the log is of the head's edition.
+fn check_editions(slot_bytes: u32, area: &[u8], head: Digest) -> Result<(), Refusal> {
+    let edition = |slot| Edition::of_segment(segment(area, slot_bytes, slot));
+    let own = Some(head.layout.edition);
+    if head.map.slots().all(|slot| edition(slot) == own) {
+        Ok(())
+    } else {
+        Err(Refusal::Editions)
     }
 }
 
@@ -185,20 +226,20 @@ pub(crate) struct Survey {
 
 /// Reads the whole log once and visits each entry with its place: refuses damage with 18 and then
 /// shared versions with 19.
-pub(crate) fn survey(
+pub(crate) fn survey<E: Fixed>(
     slot_bytes: u32,
     area: &[u8],
     log: impl Iterator<Item = u32> + Clone,
     head: u32,
     mut visit: impl FnMut(usize, Fields),
 ) -> Result<Survey, Refusal> {
-    let mut end = DIGEST_BYTES;
+    let mut end = E::LAYOUT.digest_bytes();
     let mut highest = Version(0);
     let mut filter = Filter::new();
     for slot in log.clone() {
         let bytes = segment(area, slot_bytes, slot);
         let start = (slot * slot_bytes) as usize;
-        let stop = walk_segment(bytes, Refusal::Entry, |offset, fields| {
+        let stop = walk_segment::<E>(bytes, Refusal::Entry, |offset, fields| {
             highest = highest.max(fields.version);
             filter.note(fields.version);
             visit(start + offset, fields);
@@ -208,7 +249,7 @@ pub(crate) fn survey(
             end = stop;
         }
     }
-    filter.check(area, slot_bytes, log)?;
+    filter.check::<E>(area, slot_bytes, log)?;
     Ok(Survey {
         end: end as u32,
         highest,

@@ -29,7 +29,8 @@ causes! {
 #[derive(Clone, Copy, PartialEq, Eq, PartialOrd, Ord, Hash, Debug)]
 #[repr(u8)]
 pub enum Refusal {
-    /// N or S is out of its limits, or the area has another length than N × S.
+    /// N or S is out of its limits, the area has another length than N × S, or there is no such
+    /// edition.
     Geometry = 1,
     /// The index has a length outside the limits of M.
     IndexLength = 2,
@@ -85,12 +86,14 @@ pub enum Refusal {
     Float = 26,
     /// The count is above the highest position, or no float holds it.
     Count = 27,
+    /// Slots of the log are of both editions.
+    Editions = 28,
 }
 }
 
 impl Refusal {
     /// All causes, by number.
-    pub const ALL: [Refusal; 27] = [
+    pub const ALL: [Refusal; 28] = [
         Refusal::Geometry,
         Refusal::IndexLength,
         Refusal::WorkLength,
@@ -118,6 +121,7 @@ impl Refusal {
         Refusal::NotADigest,
         Refusal::Float,
         Refusal::Count,
+        Refusal::Editions,
     ];
 
     /// The number in 01's table.

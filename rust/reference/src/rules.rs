@@ -30,6 +30,12 @@ pub trait Rules {
     const LOG_SLOTS_BEFORE_MAP: bool = false;
     /// A map that leaves no slot free counts as a bad digest.
     const FULL_MAP_IS_17: bool = false;
+    /// Only digests of the first edition are looked for.
+    const FIRST_DIGESTS_ALONE: bool = false;
+    /// The highest digest number counts as shared only where both digests are of one edition.
+    const SHARED_WITHIN_AN_EDITION: bool = false;
+    /// Log slots of both editions are tested for only once all entries are read.
+    const EDITIONS_AFTER_ENTRIES: bool = false;
 }
 
 /// The rules of 01 and 02.

@@ -1,15 +1,17 @@
 //! A read that scans the log and uses no index (02, R-9).
 
+use crate::edition::{by_edition, Fixed};
 use crate::layout::geometry_holds;
 use crate::read::Found;
 use crate::recovery::{checked_head, survey};
 use crate::refusal::Refusal;
 use crate::rules::AsWritten;
-use crate::segment::{Fields, Key, TOMBSTONE, TOMBSTONE_BYTES};
+use crate::segment::{Fields, Key};
+use crate::slot_map::SlotMap;
 use crate::tables::Tables;
 
-/// Tells version and kind of a key's object by the area alone. Refuses with 1, 16, 17, 24, 25, 18
-/// and 19 as recovery does, then with 22 and 8.
+/// Tells version and kind of a key's object by the area alone. Refuses with 1, 16, 17, 24, 25, 28,
+/// 18 and 19 as recovery does, then with 22 and 8.
 pub fn scan_read(
     slots: u32,
     slot_bytes: u32,
@@ -34,7 +36,7 @@ pub fn scan_read_value(
     key: Key,
 ) -> &[u8] {
     match scan(slots, slot_bytes, area, tables, key) {
-        Ok((place, fields)) => &area[place + TOMBSTONE_BYTES..place + fields.length],
+        Ok((place, fields)) => &area[place + fields.value..place + fields.length],
         Err(_) => &area[..0],
     }
 }
@@ -51,21 +53,30 @@ fn scan(
         return Err(Refusal::Geometry);
     }
     let (head, digest) = checked_head::<AsWritten>(slots, slot_bytes, area)?;
-    let mut newest: Option<(usize, Fields)> = None;
-    survey(
-        slot_bytes,
-        area,
-        digest.map.slots(),
-        head,
-        |place, fields| {
-            let newer = newest.is_none_or(|(_, known)| known.version < fields.version);
-            if fields.key == key && newer {
-                newest = Some((place, fields));
-            }
-        },
+    let newest = by_edition!(
+        digest.layout.edition,
+        E => newest::<E>(slot_bytes, area, head, digest.map, key)
     )?;
     tables.check(key)?;
     newest
-        .filter(|(_, fields)| fields.kind != TOMBSTONE)
+        .filter(|(_, fields)| !fields.is_tombstone())
         .ok_or(Refusal::Absent)
+}
+
+/// Place and fields of the key's newest entry, if it has one in the log; or 18 or 19.
+fn newest<E: Fixed>(
+    slot_bytes: u32,
+    area: &[u8],
+    head: u32,
+    map: SlotMap,
+    key: Key,
+) -> Result<Option<(usize, Fields)>, Refusal> {
+    let mut newest: Option<(usize, Fields)> = None;
+    survey::<E>(slot_bytes, area, map.slots(), head, |place, fields| {
+        let newer = newest.is_none_or(|(_, known)| known.version < fields.version);
+        if fields.key == key && newer {
+            newest = Some((place, fields));
+        }
+    })?;
+    Ok(newest)
 }

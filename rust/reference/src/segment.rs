@@ -1,22 +1,11 @@
-//! The bytes of one segment (01, "Bytes of a segment"; 02, R-3): its digest and its entries.
+//! The bytes of one segment (01, "Bytes of a segment"; 02, R-3 and R-11): its digest and its entries.
 //!
 //! Nothing here knows more than a single segment.
 
 use crate::counters::{DigestNumber, Version};
+use crate::edition::{Edition, Layout, END, MAP, NEXT, NUMBER, VERSION};
 use crate::fnv::fnv1a;
 use crate::slot_map::SlotMap;
-
-/// Kind byte after the last entry.
-pub const END: u8 = 0;
-/// Kind byte of a tombstone.
-pub const TOMBSTONE: u8 = 4;
-/// Kind byte of a digest, found at offset 0 only.
-pub const DIGEST: u8 = 5;
-
-/// Length of a digest, and so the offset of the first entry.
-pub const DIGEST_BYTES: usize = 13;
-/// Length of a tombstone, and of an object before its value.
-pub const TOMBSTONE_BYTES: usize = 11;
 
 /// A table and a key in it; 01 calls the two together a key.
 #[derive(Clone, Copy, PartialEq, Eq, PartialOrd, Ord, Hash, Debug)]
@@ -42,10 +31,10 @@ impl Key {
         fnv1a(&self.stored())
     }
 
-    /// The key of an entry, from the entry's leading bytes.
+    /// The key of an entry, from the bytes before its version.
     #[inline]
-    pub(crate) fn of_entry(entry: &[u8; TOMBSTONE_BYTES]) -> Key {
-        let [_, t0, t1, k0, k1, k2, k3, ..] = *entry;
+    pub(crate) fn of_entry(entry: &[u8; VERSION]) -> Key {
+        let [_, t0, t1, k0, k1, k2, k3] = *entry;
         Key {
             table: u16::from_le_bytes([t0, t1]),
             key: u32::from_le_bytes([k0, k1, k2, k3]),
@@ -53,48 +42,7 @@ impl Key {
     }
 }
 
-/// The version of an entry, from the entry's leading bytes.
-#[inline]
-pub(crate) fn version_of_entry(entry: &[u8; TOMBSTONE_BYTES]) -> Version {
-    let [.., v0, v1, v2, v3] = *entry;
-    Version::of_stored([v0, v1, v2, v3])
-}
-
-/// The kind of an object with a value of this length, if there is one.
-#[inline]
-pub fn object_kind(value_bytes: usize) -> Option<u8> {
-    match value_bytes {
-        8 => Some(1),
-        24 => Some(2),
-        56 => Some(3),
-        120 => Some(7),
-        _ => None,
-    }
-}
-
-/// The total length of an entry of this kind, if an entry may have it.
-#[inline]
-pub fn entry_bytes(kind: u8) -> Option<usize> {
-    match kind {
-        1 => Some(19),
-        2 => Some(35),
-        3 => Some(67),
-        7 => Some(131),
-        TOMBSTONE => Some(TOMBSTONE_BYTES),
-        _ => None,
-    }
-}
-
-/// The total length of an object, from its leading bytes; 0 if they are not an object's.
-#[inline]
-pub(crate) fn object_bytes(entry: &[u8; TOMBSTONE_BYTES]) -> u32 {
-    match entry[0] {
-        TOMBSTONE => 0,
-        kind => entry_bytes(kind).unwrap_or(0) as u32,
-    }
-}
-
-/// The fields of an object or tombstone, and its total length.
+/// The fields of an object or tombstone, and its length.
 #[derive(Clone, Copy, PartialEq, Eq, Debug)]
 pub struct Fields {
     /// The kind byte.
@@ -103,26 +51,37 @@ pub struct Fields {
     pub key: Key,
     /// The version.
     pub version: Version,
+    /// Offset of the value in the entry.
+    pub value: usize,
     /// Total length in bytes.
     pub length: usize,
+}
+
+impl Fields {
+    /// Whether it is a tombstone, which has no value.
+    #[inline]
+    pub fn is_tombstone(&self) -> bool {
+        self.value == self.length
+    }
 }
 
 /// What the reader of an entry finds.
 #[derive(Clone, Copy, PartialEq, Eq, Debug)]
 pub enum Entry {
-    /// An object of kind 1, 2, 3 or 7.
+    /// An object.
     Object(Fields),
     /// A tombstone.
     Tombstone(Fields),
     /// No more entries: a kind 0, or the end of the segment.
     End,
-    /// An unknown kind, an entry past the segment, or a version no entry may have.
+    /// A kind that the edition does not have, an entry past the segment, or a version no entry
+    /// may have.
     Damage,
 }
 
 /// Reads the entry at an offset of a segment. An offset past its end is damage.
-#[inline]
-pub fn read_entry(segment: &[u8], offset: usize) -> Entry {
+#[inline(always)]
+pub fn read_entry(layout: &Layout, segment: &[u8], offset: usize) -> Entry {
     let Some(rest) = segment.get(offset..) else {
         return Entry::Damage;
     };
@@ -130,38 +89,57 @@ pub fn read_entry(segment: &[u8], offset: usize) -> Entry {
         None | Some(&END) => return Entry::End,
         Some(&kind) => kind,
     };
-    let (Some(length), Some(leading)) = (entry_bytes(kind), rest.first_chunk()) else {
+    let (Some(length), Some((key, version))) = (layout.entry_bytes(kind), leading(layout, rest))
+    else {
         return Entry::Damage;
     };
-    let version = version_of_entry(leading);
-    if length > rest.len() || !version.is_entry_version() {
+    if length > rest.len() || !layout.has_version(version) {
         return Entry::Damage;
     }
     let fields = Fields {
         kind,
-        key: Key::of_entry(leading),
+        key,
         version,
+        value: layout.tombstone_bytes(),
         length,
     };
-    if kind == TOMBSTONE {
+    if kind == layout.tombstone {
         Entry::Tombstone(fields)
     } else {
         Entry::Object(fields)
     }
 }
 
+/// Key and version of an entry; none if there are too few bytes for them.
+#[inline(always)]
+fn leading(layout: &Layout, entry: &[u8]) -> Option<(Key, Version)> {
+    let version = layout.version_in(entry.get(VERSION..)?)?;
+    Some((Key::of_entry(entry.first_chunk()?), version))
+}
+
 /// Lays an object or a tombstone (whose value is empty) into `out`, which has exactly
 /// the entry's length.
-pub(crate) fn lay_entry(out: &mut [u8], kind: u8, key: Key, version: Version, value: &[u8]) {
-    out[0] = kind;
-    out[1..7].copy_from_slice(&key.stored());
-    out[7..TOMBSTONE_BYTES].copy_from_slice(&version.stored());
-    out[TOMBSTONE_BYTES..].copy_from_slice(value);
+#[inline]
+pub(crate) fn lay_entry(
+    layout: &Layout,
+    out: &mut [u8],
+    kind: u8,
+    key: Key,
+    version: Version,
+    value: &[u8],
+) {
+    let (leading, rest) = out.split_at_mut(layout.tombstone_bytes());
+    leading[0] = kind;
+    leading[1..VERSION].copy_from_slice(&key.stored());
+    layout.lay_version(version, &mut leading[VERSION..]);
+    rest.copy_from_slice(value);
 }
 
 /// The fields of a digest.
 #[derive(Clone, Copy, PartialEq, Eq, Debug)]
 pub struct Digest {
+    /// The layout of its segment.
+    pub layout: &'static Layout,
     /// Its number; the highest is the head's.
     pub number: DigestNumber,
     /// The slots of the log.
@@ -174,20 +152,26 @@ impl Digest {
     /// The digest of a segment, if its first byte says that it has one.
     #[inline]
     pub fn read(segment: &[u8]) -> Option<Digest> {
-        let &[kind, n0, n1, n2, n3, m0, m1, m2, m3, v0, v1, v2, v3] = segment.first_chunk()?;
-        (kind == DIGEST).then_some(Digest {
-            number: DigestNumber(u32::from_le_bytes([n0, n1, n2, n3])),
-            map: SlotMap(u32::from_le_bytes([m0, m1, m2, m3])),
-            next: Version::of_stored([v0, v1, v2, v3]),
+        let layout = Edition::of_segment(segment)?.layout()?;
+        let number = |at: usize| Some(u32::from_le_bytes(*segment.get(at..)?.first_chunk()?));
+        Some(Digest {
+            layout,
+            number: DigestNumber(number(NUMBER)?),
+            map: SlotMap(number(MAP)?),
+            next: layout.version_in(segment.get(NEXT..)?)?,
         })
     }
 
-    /// The bytes of the digest.
-    pub fn stored(self) -> [u8; DIGEST_BYTES] {
-        let mut bytes = [DIGEST; DIGEST_BYTES];
-        bytes[1..5].copy_from_slice(&self.number.0.to_le_bytes());
-        bytes[5..9].copy_from_slice(&self.map.0.to_le_bytes());
-        bytes[9..].copy_from_slice(&self.next.stored());
-        bytes
+    /// Lays the bytes of the digest at the start of `out`, which has room for them, and gives
+    /// their length.
+    #[inline]
+    pub fn lay(self, out: &mut [u8]) -> usize {
+        let length = self.layout.digest_bytes();
+        let out = &mut out[..length];
+        out[0] = self.layout.digest;
+        out[NUMBER..MAP].copy_from_slice(&self.number.0.to_le_bytes());
+        out[MAP..NEXT].copy_from_slice(&self.map.0.to_le_bytes());
+        self.layout.lay_version(self.next, &mut out[NEXT..]);
+        length
     }
 }

@@ -1,12 +1,13 @@
 //! One store of a pending operation (01, "Operations, store by store").
 
 use crate::counters::{DigestNumber, Version};
+use crate::edition::{by_edition, Fixed, END, VERSION};
 use crate::index::{point_to, rebuild, Entered};
 use crate::present::Counts;
 use crate::record::{Pending, Record};
 use crate::refusal::Refusal;
 use crate::rules::{AsWritten, Rules};
-use crate::segment::{Key, DIGEST_BYTES, END};
+use crate::segment::Key;
 use crate::slot_map::SlotMap;
 
 /// A byte and the place in the area that it goes to.
@@ -34,6 +35,15 @@ pub enum Progress {
 }
 
 impl Progress {
+    /// The progress with so many stores left, and this version if there are none.
+    #[inline]
+    fn of(left: u32, version: Version) -> Progress {
+        match left {
+            0 => Progress::Done { version },
+            _ => Progress::More { left },
+        }
+    }
+
     /// Stores left; 0 once the operation counts.
     #[inline]
     pub fn left(self) -> u32 {
@@ -69,13 +79,19 @@ fn closing_stores<R: Rules>(record: &Record, end: u32) -> u32 {
 /// The store that the next step makes, with the refusals of that step: 4, 3 and 6. No index is
 /// lent, so that its length plays no part.
 pub fn next_store(record: &Record, area: &[u8], work: &[u8]) -> Result<Store, Refusal> {
-    record.check_area(area)?;
-    coming_store::<AsWritten>(record, area, work)
+    by_edition!(record.edition, E => {
+        record.check_area::<E>(area)?;
+        coming_store::<E, AsWritten>(record, area, work)
+    })
 }
 
 /// The store of a record that has passed 4.
 #[inline(always)]
-fn coming_store<R: Rules>(record: &Record, area: &[u8], work: &[u8]) -> Result<Store, Refusal> {
+fn coming_store<E: Fixed, R: Rules>(
+    record: &Record,
+    area: &[u8],
+    work: &[u8],
+) -> Result<Store, Refusal> {
     record.check_work(work)?;
     let store = match record.pending {
         Pending::None => return Err(Refusal::NonePending),
@@ -86,7 +102,7 @@ fn coming_store<R: Rules>(record: &Record, area: &[u8], work: &[u8]) -> Result<S
         }
         | Pending::Forget {
             slot, length, left, ..
-        } => new_head_store::<R>(record, work, slot, length, left),
+        } => new_head_store::<E, R>(record, work, slot, length, left),
     };
     store
         .filter(|store| store.place < area.len())
@@ -122,14 +138,15 @@ fn append_store<R: Rules>(record: &Record, work: &[u8], length: u32, left: u32) 
 /// A 0 at the first byte, the bytes from 1 ascending, the 0 after the last, and the
 /// first byte last. None if the pending operation is not one that a start gives.
 #[inline(always)]
-fn new_head_store<R: Rules>(
+fn new_head_store<E: Fixed, R: Rules>(
     record: &Record,
     work: &[u8],
     slot: u32,
     length: u32,
     left: u32,
 ) -> Option<Store> {
-    if slot >= record.slots || length < DIGEST_BYTES as u32 || length > record.slot_bytes {
+    let digest = E::LAYOUT.digest_bytes() as u32;
+    if slot >= record.slots || length < digest || length > record.slot_bytes {
         return None;
     }
     let total = new_head_stores::<R>(record, length);
@@ -161,43 +178,61 @@ pub fn step_by<R: Rules>(
     index: &mut [u32],
     work: &[u8],
 ) -> Stepped {
-    let answer = step_kept_by::<R>(&mut record, area, index, work);
-    (record, answer)
+    let mut version = Version::NONE;
+    let left = make_store::<R>(&mut record, area, index, work, &mut version);
+    (record, left.map(|left| Progress::of(left, version)))
 }
 
-/// [`step`] on a record that the caller keeps.
+/// [`step`] on a record that the caller keeps. Inlined, so that the progress is put together where
+/// it is looked at.
+#[inline]
 pub fn step_kept(
     record: &mut Record,
     area: &mut [u8],
     index: &mut [u32],
     work: &[u8],
 ) -> Result<Progress, Refusal> {
-    step_kept_by::<AsWritten>(record, area, index, work)
+    let mut version = Version::NONE;
+    let left = make_store_as_written(record, area, index, work, &mut version)?;
+    Ok(Progress::of(left, version))
 }
 
-#[inline(always)]
-fn step_kept_by<R: Rules>(
+fn make_store_as_written(
     record: &mut Record,
     area: &mut [u8],
     index: &mut [u32],
     work: &[u8],
-) -> Result<Progress, Refusal> {
-    record.check(area, index)?;
-    let store = coming_store::<R>(record, area, work)?;
-    area[store.place] = store.byte;
-    let left = record.pending.left() - 1;
-    if left > 0 {
-        record.pending.set_left(left);
-        return Ok(Progress::More { left });
-    }
-    let (after, version) = finish::<R>(record, area, index, work)?;
-    *record = after;
-    Ok(Progress::Done { version })
+    version: &mut Version,
+) -> Result<u32, Refusal> {
+    make_store::<AsWritten>(record, area, index, work, version)
+}
+
+/// Makes one store and gives the stores left; puts the version down with the last one.
+#[inline(always)]
+fn make_store<R: Rules>(
+    record: &mut Record,
+    area: &mut [u8],
+    index: &mut [u32],
+    work: &[u8],
+    version: &mut Version,
+) -> Result<u32, Refusal> {
+    by_edition!(record.edition, E => {
+        record.check::<E>(area, index)?;
+        let store = coming_store::<E, R>(record, area, work)?;
+        area[store.place] = store.byte;
+        let left = record.pending.left() - 1;
+        if left > 0 {
+            record.pending.set_left(left);
+        } else {
+            (*record, *version) = finish::<E, R>(record, area, index, work)?;
+        }
+        Ok(left)
+    })
 }
 
 /// Record, index and version after the last store. Refuses with 4 only if record, index
 /// or work buffer are not what a start and its steps left.
-fn finish<R: Rules>(
+fn finish<E: Fixed, R: Rules>(
     record: &Record,
     area: &[u8],
     index: &mut [u32],
@@ -211,12 +246,13 @@ fn finish<R: Rules>(
                 end: record.end + length,
                 ..*record
             };
-            finish_entry::<R>(grown, area, index, work, place as usize)
+            finish_entry::<E, R>(grown, area, index, work, place as usize)
         }
         Pending::NewHead { slot, length, .. } => {
             let headed = new_head(record, slot, length, SlotMap::EMPTY)?;
-            let place = (slot * record.slot_bytes) as usize + DIGEST_BYTES;
-            finish_entry::<R>(headed, area, index, &work[DIGEST_BYTES..], place)
+            let digest = E::LAYOUT.digest_bytes();
+            let place = (slot * record.slot_bytes) as usize + digest;
+            finish_entry::<E, R>(headed, area, index, &work[digest..], place)
         }
         Pending::Clean {
             slot,
@@ -224,7 +260,7 @@ fn finish<R: Rules>(
             victims,
             ..
         } => {
-            let after = finish_cleaning(record, area, index, slot, length, victims)?;
+            let after = finish_cleaning::<E>(record, area, index, slot, length, victims)?;
             Ok((after, Version::NONE))
         }
         Pending::Forget {
@@ -233,8 +269,8 @@ fn finish<R: Rules>(
             victims,
             ..
         } => {
-            let next = record.next_after()?;
-            let mut after = finish_cleaning(record, area, index, slot, length, victims)?;
+            let next = record.next_after::<E>()?;
+            let mut after = finish_cleaning::<E>(record, area, index, slot, length, victims)?;
             after.next = next;
             Ok((after, record.next))
         }
@@ -242,7 +278,7 @@ fn finish<R: Rules>(
 }
 
 /// The record after a cleaning; the index is built anew.
-fn finish_cleaning(
+fn finish_cleaning<E: Fixed>(
     record: &Record,
     area: &[u8],
     index: &mut [u32],
@@ -252,7 +288,7 @@ fn finish_cleaning(
 ) -> Result<Record, Refusal> {
     let mut after = new_head(record, slot, length, victims)?;
     let (log, uncounted) = (after.map.slots(), |_, _, _| {});
-    after.keys = rebuild(
+    after.keys = rebuild::<E>(
         area,
         after.slot_bytes,
         log,
@@ -261,22 +297,22 @@ fn finish_cleaning(
         uncounted,
     )
     .map_err(|_| Refusal::Record)?;
-    Counts::of(&mut after).clean(area, victims, slot)?;
+    Counts::of(&mut after).clean::<E>(area, victims, slot)?;
     Ok(after)
 }
 
 /// Leads the index to the entry just stored and counts its key, its version and, for an object,
 /// its bytes in the head.
 #[inline]
-fn finish_entry<R: Rules>(
+fn finish_entry<E: Fixed, R: Rules>(
     record: Record,
     area: &[u8],
     index: &mut [u32],
     entry: &[u8],
     place: usize,
 ) -> Result<(Record, Version), Refusal> {
-    let leading = entry.first_chunk().ok_or(Refusal::Record)?;
-    let next = record.next_after()?;
+    let leading: &[u8; VERSION] = entry.first_chunk().ok_or(Refusal::Record)?;
+    let next = record.next_after::<E>()?;
     let entered = point_to(area, index, Key::of_entry(leading), place)?;
     let mut after = Record {
         next,
@@ -285,9 +321,9 @@ fn finish_entry<R: Rules>(
         ..record
     };
     let mut present = Counts::of(&mut after);
-    present.add::<R>(record.head, leading);
+    present.add::<E, R>(record.head, leading[0]);
     if let Entered::Displacing(older) = entered {
-        present.displace::<R>(area, older);
+        present.displace::<E, R>(area, older);
     }
     Ok((after, record.next))
 }

@@ -6,6 +6,7 @@
 //! as long as fewer than `FILTER_BITS` separate them.
 
 use crate::counters::Version;
+use crate::edition::Fixed;
 use crate::log::walk;
 use crate::refusal::Refusal;
 
@@ -58,47 +59,47 @@ impl Filter {
     /// Refuses with 19 if two entries of the log have one version. The log has no
     /// damage, and every entry of it was noted once.
     #[inline]
-    pub(crate) fn check(
+    pub(crate) fn check<E: Fixed>(
         &mut self,
         area: &[u8],
         slot_bytes: u32,
         slots: impl Iterator<Item = u32> + Clone,
     ) -> Result<(), Refusal> {
         if self.overflowed {
-            self.check_in_parts(area, slot_bytes, slots)
+            self.check_in_parts::<E>(area, slot_bytes, slots)
         } else {
-            self.check_suspects(area, slot_bytes, slots)
+            self.check_suspects::<E>(area, slot_bytes, slots)
         }
     }
 
     /// Notes the whole log again and looks at the suspects whenever they are many.
     #[cold]
-    fn check_in_parts(
+    fn check_in_parts<E: Fixed>(
         &mut self,
         area: &[u8],
         slot_bytes: u32,
         slots: impl Iterator<Item = u32> + Clone,
     ) -> Result<(), Refusal> {
         *self = Filter::new();
-        walk(
+        walk::<E>(
             area,
             slot_bytes,
             slots.clone(),
             Refusal::Entry,
             |_, fields| {
                 if self.count == SUSPECTS {
-                    self.check_suspects(area, slot_bytes, slots.clone())?;
+                    self.check_suspects::<E>(area, slot_bytes, slots.clone())?;
                 }
                 self.note(fields.version);
                 Ok(())
             },
         )?;
-        self.check_suspects(area, slot_bytes, slots)
+        self.check_suspects::<E>(area, slot_bytes, slots)
     }
 
     /// Counts the suspects in the log and lets them go. Each is the version of an
     /// entry, so more entries than suspects means that one version is shared.
-    fn check_suspects(
+    fn check_suspects<E: Fixed>(
         &mut self,
         area: &[u8],
         slot_bytes: u32,
@@ -115,7 +116,7 @@ impl Filter {
         }
         let marks = Marks::of(suspects);
         let mut entries = 0;
-        walk(area, slot_bytes, slots, Refusal::Entry, |_, fields| {
+        walk::<E>(area, slot_bytes, slots, Refusal::Entry, |_, fields| {
             let version = fields.version;
             if marks.may_have(version) && suspects.binary_search(&version).is_ok() {
                 entries += 1;
@@ -144,8 +145,8 @@ impl Marks {
 
     #[inline]
     fn bit(version: Version) -> (usize, u32) {
-        let mixed = version.0.wrapping_mul(0x9E37_79B9_7F4A_7C15);
-        let number = mixed / (u64::MAX / u64::from(MARK_BITS) + 1);
+        let folded = (version.0 ^ version.0 >> 32) as u32;
+        let number = folded.wrapping_mul(0x9E37_79B1) / (u32::MAX / MARK_BITS + 1);
         ((number / 32) as usize, 1 << (number % 32))
     }
 

@@ -4,8 +4,7 @@ use kurdavel::{DigestNumber, Fields, Key, Pending, Refusal, SlotMap, Tables, Ver
 
 use super::event::{Field, Geometry, Record};
 use super::subject::{
-    part_of, present_of, range_of, without_edition, Answer, Asked, Memory, No, Progress, Start,
-    Subject,
+    part_of, present_of, range_of, Answer, Asked, Memory, No, Progress, Start, Subject,
 };
 
 /// The static library.
@@ -16,6 +15,16 @@ fn refused(refusal: Refusal) -> No {
     No::Refused(refusal.number())
 }
 
+/// The edition of every store of the library: it is told none, and its record has none.
+const EDITION: u32 = 1;
+
+/// N and S, where format is told the library's edition or none.
+fn in_edition(geometry: Geometry) -> Answer<(u32, u32)> {
+    match geometry.edition {
+        None | Some(EDITION) => Ok((geometry.slots, geometry.slot_bytes)),
+        Some(_) => Err(No::Missing("a format of another edition")),
+    }
+}
 /// Tables and key, as the implementation takes them.
 fn of(asked: Asked) -> (Tables, Key) {
     let range = range_of(asked);
@@ -36,7 +45,7 @@ impl Subject for Library {
     const NAME: &'static str = "library";
 
     fn format(geometry: Geometry, area: &mut [u8]) -> Answer<()> {
-        let (slots, slot_bytes) = without_edition(geometry)?;
+        let (slots, slot_bytes) = in_edition(geometry)?;
         kurdavel::format(slots, slot_bytes, area).map_err(refused)
     }
 
@@ -143,7 +152,7 @@ impl Subject for Library {
             keys: fields.keys,
             left: (fields.pending != Pending::Idle).then_some(fields.pending.left()),
             present_bytes: Some(present_of(fields.slots, &fields.present_bytes)),
-            edition: None,
+            edition: Some(EDITION),
             switched: None,
         })
     }

@@ -1,11 +1,10 @@
 //! The second implementation, as a replay drives it.
 
-use reference::{DigestNumber, Key, Pending, Refusal, SlotMap, Tables, Version};
+use reference::{DigestNumber, Edition, Key, Pending, Refusal, SlotMap, Tables, Version};
 
 use super::event::{Field, Geometry, Record};
 use super::subject::{
-    part_of, present_of, range_of, without_edition, Answer, Asked, Memory, No, Progress, Start,
-    Subject,
+    part_of, present_of, range_of, Answer, Asked, Memory, No, Progress, Start, Subject,
 };
 
 /// The reference.
@@ -36,8 +35,11 @@ impl Subject for Second {
     const NAME: &'static str = "reference";
 
     fn format(geometry: Geometry, area: &mut [u8]) -> Answer<()> {
-        let (slots, slot_bytes) = without_edition(geometry)?;
-        reference::format(slots, slot_bytes, area).map_err(refused)
+        let edition = geometry.edition.map_or(Edition::FIRST, Edition);
+        let Geometry {
+            slots, slot_bytes, ..
+        } = geometry;
+        reference::format(slots, slot_bytes, edition, area).map_err(refused)
     }
 
     fn recover(geometry: Geometry, order: &[u8], memory: &mut Memory) -> Answer<reference::Record> {
@@ -151,7 +153,7 @@ impl Subject for Second {
             keys: record.keys,
             left: (record.pending != Pending::None).then_some(record.pending.left()),
             present_bytes: Some(present_of(record.slots, &record.present_bytes)),
-            edition: None,
+            edition: Some(record.edition.0),
             switched: None,
         })
     }
@@ -170,7 +172,7 @@ impl Subject for Second {
             Field::Next => record.next = Version(value),
             Field::Keys => record.keys = number,
             Field::Left => record.pending = with_left(record.pending, number),
-            Field::Edition => return Err(No::Missing("a record with an edition")),
+            Field::Edition => record.edition = Edition(number),
             Field::PresentBytes(slot) => match record.present_bytes.get_mut(slot as usize) {
                 Some(bytes) => *bytes = number,
                 None => return Err(No::Missing("a slot above 31")),

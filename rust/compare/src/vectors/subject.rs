@@ -143,11 +143,3 @@ pub fn range_of(asked: Asked) -> Range {
         last: u16::MAX,
     })
 }
-
-/// Refuses an edition for an implementation that takes none.
-pub fn without_edition(geometry: Geometry) -> Answer<(u32, u32)> {
-    match geometry.edition {
-        None => Ok((geometry.slots, geometry.slot_bytes)),
-        Some(_) => Err(No::Missing("a format that is told the edition")),
-    }
-}

@@ -4,6 +4,7 @@
 use compare::pair::Pair;
 use compare::Fault;
 use reference::book::Operation;
+use reference::edition::FIRST;
 use reference::testing::calls::Given;
 use reference::testing::choices::{Choice, A, B};
 use reference::{Key, Version};
@@ -36,7 +37,7 @@ fn try_all(pair: &Pair, tally: &mut Tally) -> Result<(), Fault> {
     let numbers = low
         .chain(high)
         .chain([u64::from(u32::MAX) / 2, u64::MAX - 1])
-        .chain([Version::LAST.0, Version::SPENT.0]);
+        .chain([FIRST.last_version().0, FIRST.spent().0]);
     for (expected, key) in numbers.flat_map(|number| [A, B, NEVER].map(|key| (number, key))) {
         for bytes in [7, 8, 24, 56, 120] {
             let write = Operation::Write(key, vec![3; bytes]);

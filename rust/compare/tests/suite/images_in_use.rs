@@ -2,11 +2,11 @@
 //! operations, cuts and recoveries.
 
 use compare::pair::Pair;
-use compare::Fault;
+use compare::{translate, Fault};
 use reference::rng::Rng;
 use reference::testing::calls;
 use reference::testing::images::{Image, Shape};
-use reference::Key;
+use reference::{Edition, Key};
 
 /// How many images were recovered, and of the calls on them how many were accepted and refused by each cause.
 #[derive(Default)]
@@ -58,11 +58,14 @@ fn play_all(seed: u64, rounds: u32, damages: u32) -> Tally {
     let mut rng = Rng::new(seed);
     let mut tally = Tally::default();
     for round in 0..rounds {
-        let mut shape = Shape::random(&mut rng);
+        let mut shape = Shape::random(&mut rng, Edition::FIRST);
         shape.slot_bytes = shape.slot_bytes.min(700);
         let mut image = shape.make(&mut rng);
         for _ in 0..rng.below(damages + 1) {
             image.damage(&mut rng);
+        }
+        if !translate::is_comparable(&image) {
+            continue;
         }
         let cells = *rng.pick(&[16, 100, 4096]);
         if let Err(fault) = go_on(&mut rng, &image, cells, &mut tally) {

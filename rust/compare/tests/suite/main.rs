@@ -16,5 +16,6 @@ mod short_histories;
 mod two_owners;
 mod vectors;
 mod vectors_changed;
+mod vectors_editions;
 mod vectors_faulty;
 mod vectors_reader;

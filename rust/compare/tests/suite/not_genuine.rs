@@ -8,7 +8,7 @@ use compare::translate;
 use reference::rng::Rng;
 use reference::testing::images::Shape;
 use reference::testing::{calls, forged};
-use reference::{Key, Pending, Record};
+use reference::{Edition, Key, Pending, Record};
 
 /// What is lent to the calls of one round.
 struct Lent {
@@ -136,7 +136,7 @@ fn forged_stores() {
     let mut rng = Rng::new(21);
     let (mut starts, mut steps) = (0, 0);
     for _ in 0..5000 {
-        let mut shape = Shape::random(&mut rng);
+        let mut shape = Shape::random(&mut rng, Edition::FIRST);
         shape.slot_bytes = rng.within(256, 700);
         shape.slots = rng.within(4, 12);
         let image = shape.make(&mut rng);

@@ -175,6 +175,10 @@ fn genuine(changes: &Changes, geometry: Geometry, record: Option<&Record>) -> Op
     match (field, record) {
         (Field::Slots, _) => Some(geometry.slots.into()),
         (Field::SlotBytes, _) => Some(geometry.slot_bytes.into()),
+        (Field::Edition, _) => {
+            let own = record.and_then(|record| record.edition);
+            own.or(geometry.edition).map(u64::from)
+        }
         (Field::Next, Some(record)) => Some(record.next),
         (field, Some(record)) => field_of(field, record).map(u64::from),
         (_, None) => None,

@@ -1,9 +1,10 @@
 //! Two drives with one history: a head's old record, a float, is deleted and a record in whole counts written under
 //! another key; the store cleans itself and the supply drops. The second drive's firmware loses the tombstone.
 
-use reference::segment::{read_entry, Entry, DIGEST_BYTES};
+use reference::edition::FIRST;
+use reference::segment::{read_entry, Entry};
 use reference::{
-    clean, delete, format, recover, step, write, Key, Record, SlotMap, Started, Tables,
+    clean, delete, format, recover, step, write, Edition, Key, Record, SlotMap, Started, Tables,
 };
 
 const SLOTS: u32 = 4;
@@ -84,7 +85,7 @@ fn head_record(position: [u8; 4]) -> [u8; 8] {
 /// Up to the cleaning.
 pub fn until_deleted() -> Drive {
     let mut area = vec![0xFF; (SLOTS * SLOT_BYTES) as usize];
-    format(SLOTS, SLOT_BYTES, &mut area).expect("the geometry is right");
+    format(SLOTS, SLOT_BYTES, Edition::FIRST, &mut area).expect("the geometry is right");
     let mut drive = Drive::power_on(area);
     drive.write(OLD, &head_record(20_971_520_f32.to_le_bytes()));
     for number in 1..=6 {
@@ -116,12 +117,13 @@ pub fn until_cleaned() -> Drive {
 fn drop_tombstone(mut drive: Drive) -> Drive {
     let start = (drive.record.head * SLOT_BYTES) as usize;
     let segment = &mut drive.area[start..start + SLOT_BYTES as usize];
-    let Entry::Tombstone(fields) = read_entry(segment, DIGEST_BYTES) else {
+    let first = FIRST.digest_bytes();
+    let Entry::Tombstone(fields) = read_entry(&FIRST, segment, first) else {
         panic!("the tombstone is kept");
     };
     assert_eq!(fields.key, OLD);
     let end = drive.record.end as usize;
-    segment.copy_within(DIGEST_BYTES + fields.length..end, DIGEST_BYTES);
+    segment.copy_within(first + fields.length..end, first);
     segment[end - fields.length] = 0;
     Drive::power_on(drive.area)
 }

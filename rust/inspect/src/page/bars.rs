@@ -2,8 +2,6 @@
 
 use std::fmt::Write;
 
-use reference::segment::DIGEST_BYTES;
-
 use super::{escaped, Part};
 use crate::entries::Entry;
 use crate::image::Image;
@@ -138,7 +136,7 @@ fn digest(row: &Row) -> Option<Piece> {
     Some(Piece {
         part: Part::Digest,
         from: 0,
-        to: DIGEST_BYTES,
+        to: digest.layout.digest_bytes(),
         label: "#".into(),
         title: format!(
             "slot {}, offset 0: digest {}, slots {}, next version {}",

@@ -137,7 +137,7 @@ fn cells(words: &[&str]) -> Vec<String> {
 
 fn slot_list(rows: &[Row]) -> String {
     let mut lines = vec![cells(&[
-        "slot", "role", "digest", "map", "next", "entries", "present", "kept", "unused",
+        "slot", "role", "edition", "digest", "map", "next", "entries", "present", "kept", "unused",
     ])];
     lines.extend(rows.iter().map(|row| {
         let used = row.used.as_ref();
@@ -145,6 +145,7 @@ fn slot_list(rows: &[Row]) -> String {
         vec![
             row.slot.to_string(),
             text::role(row.role).into(),
+            text::shown(digest.map(|digest| digest.layout.edition.0)),
             text::shown(digest.map(|digest| digest.number.0)),
             text::shown(digest.map(|digest| slots(digest.map))),
             text::shown(digest.map(|digest| digest.next.0)),

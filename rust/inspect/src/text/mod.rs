@@ -5,7 +5,7 @@ mod under_way;
 
 use std::fmt::Write;
 
-use reference::Key;
+use reference::{Edition, Key};
 
 use crate::entries::{Entry, Newer, Reason};
 use crate::history::{History, Remains};
@@ -33,11 +33,12 @@ pub fn report(report: &Report) -> String {
 pub fn verdict(report: &Report) -> String {
     match &report.verdict {
         Ok(Recovered { record, .. }) => format!(
-            "accepted: next version {}, digest {}, head slot {}, {} present\n",
+            "accepted: next version {}, digest {}, head slot {}, {} present{}\n",
             record.next.0,
             record.digest.0,
             record.head,
             count(report.present(), "key"),
+            other_edition(record.edition),
         ),
         Err(Refused { refusal, cause }) => {
             let mut text = format!("refused {}: {}\n", refusal.number(), refusal.meaning());
@@ -47,6 +48,14 @@ pub fn verdict(report: &Report) -> String {
             }
             text
         }
+    }
+}
+
+/// Said of a store that is not of the first edition.
+fn other_edition(edition: Edition) -> String {
+    match edition {
+        Edition::FIRST => String::new(),
+        Edition(number) => format!(", edition {number}"),
     }
 }
 
@@ -111,13 +120,14 @@ pub fn role(role: Role) -> &'static str {
 
 fn slot_table(rows: &[Row]) -> String {
     let heads = [
-        "slot", "role", "digest", "next", "entries", "present", "kept", "unused", "map",
+        "slot", "role", "edition", "digest", "next", "entries", "present", "kept", "unused", "map",
     ];
     let cells = rows.iter().map(|row| {
         let used = row.used.as_ref();
         vec![
             row.slot.to_string(),
             role(row.role).into(),
+            shown(row.digest.map(|digest| digest.layout.edition.0)),
             shown(row.digest.map(|digest| digest.number.0)),
             shown(row.digest.map(|digest| digest.next.0)),
             shown(used.map(|used| used.entries)),

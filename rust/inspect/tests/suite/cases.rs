@@ -4,6 +4,7 @@ use inspect::entries::Reason;
 use inspect::image::{Geometry, Image, Place};
 use inspect::plans::Operation;
 use inspect::report::Report;
+use reference::edition::{Layout, FIRST, SECOND};
 use reference::segment::Digest;
 use reference::{DigestNumber, Key, SlotMap, Version};
 
@@ -11,24 +12,33 @@ const KEY: Key = Key { table: 7, key: 9 };
 
 /// Four slots of 256 bytes, those of the map with digests numbered from 1, the highest one the head.
 fn store(map: u32) -> Vec<u8> {
+    store_of(&FIRST, map)
+}
+
+fn store_of(layout: &'static Layout, map: u32) -> Vec<u8> {
     let mut area = vec![0; 1024];
     for (number, slot) in (1..).zip(SlotMap(map).slots()) {
         let digest = Digest {
+            layout,
             number: DigestNumber(number),
             map: SlotMap(map),
             next: Version(1),
         };
         let start = slot as usize * 256;
-        area[start..start + 13].copy_from_slice(&digest.stored());
+        digest.lay(&mut area[start..]);
     }
     area
 }
 
-fn entry(kind: u8, version: u32) -> Vec<u8> {
-    let length = reference::segment::entry_bytes(kind).unwrap();
+fn entry(kind: u8, version: u64) -> Vec<u8> {
+    entry_of(&FIRST, kind, version)
+}
+
+fn entry_of(layout: &Layout, kind: u8, version: u64) -> Vec<u8> {
+    let length = layout.entry_bytes(kind).unwrap();
     let mut bytes = vec![kind];
     bytes.extend(KEY.stored());
-    bytes.extend(version.to_le_bytes());
+    bytes.extend(&version.to_le_bytes()[..layout.version_bytes]);
     bytes.resize(length, 0x11);
     bytes
 }
@@ -68,7 +78,7 @@ fn with(at: usize, bytes: &[u8]) -> Vec<u8> {
 #[test]
 fn faults_of_digests() {
     let head = 256;
-    is_refused(vec![0; 1024], 0, 0, "byte 0 of no slot is 5");
+    is_refused(vec![0; 1024], 0, 0, "byte 0 of no slot is 5 or 8");
     is_refused(
         with(head + 1, &[1]),
         0,
@@ -88,7 +98,7 @@ fn faults_of_digests() {
         with(head + 5, &[0x07]),
         2,
         0,
-        "names slot 2, whose byte 0 is not 5",
+        "names slot 2, whose byte 0 is neither 5 nor 8",
     );
     let mut zero = vec![0; 1024];
     zero[0] = 5;
@@ -97,7 +107,7 @@ fn faults_of_digests() {
 
 #[test]
 fn faults_of_entries() {
-    is_refused(with(13, &[6]), 0, 13, "no entry has kind 6");
+    is_refused(with(13, &[6]), 0, 13, "no entry of edition 1 has kind 6");
     is_refused(with(13, &entry(1, 0)), 0, 13, "no entry has this version");
     let mut area = with(13, &entry(7, 1));
     put(&mut area, 144, &entry(3, 2));
@@ -171,5 +181,91 @@ fn write_cut_before_its_last_store() {
     assert_eq!(
         (write.range.least, write.range.most, write.total),
         (7, 19, Some(20))
+    );
+}
+
+/// The second edition: entries from 17 on, versions of 8 bytes, and its own kinds.
+#[test]
+fn faults_of_the_second_edition() {
+    let with = |changes: &[(usize, &[u8])]| {
+        let mut area = store_of(&SECOND, 0b0011);
+        for (at, bytes) in changes {
+            put(&mut area, *at, bytes);
+        }
+        area
+    };
+    let entry = |kind, version| entry_of(&SECOND, kind, version);
+    let next = [0; 8];
+    is_refused(
+        with(&[(256 + 9, &next)]),
+        1,
+        9,
+        "next version in the head's digest is 0",
+    );
+    is_refused(
+        with(&[(17, &[4])]),
+        0,
+        17,
+        "no entry of edition 2 has kind 4",
+    );
+    is_refused(
+        with(&[(17, &entry(9, u64::MAX))]),
+        0,
+        17,
+        "no entry has this version",
+    );
+    let wide = entry(13, 1 << 32 | 1);
+    let shared = [(17, &wide[..]), (256 + 17, &wide[..])];
+    is_refused(with(&shared), 0, 17, "two entries have version 4294967297");
+    let report = Report::of(&image(with(&[(17, &entry(10, 1 << 32))])));
+    let [only] = &report.entries[..] else {
+        panic!("{:?}", report.entries);
+    };
+    assert_eq!((only.reason, only.value.len()), (Reason::Present, 24));
+    let text = inspect::text::report(&report);
+    assert!(text.starts_with(
+        "accepted: next version 4294967297, digest 2, head slot 1, 1 key present, edition 2\n"
+    ));
+    assert!(text.contains("object 24"), "{text}");
+}
+
+/// A log of both editions is refused with 28, whichever the head is of, and each slot is listed by its own.
+#[test]
+fn log_of_both_editions() {
+    for (own, other, number) in [(&FIRST, &SECOND, 1), (&SECOND, &FIRST, 2)] {
+        let mut area = store_of(own, 0b0011);
+        put(&mut area, 0, &store_of(other, 0b0011)[..17]);
+        let first = entry_of(other, other.objects[0], 3);
+        let second = entry_of(own, own.objects[1], 4);
+        put(&mut area, other.digest_bytes(), &first);
+        put(&mut area, 256 + own.digest_bytes(), &second);
+        let words = format!(
+            "slot 0 of the log is of edition {}, and the head, slot 1, of edition {number}",
+            3 - number
+        );
+        is_refused(area.clone(), 0, 0, &words);
+        let report = Report::of(&image(area));
+        let refused = report.verdict.as_ref().unwrap_err();
+        assert_eq!(refused.refusal.number(), 28);
+        let values = report.entries.iter().map(|entry| entry.value.len());
+        assert_eq!(values.collect::<Vec<_>>(), [8, 24]);
+    }
+}
+
+/// All stores of a write of the second edition but the last.
+#[test]
+fn wide_write_cut_before_its_last_store() {
+    let mut area = store_of(&SECOND, 1);
+    put(&mut area, 17, &entry_of(&SECOND, 9, 1));
+    area[17] = 0;
+    let report = Report::of(&image(area));
+    let found = report.under_way.expect("accepted");
+    let tail = &found.findings[0];
+    assert_eq!((tail.range.least, tail.range.most), (7, 135));
+    let write = tail.candidates[0];
+    assert_eq!(write.operation, Operation::Write(8, Some(KEY)));
+    assert_eq!(
+        (write.range.least, write.range.most, write.total),
+        (7, 23, Some(24))
     );
 }

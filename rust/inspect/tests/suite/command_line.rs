@@ -27,7 +27,7 @@ fn is_wrong(args: &[&str], words: &str) {
 /// A fresh store of four slots of 256 bytes.
 fn fresh() -> Vec<u8> {
     let mut area = vec![0; 1024];
-    reference::format(4, 256, &mut area).unwrap();
+    reference::format(4, 256, reference::Edition::FIRST, &mut area).unwrap();
     area
 }
 

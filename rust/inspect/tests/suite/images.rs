@@ -7,11 +7,11 @@ use inspect::history::history;
 use inspect::image::{Geometry, Image};
 use inspect::report::Report;
 use inspect::{json, page, text};
+use reference::edition::{FIRST, SECOND};
 use reference::layout::CELLS;
 use reference::rng::Rng;
-use reference::segment::DIGEST;
 use reference::testing::images::{Image as Made, Shape};
-use reference::{dump, recover, Refusal};
+use reference::{dump, recover, Edition, Refusal};
 
 fn image(made: Made) -> Image {
     let geometry = Geometry {
@@ -85,7 +85,14 @@ fn check_cause(image: &Image, refusal: Refusal, report: &Report) {
         assert_eq!(spot.bytes, image.area[at..at + spot.bytes.len()]);
     }
     match refusal {
-        Refusal::NoDigest => assert!(cause.spots.iter().all(|spot| spot.bytes[0] != DIGEST)),
+        Refusal::NoDigest => {
+            let is_digest = |kind: u8| kind == FIRST.digest || kind == SECOND.digest;
+            assert!(cause.spots.iter().all(|spot| !is_digest(spot.bytes[0])));
+        }
+        Refusal::Editions => {
+            assert!(cause.log.is_none());
+            assert_ne!(cause.spots[0].bytes, cause.spots[1].bytes);
+        }
         Refusal::VersionShared => assert_eq!(cause.spots[0].bytes[7..], cause.spots[1].bytes[7..]),
         Refusal::Entry | Refusal::TooManyKeys => assert!(cause.log.is_some()),
         _ => assert!(cause.log.is_none(), "{refusal:?}"),
@@ -127,15 +134,16 @@ fn check_present(image: &Image, report: &Report) {
     assert_eq!(dump(&input), lines);
 }
 
+/// A shape of either edition.
+fn any_shape(rng: &mut Rng) -> Shape {
+    let edition = *rng.pick(&Edition::ALL);
+    Shape::random(rng, edition)
+}
+
 #[test]
 fn whole_images() {
     let mut rng = Rng::new(1);
-    let made = (0..120).map(|_| {
-        look(
-            &image(Shape::random(&mut rng).make(&mut rng)),
-            &mut Rng::new(1),
-        )
-    });
+    let made = (0..120).map(|_| look(&image(any_shape(&mut rng).make(&mut rng)), &mut Rng::new(1)));
     let accepted = made.filter(|&number| number == 0).count();
     assert!(accepted > 60, "{accepted}");
 }
@@ -145,10 +153,14 @@ fn damaged_images() {
     let mut rng = Rng::new(2);
     let mut met = [0; 64];
     for _ in 0..300 {
-        let mut made = Shape::random(&mut rng).make(&mut rng);
+        let mut made = any_shape(&mut rng).make(&mut rng);
         let whole = made.area.clone();
         for _ in 0..rng.within(1, 6) {
             made.damage(&mut rng);
+        }
+        if rng.one_in(8) {
+            let slot = rng.below(made.slots) * made.slot_bytes;
+            made.area[slot as usize] = *rng.pick(&[FIRST.digest, SECOND.digest]);
         }
         let damaged = image(made);
         met[look(&damaged, &mut rng) as usize] += 1;
@@ -157,7 +169,7 @@ fn damaged_images() {
         look_at_both(&damaged, &whole);
     }
     println!("{met:?}");
-    for number in [0, 17, 18, 19] {
+    for number in [0, 17, 18, 19, 28] {
         assert!(met[number] > 0, "{met:?}");
     }
 }
@@ -169,7 +181,7 @@ fn random_bytes() {
     for _ in 0..300 {
         let (slots, slot_bytes) = (rng.within(4, 32), rng.within(256, 600));
         let mut area = vec![0; (slots * slot_bytes) as usize];
-        let kinds = rng.within(2, 9);
+        let kinds = rng.within(2, 15);
         for byte in &mut area {
             *byte = rng.below(kinds) as u8;
         }
@@ -187,9 +199,10 @@ fn too_many_keys() {
         let mut made = Shape {
             slots: 32,
             slot_bytes: 2048,
+            layout: &FIRST,
             keys: 200_000,
             versions: reference::testing::images::Versions::InARow,
-            kinds: vec![4, 4, 4, 1],
+            values: vec![0, 0, 0, 8],
             full: true,
         }
         .make(&mut rng);

@@ -8,8 +8,8 @@ use reference::book::Operation;
 use reference::rng::Rng;
 use reference::testing::{calls, full};
 use reference::{
-    clean, delete, format, read, read_value, recover, step, write, Key, Pending, Record, Store,
-    Tables,
+    clean, delete, format, read, read_value, recover, step, write, Edition, Key, Pending, Record,
+    Store, Tables,
 };
 
 /// An operation that was accepted, and the store as it was before.
@@ -64,7 +64,9 @@ impl Player {
         }
         let is_small = is_hard && rng.one_in(2);
         let is_formatted_again = is_hard && rng.one_in(3);
-        let player = Player::over(rng, Geometry { slots, slot_bytes }, area, is_small);
+        let edition = Edition::ALL[(seed % 2) as usize];
+        let geometry = Geometry { slots, slot_bytes };
+        let player = Player::over(rng, geometry, edition, area, is_small);
         if is_formatted_again {
             player.formatted_again()
         } else {
@@ -73,11 +75,18 @@ impl Player {
     }
 
     /// A store formatted over an area.
-    fn over(mut rng: Rng, geometry: Geometry, area: Vec<u8>, is_small: bool) -> Player {
+    fn over(
+        mut rng: Rng,
+        geometry: Geometry,
+        edition: Edition,
+        area: Vec<u8>,
+        is_small: bool,
+    ) -> Player {
         let original = area.clone();
         let mut image = Image::new(geometry, area).unwrap();
-        format(geometry.slots, geometry.slot_bytes, &mut image.area).unwrap();
-        age(&mut rng, &mut image.area);
+        let Geometry { slots, slot_bytes } = geometry;
+        format(slots, slot_bytes, edition, &mut image.area).unwrap();
+        age(&mut rng, edition, &mut image.area);
         let keys = (0..rng.within(2, 16)).map(|number| match is_small {
             true => Key {
                 table: number as u16 % 2,
@@ -102,7 +111,7 @@ impl Player {
         }
     }
 
-    /// The store after some use and a second format, over digests and entries.
+    /// The store after some use and a second format, of any edition, over digests and entries.
     fn formatted_again(mut self) -> Player {
         for _ in 0..20 {
             if let Some(under) = self.any_operation() {
@@ -110,7 +119,8 @@ impl Player {
             }
         }
         let geometry = self.image.geometry();
-        Player::over(self.rng, geometry, self.image.area, self.is_small)
+        let edition = *self.rng.pick(&Edition::ALL);
+        Player::over(self.rng, geometry, edition, self.image.area, self.is_small)
     }
 
     /// Whether what a finding has doubts about is the case, just before or during an operation.
@@ -120,16 +130,25 @@ impl Player {
             (Doubt::CutShort, Site::Tail) => self.cut_since_version,
             (Doubt::CutShort, Site::NewHead) => self.cut_since_head,
             (Doubt::ByChance, _) => {
-                let version = (self.record.next.0 as u32).to_le_bytes();
-                under.before.area[at + 7..at + 11] == version
+                let area = &under.before.area;
+                holds(area, at + 7, self.version_bytes(), self.record.next.0)
             }
             (Doubt::BeforeFormat, _) => {
-                let held = |offset: usize, number: u32| {
-                    self.original[at + offset..at + offset + 4] == number.to_le_bytes()
+                let held = |offset: usize, width: usize, number: u64| {
+                    holds(&self.original, at + offset, width, number)
                 };
-                let next = self.record.next.0 as u32;
-                held(1, self.record.digest.0 + 1) || held(9, next) || held(9, next.wrapping_add(1))
+                let (next, width) = (self.record.next.0, self.version_bytes());
+                held(1, 4, u64::from(self.record.digest.0) + 1)
+                    || held(9, width, next)
+                    || held(9, width, next.wrapping_add(1))
             }
+        }
+    }
+
+    fn version_bytes(&self) -> usize {
+        match self.record.edition {
+            Edition::SECOND => 8,
+            _ => 4,
         }
     }
 
@@ -238,11 +257,21 @@ impl Player {
     }
 }
 
+/// Whether a field of an area holds a number.
+fn holds(area: &[u8], at: usize, width: usize, number: u64) -> bool {
+    area[at..at + width] == number.to_le_bytes()[..width]
+}
+
 /// In some stores, counters that are about to fill a byte or to end.
-fn age(rng: &mut Rng, area: &mut [u8]) {
+fn age(rng: &mut Rng, edition: Edition, area: &mut [u8]) {
     if rng.one_in(3) {
-        let next = rng.pick(&[250u32, 65_530, u32::MAX - 20]).to_le_bytes();
-        area[9..13].copy_from_slice(&next);
+        let narrow = u64::from(u32::MAX) - 20;
+        let next = match edition {
+            Edition::SECOND => *rng.pick(&[250, 65_530, narrow, u64::MAX - 20]),
+            _ => *rng.pick(&[250, 65_530, narrow]),
+        };
+        let width = if edition == Edition::SECOND { 8 } else { 4 };
+        area[9..9 + width].copy_from_slice(&next.to_le_bytes()[..width]);
     }
     if rng.one_in(3) {
         let number = rng.pick(&[252u32, 65_532, u32::MAX - 9]).to_le_bytes();

@@ -2,6 +2,7 @@
 
 use std::io::{self, Write};
 
+use reference::edition::FIRST;
 use reference::fnv::fnv1a;
 use reference::segment::{read_entry, Digest, Entry, Fields, Key};
 
@@ -48,7 +49,9 @@ fn keys() -> String {
 
 fn digest_line(segment: &[u8]) -> String {
     let digest = Digest::read(segment).expect("the bytes of a digest");
-    let Digest { number, map, next } = digest;
+    let Digest {
+        number, map, next, ..
+    } = digest;
     format!("digest number {} map {} next {}\n", number.0, map.0, next.0)
 }
 
@@ -65,7 +68,7 @@ fn fields(name: &str, fields: Fields) -> String {
 
 /// What stands at an offset of a segment.
 fn found(segment: &[u8], offset: usize) -> String {
-    match read_entry(segment, offset) {
+    match read_entry(&FIRST, segment, offset) {
         Entry::Object(object) => format!("{} kind {}", fields("object", object), object.kind),
         Entry::Tombstone(tombstone) => fields("tombstone", tombstone),
         Entry::End => "end".to_owned(),

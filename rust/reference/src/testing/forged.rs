@@ -1,7 +1,8 @@
 //! Records and indexes that no recovery gave.
 
+use crate::edition::{Layout, FIRST, VALUES};
 use crate::rng::Rng;
-use crate::{DigestNumber, Pending, Record, SlotMap, Version};
+use crate::{DigestNumber, Edition, Pending, Record, SlotMap, Version};
 
 fn number(rng: &mut Rng, likely: u32) -> u32 {
     match rng.below(6) {
@@ -22,12 +23,14 @@ fn version(rng: &mut Rng) -> Version {
 }
 
 /// A pending operation, often one that a start could have given somewhere.
-fn pending(rng: &mut Rng, slots: u32) -> Pending {
+fn pending(rng: &mut Rng, slots: u32, layout: &Layout) -> Pending {
     let slot = number(rng, slots);
+    let [tombstone, digest] = [layout.tombstone_bytes(), layout.digest_bytes()];
+    let object = tombstone + *rng.pick(&VALUES);
     let length = match rng.below(3) {
         0 => number(rng, 2048),
-        1 => *rng.pick(&[11, 19, 35, 67, 131]),
-        _ => 13 + *rng.pick(&[0, 11, 19, 35, 67, 131]),
+        1 => *rng.pick(&[tombstone, object]) as u32,
+        _ => (digest + *rng.pick(&[0, tombstone, object])) as u32,
     };
     let left = match rng.below(4) {
         0 => 1,
@@ -58,11 +61,17 @@ fn pending(rng: &mut Rng, slots: u32) -> Pending {
     }
 }
 
-/// A record like the given one, some fields of which are anything.
+/// The layout of a genuine record.
+fn layout_of(genuine: Record) -> &'static Layout {
+    genuine.edition.layout().unwrap_or(&FIRST)
+}
+
+/// A record like the given one, some fields of which are anything; but it is of no other edition
+/// that there is.
 pub fn record(rng: &mut Rng, genuine: Record) -> Record {
     let mut record = genuine;
     for _ in 0..rng.below(4) {
-        match rng.below(10) {
+        match rng.below(11) {
             0 => record.head = number(rng, record.slots),
             1 => record.end = number(rng, record.slot_bytes),
             2 => record.digest = DigestNumber(number(rng, u32::MAX)),
@@ -72,32 +81,48 @@ pub fn record(rng: &mut Rng, genuine: Record) -> Record {
             6 => record.slots = number(rng, 33),
             7 => record.slot_bytes = number(rng, 2049),
             8 => record.present_bytes[rng.below(32) as usize] = number(rng, record.slot_bytes),
+            9 if rng.one_in(4) => record.edition = no_edition(rng),
             _ => record.cells = number(rng, 4097),
         }
     }
-    record.pending = pending(rng, genuine.slots);
+    record.pending = pending(rng, genuine.slots, layout_of(genuine));
     record
+}
+
+/// The number of no edition.
+fn no_edition(rng: &mut Rng) -> Edition {
+    Edition(*rng.pick(&[0, 3, 258, u32::MAX]))
+}
+
+/// Next versions that no record of the edition has.
+fn no_next(genuine: Record) -> &'static [Version] {
+    match genuine.edition {
+        Edition::SECOND => &[Version(0)],
+        _ => &[Version(0), Version(1 << 32), Version(u64::MAX)],
+    }
 }
 
 /// A record that differs from a genuine one in one number, which is out of range.
 pub fn out_of_range(rng: &mut Rng, genuine: Record) -> Record {
     let mut record = genuine;
     let over = genuine.slot_bytes + 2;
-    match rng.below(15) {
+    let digest = layout_of(genuine).digest_bytes() as u32;
+    match rng.below(16) {
         0 => record.slots = *rng.pick(&[0, 3, 33, u32::MAX]),
         1 => record.slot_bytes = *rng.pick(&[0, 255, 2049, u32::MAX]),
         2 => record.cells = *rng.pick(&[0, 15, 4097, u32::MAX]),
         3 => record.map = SlotMap(genuine.map.0 & !(1 << genuine.head)),
         4 => record.map = SlotMap(u32::MAX >> (32 - genuine.slots)),
         5 => record.head = *rng.pick(&[genuine.slots, 32, 64, u32::MAX]),
-        6 => record.end = *rng.pick(&[0, 12, genuine.slot_bytes + 1, u32::MAX]),
+        6 => record.end = *rng.pick(&[0, digest - 1, genuine.slot_bytes + 1, u32::MAX]),
         7 => record.digest = DigestNumber(0),
-        8 => record.next = Version(*rng.pick(&[0, 1 << 32, u64::MAX])),
+        8 => record.next = *rng.pick(no_next(genuine)),
         9 => record.keys = *rng.pick(&[genuine.cells, u32::MAX]),
         14 => {
-            let above = *rng.pick(&[genuine.slot_bytes - 12, u32::MAX]);
+            let above = *rng.pick(&[genuine.slot_bytes - digest + 1, u32::MAX]);
             record.present_bytes[rng.below(32) as usize] = above;
         }
+        15 => record.edition = no_edition(rng),
         kind => record.pending = spent_or_over(rng, kind, over),
     }
     record

@@ -2,12 +2,13 @@
 
 use crate::book::Operation;
 use crate::testing::choices::{A, B};
-use crate::Key;
+use crate::{Edition, Key};
 
 /// The lengths of values, the longest first.
 pub const LENGTHS: [usize; 4] = [120, 56, 24, 8];
 
-/// Three entries of these lengths leave ten bytes of a slot of 256, which is less than a tombstone.
+/// Three entries of these lengths leave ten bytes of a slot of 256, and in the second edition of one of 272, which is
+/// less than a tombstone.
 pub const TIGHT: [usize; 3] = [120, 56, 24];
 
 /// A key besides [`A`] and [`B`].
@@ -18,8 +19,16 @@ pub const fn other(number: u32) -> Key {
     }
 }
 
-/// Keys by the slots that their objects come to in a store of four slots of 256 bytes, which is filled with them one
-/// after another in values of [`TIGHT`] lengths.
+/// Bytes of such a slot.
+pub const fn tight_slot(edition: Edition) -> u32 {
+    match edition {
+        Edition::SECOND => 272,
+        _ => 256,
+    }
+}
+
+/// Keys by the slots that their objects come to in a store of four such slots, which is filled with them one after
+/// another in values of [`TIGHT`] lengths.
 pub const SPREADS: [[Key; 9]; 4] = [
     // Every object is live.
     [

@@ -1,5 +1,6 @@
 //! Images made without the store: valid ones in many shapes, and ways to damage them.
 
+use crate::edition::{Edition, Layout, MAP, NEXT, NUMBER, VERSION};
 use crate::rng::Rng;
 use crate::Key;
 
@@ -11,7 +12,7 @@ pub enum Versions {
     /// At random, rarely shared.
     Random,
     /// A constant stride apart, in a shuffled order.
-    Stride(u32),
+    Stride(u64),
 }
 
 /// An area with what is known of it.
@@ -20,6 +21,8 @@ pub struct Image {
     pub slots: u32,
     /// S.
     pub slot_bytes: u32,
+    /// Kinds and sizes of its edition.
+    pub layout: &'static Layout,
     /// The bytes.
     pub area: Vec<u8>,
     /// Offsets in the area at which the entries start.
@@ -34,20 +37,36 @@ pub struct Shape {
     pub slots: u32,
     /// S.
     pub slot_bytes: u32,
+    /// Kinds and sizes of its edition.
+    pub layout: &'static Layout,
     /// How many keys the entries are of, at the most.
     pub keys: u32,
     /// How the versions are chosen.
     pub versions: Versions,
-    /// Kinds to choose from.
-    pub kinds: Vec<u8>,
+    /// Lengths of the values to choose from; 0 is a tombstone.
+    pub values: Vec<usize>,
     /// Whether every slot of the log is filled as far as it goes.
     pub full: bool,
 }
 
+fn layout_of(edition: Edition) -> &'static Layout {
+    edition.layout().expect("there is such an edition")
+}
+
+/// A stride, which leaves the low halves of versions the same where an edition has wide ones.
+fn wide(layout: &Layout, stride: u64) -> u64 {
+    match layout.edition {
+        Edition::SECOND => 1 << 32,
+        _ => stride,
+    }
+}
+
 impl Shape {
-    /// Any shape.
-    pub fn random(rng: &mut Rng) -> Shape {
+    /// Any shape of an edition.
+    pub fn random(rng: &mut Rng, edition: Edition) -> Shape {
+        let layout = layout_of(edition);
         Shape {
+            layout,
             slots: *rng.pick(&[4, 4, 5, 7, 16, 31, 32]),
             slot_bytes: match rng.below(4) {
                 0 => 256,
@@ -60,10 +79,16 @@ impl Shape {
                 Versions::InARow,
                 Versions::Random,
                 Versions::Stride(8192),
-                Versions::Stride(1024),
+                Versions::Stride(wide(layout, 1024)),
             ]),
-            kinds: rng
-                .pick(&[vec![1, 2, 3, 4, 7], vec![4], vec![1], vec![1, 4], vec![7]])
+            values: rng
+                .pick(&[
+                    vec![8, 24, 56, 0, 120],
+                    vec![0],
+                    vec![8],
+                    vec![8, 0],
+                    vec![120],
+                ])
                 .clone(),
             full: rng.one_in(3),
         }
@@ -82,6 +107,7 @@ impl Shape {
         let mut image = Image {
             slots: self.slots,
             slot_bytes: self.slot_bytes,
+            layout: self.layout,
             area,
             entries: Vec::new(),
             head: 0,
@@ -105,32 +131,37 @@ impl Shape {
         for (number, &slot) in order.iter().enumerate() {
             let start = usize::from(slot) * self.slot_bytes as usize;
             let in_log = map >> slot & 1 == 1;
-            image.area[start] = if in_log || rng.one_in(2) { 5 } else { 0 };
+            let kind = self.layout.digest;
+            image.area[start] = if in_log || rng.one_in(2) { kind } else { 0 };
             let number = if slot == head { 100 } else { number as u32 };
-            let next = rng.within(1, 9000);
-            image.area[start + 1..start + 5].copy_from_slice(&number.to_le_bytes());
-            image.area[start + 5..start + 9].copy_from_slice(&map.to_le_bytes());
-            image.area[start + 9..start + 13].copy_from_slice(&next.to_le_bytes());
+            let next = u64::from(rng.within(1, 9000));
+            let digest = &mut image.area[start..start + self.layout.digest_bytes()];
+            digest[NUMBER..MAP].copy_from_slice(&number.to_le_bytes());
+            digest[MAP..NEXT].copy_from_slice(&map.to_le_bytes());
+            self.lay_version(&mut digest[NEXT..], next);
         }
     }
 
     fn lay_entries(&self, rng: &mut Rng, image: &mut Image, slot: u32) {
         let start = (slot * self.slot_bytes) as usize;
         let end = start + self.slot_bytes as usize;
-        let mut at = start + 13;
+        let mut at = start + self.layout.digest_bytes();
         let stop = if self.full {
             end
         } else {
             at + rng.below(self.slot_bytes) as usize
         };
         loop {
-            let kind = *rng.pick(&self.kinds);
-            let length = [0, 19, 35, 67, 11, 0, 0, 131][usize::from(kind)];
+            let value = *rng.pick(&self.values);
+            let length = self.layout.tombstone_bytes() + value;
             if at + length > end.min(stop) {
                 break;
             }
             let key = rng.below(self.keys);
-            image.area[at] = kind;
+            image.area[at] = self
+                .layout
+                .object_kind(value)
+                .unwrap_or(self.layout.tombstone);
             image.area[at + 1..at + 3].copy_from_slice(&(key as u16 % 3).to_le_bytes());
             image.area[at + 3..at + 7].copy_from_slice(&(key / 3).to_le_bytes());
             image.entries.push(at);
@@ -149,33 +180,41 @@ impl Shape {
             }
         }
         for (&at, rank) in image.entries.iter().zip(ranks) {
+            let rank = u64::from(rank);
             let version = match self.versions {
                 Versions::InARow => rank + 1,
-                Versions::Random => rng.within(1, u32::MAX - 1),
+                Versions::Random => 1 + rng.bits() % self.layout.last_version().0,
                 Versions::Stride(stride) => rank * stride + 1,
             };
-            image.area[at + 7..at + 11].copy_from_slice(&version.to_le_bytes());
+            self.lay_version(&mut image.area[at + VERSION..], version);
         }
+    }
+
+    fn lay_version(&self, out: &mut [u8], version: u64) {
+        let stored = &version.to_le_bytes()[..self.layout.version_bytes];
+        out[..stored.len()].copy_from_slice(stored);
     }
 }
 
 impl Image {
     /// A full area of many keys, whose versions may all meet in a filter by their low bits.
-    pub fn with_many_keys(rng: &mut Rng) -> Image {
+    pub fn with_many_keys(rng: &mut Rng, edition: Edition) -> Image {
+        let layout = layout_of(edition);
         let shape = Shape {
+            layout,
             slots: 32,
             slot_bytes: rng.within(1900, 2048),
             keys: 3000,
             versions: *rng.pick(&[
                 Versions::InARow,
                 Versions::Random,
-                Versions::Stride(65536),
+                Versions::Stride(wide(layout, 65536)),
                 Versions::Stride(16384),
                 Versions::Stride(8192),
                 Versions::Stride(2048),
                 Versions::Stride(1),
             ]),
-            kinds: vec![4, 4, 4, 1],
+            values: vec![0, 0, 0, 8],
             full: true,
         };
         shape.make(rng)
@@ -204,21 +243,32 @@ impl Image {
         }
         let from = *rng.pick(&self.entries);
         let to = *rng.pick(&self.entries);
-        self.area.copy_within(from + 7..from + 11, to + 7);
+        let version = from + VERSION..from + self.layout.tombstone_bytes();
+        self.area.copy_within(version, to + VERSION);
+    }
+
+    /// Whether some slot begins with a digest of this edition.
+    pub fn has_digest_of(&self, edition: Edition) -> bool {
+        let mut slots = self.area.chunks(self.slot_bytes as usize);
+        slots.any(|segment| Edition::of_segment(segment) == Some(edition))
     }
 
     /// Alters a byte where it is likely to matter.
     pub fn damage(&mut self, rng: &mut Rng) {
         let slot_start = (rng.below(self.slots) * self.slot_bytes) as usize;
+        let digest = self.layout.digest_bytes() as u32;
+        let tombstone = self.layout.tombstone_bytes() as u32;
         let at = match rng.below(5) {
             0 => slot_start,
-            1 => slot_start + rng.below(14) as usize,
-            2 => (self.head * self.slot_bytes) as usize + rng.below(13) as usize,
-            3 if !self.entries.is_empty() => *rng.pick(&self.entries) + rng.below(11) as usize,
+            1 => slot_start + rng.below(digest + 1) as usize,
+            2 => (self.head * self.slot_bytes) as usize + rng.below(digest) as usize,
+            3 if !self.entries.is_empty() => {
+                *rng.pick(&self.entries) + rng.below(tombstone) as usize
+            }
             _ => rng.below(self.area.len() as u32) as usize,
         };
         self.area[at] = match rng.below(4) {
-            0 => rng.below(9) as u8,
+            0 => rng.below(15) as u8,
             1 => 0,
             2 => 0xFF,
             _ => rng.bits() as u8,

@@ -2,6 +2,7 @@
 //! there is no room.
 
 use crate::book::Operation;
+use crate::edition::FIRST;
 use crate::rng::Rng;
 use crate::Key;
 
@@ -25,8 +26,8 @@ pub struct Load {
     rng: Rng,
 }
 
-/// Bytes of an entry besides its value.
-const ENTRY: usize = 11;
+/// Bytes of an entry besides its value, in a store of the first edition.
+const ENTRY: usize = FIRST.tombstone_bytes();
 
 impl Load {
     /// As many keys, with values of these lengths in turn, as have at most so many live bytes.

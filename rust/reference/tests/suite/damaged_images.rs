@@ -1,10 +1,11 @@
 //! Images valid and damaged: recovery answers as the naive reading does, in any order,
 //! and leaves in the index what 01 says.
 
+use reference::edition::FIRST;
 use reference::index::rule_holds;
 use reference::rng::Rng;
 use reference::testing::images::{Image, Shape};
-use reference::{dump, read, read_value, recover, Record, Refusal, Tables};
+use reference::{dump, read, read_value, recover, Edition, Record, Refusal, Tables};
 
 use crate::naive::{view, View};
 
@@ -48,7 +49,7 @@ fn check_reads(record: &Record, image: &Image, index: &[u32], view: &View) {
         if line.is_object() {
             let found = found.map(|found| (found.version.0, found.kind));
             assert_eq!(found, Ok((line.version, line.bytes[0])));
-            assert_eq!(value, &line.bytes[11..]);
+            assert_eq!(value, &line.bytes[view.numbers.tombstone_bytes..]);
         } else {
             assert_eq!(found, Err(Refusal::Absent));
             assert!(value.is_empty());
@@ -61,7 +62,8 @@ fn whole_images() {
     let mut rng = Rng::new(1);
     let mut accepted = 0;
     for _ in 0..3000 {
-        let image = Shape::random(&mut rng).make(&mut rng);
+        let edition = *rng.pick(&Edition::ALL);
+        let image = Shape::random(&mut rng, edition).make(&mut rng);
         let cells = *rng.pick(&[16, 17, 500, 4095, 4096]);
         accepted += u32::from(recover_as_naive(&mut rng, &image, cells) == 0);
     }
@@ -71,16 +73,17 @@ fn whole_images() {
 #[test]
 fn damaged_images() {
     let mut rng = Rng::new(2);
-    let mut met = [0; 26];
+    let mut met = [0; 29];
     for _ in 0..20_000 {
-        let mut image = Shape::random(&mut rng).make(&mut rng);
+        let edition = *rng.pick(&Edition::ALL);
+        let mut image = Shape::random(&mut rng, edition).make(&mut rng);
         for _ in 0..rng.within(1, 6) {
             image.damage(&mut rng);
         }
         let cells = *rng.pick(&[16, 100, 4096]);
         met[recover_as_naive(&mut rng, &image, cells) as usize] += 1;
     }
-    for cause in [0, 15, 17, 18, 19, 20, 24, 25] {
+    for cause in [0, 15, 17, 18, 19, 20, 24, 25, 28] {
         assert!(met[cause] > 10, "{met:?}");
     }
 }
@@ -92,11 +95,12 @@ fn random_bytes() {
         let (slots, slot_bytes) = (rng.within(4, 32), rng.within(256, 2048));
         let mut area = vec![0; (slots * slot_bytes) as usize];
         for byte in &mut area {
-            *byte = rng.below(8) as u8;
+            *byte = rng.below(14) as u8;
         }
         let image = Image {
             slots,
             slot_bytes,
+            layout: &FIRST,
             area,
             entries: Vec::new(),
             head: 0,
@@ -115,7 +119,8 @@ fn shared_versions_in_full_areas() {
     let mut rng = Rng::new(4);
     let mut met = [0; 21];
     for round in 0..240 {
-        let mut image = Image::with_many_keys(&mut rng);
+        let edition = Edition::ALL[(round / 2 % 2) as usize];
+        let mut image = Image::with_many_keys(&mut rng, edition);
         if round % 2 == 0 {
             image.share_a_version(&mut rng);
         }

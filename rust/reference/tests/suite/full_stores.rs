@@ -5,16 +5,22 @@ use reference::book::Operation;
 use reference::rng::Rng;
 use reference::rules::AsWritten;
 use reference::testing::choices::{Choice, A, B, ORDERS};
-use reference::testing::full::{other, LENGTHS, SPREADS, TIGHT};
-use reference::{Key, Pending, Record, Refusal, SlotMap, Version};
+use reference::testing::full::{other, tight_slot, LENGTHS, SPREADS, TIGHT};
+use reference::{Edition, Key, Pending, Record, Refusal, SlotMap, Version};
 
 use crate::rig::Rig;
 use crate::short_histories::{cut_everywhere, Explorer};
 
 /// A store of four slots that is filled with values of these lengths.
-fn filled(slot_bytes: u32, cells: usize, keys: &[Key], lengths: &[usize]) -> Rig<AsWritten> {
+fn filled(
+    edition: Edition,
+    slot_bytes: u32,
+    cells: usize,
+    keys: &[Key],
+    lengths: &[usize],
+) -> Rig<AsWritten> {
     let area = vec![0xEE; 4 * slot_bytes as usize];
-    let mut rig = Rig::new(4, slot_bytes, cells, area);
+    let mut rig = Rig::of(edition, 4, slot_bytes, cells, area);
     rig.keys = keys.to_vec();
     rig.strict = true;
     rig.fill(lengths).unwrap();
@@ -22,11 +28,17 @@ fn filled(slot_bytes: u32, cells: usize, keys: &[Key], lengths: &[usize]) -> Rig
     rig
 }
 
-/// A store of four slots of 256 bytes, none of which has room for a tombstone.
-fn tight(keys: &[Key]) -> Rig<AsWritten> {
-    let rig = filled(256, 16, keys, &TIGHT);
-    assert_eq!(rig.record().end, 246);
+/// A store of four slots, none of which has room for a tombstone.
+fn tight_of(edition: Edition, keys: &[Key]) -> Rig<AsWritten> {
+    let slot_bytes = tight_slot(edition);
+    let rig = filled(edition, slot_bytes, 16, keys, &TIGHT);
+    assert_eq!(rig.record().end, slot_bytes - 10);
     rig
+}
+
+/// One of the first edition.
+fn tight(keys: &[Key]) -> Rig<AsWritten> {
+    tight_of(Edition::FIRST, keys)
 }
 
 /// Deletes the keys one after another, cut before and after every store; tells how many of the deletes were done as a
@@ -53,7 +65,11 @@ fn is_empty_again(rig: &mut Rig<AsWritten>) {
     assert!(rig.book.keys.is_empty());
     let mut cleaned = rig.clone();
     let all = Operation::Clean(rig.record().map);
-    assert_eq!(cleaned.run(&all).unwrap(), Ok(15));
+    let digest = match rig.record().edition {
+        Edition::SECOND => 17,
+        _ => 13,
+    };
+    assert_eq!(cleaned.run(&all).unwrap(), Ok(digest + 2));
     let write = Operation::Write(A, vec![1; 120]);
     cleaned.run(&write).unwrap().unwrap();
     cleaned.check_book().unwrap();
@@ -70,8 +86,11 @@ fn both_ways(rig: &Rig<AsWritten>) -> [Vec<Key>; 2] {
 
 #[test]
 fn every_key_of_a_tight_store() {
-    for spread in SPREADS {
-        let rig = tight(&spread);
+    for (edition, spread) in Edition::ALL
+        .into_iter()
+        .flat_map(|edition| SPREADS.map(|spread| (edition, spread)))
+    {
+        let rig = tight_of(edition, &spread);
         for order in both_ways(&rig) {
             let mut rig = rig.clone();
             assert!(delete_all(&mut rig, &order) > 0);
@@ -84,8 +103,14 @@ fn every_key_of_a_tight_store() {
 fn every_key_of_stores_of_one_length() {
     let keys: Vec<Key> = (0..40).map(other).collect();
     for bytes in LENGTHS {
-        for (slot_bytes, used) in [(256, 40), (256, 3), (300, 17)] {
-            let rig = filled(slot_bytes, 64, &keys[..used], &[bytes]);
+        for (edition, slot_bytes, used) in [
+            (Edition::FIRST, 256, 40),
+            (Edition::FIRST, 256, 3),
+            (Edition::FIRST, 300, 17),
+            (Edition::SECOND, 256, 40),
+            (Edition::SECOND, 257, 3),
+        ] {
+            let rig = filled(edition, slot_bytes, 64, &keys[..used], &[bytes]);
             for order in both_ways(&rig) {
                 let mut rig = rig.clone();
                 delete_all(&mut rig, &order);
@@ -108,7 +133,8 @@ fn every_key_of_random_full_stores() {
         let used = rng.within(2, 50);
         let keys: Vec<Key> = (0..used).map(other).collect();
         let lengths: Vec<usize> = (0..rng.within(1, 6)).map(|_| *rng.pick(&LENGTHS)).collect();
-        let mut rig = filled(slot_bytes, 64, &keys, &lengths);
+        let edition = Edition::ALL[(seed % 2) as usize];
+        let mut rig = filled(edition, slot_bytes, 64, &keys, &lengths);
         let [mut order, _] = both_ways(&rig);
         for last in (1..order.len()).rev() {
             order.swap(last, rng.below(last as u32 + 1) as usize);
@@ -121,7 +147,12 @@ fn every_key_of_random_full_stores() {
 
 /// Every history of up to three operations from a tight store, cut after every store.
 fn explore(spread: &[Key]) {
-    let mut rig = tight(spread);
+    for edition in Edition::ALL {
+        explore_from(tight_of(edition, spread));
+    }
+}
+
+fn explore_from(mut rig: Rig<AsWritten>) {
     rig.strict = false;
     rig.events.clear();
     let mut explorer = Explorer {

@@ -4,7 +4,7 @@ use reference::book::Operation;
 use reference::rng::Rng;
 use reference::rules::AsWritten;
 use reference::testing::images::Shape;
-use reference::{join, recover, Key, Pending, Record, Refusal, SlotMap};
+use reference::{join, recover, Edition, Key, Pending, Record, Refusal, SlotMap};
 
 use crate::naive::view;
 use crate::rig::Rig;
@@ -199,7 +199,8 @@ fn random_images() {
     let mut rng = Rng::new(77);
     let (mut pairs, mut none) = (0, 0);
     for _ in 0..1500 {
-        let mut shape = Shape::random(&mut rng);
+        let edition = *rng.pick(&Edition::ALL);
+        let mut shape = Shape::random(&mut rng, edition);
         shape.slots = rng.within(4, 9);
         shape.slot_bytes = rng.within(256, 420);
         shape.keys = *rng.pick(&[3, 15, 40, 90]);

@@ -3,6 +3,7 @@
 mod cases;
 mod damaged_images;
 mod dump;
+mod editions;
 mod fnv;
 mod full_stores;
 mod index_rule;

@@ -4,7 +4,76 @@
 use std::collections::{BTreeMap, BTreeSet};
 
 use reference::book::Operation;
-use reference::{DigestNumber, Key, Pending, Record, SlotMap, Version};
+use reference::{DigestNumber, Edition, Key, Pending, Record, SlotMap, Version};
+
+/// The numbers of an edition, as 01 and 02 have them.
+#[derive(Clone, Copy, PartialEq, Eq, Debug)]
+pub struct Numbers {
+    pub edition: u32,
+    pub digest: u8,
+    pub digest_bytes: usize,
+    pub tombstone: u8,
+    pub tombstone_bytes: usize,
+    /// Kind, bytes of the value and total of each object.
+    pub objects: [(u8, usize, usize); 4],
+    pub version_bytes: usize,
+    pub last_next: u64,
+}
+
+/// The two editions.
+pub const EDITIONS: [Numbers; 2] = [
+    Numbers {
+        edition: 1,
+        digest: 5,
+        digest_bytes: 13,
+        tombstone: 4,
+        tombstone_bytes: 11,
+        objects: [(1, 8, 19), (2, 24, 35), (3, 56, 67), (7, 120, 131)],
+        version_bytes: 4,
+        last_next: 4_294_967_295,
+    },
+    Numbers {
+        edition: 2,
+        digest: 8,
+        digest_bytes: 17,
+        tombstone: 13,
+        tombstone_bytes: 15,
+        objects: [(9, 8, 23), (10, 24, 39), (11, 56, 71), (12, 120, 135)],
+        version_bytes: 8,
+        last_next: 18_446_744_073_709_551_615,
+    },
+];
+
+impl Numbers {
+    /// Those of the segment that begins with this byte, if it is a digest's.
+    fn of_digest(kind: u8) -> Option<Numbers> {
+        EDITIONS.into_iter().find(|numbers| numbers.digest == kind)
+    }
+
+    /// The kind of an object with a value of so many bytes.
+    pub fn object(&self, bytes: usize) -> Option<u8> {
+        let objects = self.objects.into_iter();
+        objects
+            .filter(|object| object.1 == bytes)
+            .map(|object| object.0)
+            .next()
+    }
+
+    fn total(&self, kind: u8) -> Option<usize> {
+        if kind == self.tombstone {
+            return Some(self.tombstone_bytes);
+        }
+        let objects = self.objects.into_iter();
+        objects
+            .filter(|object| object.0 == kind)
+            .map(|object| object.2)
+            .next()
+    }
+
+    pub fn stored_version(&self, version: u64) -> Vec<u8> {
+        version.to_le_bytes()[..self.version_bytes].to_vec()
+    }
+}
 
 /// An entry of the log.
 #[derive(Clone, PartialEq, Eq, Debug)]
@@ -18,7 +87,7 @@ pub struct Line {
 
 impl Line {
     pub fn is_object(&self) -> bool {
-        self.bytes[0] != 4
+        ![4, 13].contains(&self.bytes[0])
     }
 }
 
@@ -26,6 +95,7 @@ impl Line {
 #[derive(Clone, PartialEq, Eq, Debug)]
 pub struct View {
     pub record: Record,
+    pub numbers: Numbers,
     /// Ascending slot, then offset.
     pub lines: Vec<Line>,
 }
@@ -37,35 +107,34 @@ pub struct Plan {
     pub stores: Vec<(usize, u8)>,
 }
 
-/// The highest next version.
-const LAST_NEXT: u64 = u32::MAX as u64;
-
-fn number(bytes: &[u8], at: usize, width: usize) -> u32 {
+fn wide_number(bytes: &[u8], at: usize, width: usize) -> u64 {
     (0..width)
         .rev()
-        .fold(0, |value, place| value * 256 + u32::from(bytes[at + place]))
+        .fold(0, |value, place| value * 256 + u64::from(bytes[at + place]))
+}
+
+fn number(bytes: &[u8], at: usize, width: usize) -> u32 {
+    wide_number(bytes, at, width) as u32
 }
 
 /// The entries of one slot and where they end, or 18.
-fn lines_of(area: &[u8], slot_bytes: u32, slot: u32) -> Result<(Vec<Line>, u32), u32> {
+fn lines_of(
+    numbers: Numbers,
+    area: &[u8],
+    slot_bytes: u32,
+    slot: u32,
+) -> Result<(Vec<Line>, u32), u32> {
     let start = (slot * slot_bytes) as usize;
     let segment = &area[start..start + slot_bytes as usize];
     let mut lines = Vec::new();
-    let mut at = 13;
+    let mut at = numbers.digest_bytes;
     while at < segment.len() && segment[at] != 0 {
-        let length = match segment[at] {
-            1 => 19,
-            2 => 35,
-            3 => 67,
-            7 => 131,
-            4 => 11,
-            _ => return Err(18),
-        };
+        let length = numbers.total(segment[at]).ok_or(18u32)?;
         if at + length > segment.len() {
             return Err(18);
         }
-        let version = u64::from(number(segment, at + 7, 4));
-        if version == 0 || version == LAST_NEXT {
+        let version = wide_number(segment, at + 7, numbers.version_bytes);
+        if version == 0 || version == numbers.last_next {
             return Err(18);
         }
         lines.push(Line {
@@ -83,11 +152,12 @@ fn lines_of(area: &[u8], slot_bytes: u32, slot: u32) -> Result<(Vec<Line>, u32),
     Ok((lines, at as u32))
 }
 
-/// The head's slot, or 16, 17, 24 or 25.
-fn head_of(slots: u32, slot_bytes: u32, area: &[u8]) -> Result<u32, u32> {
+/// The head's slot and the numbers of its edition, or 16, 17, 24, 25 or 28.
+fn head_of(slots: u32, slot_bytes: u32, area: &[u8]) -> Result<(u32, Numbers), u32> {
     let byte_0 = |slot: u32| area[(slot * slot_bytes) as usize];
+    let has_digest = |slot: u32| [5, 8].contains(&byte_0(slot));
     let mut numbers: Vec<(u32, u32)> = (0..slots)
-        .filter(|&slot| byte_0(slot) == 5)
+        .filter(|&slot| has_digest(slot))
         .map(|slot| (number(area, (slot * slot_bytes) as usize + 1, 4), slot))
         .collect();
     numbers.sort_unstable();
@@ -96,7 +166,8 @@ fn head_of(slots: u32, slot_bytes: u32, area: &[u8]) -> Result<u32, u32> {
         return Err(17);
     }
     let map = number(area, (head * slot_bytes) as usize + 5, 4);
-    let next = number(area, (head * slot_bytes) as usize + 9, 4);
+    let own = Numbers::of_digest(byte_0(head)).expect("a digest");
+    let next = wide_number(area, (head * slot_bytes) as usize + 9, own.version_bytes);
     let in_map = |slot: u32| map >> slot & 1 == 1;
     if next == 0 {
         return Err(17);
@@ -106,10 +177,13 @@ fn head_of(slots: u32, slot_bytes: u32, area: &[u8]) -> Result<u32, u32> {
     if beyond || full || !in_map(head) {
         return Err(24);
     }
-    if (0..slots).any(|slot| in_map(slot) && byte_0(slot) != 5) {
+    if (0..slots).any(|slot| in_map(slot) && !has_digest(slot)) {
         return Err(25);
     }
-    Ok(head)
+    if (0..slots).any(|slot| in_map(slot) && byte_0(slot) != own.digest) {
+        return Err(28);
+    }
+    Ok((head, own))
 }
 
 /// What a scan for a key must tell of an image: version, kind, place and length of its value.
@@ -121,11 +195,11 @@ pub fn scan(
     key: Key,
 ) -> Result<(u64, u8, usize, usize), u32> {
     check_geometry(slots, slot_bytes, area)?;
-    let head = head_of(slots, slot_bytes, area)?;
+    let (head, numbers) = head_of(slots, slot_bytes, area)?;
     let map = number(area, (head * slot_bytes) as usize + 5, 4);
     let mut lines = Vec::new();
     for slot in (0..slots).filter(|slot| map >> slot & 1 == 1) {
-        lines.extend(lines_of(area, slot_bytes, slot)?.0);
+        lines.extend(lines_of(numbers, area, slot_bytes, slot)?.0);
     }
     let versions: BTreeSet<u64> = lines.iter().map(|line| line.version).collect();
     if versions.len() != lines.len() {
@@ -137,8 +211,10 @@ pub fn scan(
     lines.retain(|line| line.key == key);
     lines.sort_by_key(|line| line.version);
     let newest = lines.last().filter(|line| line.is_object()).ok_or(8u32)?;
-    let value = newest.bytes.len() - 11;
-    Ok((newest.version, newest.bytes[0], newest.place + 11, value))
+    let before = numbers.tombstone_bytes;
+    let value = newest.bytes.len() - before;
+    let (kind, place) = (newest.bytes[0], newest.place + before);
+    Ok((newest.version, kind, place, value))
 }
 
 /// Refuses N, S or an area of another length with 1.
@@ -181,13 +257,13 @@ pub fn view(
     order: &[u8],
 ) -> Result<View, u32> {
     check_lent(slots, slot_bytes, area, cells, order)?;
-    let head = head_of(slots, slot_bytes, area)?;
+    let (head, numbers) = head_of(slots, slot_bytes, area)?;
     let digest = &area[(head * slot_bytes) as usize..];
     let map = SlotMap(number(digest, 5, 4));
     let mut lines = Vec::new();
     let mut end = 0;
     for slot in (0..slots).filter(|&slot| map.0 >> slot & 1 == 1) {
-        let (found, stop) = lines_of(area, slot_bytes, slot)?;
+        let (found, stop) = lines_of(numbers, area, slot_bytes, slot)?;
         lines.extend(found);
         if slot == head {
             end = stop;
@@ -210,12 +286,17 @@ pub fn view(
         end,
         digest: DigestNumber(number(digest, 1, 4)),
         map,
-        next: Version(after.max(number(digest, 9, 4).into())),
+        edition: Edition(numbers.edition),
+        next: Version(after.max(wide_number(digest, 9, numbers.version_bytes))),
         keys: keys.len() as u32,
         pending: Pending::None,
         present_bytes: [0; 32],
     };
-    let mut view = View { record, lines };
+    let mut view = View {
+        record,
+        numbers,
+        lines,
+    };
     view.record.present_bytes = view.present_bytes();
     Ok(view)
 }
@@ -256,7 +337,7 @@ impl View {
         let mut bytes = vec![kind];
         bytes.extend(key.table.to_le_bytes());
         bytes.extend(key.key.to_le_bytes());
-        bytes.extend((self.record.next.0 as u32).to_le_bytes());
+        bytes.extend(self.numbers.stored_version(self.record.next.0));
         bytes.extend(value);
         bytes
     }
@@ -278,20 +359,14 @@ impl View {
     }
 
     fn plan_write(&self, key: Key, expected: Option<Version>, value: &[u8]) -> Result<Plan, u32> {
-        let kind = match value.len() {
-            8 => 1,
-            24 => 2,
-            56 => 3,
-            120 => 7,
-            _ => return Err(7),
-        };
+        let kind = self.numbers.object(value.len()).ok_or(7u32)?;
         let newest = self.newest();
         let object = newest.get(&key).filter(|line| line.is_object());
         let version = object.map_or(0, |line| line.version);
         if expected.is_some_and(|expected| expected.0 != version) {
             return Err(21);
         }
-        if self.record.next.0 == LAST_NEXT {
+        if self.record.next.0 == self.numbers.last_next {
             return Err(9);
         }
         if !newest.contains_key(&key) && newest.len() as u32 == self.record.cells - 1 {
@@ -304,10 +379,10 @@ impl View {
         if !self.newest().get(&key).is_some_and(|line| line.is_object()) {
             return Err(8);
         }
-        if self.record.next.0 == LAST_NEXT {
+        if self.record.next.0 == self.numbers.last_next {
             return Err(9);
         }
-        match self.plan_entry(self.entry(4, key, &[])) {
+        match self.plan_entry(self.entry(self.numbers.tombstone, key, &[])) {
             Err(12) => self.plan_forget(key),
             plan => plan,
         }
@@ -321,7 +396,7 @@ impl View {
         let line = after.lines.iter_mut().find(|line| line.place == live);
         let line = line.expect("the live object is in the log");
         line.version = self.record.next.0;
-        line.bytes = self.entry(4, key, &[]);
+        line.bytes = self.entry(self.numbers.tombstone, key, &[]);
         let victim = line.slot;
         after.record.next.0 += 1;
         after.plan_clean(1 << victim)
@@ -355,7 +430,7 @@ impl View {
             return Err(13);
         }
         let kept = self.kept(victims);
-        if 13 + kept.len() > self.record.slot_bytes as usize {
+        if self.numbers.digest_bytes + kept.len() > self.record.slot_bytes as usize {
             return Err(14);
         }
         self.plan_new_head(victims, kept)
@@ -386,7 +461,7 @@ impl View {
             .iter()
             .flat_map(|&i| slots.iter().map(move |&j| (i, j)))
             .filter(|(i, j)| i < j);
-        let room = self.record.slot_bytes as usize - 13;
+        let room = self.record.slot_bytes as usize - self.numbers.digest_bytes;
         let mut fitting = pairs.filter(|(i, j)| self.kept(1 << i | 1 << j).len() <= room);
         fitting.next().ok_or(23)
     }
@@ -401,10 +476,10 @@ impl View {
             .find(|&&slot| slot > self.record.head)
             .unwrap_or(&free[0]);
         let map = self.record.map.0 & !victims | 1 << slot;
-        let mut work = vec![5];
+        let mut work = vec![self.numbers.digest];
         work.extend((self.record.digest.0 + 1).to_le_bytes());
         work.extend(map.to_le_bytes());
-        work.extend((self.record.next.0 as u32).to_le_bytes());
+        work.extend(self.numbers.stored_version(self.record.next.0));
         work.extend(entries);
         let start = (slot * self.record.slot_bytes) as usize;
         let mut stores = vec![(start, 0)];
@@ -412,7 +487,7 @@ impl View {
         if work.len() < self.record.slot_bytes as usize {
             stores.push((start + work.len(), 0));
         }
-        stores.push((start, 5));
+        stores.push((start, work[0]));
         Ok(Plan { work, stores })
     }
 }

@@ -5,8 +5,8 @@ use reference::rng::Rng;
 use reference::testing::images::Shape;
 use reference::testing::{calls, forged};
 use reference::{
-    clean, delete, join, next_store, read, read_value, recover, step, write, write_expecting, Key,
-    Record, Refusal, SlotMap, Tables, Version,
+    clean, delete, join, next_store, read, read_value, recover, step, write, write_expecting,
+    Edition, Key, Record, Refusal, SlotMap, Tables, Version,
 };
 
 /// Every call once on what was forged.
@@ -20,7 +20,7 @@ fn call_all(rng: &mut Rng, record: Record, area: &mut [u8], index: &mut [u32], w
     let _ = read(&record, area, index, tables, key);
     assert!(read_value(&record, area, index, tables, key).len() <= 120);
     let _ = write(record, area, index, work, tables, key, &value);
-    let expected = Version(*rng.pick(&[0, 1, record.next.0, Version::SPENT.0]));
+    let expected = Version(*rng.pick(&[0, 1, record.next.0, u64::MAX]));
     let _ = write_expecting(record, area, index, work, tables, key, expected, &value);
     let _ = delete(record, area, index, work, tables, key);
     let victims = match rng.below(3) {
@@ -61,7 +61,8 @@ fn no_call_panics_or_alters_more_than_a_byte() {
     let mut rng = Rng::new(5);
     let mut rounds = 0;
     while rounds < 30_000 {
-        let mut shape = Shape::random(&mut rng);
+        let edition = *rng.pick(&Edition::ALL);
+        let mut shape = Shape::random(&mut rng, edition);
         shape.slot_bytes = shape.slot_bytes.min(600);
         let mut image = shape.make(&mut rng);
         let order = rng.order(image.slots);
@@ -72,7 +73,10 @@ fn no_call_panics_or_alters_more_than_a_byte() {
         };
         for _ in 0..10 {
             rounds += 1;
-            let record = forged::record(&mut rng, genuine);
+            let mut record = forged::record(&mut rng, genuine);
+            if rng.one_in(4) {
+                record.edition = *rng.pick(&Edition::ALL);
+            }
             forged::spoil_index(&mut rng, &mut index, slots * slot_bytes);
             if rng.one_in(3) {
                 image.damage(&mut rng);
@@ -88,7 +92,7 @@ fn no_call_panics_or_alters_more_than_a_byte() {
 #[test]
 fn lengths_not_the_records_own_are_refused() {
     let mut rng = Rng::new(6);
-    let image = Shape::random(&mut rng).make(&mut rng);
+    let image = Shape::random(&mut rng, Edition::FIRST).make(&mut rng);
     let order = rng.order(image.slots);
     let mut index = vec![0; 4096];
     let (slots, slot_bytes) = (image.slots, image.slot_bytes);

@@ -7,8 +7,8 @@ use reference::rules::AsWritten;
 use reference::testing::calls::Given;
 use reference::testing::{calls, forged, full};
 use reference::{
-    clean, delete, fewest, format, join, read, step, write, write_expecting, Pending, Refusal,
-    SlotMap, Version,
+    clean, delete, fewest, format, join, read, step, write, write_expecting, Edition, Pending,
+    Refusal, SlotMap, Version,
 };
 
 use crate::rig::{same, Fault, Rig};
@@ -16,7 +16,7 @@ use crate::rig::{same, Fault, Rig};
 /// Which refusals and how many operations a run met.
 #[derive(Default)]
 struct Tally {
-    refused: [u32; 28],
+    refused: [u32; 29],
     operations: u32,
     /// Deletes done as a cleaning.
     forgotten: u32,
@@ -43,7 +43,9 @@ struct Player {
 }
 
 impl Player {
+    /// A store of either edition in turn.
     fn new(seed: u64) -> Player {
+        let edition = Edition::ALL[(seed % 2) as usize];
         let mut rng = Rng::new(seed);
         let slots = match rng.below(3) {
             0 => 4,
@@ -62,9 +64,9 @@ impl Player {
         };
         let mut area = vec![0; (slots * slot_bytes) as usize];
         rng.fill(&mut area);
-        format(slots, slot_bytes, &mut area).unwrap();
+        format(slots, slot_bytes, edition, &mut area).unwrap();
         let mut rig = Rig::unrecovered(slots, slot_bytes, cells as usize, area);
-        age(&mut rng, &mut rig);
+        age(&mut rng, &mut rig, edition);
         rig.keys = (0..rng.within(2, 24))
             .map(|_| calls::any_key(&mut rng))
             .collect();
@@ -262,11 +264,20 @@ impl Player {
 }
 
 /// In some stores, counters close to their limits, as after a long history.
-fn age(rng: &mut Rng, rig: &mut Rig<AsWritten>) {
+fn age(rng: &mut Rng, rig: &mut Rig<AsWritten>, edition: Edition) {
     if rng.one_in(6) {
-        let next = u32::MAX - rng.below(12);
-        rig.area[9..13].copy_from_slice(&next.to_le_bytes());
-        rig.book.next = Version(next.into());
+        let next = u64::from(u32::MAX - rng.below(12));
+        let next = match edition {
+            Edition::SECOND if rng.one_in(2) => next | u64::MAX << 32,
+            _ => next,
+        };
+        let field = match edition {
+            Edition::SECOND => 9..17,
+            _ => 9..13,
+        };
+        let length = field.len();
+        rig.area[field].copy_from_slice(&next.to_le_bytes()[..length]);
+        rig.book.next = Version(next);
     }
     if rng.one_in(6) {
         let number = u32::MAX - rng.below(4);

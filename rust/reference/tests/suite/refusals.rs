@@ -5,13 +5,17 @@ use reference::book::Operation;
 use reference::recovery::recover_by;
 use reference::rules::{AsWritten, Rules};
 use reference::{
-    clean, delete, format, read, read_value, recover, step, write, write_expecting, Key, Pending,
-    Record, Refusal, SlotMap, Started, Tables, Version,
+    clean, delete, format, read, read_value, recover, step, write, write_expecting, Edition, Key,
+    Pending, Record, Refusal, SlotMap, Started, Tables, Version,
 };
 
 use crate::rig::Rig;
 
 const ORDER: [u8; 4] = [0, 1, 2, 3];
+
+/// The highest version and next version of the first edition.
+const LAST: Version = Version(4_294_967_294);
+const SPENT: Version = Version(4_294_967_295);
 
 fn key(key: u32) -> Key {
     Key { table: 7, key }
@@ -108,7 +112,7 @@ fn accepted_expectation(rig: &Rig<AsWritten>, number: u32) -> u64 {
     let wide = |low: u64| low | 1 << 32;
     let accepted: Vec<u64> = (0..20)
         .chain(next.saturating_sub(3)..=next)
-        .chain([Version::LAST.0, Version::SPENT.0, u64::MAX])
+        .chain([LAST.0, SPENT.0, u64::MAX])
         .chain((0..20).chain([next]).map(wide))
         .filter(
             |&expected| match refused_expecting(rig, number, expected, 8) {
@@ -194,7 +198,7 @@ fn numbers_and_causes_agree() {
         assert_eq!(Refusal::from_number(place as u32 + 1), Some(refusal));
     }
     assert_eq!(Refusal::from_number(0), None);
-    assert_eq!(Refusal::from_number(28), None);
+    assert_eq!(Refusal::from_number(29), None);
 }
 
 #[test]
@@ -210,15 +214,24 @@ fn cause_1_geometry() {
     ];
     for (slots, slot_bytes, bytes) in wrong {
         let mut area = vec![0xEE; bytes];
-        let answer = format(slots, slot_bytes, &mut area);
-        assert_eq!(answer, Err(Refusal::Geometry));
+        for edition in Edition::ALL {
+            let answer = format(slots, slot_bytes, edition, &mut area);
+            assert_eq!(answer, Err(Refusal::Geometry));
+        }
         assert!(area.iter().all(|&byte| byte == 0xEE));
         // Before 2 and 15.
         assert_eq!(refused_recovery(slots, slot_bytes, &area, 3, &[]), 1);
     }
     for (slots, slot_bytes) in [(4, 256), (32, 2048), (32, 256), (4, 2048)] {
         let mut area = vec![0xEE; (slots * slot_bytes) as usize];
-        assert_eq!(format(slots, slot_bytes, &mut area), Ok(()));
+        for edition in [0, 3, 5, 8, 256, 257, u32::MAX] {
+            let answer = format(slots, slot_bytes, Edition(edition), &mut area);
+            assert_eq!(answer, Err(Refusal::Geometry));
+            assert!(area.iter().all(|&byte| byte == 0xEE));
+        }
+        for edition in Edition::ALL {
+            assert_eq!(format(slots, slot_bytes, edition, &mut area), Ok(()));
+        }
     }
 }
 
@@ -306,7 +319,7 @@ fn cause_8_absent() {
 fn cause_9_versions_spent() {
     let mut rig = store(16, 1, u32::MAX - 1);
     run(&mut rig, &[write_of(1, 8)]);
-    assert_eq!(rig.book.version(key(1)), Version::LAST);
+    assert_eq!(rig.book.version(key(1)), LAST);
     assert_eq!(refused(&rig, &write_of(1, 8)), 9);
     assert_eq!(refused(&rig, &Operation::Delete(key(1))), 9);
     assert_eq!(refused(&rig, &Operation::Delete(key(2))), 8);
@@ -377,14 +390,14 @@ fn full_store_refuses_a_delete_with_the_other_causes() {
     }
     run(&mut rig, &[write_of(1, 24)]);
     let delete = Operation::Delete(key(1));
-    assert_eq!(rig.record().next, Version::LAST);
+    assert_eq!(rig.record().next, LAST);
     assert_eq!(refused_with(&rig, &delete, 255), 3);
     assert_eq!(refused_in(&rig, tables(8, 9), &delete, 256), 22);
     assert_eq!(refused(&rig, &Operation::Delete(key(2))), 8);
     assert_eq!(refused(&rig, &delete), 0);
     let mut last = rig.clone();
     run(&mut last, std::slice::from_ref(&delete));
-    assert_eq!(last.record().next, Version::SPENT);
+    assert_eq!(last.record().next, SPENT);
     assert_eq!(last.record().digest.0, u32::MAX);
     last.cut();
     last.must_recover(&ORDER).unwrap();
@@ -392,7 +405,7 @@ fn full_store_refuses_a_delete_with_the_other_causes() {
 
     // The head's next version at its limit.
     let mut record = rig.record();
-    record.next = Version::SPENT;
+    record.next = SPENT;
     rig.record = Some(record);
     assert_eq!(refused(&rig, &delete), 9);
     rig.start(&Operation::Clean(SlotMap(1))).unwrap().unwrap();
@@ -607,11 +620,7 @@ fn cause_21_in_order() {
 
     let mut spent = store(16, 1, u32::MAX - 1);
     run(&mut spent, &[write_of(1, 8)]);
-    for (Version(expected), cause) in [
-        (Version::LAST, 9),
-        (Version::SPENT, 21),
-        (Version::NONE, 21),
-    ] {
+    for (Version(expected), cause) in [(LAST, 9), (SPENT, 21), (Version::NONE, 21)] {
         assert_eq!(refused_expecting(&spent, 1, expected, 8), cause);
     }
     assert_eq!(refused_expecting(&spent, 2, 0, 8), 9);

@@ -14,11 +14,11 @@ use reference::step::step_by;
 use reference::testing::calls::Given;
 use reference::testing::full;
 use reference::{
-    fewest, format, join, next_store, read, read_value, scan_read, scan_read_value, Key, Pending,
-    Progress, Record, Refusal, Started, Tables,
+    fewest, format, join, next_store, read, read_value, scan_read, scan_read_value, Edition, Key,
+    Pending, Progress, Record, Refusal, Started, Tables,
 };
 
-use crate::naive::{view, Plan, View};
+use crate::naive::{view, Plan, View, EDITIONS};
 
 /// A check that failed.
 pub type Fault = String;
@@ -70,9 +70,20 @@ impl<R> Clone for Rig<R> {
 }
 
 impl<R: Rules> Rig<R> {
-    /// A store formatted over the given bytes and recovered.
-    pub fn new(slots: u32, slot_bytes: u32, cells: usize, mut area: Vec<u8>) -> Rig<R> {
-        format(slots, slot_bytes, &mut area).expect("the geometry is right");
+    /// A store of the first edition, formatted over the given bytes and recovered.
+    pub fn new(slots: u32, slot_bytes: u32, cells: usize, area: Vec<u8>) -> Rig<R> {
+        Rig::of(Edition::FIRST, slots, slot_bytes, cells, area)
+    }
+
+    /// The same of any edition.
+    pub fn of(
+        edition: Edition,
+        slots: u32,
+        slot_bytes: u32,
+        cells: usize,
+        mut area: Vec<u8>,
+    ) -> Rig<R> {
+        format(slots, slot_bytes, edition, &mut area).expect("the geometry is right");
         let mut rig = Rig::unrecovered(slots, slot_bytes, cells, area);
         rig.must_recover(&rig.ascending()).expect("a fresh store");
         rig
@@ -465,12 +476,8 @@ impl<R: Rules> Rig<R> {
                 same!("value of an absent key", value.len(), 0);
             }
             Some((version, written)) => {
-                let kind = match written.len() {
-                    8 => 1,
-                    24 => 2,
-                    56 => 3,
-                    _ => 7,
-                };
+                let numbers = EDITIONS[record.edition.0 as usize - 1];
+                let kind = numbers.object(written.len()).expect("a value");
                 let found = found.map(|found| (found.version, found.kind));
                 same!(format!("read of {key:?}"), found, Ok((*version, kind)));
                 same!("value", value, &written[..]);

@@ -4,7 +4,7 @@ use reference::rng::Rng;
 use reference::testing::calls;
 use reference::testing::images::{Image, Shape};
 use reference::{
-    read, read_value, recover, scan_read, scan_read_value, Key, Refusal, Tables, Version,
+    read, read_value, recover, scan_read, scan_read_value, Edition, Key, Refusal, Tables, Version,
 };
 
 use crate::naive::scan;
@@ -168,9 +168,10 @@ fn more_keys_than_cells() {
 #[test]
 fn images() {
     let mut rng = Rng::new(91);
-    let mut met = [0; 26];
+    let mut met = [0; 29];
     for _ in 0..6000 {
-        let mut shape = Shape::random(&mut rng);
+        let edition = *rng.pick(&Edition::ALL);
+        let mut shape = Shape::random(&mut rng, edition);
         shape.slot_bytes = shape.slot_bytes.min(800);
         let mut image = shape.make(&mut rng);
         for _ in 0..rng.below(3) {
@@ -178,12 +179,12 @@ fn images() {
         }
         check_image(&mut rng, &image, &mut met);
     }
-    for cause in [0, 8, 16, 17, 18, 19, 22, 24, 25] {
+    for cause in [0, 8, 16, 17, 18, 19, 22, 24, 25, 28] {
         assert!(met[cause] > 10, "{cause}: {met:?}");
     }
 }
 
-fn check_image(rng: &mut Rng, image: &Image, met: &mut [u32; 26]) {
+fn check_image(rng: &mut Rng, image: &Image, met: &mut [u32; 29]) {
     let (slots, slot_bytes, area) = (image.slots, image.slot_bytes, &image.area);
     let mut index = vec![0; 4096];
     let record = recover(slots, slot_bytes, area, &mut index, &rng.order(slots));

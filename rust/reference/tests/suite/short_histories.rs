@@ -3,6 +3,7 @@
 use reference::book::Operation;
 use reference::rules::{AsWritten, Rules};
 use reference::testing::choices::{two_keys, Choice, A, B, ORDERS};
+use reference::Edition;
 
 use crate::rig::{Fault, Rig};
 
@@ -77,9 +78,9 @@ impl Explorer {
     }
 }
 
-fn explore_all(slot_bytes: u32, fill: u8, bytes: [usize; 2]) {
+fn explore_all(edition: Edition, slot_bytes: u32, fill: u8, bytes: [usize; 2]) {
     let area = vec![fill; 4 * slot_bytes as usize];
-    let mut rig = Rig::<AsWritten>::new(4, slot_bytes, 16, area);
+    let mut rig = Rig::<AsWritten>::of(edition, 4, slot_bytes, 16, area);
     rig.keys = vec![A, B];
     let mut explorer = Explorer {
         choices: two_keys(bytes),
@@ -93,25 +94,33 @@ fn explore_all(slot_bytes: u32, fill: u8, bytes: [usize; 2]) {
 
 #[test]
 fn small_values_over_zeros() {
-    explore_all(256, 0, [8, 8]);
+    explore_all(Edition::FIRST, 256, 0, [8, 8]);
 }
 
 #[test]
 fn mixed_values_over_object_kinds() {
-    explore_all(256, 1, [24, 8]);
+    explore_all(Edition::FIRST, 256, 1, [24, 8]);
 }
 
 #[test]
 fn large_values_over_tombstone_kinds() {
-    explore_all(256, 4, [56, 56]);
+    explore_all(Edition::FIRST, 256, 4, [56, 56]);
 }
 
 #[test]
 fn large_and_small_values_over_digest_kinds() {
-    explore_all(257, 5, [56, 8]);
+    explore_all(Edition::FIRST, 257, 5, [56, 8]);
 }
 
 #[test]
 fn longest_values_over_their_own_kind() {
-    explore_all(256, 7, [120, 8]);
+    explore_all(Edition::FIRST, 256, 7, [120, 8]);
+}
+
+/// The second edition over its own kinds, and over the first's.
+#[test]
+fn second_edition() {
+    for (fill, bytes) in [(9, [8, 8]), (13, [24, 56]), (8, [56, 8]), (5, [120, 8])] {
+        explore_all(Edition::SECOND, 256, fill, bytes);
+    }
 }

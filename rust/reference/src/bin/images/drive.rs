@@ -1,7 +1,7 @@
 //! A store that is run by the calls, for images as operations and cuts leave them.
 
 use reference::book::Operation;
-use reference::{clean, delete, format, recover, step, write, Record, Refusal, Tables};
+use reference::{clean, delete, format, recover, step, write, Edition, Record, Refusal, Tables};
 
 use crate::image::Image;
 
@@ -17,7 +17,8 @@ impl Drive {
     /// A drive that was formatted over junk.
     pub fn fresh(slots: u8, slot_bytes: u16) -> Drive {
         let mut image = Image::junk(slots, slot_bytes);
-        format(slots.into(), slot_bytes.into(), &mut image.area).expect("a format");
+        let (n, s) = (slots.into(), slot_bytes.into());
+        format(n, s, Edition::FIRST, &mut image.area).expect("a format");
         Drive::on(image)
     }
 

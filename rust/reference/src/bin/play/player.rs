@@ -3,10 +3,11 @@
 use std::fmt::Write;
 
 use reference::book::{self, Book, Operation};
-use reference::segment::{object_kind, Digest, DIGEST_BYTES};
+use reference::edition::FIRST;
+use reference::segment::Digest;
 use reference::{
-    clean, delete, format, join, read, read_value, recover, step, write, DigestNumber, Pending,
-    Record, SlotMap, Started, Tables, Version,
+    clean, delete, format, join, read, read_value, recover, step, write, DigestNumber, Edition,
+    Pending, Record, SlotMap, Started, Tables, Version,
 };
 
 use crate::history::{Event, KEYS};
@@ -50,7 +51,7 @@ fn agrees(record: &Record, area: &[u8], index: &[u32], book: &Book) -> bool {
         match (found, book.keys.get(&key)) {
             (Ok(found), Some((version, bytes))) => {
                 found.version == *version
-                    && Some(found.kind) == object_kind(bytes.len())
+                    && Some(found.kind) == FIRST.object_kind(bytes.len())
                     && value == bytes.as_slice()
             }
             (Err(refusal), None) => refusal.number() == 8 && value.is_empty(),
@@ -116,7 +117,7 @@ impl Player {
 
     fn format(&mut self) {
         self.area.fill(0xaa);
-        format(SLOTS, SLOT_BYTES, &mut self.area).expect("the sizes are right");
+        format(SLOTS, SLOT_BYTES, Edition::FIRST, &mut self.area).expect("the sizes are right");
         self.line(&format!("format:{}", hex(&self.area[..14])));
         self.book = Book::new();
         self.power_on();
@@ -137,13 +138,14 @@ impl Player {
     /// Lays a digest and what follows it into a slot.
     fn lay(&mut self, slot: usize, number: u32, map: SlotMap, next: u64, entries: &[u8]) {
         let digest = Digest {
+            layout: &FIRST,
             number: DigestNumber(number),
             map,
             next: Version(next),
         };
         let segment = &mut self.area[slot * SLOT_BYTES as usize..];
-        segment[..DIGEST_BYTES].copy_from_slice(&digest.stored());
-        segment[DIGEST_BYTES..DIGEST_BYTES + entries.len()].copy_from_slice(entries);
+        let start = digest.lay(segment);
+        segment[start..start + entries.len()].copy_from_slice(entries);
     }
 
     /// A cut, and a recovery with an index of old cells.
