@@ -2,7 +2,6 @@
 // The reads, the start of a write and the step go by the record's words as they are; the others decode the record from them, make the
 // call, and encode what it hands back. Nothing is required of the caller's values: words that are no record are refused with 4. The
 // answer is 0 or the refusal's number.
-use fullness::fewest_slot;
 use index::search::search;
 use position::from_float;
 use position::hand_over;
@@ -31,8 +30,6 @@ use store::delete;
 use store::format;
 use store::join;
 use store::recover;
-use words::CELLS;
-use words::COUNTS;
 use words::SIZE;
 use words::WORDS;
 use words::decode;
@@ -51,9 +48,10 @@ ghost use Rattle.model.specs.Refused.{freely, reaching};
 ghost use Rattle.position.specs.Convert.{fromFloat, toFloat, ConversionCrossed};
 ghost use Rattle.record.specs.declared.Expected.{Expected};
 ghost use Rattle.words.specs.Words.{recordWords};
-ghost use Rattle.kurdavel.specs.Crossing.{FormatCrossed, RecoverCrossed, ReadCrossed, ValueCrossed, StartCrossed, FewestCrossed, keptWords, Handed};
+ghost use Rattle.kurdavel.specs.Crossing.{FormatCrossed, RecoverCrossed, ReadCrossed, ValueCrossed, StartCrossed, keptWords, Handed};
 ghost use Rattle.kurdavel.specs.Joining.{JoinCrossed};
 
+pub mod fewest;
 pub mod scan;
 pub mod step;
 
@@ -375,24 +373,6 @@ pub extern "C" fn kurdavel_clean(
     let rec = decoded.rec;
     let start = clean(rec, area, index, work, victims);
     hand_back(words, decoded.ok, start, stores)
-}
-
-// The slot of the log with the fewest present bytes, by the record alone; 0 where it is refused. No lengths are lent, so that those
-// stand in for them which the record itself says.
-#[no_mangle]
-pub extern "C" fn kurdavel_fewest(words: &[u32], slot: &mut u32) -> u32
-    ensures { λ r. ⌜ FewestCrossed (now (words .entry)) (now (slot .exit)) r ⌝ }
-{
-    *slot = 0;
-    if words.len() < WORDS {
-        return 4;
-    }
-    let area = words[0] as usize * words[SIZE] as usize;
-    if !fits(words, area, words[CELLS] as usize) {
-        return 4;
-    }
-    *slot = fewest_slot(words[0], words[3], words[6], &words[COUNTS..WORDS]);
-    0
 }
 
 // Which two slots to join; both are 0 where it is refused.

@@ -1,10 +1,10 @@
--- `kurdavel::kurdavel_fewest` meets its contract.
+-- `kurdavel::fewest::kurdavel_fewest` meets its contract.
 use native.Mathlib.Omega.{arith}
 use Rattle.word.specs.Laws.{product-lt}
 use Rattle.kurdavel.specs.CrossingLaws.{fewest-few, fewest-bad, fewest-counts, fewest-lent, fewest-told}
 use borrow.Author.Needs.{needs}
-use Rattle.kurdavel.proofs.kurdavel_fewest.Statement.{statement}
-use Rattle.kurdavel.proofs.kurdavel_fewest.Tie as tie
+use Rattle.kurdavel.proofs.fewest.kurdavel_fewest.Statement.{statement}
+use Rattle.kurdavel.proofs.fewest.kurdavel_fewest.Tie as tie
 
 returns : tie.Need-returns
 returns c = fewest-few (c .before .before .args .words .now) (c .if1 .taken)
