@@ -24,11 +24,7 @@ pub enum NextPlace {
 
 // The same as an answer.
 pub enum PlaceAnswer {
-    At {
-        place: u32,
-        from: u32,
-        copied: bool,
-    },
+    At { place: u32, from: u32, copied: bool },
     Refused(Refusal),
 }
 
