@@ -2,10 +2,11 @@
 // record out of them and puts it back.
 use crate::keep;
 use record::StepAnswer;
-use record::TellAnswer;
 use record::number;
 use stepping::finish::advance;
-use telling::tell::store_of;
+use telling::PlaceAnswer;
+use telling::tell::byte_from;
+use telling::tell::place_of;
 use words::CELLS;
 use words::LEFT;
 use words::WORDS;
@@ -17,19 +18,19 @@ ghost use mathlib.Core.Path.{_≡_};
 ghost use lib.ListN.{length};
 ghost use Rattle.segment.specs.Layout.{edition1};
 ghost use Rattle.record.specs.Answers.{bare};
-ghost use Rattle.telling.specs.Told.{toldBy};
+ghost use Rattle.telling.specs.Places.{PlaceTold};
 ghost use Rattle.words.specs.Words.{recordWords, recordIn, decoded};
 ghost use Rattle.kurdavel.specs.Crossing.{StepCrossed, TellCrossed};
 ghost use Rattle.kurdavel.specs.StepOn.{frontFits, AdvanceReady, Finished};
 
-// Place and byte of the next store of a record that fits, or the cause that refuses it. The two calls below share it, and nothing else
-// calls what it calls, so that the compiler puts all of it in line.
-fn found_in(words: &[u32], area: &[u8], work: &[u8]) -> TellAnswer
+// The place of the next store of a record that fits and whence its byte comes, or the cause that refuses it. The two calls below share it,
+// and nothing else calls what it calls, so that the compiler puts all of it in line. Of the work buffer it gets the length alone.
+fn found_in(words: &[u32], area: &[u8], work: usize) -> PlaceAnswer
     requires { ⌜ recordWords ≤ length (now words) ⌝ }
     requires { ⌜ frontFits (now words) (now area) ⌝ }
-    ensures { λ r. ⌜ r ≡ toldBy edition1 (bare (recordIn (now (words .entry)))) (now (area .entry)) (now (work .entry)) .answer ⌝ }
+    ensures { λ r. ⌜ PlaceTold edition1 (bare (recordIn (now (words .entry)))) (now (area .entry)) work r ⌝ }
 {
-    store_of(front_in(words), area, work)
+    place_of(front_in(words), area, work)
 }
 
 // The last step behind its store: the record is brought up to date, and goes back into its words.
@@ -88,10 +89,14 @@ pub extern "C" fn kurdavel_step(
     if !fits(words, area.len(), index.len()) {
         return 4;
     }
-    match found_in(words, area, work) {
-        TellAnswer::Refused(cause) => number(cause),
-        TellAnswer::At { place, byte } => {
-            area[place as usize] = byte;
+    match found_in(words, area, work.len()) {
+        PlaceAnswer::Refused(cause) => number(cause),
+        PlaceAnswer::At {
+            place,
+            from,
+            copied,
+        } => {
+            area[place as usize] = byte_from(work, from, copied);
             let rest = words[LEFT] - 1;
             if rest == 0 {
                 return finish(words, area, index, left, version);
@@ -126,14 +131,15 @@ pub extern "C" fn kurdavel_next_store(
     if !fits(words, area.len(), words[CELLS] as usize) {
         return 4;
     }
-    match found_in(words, area, work) {
-        TellAnswer::Refused(cause) => number(cause),
-        TellAnswer::At {
+    match found_in(words, area, work.len()) {
+        PlaceAnswer::Refused(cause) => number(cause),
+        PlaceAnswer::At {
             place: found,
-            byte: stored,
+            from,
+            copied,
         } => {
             *at = found;
-            *byte = stored as u32;
+            *byte = byte_from(work, from, copied) as u32;
             0
         }
     }

@@ -7,4 +7,6 @@ pub mod AgreeLaws
 pub mod TestLaws
 pub mod Told
 pub mod ToldLaws
+pub mod Places
+pub mod PlaceLaws
 pub mod BareLaws
