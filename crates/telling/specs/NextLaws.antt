@@ -90,7 +90,7 @@ module _ (areaLength workLength S slot offset n : ℕ) where
       (both-true _ _ (le-leb n workLength (f .read))
       (both-true _ _ (le-leb (offset + n) S (f .room)) (le-leb (slot * S + S) areaLength (f .inside))))
 
--- ---- the next store at each test; t and m are what the code finds for the test of the slot and the number of stores
+-- ---- the next store where the test of the slot is passed, and where it is not; t is what is found for it
 
 module _ (areaLength : ℕ) (work : List ℕ) (S slot offset n first k : ℕ) where
   pub next-at :
@@ -103,39 +103,6 @@ module _ (areaLength : ℕ) (work : List ℕ) (S slot offset n first k : ℕ) wh
     pub next-unfit : not t ≡ true → Bad ≡ slotNext areaLength work S slot offset n first k
     unfolding slotNext
     next-unfit e = sym (pick-false _ _ _ (both-false-left _ _ (sym found ∙ not-true t e)))
-
-    module _ (fits : not t ≡ false) where
-      pub fits-found : fitsSlot areaLength (length work) S slot offset n ≡ true
-      fits-found = sym found ∙ not-false t fits
-
-      pub next-none-left : k ≡ 0 → Bad ≡ slotNext areaLength work S slot offset n first k
-      unfolding slotNext fitsLeft
-      next-none-left e = sym (pick-false _ _ _ (both-false-right _ _ (both-false-left _ _ (le-ltb 0 k (omega arith)))))
-
-      module _ {m : ℕ} (total : m ≡ commitStores S offset n) where
-        pub next-too-many : m + first < k → Bad ≡ slotNext areaLength work S slot offset n first k
-        unfolding slotNext fitsLeft
-        next-too-many h =
-            sym (pick-false _ _ _ (both-false-right _ _ (both-false-right _ _ (lt-leb k (commitStores S offset n + first) (omega arith)))))
-
-        module _ (some : k ≡ 0 → ⊥) (most : k ≤ m + first) where
-          pub next-first : m + first - k < first → At (slot * S) 0 ≡ slotNext areaLength work S slot offset n first k
-          unfolding slotStore
-          next-first h =
-              sym
-              (next-at fits-found (omega arith) (omega arith)
-              ∙ pick-true _ _ _ (lt-ltb (commitStores S offset n + first - k) first (omega arith)))
-
-          pub next-commit :
-              first ≤ m + first - k → {x : NextStore} → x ≡ commitStore (slot * S) S offset n work (m + first - k - first) →
-              x ≡ slotNext areaLength work S slot offset n first k
-          unfolding slotStore
-          next-commit h e =
-              let same : m + first - k - first ≡ commitStores S offset n + first - k - first = omega arith in
-              e ∙ ap (commitStore (slot * S) S offset n work) same
-              ∙ sym
-              (next-at fits-found (omega arith) (omega arith)
-              ∙ pick-false _ _ _ (le-ltb (commitStores S offset n + first - k) first (omega arith)))
 
 -- ---- the next store of each pending operation
 
