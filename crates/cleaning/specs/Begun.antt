@@ -153,7 +153,7 @@ module _ (L : Layout) (area cells : List ℕ) (r : Record) (victims : ℕ) (work
   code-bytes = keptBytes L area cells (marksOf L area cells (splitOf r victims)) (splitOf r victims)
 
   abbrev its-bytes : List ℕ
-  its-bytes = allEncoded L (kept victims (logNow L area r))
+  its-bytes = allEncoded L (kept victims (logNow area r))
 
   -- the bytes are the model's where the record is in range and the victims are good, and else they do not matter
   same-bytes : Bytes area → Genuine L area r cells → cleanedWith L r victims lengths work code-bytes ≡ cleanedWith L r victims lengths work its-bytes
@@ -189,5 +189,5 @@ module _ (L : Layout) (area cells : List ℕ) (r : Record) (victims : ℕ) (work
 
       exact :
           Genuine L area r cells → record { start = a; work = work′ } ≡
-          begun L r (logNow L area r) (clean victims) work (firstCause (startCauses L r (logNow L area r) lengths freely (clean victims)))
-      exact g = e ∙ same-bytes bytes g ∙ cleaned-same L r (logNow L area r) victims work lengths
+          begun L r (logNow area r) (clean victims) work (firstCause (startCauses L r (logNow area r) lengths freely (clean victims)))
+      exact g = e ∙ same-bytes bytes g ∙ cleaned-same L r (logNow area r) victims work lengths

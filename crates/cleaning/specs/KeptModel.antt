@@ -29,7 +29,7 @@ use Rattle.model.specs.Operations.{logNow, isVersion, isHighest, objectOutside,
 use Rattle.model.specs.Promises.{Genuine}
 use Rattle.laws.specs.Members.{clash, In, first, Within}
 use Rattle.laws.specs.Latest.{Apart, own-key, same-key, latest-some, latest-none}
-use Rattle.laws.specs.LogLaws.{AllScanned, partOf, part-picked, part-passed, itemOf, placedAt, mem-placed, in-log, log-in, scan-whole}
+use Rattle.laws.specs.LogLaws.{AllOf, AllScanned, partOf, part-picked, part-passed, itemOf, placedAt, mem-placed, in-log, log-in, scan-whole}
 use Rattle.laws.specs.Scans.{scan-scans, scans-found}
 use Rattle.laws.specs.Stores.{slots-apart, slot-inside, length-segment}
 use Rattle.laws.specs.RecoverLaws.{recovered-case, recovered-apart, recovered-lent}
@@ -92,10 +92,15 @@ module _ (L : Layout) where
 
 module _ (L : Layout) (area cells : List ℕ) (r : Record) (g : Genuine L area r cells) where
   abbrev v : ℕ → View
-  v = viewsOf L area (r .size)
+  v = viewsOf area (r .size)
 
   abbrev log : List Placed
-  log = logNow L area r
+  log = logNow area r
+
+  pub editions : AllOf L v (named (r .map)) (r .slots)
+  editions =
+      recovered-case L (r .slots) (r .size) (r .cells) area (λ (k : Record). AllOf L v (named (k .map)) (r .slots)) (λ h l f. f .editions)
+      (withPending r Idle) (g .recovers)
 
   pub scans : AllScanned v (named (r .map)) (r .slots)
   scans =
@@ -109,7 +114,7 @@ module _ (L : Layout) (area cells : List ℕ) (r : Record) (g : Genuine L area r
   long = recovered-lent L (r .slots) (r .size) (r .cells) area (withPending r Idle) (g .recovers) .long
 
   all-in : AllIn L area (r .size) log
-  all-in = log-in-area L area (r .size) (named (r .map)) (r .slots) scans
+  all-in = log-in-area L area (r .size) (named (r .map)) (r .slots) editions scans
 
   -- ---- an entry of the log, and its place
 
@@ -121,7 +126,9 @@ module _ (L : Layout) (area cells : List ℕ) (r : Record) (g : Genuine L area r
     found =
         let w = log-in v (named (r .map)) (r .slots) x m in
         let s : List ℕ = segmentOf area (r .size) (x .slot) in
-        scans-found (scan-scans L s (scan-whole (scan L s) (scans (x .slot) (w .below) (w .picked)))) (w .item)
+        let whole = scan-whole (v (x .slot) .scan) (scans (x .slot) (w .below) (w .picked)) in
+        let own = ap (λ (K : Layout). scan K s) (editions (x .slot) (w .below) (w .picked)) in
+        scans-found (scan-scans L s (sym own ∙ whole)) (w .item)
 
     pub inside : x .offset + sizeOf L (x .entry) ≤ r .size
     inside =
@@ -233,7 +240,7 @@ module _ (L : Layout) (area cells : List ℕ) (r : Record) (g : Genuine L area r
           (record {
             below = h;
             picked = in-map;
-            item = subst (λ (is : List Item). In y is) (slot-items L area (r .size) (r .map) (r .slots) scans i h in-map) m;
+            item = subst (λ (is : List Item). In y is) (slot-items L area (r .size) (r .map) (r .slots) editions scans i h in-map) m;
           }))
 
   -- ---- a cleaning
@@ -256,14 +263,14 @@ module _ (L : Layout) (area cells : List ℕ) (r : Record) (g : Genuine L area r
     marked-outside k c =
         below-mark L area cells k (c .cell .cell) (omega (arith, c .cell .below)) (splitOf r victims) (replicate 128 0) (length-replicate {A = ℕ} 128 0)
         (clear-marks (c .cell .cell)) (tells k c) (r .slots) (omega arith)
-        ∙ object-same L area (r .size) (r .map) victims (r .slots) scans k
+        ∙ object-same L area (r .size) (r .map) victims (r .slots) editions scans k
 
     -- where it is not made, no victim's entry is a tombstone
     no-dead : anyTombstone L area (splitOf r victims) ≡ false → (x : Placed) → In x log → named victims (x .slot) ≡ true → isTombstone (x .entry) ≡ false
     no-dead e x m n =
         let w = log-in v (named (r .map)) (r .slots) x m in
         no-tombstone L area (splitOf r victims) e (x .slot) (w .below) n (itemOf x)
-        (subst (λ (is : List Item). In (itemOf x) is) (sym (slot-items L area (r .size) (r .map) (r .slots) scans (x .slot) (w .below) (w .picked))) (w .item))
+        (subst (λ (is : List Item). In (itemOf x) is) (sym (slot-items L area (r .size) (r .map) (r .slots) editions scans (x .slot) (w .below) (w .picked))) (w .item))
 
     -- marks by which a victim's tombstones are kept as the model keeps them
     abbrev pub MarksTell : List ℕ → Type 0
@@ -352,7 +359,7 @@ module _ (L : Layout) (area cells : List ℕ) (r : Record) (g : Genuine L area r
               let in-map : named (r .map) i ≡ true =
               set-named (r .map) i (omega (arith, within-le victims (r .map) sub i, named-true victims i e, bit-le (r .map) i)) in
               let whole : placedIn i (slotItems L area (r .size) i) ≡ partOf v (named (r .map)) i =
-              ap (placedIn i) (slot-items L area (r .size) (r .map) (r .slots) scans i h in-map)
+              ap (placedIn i) (slot-items L area (r .size) (r .map) (r .slots) editions scans i h in-map)
               ∙ sym (part-picked v (named (r .map)) i in-map) in
               sym (part-victim L area cells marks (splitOf r victims) i e)
               ∙ ap (gathered L area cells marks (r .size)) whole

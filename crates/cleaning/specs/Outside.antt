@@ -12,10 +12,10 @@ use Rattle.segment.specs.declared.Key.{Key}
 use Rattle.segment.specs.Entry.{isTombstone}
 use Rattle.slot_map.specs.Bit.{bit, named, less}
 use Rattle.slot_map.specs.BitLaws.{bit-cases, bit-less}
-use Rattle.model.specs.Log.{Item, Placed, segmentOf, viewsOf, scan, itemsOf, logOf, sameKeys, sameKey}
+use Rattle.model.specs.Log.{Item, Placed, segmentOf, viewsOf, scan, itemsOf, isDamaged, logOf, sameKeys, sameKey}
 use Rattle.model.specs.Operations.{objectOutside}
 use Rattle.laws.specs.Members.{fail-together, clash, In, first}
-use Rattle.laws.specs.LogLaws.{AllScanned, InLog, itemOf, placedAt, in-log, log-in, none-below, below-none}
+use Rattle.laws.specs.LogLaws.{AllOf, AllScanned, InLog, itemOf, placedAt, in-log, log-in, none-below, below-none}
 use Rattle.index.specs.Entries.{entries-scan}
 use Rattle.cleaning.specs.Entries.{slotItems, isObject, objectIn, slotHolds, objectBelow}
 use Rattle.cleaning.specs.declared.Split.{Split}
@@ -90,28 +90,32 @@ outside-named map victims i = go (bit-cases map i) (bit-cases victims i)
 
 -- ---- the two tests of a key agree
 
-pub slot-items : (L : Layout) (area : List ℕ) (S map n : ℕ) → AllScanned (viewsOf L area S) (named map) n → (i : ℕ) → i < n →
-    named map i ≡ true → slotItems L area S i ≡ itemsOf (scan L (segmentOf area S i))
-slot-items L area S map n scans i h e = entries-scan L (segmentOf area S i) (scans i h e)
+-- the entries of a log slot, read by the layout that all log slots are of
+pub slot-items : (L : Layout) (area : List ℕ) (S map n : ℕ) → AllOf L (viewsOf area S) (named map) n → AllScanned (viewsOf area S) (named map) n →
+    (i : ℕ) → i < n → named map i ≡ true → slotItems L area S i ≡ itemsOf (viewsOf area S i .scan)
+slot-items L area S map n editions scans i h e =
+    let own : viewsOf area S i .scan ≡ scan L (segmentOf area S i) = ap (λ (K : Layout). scan K (segmentOf area S i)) (editions i h e) in
+    entries-scan L (segmentOf area S i) (ap isDamaged (sym own) ∙ scans i h e) ∙ ap itemsOf (sym own)
 
-module _ (L : Layout) (area : List ℕ) (S map victims n : ℕ) (scans : AllScanned (viewsOf L area S) (named map) n) (k : Key) where
+module _ (L : Layout) (area : List ℕ) (S map victims n : ℕ) (editions : AllOf L (viewsOf area S) (named map) n)
+    (scans : AllScanned (viewsOf area S) (named map) n) (k : Key) where
   abbrev log : List Placed
-  log = logOf (viewsOf L area S) (named map) n
+  log = logOf (viewsOf area S) (named map) n
 
   abbrev split : Split
   split = record { slots = n; size = S; victims = victims; outside = less map victims }
 
   to-model : objectBelow L area split k ≡ false → objectOutside victims log k ≡ false
-  to-model e = outside-none L k victims log (λ x m. go x (log-in (viewsOf L area S) (named map) n x m) (named victims (x .slot)) refl)
+  to-model e = outside-none L k victims log (λ x m. go x (log-in (viewsOf area S) (named map) n x m) (named victims (x .slot)) refl)
     where
-      go : (x : Placed) → InLog (viewsOf L area S) (named map) n x → (t : Bool) → named victims (x .slot) ≡ t → seen L k victims x ≡ false
+      go : (x : Placed) → InLog (viewsOf area S) (named map) n x → (t : Bool) → named victims (x .slot) ≡ t → seen L k victims x ≡ false
       go x w true v = seen-victim L k victims x v
       go x w false v =
           let out : named (less map victims) (x .slot) ≡ true =
           outside-named map victims (x .slot) ∙ both-true (named map (x .slot)) (not (named victims (x .slot))) (w .picked) (ap not v) in
           seen-object L k victims x v
           ∙ none-items L k (slotItems L area S (x .slot)) (both-rest (named (less map victims) (x .slot)) out (below-none n (slotHolds L area split k) e (x .slot) (w .below))) (itemOf x)
-          (subst (λ (is : List Item). In (itemOf x) is) (sym (slot-items L area S map n scans (x .slot) (w .below) (w .picked))) (w .item))
+          (subst (λ (is : List Item). In (itemOf x) is) (sym (slot-items L area S map n editions scans (x .slot) (w .below) (w .picked))) (w .item))
 
   from-model : objectOutside victims log k ≡ false → objectBelow L area split k ≡ false
   from-model e = none-below n (slotHolds L area split k) (λ i h. go i h (named (less map victims) i) refl)
@@ -127,8 +131,8 @@ module _ (L : Layout) (area : List ℕ) (S map victims n : ℕ) (scans : AllScan
           (λ y m.
           sym (seen-object L k victims (placedAt i y) no-victim)
           ∙ none-outside L k victims log e (placedAt i y)
-          (in-log (viewsOf L area S) (named map) n (placedAt i y)
-          (record { below = h; picked = in-map; item = subst (λ (is : List Item). In y is) (slot-items L area S map n scans i h in-map) m }))))
+          (in-log (viewsOf area S) (named map) n (placedAt i y)
+          (record { below = h; picked = in-map; item = subst (λ (is : List Item). In y is) (slot-items L area S map n editions scans i h in-map) m }))))
         where
           not-of : (t : Bool) → not t ≡ true → t ≡ false
           not-of true p = sym p

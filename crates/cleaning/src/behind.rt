@@ -1,20 +1,22 @@
 // The way from an entry to the next.
+use segment::Edition;
 use segment::Header;
-use segment::layout::HEAD_SIZE;
+use segment::layout::head_size;
 ghost use Prim.Native.Nat.{_+_, _<_};
 ghost use mathlib.Core.Path.{_≡_};
 ghost use mathlib.Core.Bool.{true};
+ghost use Rattle.segment.specs.Layout.{entrySize};
 
-// The offset behind an entry. The lengths that entries have stand in branches of their own, the tombstone's first, so that a
+// The offset behind an entry. The tombstone's length, and those of edition 1's objects, stand in branches of their own, so that a
 // processor that foresees the branch goes on to the next entry and does not wait until the length is loaded. Without the remainder
 // of the sum a compiler sees that all branches are one sum and takes them away; that of a length does not stop it.
-pub fn behind(at: usize, header: Header) -> usize
+pub fn behind(edition: Edition, at: usize, header: Header) -> usize
     requires { ⌜ at + header .length < 65536 ⌝ }
-    requires { ⌜ (header .tombstone ≡ true → header .length ≡ 11) ⌝ }
+    requires { ⌜ (header .tombstone ≡ true → header .length ≡ entrySize edition 0) ⌝ }
     ensures { λ r. ⌜ r ≡ at + header .length ⌝ }
 {
     if header.tombstone {
-        return at + HEAD_SIZE;
+        return at + head_size(edition);
     }
     let length = header.length;
     match length {

@@ -8,8 +8,8 @@ use record::Record;
 use record::Refusal;
 use record::Start;
 use record::range::fits_lent;
-use segment::layout::DIGEST_SIZE;
 use segment::layout::NUMBER_LIMIT;
+use segment::layout::digest_size;
 use segment::writer::write_digest;
 use slot_map::is_within;
 use slot_map::next_free;
@@ -23,7 +23,6 @@ use starting::stores::head_stores;
 ghost use Prim.Native.Nat.{_≤_};
 ghost use mathlib.Core.Path.{_≡_};
 ghost use mathlib.Core.Option.{none};
-ghost use Rattle.segment.specs.Layout.{edition1};
 ghost use Rattle.model.specs.Causes.{firstCause};
 ghost use Rattle.model.specs.Operations.{Operation, clean};
 ghost use Rattle.model.specs.Refused.{freely, victimsBad};
@@ -58,7 +57,7 @@ pub fn split_of(rec: Record, victims: u32) -> Split
 
 // The first tests of a cleaning: 4, 3, 5, 13.
 fn check_victims(rec: Record, area: usize, index: usize, work: usize, victims: u32) -> Check
-    ensures { λ r. ⌜ r ≡ checked (firstCause (frontCauses edition1 rec (record { area = area; index = index; work = work }) victims)) ⌝ }
+    ensures { λ r. ⌜ r ≡ checked (firstCause (frontCauses (rec .edition) rec (record { area = area; index = index; work = work }) victims)) ⌝ }
 {
     if !fits_lent(rec, area, index) {
         return Check::Refused(Refusal::BadRecord);
@@ -77,9 +76,10 @@ fn check_victims(rec: Record, area: usize, index: usize, work: usize, victims: u
 // The last tests, for so many bytes kept: 14, 10.
 fn check_kept(rec: Record, count: usize) -> Check
     requires { ⌜ count ≤ 65536 ⌝ }
-    ensures { λ r. ⌜ r ≡ checked (firstCause (keptCauses edition1 rec count)) ⌝ }
+    ensures { λ r. ⌜ r ≡ checked (firstCause (keptCauses (rec .edition) rec count)) ⌝ }
 {
-    let length = DIGEST_SIZE + count;
+    let edition = rec.edition;
+    let length = digest_size(edition) + count;
     if (rec.size as usize) < length {
         return Check::Refused(Refusal::KeptTooLong);
     }
@@ -99,18 +99,19 @@ fn begin(
     victims: u32,
     split: Split,
 ) -> Start
-    requires { ⌜ CleanReady edition1 rec victims ⌝ }
-    requires { ⌜ Room edition1 rec split (now area) (now chosen) (now work) ⌝ }
+    requires { ⌜ CleanReady (rec .edition) rec victims ⌝ }
+    requires { ⌜ Room (rec .edition) rec split (now area) (now chosen) (now work) ⌝ }
     ensures { λ r.
         ⌜
         record { start = r; work = now (work .exit) }
-        ≡ begunWith edition1 rec victims (now (work .entry)) (chosenBytes edition1 (now (area .entry)) (now (chosen .entry)) split) none
+        ≡ begunWith (rec .edition) rec victims (now (work .entry)) (chosenBytes (rec .edition) (now (area .entry)) (now (chosen .entry)) split) none
         ⌝ }
 {
+    let edition = rec.edition;
     let next = rec.next;
     let slot = next_free(rec.slots, rec.map, rec.head);
-    write_digest(work, 0, new_digest(rec, victims, slot, next));
-    let count = copy_kept(area, chosen, split, work, DIGEST_SIZE);
+    write_digest(edition, work, 0, new_digest(rec, victims, slot, next));
+    let count = copy_kept(edition, area, chosen, split, work, digest_size(edition));
     let left = head_stores(rec.size as usize, count) as u32;
     let length = count as u32;
     let pending = Pending::Clean {
@@ -132,16 +133,17 @@ fn clean_marked(
     victims: u32,
     split: Split,
 ) -> Start
-    requires { ⌜ CleanFits edition1 rec victims split (now area) (now marks) (now work) ⌝ }
+    requires { ⌜ CleanFits (rec .edition) rec victims split (now area) (now marks) (now work) ⌝ }
     ensures { λ r.
         ⌜
         record { start = r; work = now (work .exit) }
-        ≡ markedWith edition1 rec victims (now (work .entry))
-        (keptBytes edition1 (now (area .entry)) (now (index .entry)) (now (marks .entry)) split)
+        ≡ markedWith (rec .edition) rec victims (now (work .entry))
+        (keptBytes (rec .edition) (now (area .entry)) (now (index .entry)) (now (marks .entry)) split)
         ⌝ }
 {
+    let edition = rec.edition;
     let mut chosen = [0u32; 256];
-    let count = measure(area, index, marks, &mut chosen, split);
+    let count = measure(edition, area, index, marks, &mut chosen, split);
     match check_kept(rec, count) {
         Check::Refused(c) => refused(rec, c),
         Check::Passed => begin(rec, area, &chosen, work, victims, split),
@@ -152,15 +154,16 @@ fn clean_marked(
 pub fn clean(rec: Record, area: &[u8], index: &[u32], work: &mut [u8], victims: u32) -> Start
     ensures { λ r.
         ⌜
-        StartPromise edition1 freely (Operation.clean victims) rec (now (area .entry)) (now (index .entry)) (now (work .entry)) (now (work .exit)) r
+        StartPromise (rec .edition) freely (Operation.clean victims) rec (now (area .entry)) (now (index .entry)) (now (work .entry)) (now (work .exit)) r
         ⌝ }
 {
+    let edition = rec.edition;
     match check_victims(rec, area.len(), index.len(), work.len(), victims) {
         Check::Refused(c) => refused(rec, c),
         Check::Passed => {
             let split = split_of(rec, victims);
             let mut marks = [0u32; 128];
-            mark_needed(area, index, &mut marks, split);
+            mark_needed(edition, area, index, &mut marks, split);
             clean_marked(rec, area, index, &marks, work, victims, split)
         }
     }

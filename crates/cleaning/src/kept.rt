@@ -6,28 +6,35 @@ use crate::marks::is_marked;
 use index::Found;
 use index::search::search;
 use log::slots::is_named;
+use segment::Edition;
 use segment::Header;
 use segment::Next;
 use segment::area::cut;
 use segment::entries::next;
-use segment::layout::DIGEST_SIZE;
+use segment::layout::digest_size;
 ghost use Prim.Native.Nat.{_+_, _*_, _≤_, _<_};
 ghost use mathlib.Core.Path.{_≡_};
 ghost use lib.ListN.{length};
-ghost use Rattle.segment.specs.Layout.{edition1};
 ghost use Rattle.cleaning.specs.Entries.{SplitFits};
 ghost use Rattle.cleaning.specs.Kept.{keptTest, keptEntry, keptSlot, keptPart, keptBytes};
 ghost use Rattle.cleaning.specs.Chosen.{chooseEntry, chooseSlot, choosePart, chooseVictims};
 
 // Whether a victim's entry at a place is kept: it is its key's highest version, and a tombstone only where the key's cell is
 // marked, as an object of the key stands outside the victims.
-pub fn is_kept(area: &[u8], cells: &[u32], marks: &[u32], header: Header, place: usize) -> bool
+pub fn is_kept(
+    edition: Edition,
+    area: &[u8],
+    cells: &[u32],
+    marks: &[u32],
+    header: Header,
+    place: usize,
+) -> bool
     requires { ⌜ length (now marks) ≡ 128 ⌝ }
     requires { ⌜ place < 65536 ⌝ }
-    ensures { λ r. ⌜ r ≡ keptTest edition1 (now (area .entry)) (now (cells .entry)) (now (marks .entry)) header place ⌝ }
+    ensures { λ r. ⌜ r ≡ keptTest edition (now (area .entry)) (now (cells .entry)) (now (marks .entry)) header place ⌝ }
 {
     let key = header.key;
-    match search(area, cells, key) {
+    match search(edition, area, cells, key) {
         Found::At(i) => {
             if cells[i] as usize != place + 1 {
                 return false;
@@ -44,6 +51,7 @@ pub fn is_kept(area: &[u8], cells: &[u32], marks: &[u32], header: Header, place:
 
 // The length of an entry that is kept, which is then chosen; 0 of one that is not.
 fn choose_kept(
+    edition: Edition,
     area: &[u8],
     cells: &[u32],
     marks: &[u32],
@@ -56,12 +64,12 @@ fn choose_kept(
     requires { ⌜ place < 65536 ⌝ }
     ensures { λ r.
         ⌜
-        (r ≡ length (keptEntry edition1 (now (area .entry)) (now (cells .entry)) (now (marks .entry)) header place))
+        (r ≡ length (keptEntry edition (now (area .entry)) (now (cells .entry)) (now (marks .entry)) header place))
         × (now (chosen .exit)
-        ≡ chooseEntry (keptTest edition1 (now (area .entry)) (now (cells .entry)) (now (marks .entry))) (now (chosen .entry)) header place)
+        ≡ chooseEntry (keptTest edition (now (area .entry)) (now (cells .entry)) (now (marks .entry))) (now (chosen .entry)) header place)
         ⌝ }
 {
-    if !is_kept(area, cells, marks, header, place) {
+    if !is_kept(edition, area, cells, marks, header, place) {
         return 0;
     }
     choose(chosen, place);
@@ -70,6 +78,7 @@ fn choose_kept(
 
 // How long what is kept of a slot is; it is chosen. Damage ends a segment too.
 fn measure_slot(
+    edition: Edition,
     area: &[u8],
     cells: &[u32],
     marks: &[u32],
@@ -81,22 +90,30 @@ fn measure_slot(
     requires { ⌜ slot < split .slots ⌝ }
     ensures { λ r.
         ⌜
-        (r ≡ length (keptSlot edition1 (now (area .entry)) (now (cells .entry)) (now (marks .entry)) (split .size) slot))
+        (r ≡ length (keptSlot edition (now (area .entry)) (now (cells .entry)) (now (marks .entry)) (split .size) slot))
         × (r ≤ 2048)
         × (now (chosen .exit)
-        ≡ chooseSlot edition1 (keptTest edition1 (now (area .entry)) (now (cells .entry)) (now (marks .entry))) (now (area .entry))
+        ≡ chooseSlot edition (keptTest edition (now (area .entry)) (now (cells .entry)) (now (marks .entry))) (now (area .entry))
         (split .size) (now (chosen .entry)) slot)
         ⌝ }
 {
     let size = split.size;
     let s = cut(size, area, slot);
-    let mut at = DIGEST_SIZE;
+    let mut at = digest_size(edition);
     let mut total = 0;
     loop {
-        match next(s, at) {
+        match next(edition, s, at) {
             Next::Entry(header) => {
-                total += choose_kept(area, cells, marks, chosen, header, slot * size + at);
-                at = behind(at, header);
+                total += choose_kept(
+                    edition,
+                    area,
+                    cells,
+                    marks,
+                    chosen,
+                    header,
+                    slot * size + at,
+                );
+                at = behind(edition, at, header);
             }
             Next::End => {
                 return total;
@@ -110,6 +127,7 @@ fn measure_slot(
 
 // The same, 0 and nothing chosen where the slot is no victim.
 fn measure_victim(
+    edition: Edition,
     area: &[u8],
     cells: &[u32],
     marks: &[u32],
@@ -121,35 +139,42 @@ fn measure_victim(
     requires { ⌜ slot < split .slots ⌝ }
     ensures { λ r.
         ⌜
-        (r ≡ length (keptPart edition1 (now (area .entry)) (now (cells .entry)) (now (marks .entry)) split slot))
+        (r ≡ length (keptPart edition (now (area .entry)) (now (cells .entry)) (now (marks .entry)) split slot))
         × (r ≤ 2048)
         × (now (chosen .exit)
-        ≡ choosePart edition1 (keptTest edition1 (now (area .entry)) (now (cells .entry)) (now (marks .entry))) (now (area .entry)) split
+        ≡ choosePart edition (keptTest edition (now (area .entry)) (now (cells .entry)) (now (marks .entry))) (now (area .entry)) split
         (now (chosen .entry)) slot)
         ⌝ }
 {
     if !is_named(split.victims, slot) {
         return 0;
     }
-    measure_slot(area, cells, marks, chosen, split, slot)
+    measure_slot(edition, area, cells, marks, chosen, split, slot)
 }
 
 // How long all that is kept is; it is chosen.
-pub fn measure(area: &[u8], cells: &[u32], marks: &[u32], chosen: &mut [u32], split: Split) -> usize
+pub fn measure(
+    edition: Edition,
+    area: &[u8],
+    cells: &[u32],
+    marks: &[u32],
+    chosen: &mut [u32],
+    split: Split,
+) -> usize
     requires { ⌜ SplitFits split (now area) (now marks) × (length (now chosen) ≡ 256) ⌝ }
     ensures { λ r.
         ⌜
-        (r ≡ length (keptBytes edition1 (now (area .entry)) (now (cells .entry)) (now (marks .entry)) split))
+        (r ≡ length (keptBytes edition (now (area .entry)) (now (cells .entry)) (now (marks .entry)) split))
         × (r ≤ 65536)
         × (now (chosen .exit)
-        ≡ chooseVictims edition1 (keptTest edition1 (now (area .entry)) (now (cells .entry)) (now (marks .entry))) (now (area .entry)) split
+        ≡ chooseVictims edition (keptTest edition (now (area .entry)) (now (cells .entry)) (now (marks .entry))) (now (area .entry)) split
         (now (chosen .entry)))
         ⌝ }
 {
     let mut total = 0;
     let mut i = 0;
     while i < split.slots {
-        total += measure_victim(area, cells, marks, chosen, split, i);
+        total += measure_victim(edition, area, cells, marks, chosen, split, i);
         i += 1;
     }
     total

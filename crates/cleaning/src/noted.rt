@@ -3,15 +3,15 @@ use crate::Split;
 use crate::behind::behind;
 use crate::filter::put;
 use log::slots::is_named;
+use segment::Edition;
 use segment::Header;
 use segment::Next;
 use segment::area::cut;
 use segment::entries::next;
-use segment::layout::DIGEST_SIZE;
+use segment::layout::digest_size;
 ghost use Prim.Native.Nat.{_<_};
 ghost use mathlib.Core.Path.{_≡_};
 ghost use lib.ListN.{length};
-ghost use Rattle.segment.specs.Layout.{edition1};
 ghost use Rattle.cleaning.specs.Entries.{SplitFits};
 ghost use Rattle.cleaning.specs.Walks.{walkSlot, walkPart};
 ghost use Rattle.cleaning.specs.Filter.{noteEntry, noteVictims};
@@ -28,18 +28,18 @@ fn note_entry(filter: &mut [u32], header: Header)
 }
 
 // Those of a slot. Damage ends a segment too.
-fn note_slot(area: &[u8], filter: &mut [u32], split: Split, slot: usize)
+fn note_slot(edition: Edition, area: &[u8], filter: &mut [u32], split: Split, slot: usize)
     requires { ⌜ SplitFits split (now area) (now filter) ⌝ }
     requires { ⌜ slot < split .slots ⌝ }
-    ensures { λ _. ⌜ now (filter .exit) ≡ walkSlot edition1 noteEntry (now (area .entry)) (split .size) (now (filter .entry)) slot ⌝ }
+    ensures { λ _. ⌜ now (filter .exit) ≡ walkSlot edition noteEntry (now (area .entry)) (split .size) (now (filter .entry)) slot ⌝ }
 {
     let s = cut(split.size, area, slot);
-    let mut at = DIGEST_SIZE;
+    let mut at = digest_size(edition);
     loop {
-        match next(s, at) {
+        match next(edition, s, at) {
             Next::Entry(header) => {
                 note_entry(filter, header);
-                at = behind(at, header);
+                at = behind(edition, at, header);
             }
             Next::End => {
                 return;
@@ -52,28 +52,28 @@ fn note_slot(area: &[u8], filter: &mut [u32], split: Split, slot: usize)
 }
 
 // The same, nothing where the slot is no victim.
-fn note_part(area: &[u8], filter: &mut [u32], split: Split, slot: usize)
+fn note_part(edition: Edition, area: &[u8], filter: &mut [u32], split: Split, slot: usize)
     requires { ⌜ SplitFits split (now area) (now filter) ⌝ }
     requires { ⌜ slot < split .slots ⌝ }
     ensures { λ _.
         ⌜
-        now (filter .exit) ≡ walkPart edition1 noteEntry (now (area .entry)) (split .size) (split .victims) (now (filter .entry)) slot
+        now (filter .exit) ≡ walkPart edition noteEntry (now (area .entry)) (split .size) (split .victims) (now (filter .entry)) slot
         ⌝ }
 {
     if !is_named(split.victims, slot) {
         return;
     }
-    note_slot(area, filter, split, slot);
+    note_slot(edition, area, filter, split, slot);
 }
 
 // Those of all victims.
-pub fn note_victims(area: &[u8], filter: &mut [u32], split: Split)
+pub fn note_victims(edition: Edition, area: &[u8], filter: &mut [u32], split: Split)
     requires { ⌜ SplitFits split (now area) (now filter) ⌝ }
-    ensures { λ _. ⌜ now (filter .exit) ≡ noteVictims edition1 (now (area .entry)) split (now (filter .entry)) ⌝ }
+    ensures { λ _. ⌜ now (filter .exit) ≡ noteVictims edition (now (area .entry)) split (now (filter .entry)) ⌝ }
 {
     let mut i = 0;
     while i < split.slots {
-        note_part(area, filter, split, i);
+        note_part(edition, area, filter, split, i);
         i += 1;
     }
 }

@@ -2,31 +2,32 @@
 use crate::Split;
 use crate::behind::behind;
 use log::slots::is_named;
+use segment::Edition;
 use segment::Next;
 use segment::area::cut;
 use segment::entries::next;
-use segment::layout::DIGEST_SIZE;
+use segment::layout::digest_size;
 ghost use Prim.Native.Nat.{_≤_, _<_};
 ghost use mathlib.Core.Path.{_≡_};
 ghost use lib.ListN.{length};
-ghost use Rattle.segment.specs.Layout.{edition1, digestSize};
+ghost use Rattle.segment.specs.Layout.{digestSize};
 ghost use Rattle.index.specs.Build.{entriesAt};
 ghost use Rattle.cleaning.specs.Entries.{SlotsFit};
 ghost use Rattle.cleaning.specs.Tombstones.{tombstoneIn, victimHolds, anyTombstone};
 
 // Whether a tombstone stands in a segment. Damage ends a segment too.
-fn holds_tombstone(s: &[u8]) -> bool
+fn holds_tombstone(edition: Edition, s: &[u8]) -> bool
     requires { ⌜ length (now s) ≤ 2048 ⌝ }
-    ensures { λ r. ⌜ r ≡ tombstoneIn (entriesAt edition1 (now (s .entry)) (digestSize edition1)) ⌝ }
+    ensures { λ r. ⌜ r ≡ tombstoneIn (entriesAt edition (now (s .entry)) (digestSize edition)) ⌝ }
 {
-    let mut at = DIGEST_SIZE;
+    let mut at = digest_size(edition);
     loop {
-        match next(s, at) {
+        match next(edition, s, at) {
             Next::Entry(header) => {
                 if header.tombstone {
                     return true;
                 }
-                at = behind(at, header);
+                at = behind(edition, at, header);
             }
             Next::End => {
                 return false;
@@ -39,25 +40,25 @@ fn holds_tombstone(s: &[u8]) -> bool
 }
 
 // Whether a slot is a victim and holds a tombstone.
-fn slot_holds(area: &[u8], split: Split, slot: usize) -> bool
+fn slot_holds(edition: Edition, area: &[u8], split: Split, slot: usize) -> bool
     requires { ⌜ SlotsFit split (now area) ⌝ }
     requires { ⌜ slot < split .slots ⌝ }
-    ensures { λ r. ⌜ r ≡ victimHolds edition1 (now (area .entry)) split slot ⌝ }
+    ensures { λ r. ⌜ r ≡ victimHolds edition (now (area .entry)) split slot ⌝ }
 {
     if !is_named(split.victims, slot) {
         return false;
     }
-    holds_tombstone(cut(split.size, area, slot))
+    holds_tombstone(edition, cut(split.size, area, slot))
 }
 
 // Whether one of the victims holds a tombstone.
-pub fn any_tombstone(area: &[u8], split: Split) -> bool
+pub fn any_tombstone(edition: Edition, area: &[u8], split: Split) -> bool
     requires { ⌜ SlotsFit split (now area) ⌝ }
-    ensures { λ r. ⌜ r ≡ anyTombstone edition1 (now (area .entry)) split ⌝ }
+    ensures { λ r. ⌜ r ≡ anyTombstone edition (now (area .entry)) split ⌝ }
 {
     let mut i = 0;
     while i < split.slots {
-        if slot_holds(area, split, i) {
+        if slot_holds(edition, area, split, i) {
             return true;
         }
         i += 1;

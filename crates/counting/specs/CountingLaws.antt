@@ -58,6 +58,9 @@ module _ (L : Layout) (f : Found) {t : Read} (given : t ≡ answer L f) where
 
 -- ---- the walk over a segment
 
+pub bytes-start : (L : Layout) (s : List ℕ) (at : ℕ) → at ≡ digestSize L → 0 + bytesFrom L s at ≡ segmentBytes L s
+bytes-start L s at e = zero-add (bytesFrom L s at) ∙ ap (bytesFrom L s) e
+
 module _ (L : Layout) (s : List ℕ) (at : ℕ) (next : Next) (given : next ≡ nextOf L (entryAt L s at)) where
   pub bytes-more : (h : Header) → next ≡ N.Entry h → bytesFrom L s at ≡ headerBytes h + bytesFrom L s (at + h .length)
   unfolding objectBytes

@@ -7,7 +7,6 @@ use mathlib.Core.Option.{Option, none, some}
 use lib.Dec.{eqb}
 use lib.ListN.{length, take, drop}
 use Rattle.segment.specs.Choice.{pick, pick-false}
-use Rattle.segment.specs.Layout.{edition1}
 use Rattle.segment.specs.declared.Key.{Key}
 use Rattle.record.specs.Answers.{Said, refusal, taken, takenWith, recoverSaid, readSaid, startSaid, stepSaid, tellSaid, fewestSaid}
 use Rattle.record.specs.Range.{fitsLent}
@@ -120,9 +119,9 @@ by-record words T yes-case no-case = go (isRecord words) refl
     go false e = no-case e (ap (λ (d : Decoded). d .ok) (decoded-none words e))
 
 -- words that are no record say the blank one, which every call refuses with 4
-none-unfit : (words : List ℕ) → isRecord words ≡ false → (a i : ℕ) → not (fitsLent edition1 (decoded words .rec) a i) ≡ true
+none-unfit : (words : List ℕ) → isRecord words ≡ false → (a i : ℕ) → not (fitsLent (decoded words .rec .edition) (decoded words .rec) a i) ≡ true
 none-unfit words e a i =
-    ap (λ (d : Decoded). not (fitsLent edition1 (d .rec) a i)) (decoded-none words e) ∙ ap not (blank-unfit edition1 a i)
+    ap (λ (d : Decoded). not (fitsLent (d .rec .edition) (d .rec) a i)) (decoded-none words e) ∙ ap not (blank-unfit _ a i)
 
 pub words-say :
     (words words′ : List ℕ) (r : Record) → words′ ≡ keptWords (decoded words .ok) words r → (decoded words .ok ≡ true → length (r .counts) ≡ 32) →
@@ -140,7 +139,7 @@ words-say words words′ r w long same =
 module _ (n s : ℕ) where
   -- one event of the store, with its answer and the world after it written in another way
   abbrev Runs : World → List Event → World → Type 0
-  Runs w es x = Run edition1 n s w es x
+  Runs w es x = Run n s w es x
 
   start-runs :
       (area work work′ words′ : List ℕ) (h : HeldWords) (m : Option ℕ) (t : Terms) (o : Operation) (stores stores′ number : ℕ) → Arguments o →
@@ -171,7 +170,7 @@ module _ (n s : ℕ) where
       says : decoded words′ .rec ≡ c .start .rec
       says =
           words-say (h .words) words′ (c .start .rec) (c .handed .says) (c .handed .long)
-          (λ e. ap (λ (b : Begun). b .start .rec) (c .promised .early BadRecord (early-bad edition1 (decoded (h .words) .rec) _ t o (none-unfit (h .words) e _ _))))
+          (λ e. ap (λ (b : Begun). b .start .rec) (c .promised .early BadRecord (early-bad _ (decoded (h .words) .rec) _ t o (none-unfit (h .words) e _ _))))
 
   step-runs :
       (area area′ cells′ work words′ : List ℕ) (h : HeldWords) (m : Option ℕ) (left left′ version version′ number : ℕ) →

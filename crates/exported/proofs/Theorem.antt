@@ -6,7 +6,7 @@ use mathlib.Core.Bool.{Bool, true, false}
 use mathlib.Core.List.{List}
 use lib.ListN.{length}
 use borrow.Author.Tests.{eq-eqb}
-use Rattle.segment.specs.Layout.{edition1}
+use Rattle.segment.specs.Layout.{Layout, numberOfLayout}
 use Rattle.segment.specs.declared.Key.{Key}
 use Rattle.record.specs.Answers.{formatSaid, recoverSaid, readSaid}
 use Rattle.record.specs.Refusals.{numberOfRefusal}
@@ -40,13 +40,13 @@ format-accepted (FormatAnswer.Refused c) e = absurd (never (sym (eq-eqb (numberO
     never p = let z : _≡_ {A = ℕ} 0 1 = cc in absurd (omega arith)
 
 pub format-promised :
-    (n s : ℕ) (area₀ area : List ℕ) → FormatCrossed n s area₀ area 0 → FormatPromise edition1 n s area₀ area FormatAnswer.Formatted
-format-promised n s area₀ area f =
-    subst (λ (a : FormatAnswer). FormatPromise edition1 n s area₀ area a) (format-accepted (f .answer) (f .numbered)) (f .promised)
+    (L : Layout) (n s : ℕ) (area₀ area : List ℕ) → FormatCrossed (numberOfLayout L) n s area₀ area 0 → FormatPromise (numberOfLayout L) n s area₀ area FormatAnswer.Formatted
+format-promised L n s area₀ area f =
+    subst (λ (a : FormatAnswer). FormatPromise (numberOfLayout L) n s area₀ area a) (format-accepted (f .answer) (f .numbered)) (f .promised)
 
 -- what a recovery of the store gives, it gives through words
-module _ (n s : ℕ) (order area cells cells′ words words′ : List ℕ) (number : ℕ) (b : Book) (long : recordWords ≤ length words)
-    (x : Recovers n s order area cells cells′ words words′ number) (given : GivesBook edition1 area cells′ (x .recovery) b)
+module _ (L : Layout) (n s : ℕ) (order area cells cells′ words words′ : List ℕ) (number : ℕ) (b : Book) (long : recordWords ≤ length words)
+    (x : Recovers n s order area cells cells′ words words′ number) (given : GivesBook L area cells′ (x .recovery) b)
   where
     says : decoded words′ .rec ≡ x .recovery .rec
     unfolding wordsAfter
@@ -56,11 +56,11 @@ module _ (n s : ℕ) (order area cells cells′ words words′ : List ℕ) (numb
 
     answered :
         (t : Tables) (k : Key) → KeyArgument k → holdsTable t (k .table) ≡ true → (a : Reading) →
-        ReadPromise edition1 (decoded words′ .rec) area cells′ t k a → a .answer ≡ bookAnswer edition1 (b .keys k)
+        ReadPromise (decoded words′ .rec .edition) (decoded words′ .rec) area cells′ t k a → a .answer ≡ bookAnswer L (b .keys k)
     answered t k p held a q =
-        given .answers t k (typed-key k (p .0) (p .1)) held a (subst (λ (r : Record). ReadPromise edition1 r area cells′ t k a) says q)
+        given .answers t k (typed-key k (p .0) (p .1)) held a (subst (λ (r : Record). ReadPromise (r .edition) r area cells′ t k a) says q)
 
-    words-give : WordsGiveBook area cells′ words′ number b
+    words-give : WordsGiveBook L area cells′ words′ number b
     words-give =
         record {
           is-accepted = x .numbered ∙ ap (λ (a : RecoverAnswer). recoverSaid a .refused) (given .is-accepted);
@@ -73,21 +73,21 @@ module _ (n s : ℕ) (order area cells cells′ words words′ : List ℕ) (numb
               λ t k p held place bytes told c. (
                 c .numbered ∙ ap (λ (a : ReadAnswer). readSaid a .refused) (answered t k p held (c .reading) (c .promised)),
                 given .values t k (typed-key k (p .0) (p .1)) held (record { place = place; bytes = bytes })
-                    (subst (λ (r : Record). ValuePromise edition1 r area cells′ t k (record { place = place; bytes = bytes })) says (c .value)),
+                    (subst (λ (r : Record). ValuePromise (r .edition) r area cells′ t k (record { place = place; bytes = bytes })) says (c .value)),
               );
         }
 
 -- Demand 3 for the exported calls.
 pub demand-3-exported : Demand3Exported
-demand-3-exported n s area₀ area ab f es m run =
+demand-3-exported L n s area₀ area ab f es m run =
     record {
       recovery =
           λ order cells cells′ words words′ number good large long c.
-          words-give n s order (m .area) cells cells′ words words′ number (bookOf es) long (c .recovers long)
+          words-give L n s order (m .area) cells cells′ words words′ number (bookOf es) long (c .recovers long)
           (stored .recovery order cells cells′ (c .recovers long .recovery) good large (c .recovers long .promised));
       above-told = stored .above-told;
       agrees = stored .agrees;
     }
   where
-    stored : Demand3Of edition1 n s (worldOf m) es
-    stored = demand-3 n s area₀ area ab (format-promised n s area₀ area f) es (worldOf m) (exported-run n s run)
+    stored : Demand3Of L n s (worldOf m) es
+    stored = demand-3 L n s area₀ area ab (format-promised L n s area₀ area f) es (worldOf m) (exported-run n s run)

@@ -5,7 +5,7 @@ use mathlib.Core.Bool.{true, false}
 use mathlib.Core.List.{List}
 use lib.ListN.{length, take, drop}
 use Rattle.word.specs.Number.{Bytes}
-use Rattle.segment.specs.Layout.{edition1}
+use Rattle.segment.specs.Layout.{Layout, numberOfLayout}
 use Rattle.segment.specs.declared.Key.{Key}
 use Rattle.record.specs.Answers.{readSaid}
 use Rattle.model.specs.Recovery.{orderBad}
@@ -19,29 +19,29 @@ use Rattle.exported.specs.Runs.{Memory, freshMemory, KeyArgument, readTo
 
 -- What a recovery gives through words and index: it is accepted, the words say the book's next version, and for each key the two reads,
 -- whose tables hold the key's, then answer what the book holds.
-pub record WordsGiveBook (area cells words : List ℕ) (number : ℕ) (b : Book) : Type 0 where
+pub record WordsGiveBook (L : Layout) (area cells words : List ℕ) (number : ℕ) (b : Book) : Type 0 where
   pub is-accepted : number ≡ 0
   pub next-version : decoded words .rec .next .0 ≡ b .next
   pub answers :
       (t : Tables) (k : Key) → KeyArgument k → holdsTable t (k .table) ≡ true → (version kind told : ℕ) →
       ReadCrossed words area cells t k version kind told →
-      readTold told version kind ≡ readSaid (bookAnswer edition1 (b .keys k))
+      readTold told version kind ≡ readSaid (bookAnswer L (b .keys k))
   pub values :
       (t : Tables) (k : Key) → KeyArgument k → holdsTable t (k .table) ≡ true → (place bytes told : ℕ) →
       ValueCrossed words area cells t k place bytes told →
-      (told ≡ readSaid (bookAnswer edition1 (b .keys k)) .refused) × (take bytes (drop place area) ≡ bookValue (b .keys k))
+      (told ≡ readSaid (bookAnswer L (b .keys k)) .refused) × (take bytes (drop place area) ≡ bookValue (b .keys k))
 
 -- What demand 3 says of one list of exported calls and cuts.
-pub record ExportedDemand3 (n s : ℕ) (m : Memory) (es : List Event) : Type 0 where
+pub record ExportedDemand3 (L : Layout) (n s : ℕ) (m : Memory) (es : List Event) : Type 0 where
   pub recovery :
       (order cells cells′ words words′ : List ℕ) (number : ℕ) → orderBad n order ≡ false → LargeEnough (m .cells) (length cells) →
       recordWords ≤ length words → RecoverCrossed n s order (m .area) cells cells′ words words′ number →
-      WordsGiveBook (m .area) cells′ words′ number (bookOf es)
+      WordsGiveBook L (m .area) cells′ words′ number (bookOf es)
   pub above-told : highestTold es < bookOf es .next
-  pub agrees : EventsAgree edition1 freshBook es
+  pub agrees : EventsAgree L freshBook es
 
--- From an accepted kurdavel_format on, for every list of exported calls and cuts.
+-- From an accepted kurdavel_format on, which was told the number of an edition, for every list of exported calls and cuts.
 abbrev pub Demand3Exported : Type 0
 Demand3Exported =
-    (n s : ℕ) (area₀ area : List ℕ) → Bytes area₀ → FormatCrossed n s area₀ area 0 → (es : List Event) (m : Memory) →
-    ExportedRun n s (freshMemory area) es m → ExportedDemand3 n s m es
+    (L : Layout) (n s : ℕ) (area₀ area : List ℕ) → Bytes area₀ → FormatCrossed (numberOfLayout L) n s area₀ area 0 → (es : List Event) (m : Memory) →
+    ExportedRun n s (freshMemory area) es m → ExportedDemand3 L n s m es

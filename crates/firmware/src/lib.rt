@@ -5,7 +5,6 @@ use record::Record;
 use record::StepAnswer;
 use record::Stepped;
 use stepping::step;
-ghost use Rattle.segment.specs.Layout.{edition1};
 ghost use Rattle.model.specs.Promises.{StepPromise};
 ghost use Rattle.stepping.specs.Tested.{StepTested};
 
@@ -13,9 +12,9 @@ ghost use Rattle.stepping.specs.Tested.{StepTested};
 pub fn step_kept(rec: &mut Record, area: &mut [u8], index: &mut [u32], work: &[u8]) -> StepAnswer
     ensures { λ r.
         ⌜
-        StepPromise edition1 (now (rec .entry)) (now (area .entry)) (now (area .exit)) (now (index .entry)) (now (index .exit)) (now (work .entry))
+        StepPromise (now (rec .entry) .edition) (now (rec .entry)) (now (area .entry)) (now (area .exit)) (now (index .entry)) (now (index .exit)) (now (work .entry))
         (record { answer = r; rec = now (rec .exit) })
-        × StepTested edition1 (now (rec .entry)) (now (area .entry)) (now (area .exit)) (now (index .entry)) (now (index .exit)) (now (work .entry))
+        × StepTested (now (rec .entry) .edition) (now (rec .entry)) (now (area .entry)) (now (area .exit)) (now (index .entry)) (now (index .exit)) (now (work .entry))
         (record { answer = r; rec = now (rec .exit) })
         ⌝ }
 {
@@ -29,8 +28,8 @@ pub fn step_kept(rec: &mut Record, area: &mut [u8], index: &mut [u32], work: &[u
 pub fn step_held(rec: Record, area: &mut [u8], index: &mut [u32], work: &[u8]) -> Stepped
     ensures { λ r.
         ⌜
-        StepPromise edition1 rec (now (area .entry)) (now (area .exit)) (now (index .entry)) (now (index .exit)) (now (work .entry)) r
-        × StepTested edition1 rec (now (area .entry)) (now (area .exit)) (now (index .entry)) (now (index .exit)) (now (work .entry)) r
+        StepPromise (rec .edition) rec (now (area .entry)) (now (area .exit)) (now (index .entry)) (now (index .exit)) (now (work .entry)) r
+        × StepTested (rec .edition) rec (now (area .entry)) (now (area .exit)) (now (index .entry)) (now (index .exit)) (now (work .entry)) r
         ⌝ }
 {
     let mut kept = rec;

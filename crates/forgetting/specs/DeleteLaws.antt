@@ -244,13 +244,13 @@ module _ (L : Layout) (r : Record) (log : List Placed) (k : Key) (work : List �
       λ i. record { start = startedWith r (Forget (newSlot r) (forgetVictim log k) n (e i)) (e i); work = sets work 0 bytes }
 
 module _ (L : Layout) (r : Record) (area cells : List ℕ) (k : Key) (work : List ℕ) (bytes : Bytes area) (g : Genuine L area r cells)
-    (h : Lent L r (length area) (length cells)) (x : Placed) (is : present (logNow L area r) k ≡ some x) where
+    (h : Lent L r (length area) (length cells)) (x : Placed) (is : present (logNow area r) k ≡ some x) where
   -- what the code answers and leaves, step by step
   in-place : (place slot : ℕ) → place ≡ placeOf (r .size) x → slot ≡ x .slot → (cell : ℕ) →
       forgotIn L r area cells k work cell place slot ≡ forgotIn L r area cells k work cell (placeOf (r .size) x) (x .slot)
   in-place place slot p s cell = λ i. forgotIn L r area cells k work cell (p i) (s i)
 
-  forget-exact : forgotFor L r area cells k work ≡ laidBegun r (laidForget L r (logNow L area r) k) work
+  forget-exact : forgotFor L r area cells k work ≡ laidBegun r (laidForget L r (logNow area r) k) work
   unfolding forgotFound forgotIn slotOf
   forget-exact =
       ap (forgotFound L r area cells k work) (live-found L area cells r g h k x is)
@@ -258,8 +258,8 @@ module _ (L : Layout) (r : Record) (area cells : List ℕ) (k : Key) (work : Lis
       (ap (λ (p : ℕ). p / r .size) (live-place L area cells r g h k x is) ∙ live-slot L area cells r g h k x is) _
       ∙ pick-true (inLog r (x .slot)) _ _ (live-in L area cells r g h k x is)
       ∙ ap (forgotBegun L r (2 ^ x .slot) work) (bytes-forgot L area cells r g h k x is bytes)
-      ∙ ap (λ (o : Option Placed). forgotBegun L r (2 ^ slotOf o) work (allEncoded L (forgetKept r (logNow L area r) k))) (sym is)
-      ∙ begun-same L r (logNow L area r) k work
+      ∙ ap (λ (o : Option Placed). forgotBegun L r (2 ^ slotOf o) work (allEncoded L (forgetKept r (logNow area r) k))) (sym is)
+      ∙ begun-same L r (logNow area r) k work
 
 -- ---- the promise
 
@@ -289,9 +289,9 @@ module _ (L : Layout) (t : Tables) (r : Record) (area cells work : List ℕ) (k 
           long = ltb-false (length work) (r .size) (tests .work-long);
         }
 
-    live-key : Genuine L area r cells → (x : Placed) × present (logNow L area r) k ≡ some x
+    live-key : Genuine L area r cells → (x : Placed) × present (logNow area r) k ≡ some x
     live-key g =
-        some-of (present (logNow L area r) k)
+        some-of (present (logNow area r) k)
         (sym (ap (λ (f : KeyFacts). f .absent) (genuine-facts L area r cells g delete-lent k)) ∙ tests .present)
 
     pub forget-promise : Bytes area → (work′ : List ℕ) (a : Start) → record { start = a; work = work′ } ≡ forgotFor L r area cells k work →

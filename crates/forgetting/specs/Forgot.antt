@@ -3,7 +3,7 @@ use Prim.Native.Nat.{ℕ}
 use mathlib.Core.List.{List, []}
 use lib.Dec.{eqb}
 use Rattle.segment.specs.Choice.{pick}
-use Rattle.segment.specs.Layout.{Layout}
+use Rattle.segment.specs.Layout.{Layout, table}
 use Rattle.segment.specs.Written.{encodedHead}
 use Rattle.segment.specs.declared.Header.{Header}
 use Rattle.model.specs.Log.{placedIn}
@@ -13,7 +13,7 @@ use Rattle.forgetting.specs.declared.Live.{Live}
 
 -- the tombstone, if it is needed
 unfoldable pub deadBytes : Layout → Live → List ℕ
-deadBytes L live = pick (live .needed) (encodedHead L (L .tombstoneKind) (live .key) (live .version)) []
+deadBytes L live = pick (live .needed) (encodedHead L (table L .tombstoneKind) (live .key) (live .version)) []
 
 -- In the live object's place the tombstone or nothing; else the entry where a cleaning keeps it.
 abbrev pub forgotEntry : Layout → List ℕ → List ℕ → List ℕ → Live → Header → ℕ → List ℕ

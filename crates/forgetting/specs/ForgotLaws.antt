@@ -9,7 +9,7 @@ use lib.ListN.{length}
 use lib.Seq.{sets}
 use borrow.Author.Tests.{eq-eqb, ne-eqb, not-true, not-false}
 use Rattle.segment.specs.Choice.{pick, pick-true, pick-false}
-use Rattle.segment.specs.Layout.{Layout, entrySize, digestSize}
+use Rattle.segment.specs.Layout.{Layout, entrySize, digestSize, table}
 use Rattle.segment.specs.Entries.{headerOf}
 use Rattle.segment.specs.Written.{encodedHead, length-encodedHead}
 use Rattle.segment.specs.declared.Header.{Header}
@@ -30,21 +30,21 @@ module _ (L : Layout) (live : Live) (work : List ℕ) (to : ℕ) where
   dead-none e = copied-none _ work to (pick-false (live .needed) _ _ (not-true (live .needed) e))
 
   pub dead-put : not (live .needed) ≡ false → (work′ : List ℕ) →
-      work′ ≡ sets work to (encodedHead L (L .tombstoneKind) (live .key) (live .version)) → Copied (deadBytes L live) work to work′ (to + entrySize L 0)
+      work′ ≡ sets work to (encodedHead L (table L .tombstoneKind) (live .key) (live .version)) → Copied (deadBytes L live) work to work′ (to + entrySize L 0)
   unfolding deadBytes
   dead-put e work′ h =
-      let is = pick-true (live .needed) (encodedHead L (L .tombstoneKind) (live .key) (live .version)) [] (not-false (live .needed) e) in
+      let is = pick-true (live .needed) (encodedHead L (table L .tombstoneKind) (live .key) (live .version)) [] (not-false (live .needed) e) in
       record {
         stored = h ∙ ap (sets work to) (sym is);
-        behind = omega (arith, ap length is, length-encodedHead L (L .tombstoneKind) (live .key) (live .version));
+        behind = omega (arith, ap length is, length-encodedHead L (table L .tombstoneKind) (live .key) (live .version));
       }
 
 pub dead-short : (L : Layout) (live : Live) → length (deadBytes L live) ≤ entrySize L 0
 unfolding deadBytes pick
 dead-short L live = go (live .needed)
   where
-    go : (t : Bool) → length (pick t (encodedHead L (L .tombstoneKind) (live .key) (live .version)) []) ≤ entrySize L 0
-    go true = omega (arith, length-encodedHead L (L .tombstoneKind) (live .key) (live .version))
+    go : (t : Bool) → length (pick t (encodedHead L (table L .tombstoneKind) (live .key) (live .version)) []) ≤ entrySize L 0
+    go true = omega (arith, length-encodedHead L (table L .tombstoneKind) (live .key) (live .version))
     go false = omega arith
 
 -- ---- an entry

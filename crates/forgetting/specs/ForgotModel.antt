@@ -11,7 +11,7 @@ use lib.ListN.{length, getD}
 use borrow.Author.Tests.{eq-eqb, lt-ltb, eqb-true}
 use Rattle.word.specs.Number.{Bytes}
 use Rattle.segment.specs.Choice.{pick, pick-true, pick-false, both, both-true, both-left, isNone}
-use Rattle.segment.specs.Layout.{Layout}
+use Rattle.segment.specs.Layout.{Layout, table}
 use Rattle.segment.specs.LayoutLaws.{tombstone-length}
 use Rattle.segment.specs.Area.{place-slot}
 use Rattle.segment.specs.Entries.{headerOf}
@@ -31,8 +31,8 @@ use Rattle.model.specs.Promises.{Genuine}
 use Rattle.laws.specs.Members.{clash, In, first, Within, those, those-in}
 use Rattle.laws.specs.Latest.{Apart, same-key, latest-some}
 use Rattle.laws.specs.Versions.{shared-apart}
-use Rattle.laws.specs.LogLaws.{AllScanned, InLog, log-in}
-use Rattle.laws.specs.RecoverLaws.{recovered-case, recovered-highest}
+use Rattle.laws.specs.LogLaws.{InLog, log-in}
+use Rattle.laws.specs.RecoverLaws.{recovered-highest}
 use Rattle.laws.specs.MapLaws.{inSlot}
 use Rattle.laws.specs.Forgotten.{IsLive, present-live, instead, instead-own, instead-other, replaced-those, forgotten-kept, forgotten-tombstone}
 use Rattle.laws.specs.Counted.{slot-log}
@@ -42,7 +42,7 @@ use Rattle.index.specs.declared.Found.{Found}
 use Rattle.cleaning.specs.Entries.{slotItems}
 use Rattle.cleaning.specs.Kept.{keptTest, keptEntry, gatherBy}
 use Rattle.cleaning.specs.KeptLaws.{entry-kept, entry-dropped}
-use Rattle.cleaning.specs.KeptModel.{kept-front, kept-behind, splitOf, KeyCell, key-cell, inside, place-one, own-part, walked-tells, marked-outside, kept-same}
+use Rattle.cleaning.specs.KeptModel.{kept-front, kept-behind, splitOf, editions, scans, KeyCell, key-cell, inside, place-one, own-part, walked-tells, marked-outside, kept-same}
 use Rattle.cleaning.specs.Outside.{slot-items}
 use Rattle.forgetting.specs.Forgot.{deadBytes, forgotEntry, forgotSlot}
 use Rattle.forgetting.specs.ForgotLaws.{entry-dead, entry-other}
@@ -76,9 +76,9 @@ kept-only L i log (x ∷ xs) = go (eqb (x .slot) i) refl (isKept (2 ^ i) log x) 
 -- ---- a genuine store and a present key
 
 module _ (L : Layout) (area cells : List ℕ) (r : Record) (g : Genuine L area r cells) (h : Lent L r (length area) (length cells)) (k : Key) (x : Placed)
-    (is : present (logNow L area r) k ≡ some x) where
+    (is : present (logNow area r) k ≡ some x) where
   abbrev log : List Placed
-  log = logNow L area r
+  log = logNow area r
 
   abbrev tomb : Entry
   tomb = tombstoneEntry r k
@@ -101,13 +101,8 @@ module _ (L : Layout) (area cells : List ℕ) (r : Record) (g : Genuine L area r
   apart : Apart log
   apart = shared-apart log versions
 
-  at : InLog (viewsOf L area (r .size)) (named (r .map)) (r .slots) x
-  at = log-in (viewsOf L area (r .size)) (named (r .map)) (r .slots) x member
-
-  scans : AllScanned (viewsOf L area (r .size)) (named (r .map)) (r .slots)
-  scans =
-      recovered-case L (r .slots) (r .size) (r .cells) area (λ (m : Record). AllScanned (viewsOf L area (r .size)) (named (m .map)) (r .slots))
-      (λ top l f. f .scans) (withPending r Idle) (g .recovers)
+  at : InLog (viewsOf area (r .size)) (named (r .map)) (r .slots) x
+  at = log-in (viewsOf area (r .size)) (named (r .map)) (r .slots) x member
 
   sub : within (2 ^ x .slot) (r .map) ≡ true
   sub = within-pow (r .map) (x .slot) (named-true (r .map) (x .slot) (at .picked))
@@ -159,12 +154,12 @@ module _ (L : Layout) (area cells : List ℕ) (r : Record) (g : Genuine L area r
   needed-same =
       marked-outside L area cells r g (2 ^ x .slot) sub few (keyOf (x .entry)) cell ∙ ap (objectOutside (2 ^ x .slot) log) (sym of-key)
 
-  tomb-encoded : encodedHead L (L .tombstoneKind) k (r .next) ≡ encoded L tomb
+  tomb-encoded : encodedHead L (table L .tombstoneKind) k (r .next) ≡ encoded L tomb
   tomb-encoded =
-      sym (append-nil (encodedHead L (L .tombstoneKind) k (r .next)))
-      ∙ encoded-said L (L .tombstoneKind) k (r .next) [] (tombstone-length L)
+      sym (append-nil (encodedHead L (table L .tombstoneKind) k (r .next)))
+      ∙ encoded-said L (table L .tombstoneKind) k (r .next) [] (tombstone-length L)
       ∙ ap (λ (v : Option (List ℕ)). encoded L (record { table = k .table; key = k .key; version = r .next .0; value = v }))
-      (value-tombstone L (L .tombstoneKind) [] (eq-eqb (L .tombstoneKind) (L .tombstoneKind) refl))
+      (value-tombstone L (table L .tombstoneKind) [] (eq-eqb (table L .tombstoneKind) (table L .tombstoneKind) refl))
 
   -- the tombstone is kept where it is needed
   dead-kept : isKept (2 ^ x .slot) stand dead ≡ going .needed
@@ -265,8 +260,8 @@ module _ (L : Layout) (area cells : List ℕ) (r : Record) (g : Genuine L area r
     bytes-forgot =
         rw is
         (ap (gatherBy L (forgotEntry L area cells marks going) (r .size))
-        (ap (placedIn (x .slot)) (slot-items L area (r .size) (r .map) (r .slots) scans (x .slot) (at .below) (at .picked))
-        ∙ sym (slot-log (viewsOf L area (r .size)) (r .map) (r .slots) (x .slot) (at .below) (at .picked)))
+        (ap (placedIn (x .slot)) (slot-items L area (r .size) (r .map) (r .slots) (editions L area cells r g) (scans L area cells r g) (x .slot) (at .below) (at .picked))
+        ∙ sym (slot-log (viewsOf area (r .size)) (r .map) (r .slots) (x .slot) (at .below) (at .picked)))
         ∙ gathered-forgot (inSlot (x .slot) log) (λ y m. those-in (λ z. eqb (z .slot) (x .slot)) log y m .0)
         (λ y m.
         ap (named (2 ^ x .slot)) (eqb-true (y .slot) (x .slot) (those-in (λ z. eqb (z .slot) (x .slot)) log y m .1))

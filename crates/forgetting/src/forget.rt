@@ -15,6 +15,7 @@ use record::Pending;
 use record::Record;
 use record::Refusal;
 use record::Start;
+use segment::Edition;
 use segment::Key;
 use segment::Version;
 use segment::writer::write_digest;
@@ -26,7 +27,6 @@ use starting::digest::new_digest;
 use starting::stores::head_stores;
 ghost use Prim.Native.Nat.{_≤_, _<_};
 ghost use mathlib.Core.Path.{_≡_};
-ghost use Rattle.segment.specs.Layout.{edition1};
 ghost use Rattle.index.specs.Search.{searchFor};
 ghost use Rattle.index.specs.SearchLaws.{Inside};
 ghost use Rattle.index.specs.declared.Found.the-variants.{At};
@@ -57,19 +57,25 @@ fn begin(
     split: Split,
     slot: usize,
 ) -> Start
-    requires { ⌜ VictimReady edition1 rec (now area) (now marks) (now work) split slot ⌝ }
+    requires { ⌜ VictimReady (rec .edition) rec (now area) (now marks) (now work) split slot ⌝ }
     ensures { λ r.
         ⌜
         record { start = r; work = now (work .exit) }
-        ≡ forgotBegun edition1 rec (split .victims) (now (work .entry))
-        (forgotSlot edition1 (now (area .entry)) (now (index .entry)) (now (marks .entry)) live (split .size) slot)
+        ≡ forgotBegun (rec .edition) rec (split .victims) (now (work .entry))
+        (forgotSlot (rec .edition) (now (area .entry)) (now (index .entry)) (now (marks .entry)) live (split .size) slot)
         ⌝ }
 {
+    let edition = rec.edition;
     let next = rec.next;
     let victims = split.victims;
     let head = next_free(rec.slots, rec.map, rec.head);
-    write_digest(work, 0, new_digest(rec, victims, head, Version(next.0 + 1)));
-    let count = put_slot(area, index, marks, live, split, slot, work);
+    write_digest(
+        edition,
+        work,
+        0,
+        new_digest(rec, victims, head, Version(next.0 + 1)),
+    );
+    let count = put_slot(edition, area, index, marks, live, split, slot, work);
     let left = head_stores(rec.size as usize, count) as u32;
     let length = count as u32;
     let pending = Pending::Forget {
@@ -83,14 +89,21 @@ fn begin(
 
 // Marks the cells of the keys of objects outside the victim, of the key itself and those of the victim's tombstones: no other
 // mark is looked at.
-fn mark_left(area: &[u8], index: &[u32], marks: &mut [u32], split: Split, key: Key)
+fn mark_left(
+    edition: Edition,
+    area: &[u8],
+    index: &[u32],
+    marks: &mut [u32],
+    split: Split,
+    key: Key,
+)
     requires { ⌜ SplitFits split (now area) (now marks) ⌝ }
-    ensures { λ _. ⌜ now (marks .exit) ≡ siftedMarks edition1 (now (area .entry)) (now (index .entry)) split key (now (marks .entry)) ⌝ }
+    ensures { λ _. ⌜ now (marks .exit) ≡ siftedMarks edition (now (area .entry)) (now (index .entry)) split key (now (marks .entry)) ⌝ }
 {
     let mut filter = [0u32; 128];
     put(&mut filter, key);
-    note_victims(area, &mut filter, split);
-    mark_outside(area, index, &filter, marks, split);
+    note_victims(edition, area, &mut filter, split);
+    mark_outside(edition, area, index, &filter, marks, split);
 }
 
 // The key's cell in the index tells the place of the live object, and so the victim. On a store that is none of ours the place
@@ -103,15 +116,16 @@ fn forget_at(
     key: Key,
     cell: usize,
 ) -> Start
-    requires { ⌜ ForgetReady edition1 rec (now area) (now index) (now work) ⌝ }
-    requires { ⌜ Inside edition1 (now area) (now index) cell ⌝ }
-    requires { ⌜ searchFor edition1 (now area) (now index) key ≡ At cell ⌝ }
+    requires { ⌜ ForgetReady (rec .edition) rec (now area) (now index) (now work) ⌝ }
+    requires { ⌜ Inside (rec .edition) (now area) (now index) cell ⌝ }
+    requires { ⌜ searchFor (rec .edition) (now area) (now index) key ≡ At cell ⌝ }
     ensures { λ r.
         ⌜
         record { start = r; work = now (work .exit) }
-        ≡ forgotAt edition1 rec (now (area .entry)) (now (index .entry)) key (now (work .entry)) cell
+        ≡ forgotAt (rec .edition) rec (now (area .entry)) (now (index .entry)) key (now (work .entry)) cell
         ⌝ }
 {
+    let edition = rec.edition;
     let place = (index[cell] - 1) as usize;
     let slot = place / rec.size as usize;
     if !in_log(rec, slot) {
@@ -119,7 +133,7 @@ fn forget_at(
     }
     let split = split_of(rec, with_slot(0, slot as u32));
     let mut marks = [0u32; 128];
-    mark_left(area, index, &mut marks, split, key);
+    mark_left(edition, area, index, &mut marks, split, key);
     let needed = is_marked(&marks, cell);
     let version = rec.next;
     let live = Live {
@@ -133,14 +147,15 @@ fn forget_at(
 
 // A delete of a present key that finds no room.
 pub fn forget(rec: Record, area: &[u8], index: &[u32], work: &mut [u8], key: Key) -> Start
-    requires { ⌜ ForgetReady edition1 rec (now area) (now index) (now work) ⌝ }
+    requires { ⌜ ForgetReady (rec .edition) rec (now area) (now index) (now work) ⌝ }
     ensures { λ r.
         ⌜
         record { start = r; work = now (work .exit) }
-        ≡ forgotFor edition1 rec (now (area .entry)) (now (index .entry)) key (now (work .entry))
+        ≡ forgotFor (rec .edition) rec (now (area .entry)) (now (index .entry)) key (now (work .entry))
         ⌝ }
 {
-    match search(area, index, key) {
+    let edition = rec.edition;
+    match search(edition, area, index, key) {
         Found::At(cell) => forget_at(rec, area, index, work, key, cell),
         Found::Free(_) => refused(rec, Refusal::BadRecord),
         Found::Full => refused(rec, Refusal::BadRecord),

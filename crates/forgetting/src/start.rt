@@ -4,15 +4,14 @@ use record::Record;
 use record::Start;
 use record::Tables;
 use segment::Key;
-use segment::layout::HEAD_SIZE;
-use segment::layout::TOMBSTONE;
+use segment::layout::head_size;
+use segment::layout::tombstone_kind;
 use starting::Check;
 use starting::answer::refused;
 use starting::answer::started;
 use writing::causes::check_delete;
 use writing::causes::no_room;
 use writing::lay::lay_entry;
-ghost use Rattle.segment.specs.Layout.{edition1};
 ghost use Rattle.model.specs.Operations.{delete};
 ghost use Rattle.model.specs.Refused.{reaching};
 ghost use Rattle.model.specs.Promises.{StartPromise};
@@ -29,17 +28,18 @@ pub fn delete(
 ) -> Start
     ensures { λ r.
         ⌜
-        StartPromise edition1 (reaching tables) (delete key) rec (now (area .entry)) (now (index .entry)) (now (work .entry))
+        StartPromise (rec .edition) (reaching tables) (delete key) rec (now (area .entry)) (now (index .entry)) (now (work .entry))
         (now (work .exit)) r
         ⌝ }
 {
+    let edition = rec.edition;
     match check_delete(rec, area, index, work.len(), tables, key) {
         Check::Refused(c) => refused(rec, c),
         Check::Passed => {
-            if no_room(rec, HEAD_SIZE) {
+            if no_room(rec, head_size(edition)) {
                 return forget(rec, area, index, work, key);
             }
-            let laying = lay_entry(rec, work, TOMBSTONE, key, &area[0..0]);
+            let laying = lay_entry(rec, work, tombstone_kind(edition), key, &area[0..0]);
             let pending = laying.pending;
             started(rec, pending, laying.left)
         }

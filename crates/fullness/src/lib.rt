@@ -9,7 +9,6 @@ ghost use Prim.Native.Nat.{_≤_, _<_};
 ghost use mathlib.Core.Path.{_≡_};
 ghost use mathlib.Core.Bool.{true};
 ghost use lib.ListN.{length};
-ghost use Rattle.segment.specs.Layout.{edition1};
 ghost use Rattle.slot_map.specs.Bit.{named};
 ghost use Rattle.model.specs.Fewest.{hasFewest, lowestFrom, FewestPromise};
 ghost use Rattle.fullness.specs.FewestLaws.{fewer};
@@ -43,7 +42,7 @@ pub fn fewest_slot(slots: u32, head: u32, map: u32, counts: &[u32]) -> u32
 }
 
 pub fn fewest_present(rec: Record) -> Fewest
-    ensures { λ r. ⌜ FewestPromise edition1 rec r ⌝ }
+    ensures { λ r. ⌜ FewestPromise (rec .edition) rec r ⌝ }
 {
     if !in_range(rec) {
         return Fewest {

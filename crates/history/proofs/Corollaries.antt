@@ -12,7 +12,7 @@ use lib.ListN.{length}
 use borrow.Author.Tests.{not-true, eq-eqb}
 use Rattle.word.specs.Number.{Bytes}
 use Rattle.segment.specs.Choice.{pick, both, both-left, both-right, both-true, pick-true, pick-false}
-use Rattle.segment.specs.Layout.{edition1}
+use Rattle.segment.specs.Layout.{Layout, numberOfLayout}
 use Rattle.segment.specs.declared.Key.{Key}
 use Rattle.record.specs.Answers.{readSaid, refusal}
 use Rattle.record.specs.declared.FormatAnswer.{FormatAnswer}
@@ -24,7 +24,7 @@ use Rattle.record.specs.declared.Tables.{Tables}
 use Rattle.record.specs.Reach.{holdsTable}
 use Rattle.model.specs.Log.{sameKeys}
 use Rattle.model.specs.Operations.{Operation, write, delete, clean, TypedKey}
-use Rattle.model.specs.Recovery.{orderBad}
+use Rattle.model.specs.Recovery.{orderBad, imageLayout}
 use Rattle.model.specs.Refused.{Lengths}
 use Rattle.model.specs.Promises.{FormatPromise, RecoverPromise, ReadPromise, Part, partOf, ValuePromise}
 use Rattle.history.specs.Book.{Question, reads, readsValue, scans, scansValue, Call, starts, steps, asks, recovers, Answer, saying, giving, Event, called, cut, accepted, Kept, Awaited, Book, freshBook, finish, versionFor, oneOff, takeOne, feedCall, feed, bookAfter, bookOf, versionTold, highestTold}
@@ -41,15 +41,15 @@ unfolding bookAfter
 book-append b [] ys = refl
 book-append b (x ∷ xs) ys = book-append (feed b x) xs ys
 
-pub agree-at : (b : Book) (xs : List Event) (e : Event) (ys : List Event) → EventsAgree edition1 b (xs ++ e ∷ ys) → EventAgrees edition1 (bookAfter b xs) e
+pub agree-at : (L : Layout) (b : Book) (xs : List Event) (e : Event) (ys : List Event) → EventsAgree L b (xs ++ e ∷ ys) → EventAgrees L (bookAfter b xs) e
 unfolding EventsAgree bookAfter
-agree-at b [] e ys h = h .0
-agree-at b (x ∷ xs) e ys h = agree-at (feed b x) xs e ys (h .1)
+agree-at L b [] e ys h = h .0
+agree-at L b (x ∷ xs) e ys h = agree-at L (feed b x) xs e ys (h .1)
 
-pub agree-behind : (b : Book) (xs : List Event) (e : Event) (ys : List Event) → EventsAgree edition1 b (xs ++ e ∷ ys) → EventsAgree edition1 (feed (bookAfter b xs) e) ys
+pub agree-behind : (L : Layout) (b : Book) (xs : List Event) (e : Event) (ys : List Event) → EventsAgree L b (xs ++ e ∷ ys) → EventsAgree L (feed (bookAfter b xs) e) ys
 unfolding EventsAgree bookAfter
-agree-behind b [] e ys h = h .1
-agree-behind b (x ∷ xs) e ys h = agree-behind (feed b x) xs e ys (h .1)
+agree-behind L b [] e ys h = h .1
+agree-behind L b (x ∷ xs) e ys h = agree-behind L (feed b x) xs e ys (h .1)
 
 -- ---- a deleted key stays gone
 
@@ -133,29 +133,29 @@ module _ (before : List Event) (l : Lengths) (a : Answer) (k : Key) (deleting : 
     gone-since =
         gone-after (feed (bookOf before) (called steps l a)) k since (deleted-gone (bookOf before) k l a deleting done) none-written
 
-module _ (n s : ℕ) (area₀ area : List ℕ) (ab : Bytes area₀) (format : FormatPromise edition1 n s area₀ area FormatAnswer.Formatted) where
+module _ (L : Layout) (n s : ℕ) (area₀ area : List ℕ) (ab : Bytes area₀) (format : FormatPromise (numberOfLayout L) n s area₀ area FormatAnswer.Formatted) where
   -- a list of events from the fresh store to a world, and what demand 3 says of it
   abbrev pub Leads : List Event → World → Type 0
-  Leads es w = Run edition1 n s (freshWorld area) es w
+  Leads es w = Run n s (freshWorld area) es w
 
-  pub demanded : (es : List Event) (w : World) → Leads es w → Demand3Of edition1 n s w es
-  demanded es w run = demand-3 n s area₀ area ab format es w run
+  pub demanded : (es : List Event) (w : World) → Leads es w → Demand3Of L n s w es
+  demanded es w run = demand-3 L n s area₀ area ab format es w run
 
   -- Once the last store of a delete is done, no later recovery gives the key a version or a value until a write of it is finished.
   pub deleted-stays-gone :
       (before after : List Event) (l : Lengths) (a : Answer) (k : Key) (w : World) → Leads (before ++ called steps l a ∷ after) w →
       bookOf before .pending ≡ some (record { operation = delete k; left = 1 }) → accepted a ≡ true →
       noWrite (feed (bookOf before) (called steps l a)) k after ≡ true → (order cells cells′ : List ℕ) (r : Recovery) → orderBad n order ≡ false →
-      LargeEnough (w .cells) (length cells) → RecoverPromise edition1 n s order (w .area) cells cells′ r → TypedKey k → (t : Tables) →
-      holdsTable t (k .table) ≡ true → ((x : Reading) → ReadPromise edition1 (r .rec) (w .area) cells′ t k x → x .answer ≡ ReadAnswer.Refused Refusal.Absent)
-      × ((p : Part) → ValuePromise edition1 (r .rec) (w .area) cells′ t k p → partOf (w .area) p ≡ [])
+      LargeEnough (w .cells) (length cells) → RecoverPromise (imageLayout n s (w .area)) n s order (w .area) cells cells′ r → TypedKey k → (t : Tables) →
+      holdsTable t (k .table) ≡ true → ((x : Reading) → ReadPromise (r .rec .edition) (r .rec) (w .area) cells′ t k x → x .answer ≡ ReadAnswer.Refused Refusal.Absent)
+      × ((p : Part) → ValuePromise (r .rec .edition) (r .rec) (w .area) cells′ t k p → partOf (w .area) p ≡ [])
   unfolding bookAnswer bookValue bookAfter
   deleted-stays-gone before after l a k w run deleting done none-written order cells cells′ r good large promise typed t held = (
-    λ x q. given .answers t k typed held x q ∙ ap (bookAnswer edition1) gone,
+    λ x q. given .answers t k typed held x q ∙ ap (bookAnswer L) gone,
     λ v q. given .values t k typed held v q ∙ ap bookValue gone,
   )
     where
-      given : GivesBook edition1 (w .area) cells′ r (bookOf (before ++ called steps l a ∷ after))
+      given : GivesBook L (w .area) cells′ r (bookOf (before ++ called steps l a ∷ after))
       given = demanded (before ++ called steps l a ∷ after) w run .recovery order cells cells′ r good large promise
 
       gone : bookOf (before ++ called steps l a ∷ after) .keys k ≡ none
@@ -173,10 +173,10 @@ module _ (n s : ℕ) (area₀ area : List ℕ) (ab : Bytes area₀) (format : Fo
       × ((n s : ℕ) → q ≡ scans n s t k → x ≡ saying (refusal 8)) × ((n s : ℕ) → q ≡ scansValue n s t k → x ≡ giving [])
   unfolding EventAgrees QuestionAgrees bookAnswer bookValue
   deleted-reads-gone before between after l lent a x t k q w held run deleting done none-written = (
-    λ e. subst (λ (y : Question). QuestionAgrees edition1 now y x) e agrees ∙ says,
-    λ e. subst (λ (y : Question). QuestionAgrees edition1 now y x) e agrees ∙ gives,
-    λ n s e. subst (λ (y : Question). QuestionAgrees edition1 now y x) e agrees ∙ says,
-    λ n s e. subst (λ (y : Question). QuestionAgrees edition1 now y x) e agrees ∙ gives,
+    λ e. subst (λ (y : Question). QuestionAgrees L now y x) e agrees ∙ says,
+    λ e. subst (λ (y : Question). QuestionAgrees L now y x) e agrees ∙ gives,
+    λ n s e. subst (λ (y : Question). QuestionAgrees L now y x) e agrees ∙ says,
+    λ n s e. subst (λ (y : Question). QuestionAgrees L now y x) e agrees ∙ gives,
   )
     where
       now : Book
@@ -185,19 +185,19 @@ module _ (n s : ℕ) (area₀ area : List ℕ) (ab : Bytes area₀) (format : Fo
       gone : now .keys k ≡ none
       gone = gone-since before l a k deleting done between none-written
 
-      says : saying (pick (holdsTable t (k .table)) (readSaid (bookAnswer edition1 (now .keys k))) (refusal 22)) ≡ saying (refusal 8)
+      says : saying (pick (holdsTable t (k .table)) (readSaid (bookAnswer L (now .keys k))) (refusal 22)) ≡ saying (refusal 8)
       says =
-          ap saying (pick-true (holdsTable t (k .table)) (readSaid (bookAnswer edition1 (now .keys k))) (refusal 22) held)
-          ∙ ap (λ (y : Option Kept). saying (readSaid (bookAnswer edition1 y))) gone
+          ap saying (pick-true (holdsTable t (k .table)) (readSaid (bookAnswer L (now .keys k))) (refusal 22) held)
+          ∙ ap (λ (y : Option Kept). saying (readSaid (bookAnswer L y))) gone
 
       gives : giving (pick (holdsTable t (k .table)) (bookValue (now .keys k)) []) ≡ giving []
       gives =
           ap giving (pick-true (holdsTable t (k .table)) (bookValue (now .keys k)) [] held) ∙ ap (λ (y : Option Kept). giving (bookValue y)) gone
 
-      agrees : QuestionAgrees edition1 now q x
+      agrees : QuestionAgrees L now q x
       agrees =
-          agree-at (feed (bookOf before) (called steps l a)) between (called (asks q) lent x) after
-          (agree-behind freshBook before (called steps l a) (between ++ called (asks q) lent x ∷ after)
+          agree-at L (feed (bookOf before) (called steps l a)) between (called (asks q) lent x) after
+          (agree-behind L freshBook before (called steps l a) (between ++ called (asks q) lent x ∷ after)
           (demanded (before ++ called steps l a ∷ (between ++ called (asks q) lent x ∷ after)) w run .agrees))
 
   -- A step is accepted only where the book has an operation pending.
@@ -207,7 +207,7 @@ module _ (n s : ℕ) (area₀ area : List ℕ) (ab : Bytes area₀) (format : Fo
   unfolding EventAgrees StepAgrees
   accepted-awaited before after l a w run done none-pending =
       subst (λ (x : Option Awaited). StepAgrees (bookOf before) (a .said) x) none-pending
-      (agree-at freshBook before (called steps l a) after (demanded (before ++ called steps l a ∷ after) w run .agrees) done)
+      (agree-at L freshBook before (called steps l a) after (demanded (before ++ called steps l a ∷ after) w run .agrees) done)
 
 -- ---- versions told
 
@@ -230,10 +230,10 @@ told-is b (clean victims) h = absurd (h refl)
 
 -- what a finished operation was told, at the book of the list before it
 pub told-at :
-    (b : Book) (l : Lengths) (a : Answer) → EventAgrees edition1 b (called steps l a) → (f : Finishes b a) →
+    (L : Layout) (b : Book) (l : Lengths) (a : Answer) → EventAgrees L b (called steps l a) → (f : Finishes b a) →
     a .said .version ≡ versionFor b (f .awaited .operation)
 unfolding EventAgrees StepAgrees
-told-at b l a h f = subst (λ (x : Option Awaited). StepAgrees b (a .said) x) (f .pending) (h (f .is-accepted)) .1 (f .one-left)
+told-at L b l a h f = subst (λ (x : Option Awaited). StepAgrees b (a .said) x) (f .pending) (h (f .is-accepted)) .1 (f .one-left)
 
 pub book-at : (b : Book) (l : Lengths) (a : Answer) (f : Finishes b a) → feed b (called steps l a) ≡ finish b (f .awaited .operation)
 unfolding feed feedCall takeOne oneOff
@@ -246,23 +246,23 @@ unfolding highestTold
 told-in [] e after = omega arith
 told-in (x ∷ xs) e after = omega (arith, told-in xs e after)
 
-module _ (n s : ℕ) (area₀ area : List ℕ) (ab : Bytes area₀) (format : FormatPromise edition1 n s area₀ area FormatAnswer.Formatted) where
+module _ (L : Layout) (n s : ℕ) (area₀ area : List ℕ) (ab : Bytes area₀) (format : FormatPromise (numberOfLayout L) n s area₀ area FormatAnswer.Formatted) where
   -- Whatever version a call told, a later recovery gives a higher next version.
   pub told-below-next :
       (before after : List Event) (c : Call) (l : Lengths) (a : Answer) (w : World) →
-      Leads n s area₀ area ab format (before ++ called c l a ∷ after) w → (order cells cells′ : List ℕ) (r : Recovery) →
-      orderBad n order ≡ false → LargeEnough (w .cells) (length cells) → RecoverPromise edition1 n s order (w .area) cells cells′ r →
+      Leads L n s area₀ area ab format (before ++ called c l a ∷ after) w → (order cells cells′ : List ℕ) (r : Recovery) →
+      orderBad n order ≡ false → LargeEnough (w .cells) (length cells) → RecoverPromise (imageLayout n s (w .area)) n s order (w .area) cells cells′ r →
       a .said .version < r .rec .next .0
   unfolding versionTold
   told-below-next before after c l a w run order cells cells′ r good large promise =
-      let all = demanded n s area₀ area ab format (before ++ called c l a ∷ after) w run in
+      let all = demanded L n s area₀ area ab format (before ++ called c l a ∷ after) w run in
       omega (arith, told-in before (called c l a) after, all .above-told, all .recovery order cells cells′ r good large promise .next-version)
 
   -- No two finished operations are told the same version, but for the 0 of cleanings: of two, the later is told a higher one, whatever
   -- stands between them.
   pub told-rises :
       (first between last : List Event) (l k : Lengths) (a c : Answer) (w : World) →
-      Leads n s area₀ area ab format (first ++ called steps l a ∷ (between ++ called steps k c ∷ last)) w → (f : Finishes (bookOf first) a) →
+      Leads L n s area₀ area ab format (first ++ called steps l a ∷ (between ++ called steps k c ∷ last)) w → (f : Finishes (bookOf first) a) →
       (g : Finishes (bookAfter (feed (bookOf first) (called steps l a)) between) c) → (a .said .version ≡ 0 → ⊥) →
       (c .said .version ≡ 0 → ⊥) → a .said .version < c .said .version
   told-rises first between last l k a c w run f g na nc =
@@ -274,17 +274,17 @@ module _ (n s : ℕ) (area₀ area : List ℕ) (ab : Bytes area₀) (format : Fo
       b₂ : Book
       b₂ = bookAfter (feed (bookOf first) (called steps l a)) between
 
-      agree : EventsAgree edition1 freshBook (first ++ called steps l a ∷ (between ++ called steps k c ∷ last))
-      agree = demanded n s area₀ area ab format (first ++ called steps l a ∷ (between ++ called steps k c ∷ last)) w run .agrees
+      agree : EventsAgree L freshBook (first ++ called steps l a ∷ (between ++ called steps k c ∷ last))
+      agree = demanded L n s area₀ area ab format (first ++ called steps l a ∷ (between ++ called steps k c ∷ last)) w run .agrees
 
       told-a : a .said .version ≡ versionFor b₁ (f .awaited .operation)
-      told-a = told-at b₁ l a (agree-at freshBook first (called steps l a) (between ++ called steps k c ∷ last) agree) f
+      told-a = told-at L b₁ l a (agree-at L freshBook first (called steps l a) (between ++ called steps k c ∷ last) agree) f
 
       told-c : c .said .version ≡ versionFor b₂ (g .awaited .operation)
       told-c =
-          told-at b₂ k c
-          (agree-at (feed b₁ (called steps l a)) between (called steps k c) last
-          (agree-behind freshBook first (called steps l a) (between ++ called steps k c ∷ last) agree)) g
+          told-at L b₂ k c
+          (agree-at L (feed b₁ (called steps l a)) between (called steps k c) last
+          (agree-behind L freshBook first (called steps l a) (between ++ called steps k c ∷ last) agree)) g
 
       is-a : (versionFor b₁ (f .awaited .operation) ≡ b₁ .next) × (b₁ .next < finish b₁ (f .awaited .operation) .next)
       is-a = told-is b₁ (f .awaited .operation) (λ z. na (told-a ∙ z))

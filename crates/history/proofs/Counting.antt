@@ -5,7 +5,7 @@ use mathlib.Core.Path.{_≡_, sym, ap, _∙_, subst}
 use mathlib.Core.List.{List}
 use mathlib.Core.Option.{Option, some}
 use Rattle.word.specs.Number.{Bytes}
-use Rattle.segment.specs.Layout.{Layout, edition1}
+use Rattle.segment.specs.Layout.{Layout, numberOfLayout}
 use Rattle.record.specs.Answers.{withPending}
 use Rattle.record.specs.declared.FormatAnswer.{FormatAnswer}
 use Rattle.record.specs.declared.Pending.the-variants.{Idle}
@@ -13,25 +13,25 @@ use Rattle.record.specs.declared.Record.{Record}
 use Rattle.model.specs.Counts.{countsOf}
 use Rattle.model.specs.Operations.{logNow}
 use Rattle.model.specs.Promises.{Genuine, FormatPromise}
-use Rattle.laws.specs.OperationsKept.{edition1-laws}
+use Rattle.laws.specs.OperationsKept.{edition-laws}
 use Rattle.history.specs.Book.{Event, freshBook, bookOf}
 use Rattle.history.specs.Runs.{Held, World, freshWorld, Run}
 use Rattle.history.proofs.Invariant.{HeldGood, Holding, recovered-is}
 use Rattle.history.proofs.Theorem.{fresh, run-keeps}
 
 -- a genuine record's numbers, whether or not an operation is pending
-pub genuine-counts : (L : Layout) (area : List ℕ) (r : Record) (cells : List ℕ) → Genuine L area r cells → r .counts ≡ countsOf L (logNow L area r)
+pub genuine-counts : (L : Layout) (area : List ℕ) (r : Record) (cells : List ℕ) → Genuine L area r cells → r .counts ≡ countsOf L (logNow area r)
 genuine-counts L area r cells g =
     let is = recovered-is L (r .slots) (r .size) (r .cells) area (withPending r Idle) (g .recovers) in
-    ap (λ (x : Record). x .counts) is ∙ sym (ap (λ (x : Record). countsOf L (logNow L area x)) is)
+    ap (λ (x : Record). x .counts) is ∙ sym (ap (λ (x : Record). countsOf L (logNow area x)) is)
 
 -- After any list of events since the format, a record that is held counts the present bytes of the area as it is.
 pub counts-kept :
-    (n s : ℕ) (area₀ area : List ℕ) → Bytes area₀ → FormatPromise edition1 n s area₀ area FormatAnswer.Formatted → (es : List Event) (w : World) →
-    Run edition1 n s (freshWorld area) es w → (h : Held) → w .held ≡ some h → h .rec .counts ≡ countsOf edition1 (logNow edition1 (w .area) (h .rec))
+    (L : Layout) (n s : ℕ) (area₀ area : List ℕ) → Bytes area₀ → FormatPromise (numberOfLayout L) n s area₀ area FormatAnswer.Formatted →
+    (es : List Event) (w : World) → Run n s (freshWorld area) es w → (h : Held) → w .held ≡ some h → h .rec .counts ≡ countsOf L (logNow (w .area) (h .rec))
 unfolding HeldGood
-counts-kept n s area₀ area ab p es w r h e =
-    let kept = run-keeps edition1 edition1-laws n s freshBook 0 r (fresh edition1 edition1-laws n s area₀ area ab p) .0 in
-    let good : Holding edition1 n s (w .area) (w .cells) (bookOf es) h =
-    subst (HeldGood edition1 n s (w .area) (w .cells) (bookOf es)) e (kept .held) in
-    genuine-counts edition1 (w .area) (h .rec) (h .cells) (good .genuine)
+counts-kept L n s area₀ area ab p es w r h e =
+    let kept = run-keeps L (edition-laws L) n s freshBook 0 r (fresh L (edition-laws L) n s area₀ area ab p) .0 in
+    let good : Holding L n s (w .area) (w .cells) (bookOf es) h =
+    subst (HeldGood L n s (w .area) (w .cells) (bookOf es)) e (kept .held) in
+    genuine-counts L (w .area) (h .rec) (h .cells) (good .genuine)

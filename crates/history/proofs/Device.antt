@@ -6,7 +6,7 @@ use mathlib.Core.Bool.{true}
 use mathlib.Core.List.{List, [], _∷_, _++_}
 use mathlib.Core.Option.{Option, none, some}
 use lib.ListN.{length, getD, take, set}
-use Rattle.segment.specs.Layout.{Layout, edition1}
+use Rattle.segment.specs.Layout.{Layout}
 use Rattle.record.specs.declared.Foretold.{Foretold}
 use Rattle.record.specs.declared.Refusal.{Refusal}
 use Rattle.record.specs.declared.Stepped.{Stepped}
@@ -17,18 +17,18 @@ use Rattle.model.specs.Refused.{Lengths, isPending, stepCauses, tellCauses}
 use Rattle.model.specs.Promises.{Started, StepPromise, lentLengths, tellLengths, TellPromise}
 use Rattle.laws.specs.Members.{clash}
 use Rattle.laws.specs.Operated.{OperationLaws}
-use Rattle.laws.specs.OperationsKept.{edition1-laws}
+use Rattle.laws.specs.OperationsKept.{edition-laws}
 use Rattle.laws.specs.Stores.{stored-next}
 use Rattle.history.specs.Book.{tells, steps, Answer, telling, accepted, Event, called, Book, freshBook, bookOf}
 use Rattle.history.specs.Runs.{Held, World, Asked, tell, Moves, step, Run, stop, go}
 use Rattle.history.specs.Demand3.{Demand3Of}
 use Rattle.history.specs.Device.{onDevice, DeviceFor, DeviceClaim}
-use Rattle.history.proofs.Invariant.{Inv, Holding, HeldGood, Phase, idle, pending}
+use Rattle.history.proofs.Invariant.{Inv, Holding, HeldGood, Phase, idle, pending, held-promise}
 use Rattle.history.proofs.Tellings.{idle-refused, refused-told, started-pending}
 use Rattle.history.proofs.Theorem.{run-keeps, fresh, demand-3-for}
 
 -- a list of events and one more
-one-more : {L : Layout} {n s : ℕ} {w x y : World} {es : List Event} {e : Event} → Run L n s w es x → Moves L n s x e y → Run L n s w (es ++ e ∷ []) y
+one-more : {n s : ℕ} {w x y : World} {es : List Event} {e : Event} → Run n s w es x → Moves n s x e y → Run n s w (es ++ e ∷ []) y
 one-more stop m = go m stop
 one-more (go k r) m = go k (one-more r m)
 
@@ -60,7 +60,7 @@ module _ (L : Layout) (n s : ℕ) (area area′ cells′ work work′ : List ℕ
 
     module _ (st : Started L area (h .rec) (h .work)) where
       abbrev plan : List (ℕ × ℕ)
-      plan = planFor L (st .idle) (logNow L (st .before) (st .idle)) (st .operation)
+      plan = planFor L (st .idle) (logNow (st .before) (st .idle)) (st .operation)
 
       is-pending : isPending (h .rec .pending) ≡ true
       is-pending = started-pending L area (h .rec) (h .work) st
@@ -98,11 +98,13 @@ module _ (L : Layout) (n s : ℕ) (area area′ cells′ work work′ : List ℕ
 
 module _ (L : Layout) (n s : ℕ) where
   told-then :
-      {w x : World} {l k : Lengths} {told a : Answer} (b : Book) (t : ℕ) → Asked L w tells l told → accepted told ≡ true →
-      Moves L n s w (called steps k a) x → Inv L n s w b t → x .area ≡ onDevice (w .area) told
+      {w x : World} {l k : Lengths} {told a : Answer} (b : Book) (t : ℕ) → Asked w tells l told → accepted told ≡ true →
+      Moves n s w (called steps k a) x → Inv L n s w b t → x .area ≡ onDevice (w .area) told
   unfolding HeldGood
   told-then b t (tell {area} {work} {h} {m} {a = y} own p) took (step {area′ = area′} {cells′ = cells′} {work = work′} {a = a} own′ q) inv =
-      told-stored L n s area area′ cells′ work work′ h m b y a own p took own′ q (inv .held)
+      told-stored L n s area area′ cells′ work work′ h m b y a own
+      (held-promise L n s area m b h (inv .held) (λ (K : Layout). TellPromise K (h .rec) area work y) p) took own′
+      (held-promise L n s area m b h (inv .held) (λ (K : Layout). StepPromise K (h .rec) area area′ (h .cells) cells′ work′ a) q) (inv .held)
 
 pub device-for : (L : Layout) → OperationLaws L → DeviceFor L
 device-for L laws n s area₀ area ab f es w x run l k told a asked took moved =
@@ -117,4 +119,4 @@ device-for L laws n s area₀ area ab f es w x run l k told a asked took moved =
 
 -- A device that gets each byte as it is told recovers as the store does that was cut on one side of the step.
 pub device : DeviceClaim
-device = device-for edition1 edition1-laws
+device L = device-for L (edition-laws L)

@@ -11,7 +11,7 @@ use lib.Dec.{eqb}
 use borrow.Author.Tests.{not-true}
 use Rattle.word.specs.Number.{Bytes}
 use Rattle.segment.specs.Choice.{pick, both-left, both-right, pick-true}
-use Rattle.segment.specs.Layout.{edition1}
+use Rattle.segment.specs.Layout.{Layout, numberOfLayout}
 use Rattle.segment.specs.declared.Key.{Key}
 use Rattle.segment.specs.declared.Version.{Version}
 use Rattle.record.specs.Answers.{readSaid, refusal}
@@ -180,45 +180,45 @@ pub record Told (n : ℕ) (v : ℕ) (y : Option Kept) : Type 0 where
   pub low : 0 < object .version
   pub high : object .version < n
 
-read-told : (n : ℕ) (y : Option Kept) (a : Answer) → Below n y → a ≡ saying (readSaid (bookAnswer edition1 y)) → accepted a ≡ true → Told n (a .said .version) y
+read-told : (L : Layout) (n : ℕ) (y : Option Kept) (a : Answer) → Below n y → a ≡ saying (readSaid (bookAnswer L y)) → accepted a ≡ true → Told n (a .said .version) y
 unfolding bookAnswer
-read-told n _ a nothing e done =
+read-told L n _ a nothing e done =
     let refused-8 : eqb 8 0 ≡ true = sym (ap accepted e) ∙ done in let z : _≡_ {A = ℕ} 0 1 = cc in absurd (omega arith)
-read-told n _ a (below {x} low high) e done =
+read-told L n _ a (below {x} low high) e done =
     record { object = x; is-held = refl; its-version = sym (ap (λ (y : Answer). y .said .version) e); low = low; high = high }
 
 -- and its range held the key's table
 within-told :
-    (t : Bool) (n : ℕ) (y : Option Kept) (a : Answer) → Below n y → a ≡ saying (pick t (readSaid (bookAnswer edition1 y)) (refusal 22)) →
+    (L : Layout) (t : Bool) (n : ℕ) (y : Option Kept) (a : Answer) → Below n y → a ≡ saying (pick t (readSaid (bookAnswer L y)) (refusal 22)) →
     accepted a ≡ true → Told n (a .said .version) y
 unfolding pick
-within-told true n y a h e done = read-told n y a h e done
-within-told false n y a h e done =
+within-told L true n y a h e done = read-told L n y a h e done
+within-told L false n y a h e done =
     let refused-22 : eqb 22 0 ≡ true = sym (ap accepted e) ∙ done in let z : _≡_ {A = ℕ} 0 1 = cc in absurd (omega arith)
 
-agree-prefix : (b : Book) (xs ys : List Event) → EventsAgree edition1 b (xs ++ ys) → EventsAgree edition1 b xs
+agree-prefix : (L : Layout) (b : Book) (xs ys : List Event) → EventsAgree L b (xs ++ ys) → EventsAgree L b xs
 unfolding EventsAgree
-agree-prefix b [] ys h = tt
-agree-prefix b (x ∷ xs) ys h = (h .0, agree-prefix (feed b x) xs ys (h .1))
+agree-prefix L b [] ys h = tt
+agree-prefix L b (x ∷ xs) ys h = (h .0, agree-prefix L (feed b x) xs ys (h .1))
 
 -- ---- runs
 
-module _ (n s : ℕ) (area₀ area : List ℕ) (ab : Bytes area₀) (format : FormatPromise edition1 n s area₀ area FormatAnswer.Formatted) where
+module _ (L : Layout) (n s : ℕ) (area₀ area : List ℕ) (ab : Bytes area₀) (format : FormatPromise (numberOfLayout L) n s area₀ area FormatAnswer.Formatted) where
   -- An accepted write that expects a version: it is the one that the book has of the key, 0 where it has none.
   pub expected-found :
       (before after : List Event) (t : Terms) (e : Version) (k : Key) (value : List ℕ) (l : Lengths) (a : Answer) (w : World) →
-      Leads n s area₀ area ab format (before ++ called (starts t (write k value)) l a ∷ after) w → t .expected ≡ Only e → accepted a ≡ true →
+      Leads L n s area₀ area ab format (before ++ called (starts t (write k value)) l a ∷ after) w → t .expected ≡ Only e → accepted a ≡ true →
       e .0 ≡ bookVersion (bookOf before .keys k)
   unfolding EventAgrees StartAgrees Expects
   expected-found before after t e k value l a w run asked done =
       subst (λ (x : Expected). Expects x (bookVersion (bookOf before .keys k))) asked
-      (agree-at freshBook before (called (starts t (write k value)) l a) after
-      (demanded n s area₀ area ab format (before ++ called (starts t (write k value)) l a ∷ after) w run .agrees) done)
+      (agree-at L freshBook before (called (starts t (write k value)) l a) after
+      (demanded L n s area₀ area ab format (before ++ called (starts t (write k value)) l a ∷ after) w run .agrees) done)
 
   -- A write that expects a version is started, nothing breaks it off, and its last step is accepted. Up to that step the book had
   -- the expected version of the key, and from then on it has the value written, at the version told.
   module _ (before between after : List Event) (t : Terms) (e : Version) (k : Key) (value : List ℕ) (l m : Lengths) (a c : Answer) (w : World)
-      (run : Leads n s area₀ area ab format (before ++ called (starts t (write k value)) l a ∷ (between ++ called steps m c ∷ after)) w)
+      (run : Leads L n s area₀ area ab format (before ++ called (starts t (write k value)) l a ∷ (between ++ called steps m c ∷ after)) w)
       (asked : t .expected ≡ Only e) (done : accepted a ≡ true) (unbroken : allGoOn between ≡ true)
     where
       abbrev pub begun : Book
@@ -257,10 +257,10 @@ module _ (n s : ℕ) (area₀ area : List ℕ) (ab : Bytes area₀) (format : Fo
 
           told : c .said .version ≡ atLast .next
           told =
-              told-at atLast m c
-              (agree-at begun between (called steps m c) after
-              (agree-behind freshBook before (called (starts t (write k value)) l a) (between ++ called steps m c ∷ after)
-              (demanded n s area₀ area ab format (before ++ called (starts t (write k value)) l a ∷ (between ++ called steps m c ∷ after)) w run .agrees))) f
+              told-at L atLast m c
+              (agree-at L begun between (called steps m c) after
+              (agree-behind L freshBook before (called (starts t (write k value)) l a) (between ++ called steps m c ∷ after)
+              (demanded L n s area₀ area ab format (before ++ called (starts t (write k value)) l a ∷ (between ++ called steps m c ∷ after)) w run .agrees))) f
               ∙ ap (versionFor atLast) (own .same-operation)
 
       -- The expectation was the version that an earlier read told. Then what the write replaces is what that read found, version and
@@ -282,16 +282,16 @@ module _ (n s : ℕ) (area₀ area : List ℕ) (ab : Bytes area₀) (format : Fo
           found : e .0 ≡ bookVersion (bookOf before .keys k)
           found = expected-found before (between ++ called steps m c ∷ after) t e k value l a w run asked done
 
-          agree : EventsAgree edition1 freshBook (first ++ called (asks (reads v k)) j r ∷ mid)
+          agree : EventsAgree L freshBook (first ++ called (asks (reads v k)) j r ∷ mid)
           agree =
-              subst (EventsAgree edition1 freshBook) split
-              (agree-prefix freshBook before (called (starts t (write k value)) l a ∷ (between ++ called steps m c ∷ after))
-              (demanded n s area₀ area ab format (before ++ called (starts t (write k value)) l a ∷ (between ++ called steps m c ∷ after)) w run .agrees))
+              subst (EventsAgree L freshBook) split
+              (agree-prefix L freshBook before (called (starts t (write k value)) l a ∷ (between ++ called steps m c ∷ after))
+              (demanded L n s area₀ area ab format (before ++ called (starts t (write k value)) l a ∷ (between ++ called steps m c ∷ after)) w run .agrees))
 
           told : Told (bookOf first .next) (r .said .version) (bookOf first .keys k)
           told =
-              within-told (holdsTable v (k .table)) (bookOf first .next) (bookOf first .keys k) r (book-versioned first .versions k)
-              (agree-at freshBook first (called (asks (reads v k)) j r) mid agree) read-done
+              within-told L (holdsTable v (k .table)) (bookOf first .next) (bookOf first .keys k) r (book-versioned first .versions k)
+              (agree-at L freshBook first (called (asks (reads v k)) j r) mid agree) read-done
 
           later : Book
           later = bookAfter (feed (bookOf first) (called (asks (reads v k)) j r)) mid

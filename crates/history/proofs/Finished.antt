@@ -36,7 +36,7 @@ module _ (L : Layout) (before : List ℕ) (idle : Record) (b : Book) (same : idl
 
   pub finished-next : (o : Operation) → finishedRecord L before idle o .next .0 ≡ finish b o .next
   unfolding finishedRecord finish
-  finished-next (write k value) = entry-next (fitsHead L idle (writtenEntry idle k value)) (writtenEntry idle k value) (logNow L before idle)
+  finished-next (write k value) = entry-next (fitsHead L idle (writtenEntry idle k value)) (writtenEntry idle k value) (logNow before idle)
   finished-next (delete k) = deleted-next L before idle k ∙ ap (λ (n : ℕ). n + 1) same
   finished-next (clean victims) = same
 

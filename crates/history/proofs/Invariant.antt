@@ -15,11 +15,12 @@ use Rattle.record.specs.declared.Refusal.{Refusal}
 use Rattle.record.specs.declared.Record.{Record}
 use Rattle.model.specs.Log.{Placed}
 use Rattle.model.specs.Causes.{firstCause}
-use Rattle.model.specs.Recovery.{recovered, recordFrom, ifNone, areaCauses}
+use Rattle.model.specs.Recovery.{recovered, recordFrom, ifNone, areaCauses, imageLayout}
 use Rattle.model.specs.Operations.{logNow, storesFor}
 use Rattle.model.specs.Promises.{Genuine, Started}
 use Rattle.laws.specs.MapLaws.{valueAt}
 use Rattle.laws.specs.Operated.{Accepted}
+use Rattle.laws.specs.RecoverLaws.{recovered-edition, recovered-image}
 use Rattle.history.specs.Book.{Kept, Book}
 use Rattle.history.specs.Runs.{Held, World}
 
@@ -38,7 +39,7 @@ bookEntry k (some x) =
 -- The bytes of the area say what the book holds.
 pub record Agrees (L : Layout) (n s : ℕ) (area : List ℕ) (b : Book) : Type 0 where
   pub next-same : recordFrom L n s 16 area .next .0 ≡ b .next
-  pub map-same : (k : Key) → valueAt (logNow L area (recordFrom L n s 16 area)) k ≡ bookEntry k (b .keys k)
+  pub map-same : (k : Key) → valueAt (logNow area (recordFrom L n s 16 area)) k ≡ bookEntry k (b .keys k)
 
 -- how many cells are known to suffice
 unfoldable pub baseCells : Option ℕ → ℕ
@@ -54,7 +55,7 @@ pub data Phase (L : Layout) (area : List ℕ) (b : Book) (h : Held) : Type 0 whe
       some
       (record {
         operation = t .operation;
-        left = storesFor L (t .idle) (logNow L (t .before) (t .idle)) (t .operation) - t .since;
+        left = storesFor L (t .idle) (logNow (t .before) (t .idle)) (t .operation) - t .since;
       }) →
       Phase L area b h
 
@@ -96,8 +97,8 @@ next-of L n s m area r e = ap (λ (x : Record). x .next .0) (sym (recovered-is L
 
 pub log-of :
     (L : Layout) (n s m : ℕ) (area : List ℕ) (r : Record) → recovered L n s m area ≡ some r →
-    logNow L area (recordFrom L n s 16 area) ≡ logNow L area r
-log-of L n s m area r e = ap (logNow L area) (sym (recovered-is L n s m area r e))
+    logNow area (recordFrom L n s 16 area) ≡ logNow area r
+log-of L n s m area r e = ap (logNow area) (sym (recovered-is L n s m area r e))
 
 pub idle-of : (L : Layout) (n s m : ℕ) (area : List ℕ) (r : Record) → recovered L n s m area ≡ some r → r .pending ≡ Idle
 idle-of L n s m area r e = ap (λ (x : Record). x .pending) (recovered-is L n s m area r e)
@@ -141,10 +142,26 @@ started-accepted L area r work st =
       no-cause = st .accepted;
     }
 
+-- ---- the edition
+
+-- The record that is held has the edition of the format, so what a call promises at the record's edition it promises at the format's,
+pub held-promise :
+    (L : Layout) (n s : ℕ) (area : List ℕ) (m : Option ℕ) (b : Book) (h : Held) → Holding L n s area m b h → (P : Layout → Type 0) →
+    P (h .rec .edition) → P L
+held-promise L n s area m b h good P p =
+    subst P (recovered-edition L (h .rec .slots) (h .rec .size) (h .rec .cells) area (withPending (h .rec) Idle) (good .genuine .recovers)) p
+
+-- and so has the head's slot.
+pub area-promise : (L : Layout) (n s : ℕ) (w : World) (b : Book) (t : ℕ) → Inv L n s w b t → (P : Layout → Type 0) → P (imageLayout n s (w .area)) → P L
+area-promise L n s w b t inv P p =
+    subst P (recovered-image L n s (baseCells (w .cells)) (w .area) (recordFrom L n s (baseCells (w .cells)) (w .area)) (inv .base)) p
+
+-- ---- the invariant again
+
 -- The invariant from a recovered record that agrees with the book.
 pub rebuilt :
     (L : Layout) (n s m : ℕ) (area : List ℕ) (r : Record) (held : Option Held) (b : Book) (told : ℕ) → Bytes area →
-    recovered L n s m area ≡ some r → r .next .0 ≡ b .next → ((k : Key) → valueAt (logNow L area r) k ≡ bookEntry k (b .keys k)) →
+    recovered L n s m area ≡ some r → r .next .0 ≡ b .next → ((k : Key) → valueAt (logNow area r) k ≡ bookEntry k (b .keys k)) →
     told < b .next → HeldGood L n s area (some m) b held → Inv L n s (record { area = area; held = held; cells = some m }) b told
 unfolding baseCells
 rebuilt L n s m area r held b told ab e next same less good =

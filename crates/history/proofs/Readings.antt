@@ -35,7 +35,7 @@ use Rattle.model.specs.Recovery.{recovered}
 use Rattle.model.specs.Fewest.{FewestPromise, noLengths}
 use Rattle.model.specs.Operations.{Operation, write, delete, clean, logNow, writtenEntry, tombstoneEntry, fitsHead, noRoom, laidAppend, laidHead, laidEntry, laidForget, laid, storesFor}
 use Rattle.model.specs.Refused.{Lengths, recordBad, keyAbsent, outsideTables, readCauses, isPending}
-use Rattle.model.specs.Promises.{ReadPromise, ValuePromise, readAnswer, presentAnswer, readLengths, Part, partOf, valueAnswer, valuePart, tellLengths}
+use Rattle.model.specs.Promises.{ReadPromise, ValuePromise, readAnswer, presentAnswer, readLengths, Part, partOf, valueAnswer, valuePart, tellLengths, TellPromise}
 use Rattle.laws.specs.CauseLaws.{cause-skip, cause-first}
 use Rattle.laws.specs.MapLaws.{valueAt, unplaced}
 use Rattle.laws.specs.Operated.{OperationLaws}
@@ -43,7 +43,7 @@ use Rattle.history.specs.Book.{Question, reads, readsValue, tells, fewes
 use Rattle.history.specs.Runs.{Held, World, Asked, read, readValue, tell, least, join}
 use Rattle.model.specs.Joining.{joinEarly, JoinPromise}
 use Rattle.history.specs.Demand3.{bookAnswer, bookValue, QuestionAgrees, EventAgrees}
-use Rattle.history.proofs.Invariant.{Inv, Holding, HeldGood, Phase, idle, pending, bookEntry, started-accepted, next-of, log-of, with-geometry}
+use Rattle.history.proofs.Invariant.{Inv, Holding, HeldGood, Phase, idle, pending, bookEntry, started-accepted, next-of, log-of, with-geometry, held-promise}
 use Rattle.history.proofs.Tellings.{started-pending, tell-keeps}
 
 -- ---- the record that is held passes the tests of range and length
@@ -91,12 +91,12 @@ module _ (L : Layout) (laws : OperationLaws L) (n s : ℕ) where
   pending-left area b h (pending st _) = (λ _. omega (arith, left, st .some-left), omega (arith, left, size, most))
     where
       stores : ℕ
-      stores = storesFor L (st .idle) (logNow L (st .before) (st .idle)) (st .operation)
+      stores = storesFor L (st .idle) (logNow (st .before) (st .idle)) (st .operation)
 
       left : storesLeft (h .rec .pending) ≡ stores - st .since
       left =
           ap (λ (x : Record). storesLeft (x .pending)) (st .record-now) ∙
-          laid-left L (st .idle) (logNow L (st .before) (st .idle)) (st .operation) (stores - st .since)
+          laid-left L (st .idle) (logNow (st .before) (st .idle)) (st .operation) (stores - st .since)
 
       size : h .rec .size ≡ st .idle .size
       size = ap (λ (x : Record). x .size) (st .record-now)
@@ -146,51 +146,51 @@ module _ (L : Layout) (laws : OperationLaws L) (n s : ℕ) where
   module _ (area cells : List ℕ) (r : Record) (ab : Bytes area)
       (recovers : recovered L (r .slots) (r .size) (r .cells) area ≡ some (withPending r Idle))
       (fits : fitsLent L r (length area) (length cells) ≡ true) (v : Tables) (k : Key) (x : Option Kept)
-      (same : valueAt (logNow L area r) k ≡ bookEntry k x)
+      (same : valueAt (logNow area r) k ≡ bookEntry k x)
     where
       abbrev cause : Option Refusal
-      cause = firstCause (readCauses L r (logNow L area r) (readLengths area cells) v k)
+      cause = firstCause (readCauses L r (logNow area r) (readLengths area cells) v k)
 
-      only-absent : holdsTable v (k .table) ≡ true → cause ≡ firstCause (when (keyAbsent (logNow L area r) k) Absent ∷ [])
+      only-absent : holdsTable v (k .table) ≡ true → cause ≡ firstCause (when (keyAbsent (logNow area r) k) Absent ∷ [])
       only-absent held =
           cause-skip (when (recordBad L r (readLengths area cells)) BadRecord) _ (ap not fits) ∙
-          cause-skip (when (outsideTables v k) OutsideTables) (when (keyAbsent (logNow L area r) k) Absent ∷ []) (ap not held)
+          cause-skip (when (outsideTables v k) OutsideTables) (when (keyAbsent (logNow area r) k) Absent ∷ []) (ap not held)
 
       only-outside : holdsTable v (k .table) ≡ false → cause ≡ some OutsideTables
       only-outside out =
           cause-skip (when (recordBad L r (readLengths area cells)) BadRecord) _ (ap not fits) ∙
-          cause-first (when (outsideTables v k) OutsideTables) (when (keyAbsent (logNow L area r) k) Absent ∷ []) (ap not out)
+          cause-first (when (outsideTables v k) OutsideTables) (when (keyAbsent (logNow area r) k) Absent ∷ []) (ap not out)
 
-      pub read-answer : holdsTable v (k .table) ≡ true → readAnswer L cause (present (logNow L area r) k) ≡ bookAnswer L x
+      pub read-answer : holdsTable v (k .table) ≡ true → readAnswer L cause (present (logNow area r) k) ≡ bookAnswer L x
       read-answer held =
-          ap (λ (c : Option Refusal). readAnswer L c (present (logNow L area r) k)) (only-absent held) ∙
-          present-answer k (present (logNow L area r) k) x same
+          ap (λ (c : Option Refusal). readAnswer L c (present (logNow area r) k)) (only-absent held) ∙
+          present-answer k (present (logNow area r) k) x same
 
-      pub value-answer : holdsTable v (k .table) ≡ true → partOf area (valueAnswer L (r .size) cause (present (logNow L area r) k)) ≡ bookValue x
+      pub value-answer : holdsTable v (k .table) ≡ true → partOf area (valueAnswer L (r .size) cause (present (logNow area r) k)) ≡ bookValue x
       value-answer held =
-          ap (λ (c : Option Refusal). partOf area (valueAnswer L (r .size) c (present (logNow L area r) k))) (only-absent held) ∙
-          present-value area (r .size) k (present (logNow L area r) k) x same
+          ap (λ (c : Option Refusal). partOf area (valueAnswer L (r .size) c (present (logNow area r) k))) (only-absent held) ∙
+          present-value area (r .size) k (present (logNow area r) k) x same
           (λ y q. laws .value-part area (withPending r Idle) ab recovers k y q)
 
       -- what is said and given, within reach and out of it
       pub read-said :
-          readSaid (readAnswer L cause (present (logNow L area r) k)) ≡ pick (holdsTable v (k .table)) (readSaid (bookAnswer L x)) (refusal 22)
+          readSaid (readAnswer L cause (present (logNow area r) k)) ≡ pick (holdsTable v (k .table)) (readSaid (bookAnswer L x)) (refusal 22)
       unfolding pick readAnswer
       read-said = go (holdsTable v (k .table)) refl
         where
           go : (t : Bool) → holdsTable v (k .table) ≡ t →
-              readSaid (readAnswer L cause (present (logNow L area r) k)) ≡ pick t (readSaid (bookAnswer L x)) (refusal 22)
+              readSaid (readAnswer L cause (present (logNow area r) k)) ≡ pick t (readSaid (bookAnswer L x)) (refusal 22)
           go true e = ap readSaid (read-answer e)
-          go false e = ap (λ (c : Option Refusal). readSaid (readAnswer L c (present (logNow L area r) k))) (only-outside e)
+          go false e = ap (λ (c : Option Refusal). readSaid (readAnswer L c (present (logNow area r) k))) (only-outside e)
 
       pub value-given :
-          partOf area (valueAnswer L (r .size) cause (present (logNow L area r) k)) ≡ pick (holdsTable v (k .table)) (bookValue x) []
+          partOf area (valueAnswer L (r .size) cause (present (logNow area r) k)) ≡ pick (holdsTable v (k .table)) (bookValue x) []
       unfolding pick valueAnswer
       value-given = go (holdsTable v (k .table)) refl
         where
-          go : (t : Bool) → holdsTable v (k .table) ≡ t → partOf area (valueAnswer L (r .size) cause (present (logNow L area r) k)) ≡ pick t (bookValue x) []
+          go : (t : Bool) → holdsTable v (k .table) ≡ t → partOf area (valueAnswer L (r .size) cause (present (logNow area r) k)) ≡ pick t (bookValue x) []
           go true e = value-answer e
-          go false e = ap (λ (c : Option Refusal). partOf area (valueAnswer L (r .size) c (present (logNow L area r) k))) (only-outside e)
+          go false e = ap (λ (c : Option Refusal). partOf area (valueAnswer L (r .size) c (present (logNow area r) k))) (only-outside e)
 
   -- a version that a read tells is below the next
   pub told-below :
@@ -214,7 +214,7 @@ module _ (L : Layout) (laws : OperationLaws L) (n s : ℕ) where
       next-now : h .rec .next .0 ≡ b .next
       next-now = sym (next-of L n s (h .rec .cells) area (withPending (h .rec) Idle) idle-recovers) ∙ inv .agrees .next-same
 
-      pub map-now : valueAt (logNow L area (h .rec)) k ≡ bookEntry k (b .keys k)
+      pub map-now : valueAt (logNow area (h .rec)) k ≡ bookEntry k (b .keys k)
       map-now =
           ap (λ (log : List Placed). valueAt log k) (sym (log-of L n s (h .rec .cells) area (withPending (h .rec) Idle) idle-recovers)) ∙
           inv .agrees .map-same k
@@ -222,9 +222,9 @@ module _ (L : Layout) (laws : OperationLaws L) (n s : ℕ) where
       fits : fitsLent L (h .rec) (length area) (length (h .cells)) ≡ true
       fits = held-fits area m b h (inv .bytes) good
 
-      told-less : (c : Option Refusal) → readSaid (readAnswer L c (present (logNow L area (h .rec)) k)) .version < b .next
+      told-less : (c : Option Refusal) → readSaid (readAnswer L c (present (logNow area (h .rec)) k)) .version < b .next
       told-less c =
-          told-below (b .next) (omega (arith, inv .below)) c (present (logNow L area (h .rec)) k)
+          told-below (b .next) (omega (arith, inv .below)) c (present (logNow area (h .rec)) k)
           (λ x e. omega (arith, next-now, laws .version-below area (withPending (h .rec) Idle) (good .genuine .recovers) k x e))
 
       -- what is to be shown of a question
@@ -247,7 +247,7 @@ module _ (L : Layout) (laws : OperationLaws L) (n s : ℕ) where
           less : readSaid (a .answer) .version < b .next
           less =
               subst⁻¹ (λ (x : ReadAnswer). readSaid x .version < b .next) (p .exact (good .genuine))
-              (told-less (firstCause (readCauses L (h .rec) (logNow L area (h .rec)) (readLengths area (h .cells)) v k)))
+              (told-less (firstCause (readCauses L (h .rec) (logNow area (h .rec)) (readLengths area (h .cells)) v k)))
 
       value-keeps :
           (v : Tables) (l : Lengths) (p : Part) → ValuePromise L (h .rec) area (h .cells) v k p →
@@ -314,13 +314,20 @@ module _ (L : Layout) (laws : OperationLaws L) (n s : ℕ) where
 
   -- A question keeps the invariant, and answers what the book says.
   pub ask-keeps :
-      {w : World} {q : Question} {l : Lengths} {a : Answer} (b : Book) (t : ℕ) → Asked L w q l a → Inv L n s w b t →
+      {w : World} {q : Question} {l : Lengths} {a : Answer} (b : Book) (t : ℕ) → Asked w q l a → Inv L n s w b t →
       Inv L n s w (feed b (called (asks q) l a)) (max t (versionTold (called (asks q) l a))) × EventAgrees L b (called (asks q) l a)
   unfolding HeldGood
-  ask-keeps b t (read {area} {h} {m} {v} {k} {a} ty p) inv = read-keeps area h m b t inv (inv .held) k v (readLengths area (h .cells)) a p
+  ask-keeps b t (read {area} {h} {m} {v} {k} {a} ty p) inv =
+      read-keeps area h m b t inv (inv .held) k v (readLengths area (h .cells)) a
+      (held-promise L n s area m b h (inv .held) (λ (K : Layout). ReadPromise K (h .rec) area (h .cells) v k a) p)
   ask-keeps b t (readValue {area} {h} {m} {v} {k} {p} ty promise) inv =
-      value-keeps area h m b t inv (inv .held) k v (readLengths area (h .cells)) p promise
+      value-keeps area h m b t inv (inv .held) k v (readLengths area (h .cells)) p
+      (held-promise L n s area m b h (inv .held) (λ (K : Layout). ValuePromise K (h .rec) area (h .cells) v k p) promise)
   ask-keeps b t (tell {area} {work} {h} {m} {a} own p) inv =
-      tell-keeps L n s area work h m a b t own p inv (inv .held .phase) (feed-asks b tells (tellLengths area work) (telling (a .answer)))
-  ask-keeps b t (least {area} {h} {m} {a} p) inv = fewest-keeps area h m b t a p inv (inv .held)
-  ask-keeps b t (join {area} {h} {m} {a} p) inv = join-keeps area h m b t (readLengths area (h .cells)) a inv (inv .held) p
+      tell-keeps L n s area work h m a b t own (held-promise L n s area m b h (inv .held) (λ (K : Layout). TellPromise K (h .rec) area work a) p) inv
+      (inv .held .phase) (feed-asks b tells (tellLengths area work) (telling (a .answer)))
+  ask-keeps b t (least {area} {h} {m} {a} p) inv =
+      fewest-keeps area h m b t a (held-promise L n s area m b h (inv .held) (λ (K : Layout). FewestPromise K (h .rec) a) p) inv (inv .held)
+  ask-keeps b t (join {area} {h} {m} {a} p) inv =
+      join-keeps area h m b t (readLengths area (h .cells)) a inv (inv .held)
+      (held-promise L n s area m b h (inv .held) (λ (K : Layout). JoinPromise K (h .rec) area (h .cells) a) p)

@@ -62,7 +62,7 @@ module _ (L : Layout) (n s : ℕ) where
   accepts :
       (w : World) (b : Book) (t : ℕ) (order : List ℕ) (lent : Lengths) (cells cells′ : List ℕ) → Inv L n s w b t →
       firstCause (recoverCauses L n s (length cells) order (w .area)) ≡ none → length cells′ ≡ length cells →
-      IndexRule s (logNow L (w .area) (recordFrom L n s (length cells) (w .area))) cells′ →
+      IndexRule s (logNow (w .area) (recordFrom L n s (length cells) (w .area))) cells′ →
       RecoverGoal w b t order lent cells′ (record { answer = RecoverAnswer.Recovered; rec = recordFrom L n s (length cells) (w .area) })
   unfolding feed feedCall versionTold HeldGood pick
   accepts w b t order lent cells cells′ inv e same rule =
@@ -98,10 +98,10 @@ module _ (L : Layout) (n s : ℕ) where
       cause : Option Refusal
       cause = firstCause (recoverCauses L n s (length cells) order (w .area))
 
-      index′ : IndexAfter L (w .area) cells cells′ (recoveryFor cause rec) (recoveryFor cause rec .answer)
-      index′ = subst (λ (x : Recovery). IndexAfter L (w .area) cells cells′ x (x .answer)) (p .answers) (p .index)
+      index′ : IndexAfter (w .area) cells cells′ (recoveryFor cause rec) (recoveryFor cause rec .answer)
+      index′ = subst (λ (x : Recovery). IndexAfter (w .area) cells cells′ x (x .answer)) (p .answers) (p .index)
 
-      go : (c : Option Refusal) → cause ≡ c → IndexAfter L (w .area) cells cells′ (recoveryFor c rec) (recoveryFor c rec .answer) → RecoverGoal w b t order lent cells′ (recoveryFor c rec)
+      go : (c : Option Refusal) → cause ≡ c → IndexAfter (w .area) cells cells′ (recoveryFor c rec) (recoveryFor c rec .answer) → RecoverGoal w b t order lent cells′ (recoveryFor c rec)
       go none e i = accepts w b t order lent cells cells′ inv e (p .same-length) i
       go (some c) e i = refused w b t order lent cells′ c inv
 

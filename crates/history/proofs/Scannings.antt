@@ -28,7 +28,7 @@ use Rattle.laws.specs.ScanLaws.{scan-log, scan-first}
 use Rattle.history.specs.Book.{Question, scans, scansValue, asks, Answer, saying, giving, called, accepted, Book, feed, feedCall, versionTold}
 use Rattle.history.specs.Runs.{World, Scanned, scan, scanValue}
 use Rattle.history.specs.Demand3.{QuestionAgrees, EventAgrees}
-use Rattle.history.proofs.Invariant.{Inv, baseCells}
+use Rattle.history.proofs.Invariant.{Inv, baseCells, area-promise}
 use Rattle.history.proofs.Readings.{pick-same, told-below, read-said, value-given}
 
 module _ (L : Layout) (laws : OperationLaws L) (n s : ℕ) (w : World) (b : Book) (t : ℕ) (inv : Inv L n s w b t) (k : Key) (v : Tables) where
@@ -43,7 +43,7 @@ module _ (L : Layout) (laws : OperationLaws L) (n s : ℕ) (w : World) (b : Book
   cells = replicate m 0
 
   abbrev log : List Placed
-  log = logNow L (w .area) rec
+  log = logNow (w .area) rec
 
   abbrev cause : Option Refusal
   cause = firstCause (readCauses L rec log (readLengths (w .area) cells) v k)
@@ -54,7 +54,7 @@ module _ (L : Layout) (laws : OperationLaws L) (n s : ℕ) (w : World) (b : Book
   same-cause : firstCause (scanCauses L n s (w .area) v k) ≡ cause
   same-cause = scan-first L n s m (w .area) rec (inv .base) (inv .bytes) v k cells (length-replicate m 0)
 
-  same-log : imageLog L n s (w .area) ≡ log
+  same-log : imageLog n s (w .area) ≡ log
   same-log = scan-log L n s m (w .area) rec (inv .base)
 
   answered : (a : ReadAnswer) → ScanPromise L n s (w .area) v k a → a ≡ readAnswer L cause (present log k)
@@ -95,7 +95,9 @@ module _ (L : Layout) (laws : OperationLaws L) (n s : ℕ) (w : World) (b : Book
 -- A read by scan keeps the invariant, and answers what the book says.
 pub look-keeps :
     (L : Layout) (laws : OperationLaws L) (n s : ℕ) {w : World} {q : Question} {l : Lengths} {a : Answer} (b : Book) (t : ℕ) →
-    Scanned L n s (w .area) q l a → Inv L n s w b t →
+    Scanned n s (w .area) q l a → Inv L n s w b t →
     Inv L n s w (feed b (called (asks q) l a)) (max t (versionTold (called (asks q) l a))) × EventAgrees L b (called (asks q) l a)
-look-keeps L laws n s {w} b t (scan {v} {k} {a} ty p) inv = scan-keeps L laws n s w b t inv k v _ a p
-look-keeps L laws n s {w} b t (scanValue {v} {k} {p} ty q) inv = scan-value-keeps L laws n s w b t inv k v _ p q
+look-keeps L laws n s {w} b t (scan {v} {k} {a} ty p) inv =
+    scan-keeps L laws n s w b t inv k v _ a (area-promise L n s w b t inv (λ (K : Layout). ScanPromise K n s (w .area) v k a) p)
+look-keeps L laws n s {w} b t (scanValue {v} {k} {p} ty q) inv =
+    scan-value-keeps L laws n s w b t inv k v _ p (area-promise L n s w b t inv (λ (K : Layout). ScanValue K n s (w .area) v k p) q)

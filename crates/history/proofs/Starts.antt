@@ -95,10 +95,10 @@ module _ (L : Layout) (laws : OperationLaws L) (n s : ℕ) where
   agreed :
       (area : List ℕ) (h : Held) (m : Option ℕ) (q : Terms) (o : Operation) (b : Book) (t : ℕ) (l : Lengths) →
       Inv L n s (record { area = area; held = some h; cells = m }) b t → Holding L n s area m b h →
-      firstCause (startCauses L (h .rec) (logNow L area (h .rec)) l q o) ≡ none → StartAgrees b q o
+      firstCause (startCauses L (h .rec) (logNow area (h .rec)) l q o) ≡ none → StartAgrees b q o
   unfolding StartAgrees startCauses
   agreed area h m q (write k value) b t l inv good e =
-      let log = logNow L area (h .rec) in
+      let log = logNow area (h .rec) in
       found-expected (q .expected) (versionIn (present log k)) (bookVersion (b .keys k))
       (write-passed L (h .rec) l q k (keyFacts log k) (length value) e .as-expected)
       (version-same k (present log k) (b .keys k) (map-now L laws n s area h m b t inv good k))
@@ -108,13 +108,13 @@ module _ (L : Layout) (laws : OperationLaws L) (n s : ℕ) where
   accepts :
       (area : List ℕ) (h : Held) (m : Option ℕ) (q : Terms) (o : Operation) (lent : Lengths) (b : Book) (t : ℕ) (work : List ℕ) → Typed o →
       Inv L n s (record { area = area; held = some h; cells = m }) b t →
-      firstCause (startCauses L (h .rec) (logNow L area (h .rec)) (lentLengths area (h .cells) work) q o) ≡ none →
+      firstCause (startCauses L (h .rec) (logNow area (h .rec)) (lentLengths area (h .cells) work) q o) ≡ none →
       StartGoal area h m q o lent b t
       (record {
-        answer = StartAnswer.Started (storesFor L (h .rec) (logNow L area (h .rec)) o);
-        rec = startedRecord L (h .rec) (logNow L area (h .rec)) o;
+        answer = StartAnswer.Started (storesFor L (h .rec) (logNow area (h .rec)) o);
+        rec = startedRecord L (h .rec) (logNow area (h .rec)) o;
       })
-      (sets work 0 (laid L (h .rec) (logNow L area (h .rec)) o .bytes))
+      (sets work 0 (laid L (h .rec) (logNow area (h .rec)) o .bytes))
   unfolding feed feedCall versionTold EventAgrees pick HeldGood stored
   accepts area h m q o lent b t work ty inv e = (
     record {
@@ -139,7 +139,7 @@ module _ (L : Layout) (laws : OperationLaws L) (n s : ℕ) where
       r = h .rec
 
       log : List Placed
-      log = logNow L area r
+      log = logNow area r
 
       led : StartPassed L r (lentLengths area (h .cells) work)
       led = start-passed L r log (lentLengths area (h .cells) work) q o e
@@ -186,11 +186,11 @@ module _ (L : Layout) (laws : OperationLaws L) (n s : ℕ) where
   start-keeps area work work′ h m q o a b t ty p inv = subst⁻¹ Goal (p .exact (inv .held .genuine)) (go cause refl)
     where
       cause : Option Refusal
-      cause = firstCause (startCauses L (h .rec) (logNow L area (h .rec)) (lentLengths area (h .cells) work) q o)
+      cause = firstCause (startCauses L (h .rec) (logNow area (h .rec)) (lentLengths area (h .cells) work) q o)
 
       Goal : Begun → Type 0
       Goal x = StartGoal area h m q o (lentLengths area (h .cells) work) b t (x .start) (x .work)
 
-      go : (c : Option Refusal) → cause ≡ c → Goal (begun L (h .rec) (logNow L area (h .rec)) o work c)
+      go : (c : Option Refusal) → cause ≡ c → Goal (begun L (h .rec) (logNow area (h .rec)) o work c)
       go none e = accepts area h m q o (lentLengths area (h .cells) work) b t work ty inv e
       go (some c) e = refused area h m q o (lentLengths area (h .cells) work) b t work c inv

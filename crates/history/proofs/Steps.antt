@@ -69,7 +69,7 @@ module _ (L : Layout) (laws : OperationLaws L) (n s : ℕ) where
       (good : Holding L n s area m b h) (st : Started L area (h .rec) (h .work))
       (awaited :
       b .pending ≡
-      some (record { operation = st .operation; left = storesFor L (st .idle) (logNow L (st .before) (st .idle)) (st .operation) - st .since }))
+      some (record { operation = st .operation; left = storesFor L (st .idle) (logNow (st .before) (st .idle)) (st .operation) - st .since }))
     where
       acc : Accepted L (st .before) (st .idle) (st .operation)
       acc = started-accepted L area (h .rec) (h .work) st
@@ -92,13 +92,13 @@ module _ (L : Layout) (laws : OperationLaws L) (n s : ℕ) where
       area-recovers : recovered L n s (st .idle .cells) area ≡ some (st .idle)
       area-recovers = own area (st .idle) (rw (st .area-now) (laws .prefix-recovers (st .before) (st .idle) (st .operation) acc (st .since) (st .some-left)))
 
-      area-log : logNow L area (st .idle) ≡ logNow L (st .before) (st .idle)
+      area-log : logNow area (st .idle) ≡ logNow (st .before) (st .idle)
       area-log = rw (st .area-now) (laws .prefix-log (st .before) (st .idle) (st .operation) acc (st .since) (st .some-left))
 
       next-idle : st .idle .next .0 ≡ b .next
       next-idle = sym (next-of L n s (st .idle .cells) area (st .idle) area-recovers) ∙ inv .agrees .next-same
 
-      map-idle : (k : Key) → valueAt (logNow L (st .before) (st .idle)) k ≡ bookEntry k (b .keys k)
+      map-idle : (k : Key) → valueAt (logNow (st .before) (st .idle)) k ≡ bookEntry k (b .keys k)
       map-idle k =
           ap (λ (x : List Placed). valueAt x k) (sym area-log ∙ sym (log-of L n s (st .idle .cells) area (st .idle) area-recovers)) ∙
           inv .agrees .map-same k
@@ -110,10 +110,10 @@ module _ (L : Layout) (laws : OperationLaws L) (n s : ℕ) where
       abbrev left : ℕ
       left = leftAfter L area (h .rec) (h .work) st
 
-      one-more : storesFor L (st .idle) (logNow L (st .before) (st .idle)) (st .operation) - st .since ≡ suc left
+      one-more : storesFor L (st .idle) (logNow (st .before) (st .idle)) (st .operation) - st .since ≡ suc left
       one-more = omega (arith, st .some-left)
 
-      one-less : storesFor L (st .idle) (logNow L (st .before) (st .idle)) (st .operation) - st .since - 1 ≡ left
+      one-less : storesFor L (st .idle) (logNow (st .before) (st .idle)) (st .operation) - st .since - 1 ≡ left
       one-less = omega (arith, st .some-left)
 
       -- one off the book's stores left
@@ -129,7 +129,7 @@ module _ (L : Layout) (laws : OperationLaws L) (n s : ℕ) where
           subst⁻¹ (λ (x : Option Awaited). StepAgrees b (stepSaid a) x) awaited (e ∙ sym one-less, λ p. v (omega (arith, one-less, p)))
 
       -- not the last: the same record with one store less, the same log, the same index
-      goes-on : (k : ℕ) → left ≡ suc k → StepGoal h m lent b t after (h .cells) (record { answer = StepAnswer.Left (suc k); rec = withPending (st .idle) (laid L (st .idle) (logNow L (st .before) (st .idle)) (st .operation) .pending (suc k)) })
+      goes-on : (k : ℕ) → left ≡ suc k → StepGoal h m lent b t after (h .cells) (record { answer = StepAnswer.Left (suc k); rec = withPending (st .idle) (laid L (st .idle) (logNow (st .before) (st .idle)) (st .operation) .pending (suc k)) })
       unfolding oneOff HeldGood versionTold
       goes-on k e = (
         rw
@@ -143,7 +143,7 @@ module _ (L : Layout) (laws : OperationLaws L) (n s : ℕ) where
           held′ : Held
           held′ =
               record {
-                rec = withPending (st .idle) (laid L (st .idle) (logNow L (st .before) (st .idle)) (st .operation) .pending (suc k));
+                rec = withPending (st .idle) (laid L (st .idle) (logNow (st .before) (st .idle)) (st .operation) .pending (suc k));
                 cells = h .cells;
                 work = h .work;
               }
@@ -163,14 +163,14 @@ module _ (L : Layout) (laws : OperationLaws L) (n s : ℕ) where
           recovers′ : recovered L n s (st .idle .cells) after ≡ some (st .idle)
           recovers′ = own after (st .idle) own-recovers
 
-          log′ : logNow L after (st .idle) ≡ logNow L (st .before) (st .idle)
+          log′ : logNow after (st .idle) ≡ logNow (st .before) (st .idle)
           log′ = laws .prefix-log (st .before) (st .idle) (st .operation) acc (suc (st .since)) more
 
           idle′ : st .idle .pending ≡ Idle
           idle′ = idle-of L n s (st .idle .cells) area (st .idle) area-recovers
 
-          rule-idle : IndexRule (st .idle .size) (logNow L area (st .idle)) (h .cells)
-          rule-idle = subst (λ (x : Record). IndexRule (x .size) (logNow L area x) (h .cells)) (st .record-now) (good .genuine .rule)
+          rule-idle : IndexRule (st .idle .size) (logNow area (st .idle)) (h .cells)
+          rule-idle = subst (λ (x : Record). IndexRule (x .size) (logNow area x) (h .cells)) (st .record-now) (good .genuine .rule)
 
           started′ : Started L after (held′ .rec) (h .work)
           started′ =
@@ -185,7 +185,7 @@ module _ (L : Layout) (laws : OperationLaws L) (n s : ℕ) where
                 recovers = st .recovers;
                 accepted = st .accepted;
                 some-left = more;
-                record-now = ap (λ (x : ℕ). withPending (st .idle) (laid L (st .idle) (logNow L (st .before) (st .idle)) (st .operation) .pending x)) (sym e);
+                record-now = ap (λ (x : ℕ). withPending (st .idle) (laid L (st .idle) (logNow (st .before) (st .idle)) (st .operation) .pending x)) (sym e);
                 area-now = refl;
                 work-now = st .work-now;
               }
@@ -206,7 +206,7 @@ module _ (L : Layout) (laws : OperationLaws L) (n s : ℕ) where
               }
 
       -- the last: the record, the map and the index of the finished operation
-      ends : (cells′ : List ℕ) → length cells′ ≡ length (h .cells) → left ≡ 0 → IndexRule (finishedRecord L (st .before) (st .idle) (st .operation) .size) (logNow L after (finishedRecord L (st .before) (st .idle) (st .operation))) cells′ → StepGoal h m lent b t after cells′ (record { answer = StepAnswer.Done (record { 0 = toldVersion (st .idle) (st .operation) }); rec = finishedRecord L (st .before) (st .idle) (st .operation) })
+      ends : (cells′ : List ℕ) → length cells′ ≡ length (h .cells) → left ≡ 0 → IndexRule (finishedRecord L (st .before) (st .idle) (st .operation) .size) (logNow after (finishedRecord L (st .before) (st .idle) (st .operation))) cells′ → StepGoal h m lent b t after cells′ (record { answer = StepAnswer.Done (record { 0 = toldVersion (st .idle) (st .operation) }); rec = finishedRecord L (st .before) (st .idle) (st .operation) })
       unfolding oneOff HeldGood versionTold
       ends cells′ long e rule = (
         rw
@@ -214,7 +214,7 @@ module _ (L : Layout) (laws : OperationLaws L) (n s : ℕ) where
             (subst (λ (c : Option ℕ). Inv L n s (record { area = after; held = some held′; cells = c }) b′ t′) cells-idle
             (rebuilt L n s (st .idle .cells) after fin (some held′) b′ t′ bytes′ recovers′
             (finished-next L (st .before) (st .idle) b next-idle (st .operation))
-            (λ j. ap (λ (x : List ℕ). valueAt (logNow L x fin) j) all-stored ∙ laws .finish-map (st .before) (st .idle) (st .operation) acc j ∙ finished-map L (st .before) (st .idle) b next-idle (st .operation) (valueAt (logNow L (st .before) (st .idle))) map-idle j)
+            (λ j. ap (λ (x : List ℕ). valueAt (logNow x fin) j) all-stored ∙ laws .finish-map (st .before) (st .idle) (st .operation) acc j ∙ finished-map L (st .before) (st .idle) b next-idle (st .operation) (valueAt (logNow (st .before) (st .idle))) map-idle j)
             told′ holding′)),
         agrees-with (StepAnswer.Done (record { 0 = toldVersion (st .idle) (st .operation) })) (sym e) (λ z. told-same L (st .before) (st .idle) b next-idle (st .operation)),
       )
@@ -293,12 +293,12 @@ module _ (L : Layout) (laws : OperationLaws L) (n s : ℕ) where
           at-left : ℕ → Stepped
           at-left j = stepped L (st .before) (st .idle) (st .operation) j
 
-          index′ : IndexStepped L after (h .cells) cells′ (at-left left .rec) left
+          index′ : IndexStepped after (h .cells) cells′ (at-left left .rec) left
           index′ =
-              subst (λ (y : List ℕ). IndexStepped L y (h .cells) cells′ (at-left left .rec) left) (x .stores)
-              (subst (λ (y : Stepped). IndexStepped L area′ (h .cells) cells′ (y .rec) left) (x .answers) (x .index))
+              subst (λ (y : List ℕ). IndexStepped y (h .cells) cells′ (at-left left .rec) left) (x .stores)
+              (subst (λ (y : Stepped). IndexStepped area′ (h .cells) cells′ (y .rec) left) (x .answers) (x .index))
 
-          go : (j : ℕ) → left ≡ j → IndexStepped L after (h .cells) cells′ (at-left j .rec) j → StepGoal h m lent b t after cells′ (at-left j)
+          go : (j : ℕ) → left ≡ j → IndexStepped after (h .cells) cells′ (at-left j .rec) j → StepGoal h m lent b t after cells′ (at-left j)
           go zero e i = ends cells′ long e i
           go (suc k) e i = subst⁻¹ (λ (y : List ℕ). StepGoal h m lent b t after y (at-left (suc k))) i (goes-on k e)
 

@@ -90,8 +90,8 @@ laid-pending L r log o k = go o
 pub started-pending : (L : Layout) (area : List ℕ) (r : Record) (work : List ℕ) → Started L area r work → isPending (r .pending) ≡ true
 started-pending L area r work st =
     ap (λ (x : Record). isPending (x .pending)) (st .record-now) ∙
-    laid-pending L (st .idle) (logNow L (st .before) (st .idle)) (st .operation)
-    (storesFor L (st .idle) (logNow L (st .before) (st .idle)) (st .operation) - st .since)
+    laid-pending L (st .idle) (logNow (st .before) (st .idle)) (st .operation)
+    (storesFor L (st .idle) (logNow (st .before) (st .idle)) (st .operation) - st .since)
 
 module _ (L : Layout) (n s : ℕ) (area work : List ℕ) (h : Held) (m : Option ℕ) (a : Foretold) (b : Book) (t : ℕ)
     (own : isPending (h .rec .pending) ≡ true → work ≡ h .work) (p : TellPromise L (h .rec) area work a)

@@ -3,61 +3,88 @@ use Prim.Native.Nat.{ℕ, max}
 use native.Mathlib.Nat.{max-zero}
 use native.Mathlib.Omega.{arith}
 use mathlib.Core.Path.{_≡_, refl, ap, _∙_, subst, subst⁻¹}
-use mathlib.Core.Bool.{true, false}
+use mathlib.Core.Bool.{Bool, true, false}
 use mathlib.Core.List.{List, []}
 use mathlib.Core.Option.{Option, none, some}
-use lib.Dec.{leb}
+use lib.Dec.{eqb, leb}
 use lib.ListN.{length}
-use borrow.Author.Tests.{leb-true}
+use borrow.Author.Tests.{leb-true, eqb-true}
 use Rattle.word.specs.Number.{Bytes}
-use Rattle.segment.specs.Choice.{both, both-left}
-use Rattle.segment.specs.Layout.{Layout, edition1}
+use Rattle.segment.specs.Choice.{pick, both, both-left, either-false-left, either-false-right, isNone}
+use Rattle.segment.specs.Layout.{Layout, edition1, edition2, layoutNumbered, numberOfLayout}
+use Rattle.segment.specs.LayoutLaws.{numbered-layout}
 use Rattle.record.specs.Range.{between, fitsLent}
 use Rattle.record.specs.declared.FormatAnswer.{FormatAnswer}
 use Rattle.record.specs.declared.Recovery.{Recovery}
 use Rattle.record.specs.declared.Refusal.{Refusal}
-use Rattle.record.specs.declared.Refusal.the-variants.{Geometry}
 use Rattle.record.specs.declared.Record.{Record}
 use Rattle.model.specs.Log.{Placed, present, latest, objectOnly}
-use Rattle.model.specs.Causes.{when, firstCause}
-use Rattle.model.specs.Recovery.{recovered, recordFrom, orderBad, geometryBad, recovery, recoveryFor}
-use Rattle.model.specs.Operations.{formatted}
+use Rattle.model.specs.Causes.{firstCause}
+use Rattle.model.specs.Recovery.{recovered, recordFrom, orderBad, geometryBad, recovery, recoveryFor, imageLayout}
+use Rattle.model.specs.Operations.{formatted, formattedAs}
 use Rattle.model.specs.Refused.{formatCauses}
-use Rattle.model.specs.Promises.{Genuine, FormatPromise, RecoverPromise, IndexAfter, formatAnswer, areaUnless, readLengths, partOf}
+use Rattle.model.specs.Promises.{Genuine, FormatPromise, RecoverPromise, IndexAfter, formatAnswer, areaUnless, readLengths, partOf, StartPromise, StepPromise}
 use Rattle.laws.specs.CauseLaws.{cause-false}
 use Rattle.laws.specs.MapLaws.{valueAt, unplaced}
 use Rattle.laws.specs.Operated.{OperationLaws}
 use Rattle.laws.specs.RecoverLaws.{recovered-recovery}
-use Rattle.laws.specs.OperationsKept.{edition1-laws}
+use Rattle.laws.specs.OperationsKept.{edition-laws}
 use Rattle.history.specs.Book.{Event, Book, freshBook, feed, bookAfter, bookOf, versionTold, highestTold}
 use Rattle.history.specs.Runs.{World, freshWorld, Moves, start, step, ask, look, recover, cuts, Run, stop, go}
 use Rattle.history.specs.Demand3.{LargeEnough, GivesBook, EventAgrees, EventsAgree, Demand3Of, Demand3For, Demand3}
-use Rattle.history.proofs.Invariant.{Inv, HeldGood, baseCells, bookEntry}
+use Rattle.history.proofs.Invariant.{Inv, HeldGood, baseCells, bookEntry, held-promise, area-promise}
 use Rattle.history.proofs.Starts.{start-keeps}
 use Rattle.history.proofs.Steps.{step-keeps}
 use Rattle.history.proofs.Readings.{read-answer, value-answer, ask-keeps}
 use Rattle.history.proofs.Scannings.{look-keeps}
 use Rattle.history.proofs.Recoveries.{recover-keeps, cut-keeps}
 
+-- ---- an accepted format
+
+accepted-none : (c : Option Refusal) → FormatAnswer.Formatted ≡ formatAnswer c → c ≡ none
+unfolding formatAnswer
+accepted-none none q = refl
+accepted-none (some c) q = cc
+
+-- It was told the number of an edition, so what is shown below for each edition is shown for every accepted format.
+pub format-edition :
+    (e n s : ℕ) (area₀ area : List ℕ) → FormatPromise e n s area₀ area FormatAnswer.Formatted → (L : Layout) × (e ≡ numberOfLayout L)
+unfolding layoutNumbered numberOfLayout pick isNone
+format-edition e n s area₀ area p = go (eqb e 1) refl (eqb e 2) refl named
+  where
+    named : isNone (layoutNumbered e) ≡ false
+    named = either-false-right _ _ (cause-false _ [] (accepted-none (firstCause (formatCauses e n s (length area₀))) (p .answers)))
+
+    go : (t : Bool) → eqb e 1 ≡ t → (u : Bool) → eqb e 2 ≡ u → isNone (pick t (some edition1) (pick u (some edition2) none)) ≡ false →
+        (L : Layout) × (e ≡ numberOfLayout L)
+    go true q u r h = (edition1, eqb-true e 1 q)
+    go false q true r h = (edition2, eqb-true e 2 r)
+    go false q false r h = let z : _≡_ {A = ℕ} 0 1 = cc in absurd (omega arith)
+
 module _ (L : Layout) (laws : OperationLaws L) (n s : ℕ) where
   -- ---- one event
 
   pub move-keeps :
-      {w x : World} {e : Event} (b : Book) (t : ℕ) → Moves L n s w e x → Inv L n s w b t →
+      {w x : World} {e : Event} (b : Book) (t : ℕ) → Moves n s w e x → Inv L n s w b t →
       Inv L n s x (feed b e) (max t (versionTold e)) × EventAgrees L b e
-  unfolding EventAgrees
-  move-keeps b t (start {area} {work} {work′} {h} {m} {q} {o} {a} ty p) inv = start-keeps L laws n s area work work′ h m q o a b t ty p inv
-  move-keeps b t (step {area} {area′} {cells′} {work} {h} {m} {a} own p) inv = step-keeps L laws n s area area′ cells′ work h m a b t own p inv
+  unfolding EventAgrees HeldGood
+  move-keeps b t (start {area} {work} {work′} {h} {m} {q} {o} {a} ty p) inv =
+      start-keeps L laws n s area work work′ h m q o a b t ty
+      (held-promise L n s area m b h (inv .held) (λ (K : Layout). StartPromise K q o (h .rec) area (h .cells) work work′ a) p) inv
+  move-keeps b t (step {area} {area′} {cells′} {work} {h} {m} {a} own p) inv =
+      step-keeps L laws n s area area′ cells′ work h m a b t own
+      (held-promise L n s area m b h (inv .held) (λ (K : Layout). StepPromise K (h .rec) area area′ (h .cells) cells′ work a) p) inv
   move-keeps b t (ask p) inv = ask-keeps L laws n s b t p inv
   move-keeps b t (look p) inv = look-keeps L laws n s b t p inv
   move-keeps b t (recover {w} {order} {cells} {cells′} {r} p) inv =
-      (recover-keeps L n s w b t order (readLengths (w .area) cells) cells cells′ r p inv, tt)
+      let promise = area-promise L n s w b t inv (λ (K : Layout). RecoverPromise K n s order (w .area) cells cells′ r) p in
+      (recover-keeps L n s w b t order (readLengths (w .area) cells) cells cells′ r promise inv, tt)
   move-keeps b t (cuts {w}) inv = (cut-keeps L n s w b t inv, tt)
 
   -- ---- a list of events
 
   pub run-keeps :
-      {w x : World} {es : List Event} (b : Book) (t : ℕ) → Run L n s w es x → Inv L n s w b t →
+      {w x : World} {es : List Event} (b : Book) (t : ℕ) → Run n s w es x → Inv L n s w b t →
       Inv L n s x (bookAfter b es) (max t (highestTold es)) × EventsAgree L b es
   unfolding bookAfter highestTold EventsAgree
   run-keeps b t stop inv = (rw (max-zero t) inv, tt)
@@ -83,10 +110,14 @@ module _ (L : Layout) (laws : OperationLaws L) (n s : ℕ) where
 
   gives-book :
       (w : World) (b : Book) (t : ℕ) → Inv L n s w b t → (order cells cells′ : List ℕ) (r : Recovery) → orderBad n order ≡ false →
-      LargeEnough (w .cells) (length cells) → RecoverPromise L n s order (w .area) cells cells′ r → GivesBook L (w .area) cells′ r b
+      LargeEnough (w .cells) (length cells) → RecoverPromise (imageLayout n s (w .area)) n s order (w .area) cells cells′ r →
+      GivesBook L (w .area) cells′ r b
   unfolding recovery recoveryFor IndexAfter
-  gives-book w b t inv order cells cells′ r good large p = subst⁻¹ (λ (x : Recovery). GivesBook L (w .area) cells′ x b) answered book
+  gives-book w b t inv order cells cells′ r good large given = subst⁻¹ (λ (x : Recovery). GivesBook L (w .area) cells′ x b) answered book
     where
+      p : RecoverPromise L n s order (w .area) cells cells′ r
+      p = area-promise L n s w b t inv (λ (K : Layout). RecoverPromise K n s order (w .area) cells cells′ r) given
+
       rec : Record
       rec = recordFrom L n s (length cells) (w .area)
 
@@ -96,8 +127,8 @@ module _ (L : Layout) (laws : OperationLaws L) (n s : ℕ) where
       answered : r ≡ recoveryFor none rec
       answered = p .answers ∙ recovered-recovery L n s (length cells) (w .area) order rec good recovers
 
-      rule : IndexAfter L (w .area) cells cells′ (recoveryFor none rec) (recoveryFor none rec .answer)
-      rule = subst (λ (x : Recovery). IndexAfter L (w .area) cells cells′ x (x .answer)) answered (p .index)
+      rule : IndexAfter (w .area) cells cells′ (recoveryFor none rec) (recoveryFor none rec .answer)
+      rule = subst (λ (x : Recovery). IndexAfter (w .area) cells cells′ x (x .answer)) answered (p .index)
 
       genuine : Genuine L (w .area) rec cells′
       genuine = record { recovers = recovers; rule = rule }
@@ -111,6 +142,7 @@ module _ (L : Layout) (laws : OperationLaws L) (n s : ℕ) where
       book =
           record {
             is-accepted = refl;
+            same-edition = refl;
             next-version = inv .agrees .next-same;
             answers =
                 λ t k ty held a q.
@@ -124,25 +156,23 @@ module _ (L : Layout) (laws : OperationLaws L) (n s : ℕ) where
 
   -- ---- the fresh store
 
-  pub fresh : (area₀ area : List ℕ) → Bytes area₀ → FormatPromise L n s area₀ area FormatAnswer.Formatted → Inv L n s (freshWorld area) freshBook 0
-  unfolding formatAnswer areaUnless baseCells HeldGood between both present latest objectOnly unplaced bookEntry
+  pub fresh : (area₀ area : List ℕ) → Bytes area₀ → FormatPromise (numberOfLayout L) n s area₀ area FormatAnswer.Formatted → Inv L n s (freshWorld area) freshBook 0
+  unfolding formatAnswer areaUnless formattedAs baseCells HeldGood between both present latest objectOnly unplaced bookEntry
   fresh area₀ area ab p = subst⁻¹ (λ (x : List ℕ). Inv L n s (freshWorld x) freshBook 0) left start′
     where
       cause : Option Refusal
-      cause = firstCause (formatCauses n s (length area₀))
-
-      none-of : (c : Option Refusal) → FormatAnswer.Formatted ≡ formatAnswer c → c ≡ none
-      none-of none q = refl
-      none-of (some c) q = cc
+      cause = firstCause (formatCauses (numberOfLayout L) n s (length area₀))
 
       no-cause : cause ≡ none
-      no-cause = none-of cause (p .answers)
+      no-cause = accepted-none cause (p .answers)
 
       geometry : geometryBad n s (length area₀) ≡ false
-      geometry = cause-false (when (geometryBad n s (length area₀)) Geometry) [] no-cause
+      geometry = either-false-left _ _ (cause-false _ [] no-cause)
 
       left : area ≡ formatted L n s area₀
-      left = p .leaves ∙ ap (λ (c : Option Refusal). areaUnless c (formatted L n s area₀) area₀) no-cause
+      left =
+          p .leaves ∙ ap (λ (c : Option Refusal). areaUnless c (formattedAs (layoutNumbered (numberOfLayout L)) n s area₀) area₀) no-cause
+          ∙ ap (λ (o : Option Layout). formattedAs o n s area₀) (numbered-layout L)
 
       start′ : Inv L n s (freshWorld (formatted L n s area₀)) freshBook 0
       start′ =
@@ -159,8 +189,8 @@ module _ (L : Layout) (laws : OperationLaws L) (n s : ℕ) where
           }
 
   pub run-holds :
-      (area₀ area : List ℕ) → Bytes area₀ → FormatPromise L n s area₀ area FormatAnswer.Formatted → (es : List Event) (w : World) →
-      Run L n s (freshWorld area) es w → Demand3Of L n s w es
+      (area₀ area : List ℕ) → Bytes area₀ → FormatPromise (numberOfLayout L) n s area₀ area FormatAnswer.Formatted → (es : List Event) (w : World) →
+      Run n s (freshWorld area) es w → Demand3Of L n s w es
   run-holds area₀ area ab p es w r =
       let kept = run-keeps freshBook 0 r (fresh area₀ area ab p) in
       record {
@@ -173,6 +203,6 @@ module _ (L : Layout) (laws : OperationLaws L) (n s : ℕ) where
 pub demand-3-for : (L : Layout) → OperationLaws L → Demand3For L
 demand-3-for L laws n s area₀ area ab p es w r = run-holds L laws n s area₀ area ab p es w r
 
--- Demand 3.
+-- Demand 3, for either edition.
 pub demand-3 : Demand3
-demand-3 = demand-3-for edition1 edition1-laws
+demand-3 L = demand-3-for L (edition-laws L)

@@ -7,7 +7,7 @@ use mathlib.Core.Option.{Option, none, some}
 use lib.ListN.{length}
 use Rattle.word.specs.Number.{Bytes}
 use Rattle.segment.specs.Choice.{pick}
-use Rattle.segment.specs.Layout.{Layout, edition1}
+use Rattle.segment.specs.Layout.{Layout, numberOfLayout}
 use Rattle.segment.specs.declared.Key.{Key}
 use Rattle.segment.specs.Entry.{kindFor}
 use Rattle.record.specs.Answers.{Said, readSaid, refusal}
@@ -24,7 +24,7 @@ use Rattle.record.specs.declared.RecoverAnswer.{RecoverAnswer}
 use Rattle.record.specs.declared.Refusal.{Refusal}
 use Rattle.record.specs.declared.Tables.{Tables}
 use Rattle.model.specs.Operations.{Operation, write, delete, clean, TypedKey}
-use Rattle.model.specs.Recovery.{orderBad}
+use Rattle.model.specs.Recovery.{orderBad, imageLayout}
 use Rattle.model.specs.Refused.{Terms}
 use Rattle.model.specs.Promises.{FormatPromise, RecoverPromise, ReadPromise, Part, partOf, ValuePromise}
 use Rattle.history.specs.Book.{Question, reads, readsValue, tells, fewest, starts, steps, asks, recovers, Answer, saying, giving, Event, called, cut, accepted, Kept, Awaited, Book, bookVersion, freshBook, feed, bookOf, versionFor, highestTold, scans, scansValue, joins, pairing}
@@ -45,19 +45,21 @@ unfoldable pub bookValue : Option Kept → List ℕ
 bookValue none = []
 bookValue (some x) = x .value
 
--- "It gives exactly what 01's book of that list holds"
+-- "It gives exactly what 01's book of that list holds", L being the edition that the format was told
 pub record GivesBook (L : Layout) (area cells′ : List ℕ) (r : Recovery) (b : Book) : Type 0 where
   -- "recovery ... is accepted"
   pub is-accepted : r .answer ≡ RecoverAnswer.Recovered
+  -- the record has the edition of the format (02, R-11)
+  pub same-edition : r .rec .edition ≡ L
   -- "and the next version"
   pub next-version : r .rec .next .0 ≡ b .next
   -- "the keys, versions and values left by the operations whose last store was done": for each key what a read then answers, whose
   -- tables hold the key's (02, R-2)
   pub answers :
-      (t : Tables) (k : Key) → TypedKey k → holdsTable t (k .table) ≡ true → (a : Reading) → ReadPromise L (r .rec) area cells′ t k a →
+      (t : Tables) (k : Key) → TypedKey k → holdsTable t (k .table) ≡ true → (a : Reading) → ReadPromise (r .rec .edition) (r .rec) area cells′ t k a →
       a .answer ≡ bookAnswer L (b .keys k)
   pub values :
-      (t : Tables) (k : Key) → TypedKey k → holdsTable t (k .table) ≡ true → (p : Part) → ValuePromise L (r .rec) area cells′ t k p →
+      (t : Tables) (k : Key) → TypedKey k → holdsTable t (k .table) ≡ true → (p : Part) → ValuePromise (r .rec .edition) (r .rec) area cells′ t k p →
       partOf area p ≡ bookValue (b .keys k)
 
 -- "Each accepted step answers the stores left in the book, and an operation's last step also the book's version for it"
@@ -111,17 +113,18 @@ pub record Demand3Of (L : Layout) (n s : ℕ) (w : World) (es : List Event) : Ty
   -- read in. It gives exactly what 01's book of that list holds"
   pub recovery :
       (order cells cells′ : List ℕ) (r : Recovery) → orderBad n order ≡ false → LargeEnough (w .cells) (length cells) →
-      RecoverPromise L n s order (w .area) cells cells′ r → GivesBook L (w .area) cells′ r (bookOf es)
+      RecoverPromise (imageLayout n s (w .area)) n s order (w .area) cells cells′ r → GivesBook L (w .area) cells′ r (bookOf es)
   -- "above every version told to a caller since that format"
   pub above-told : highestTold es < bookOf es .next
   -- every step and every question answers what the book of the list before it says, and an accepted write found what it expected
   pub agrees : EventsAgree L freshBook es
 
--- "For every list of calls on one store ... and cuts, from an accepted format on"
+-- "For every list of calls on one store ... and cuts, from an accepted format on", which was told the number of the edition
 abbrev pub Demand3For : Layout → Type 0
 Demand3For L =
-    (n s : ℕ) (area₀ area : List ℕ) → Bytes area₀ → FormatPromise L n s area₀ area FormatAnswer.Formatted → (es : List Event) (w : World) →
-    Run L n s (freshWorld area) es w → Demand3Of L n s w es
+    (n s : ℕ) (area₀ area : List ℕ) → Bytes area₀ → FormatPromise (numberOfLayout L) n s area₀ area FormatAnswer.Formatted → (es : List Event) (w : World) →
+    Run n s (freshWorld area) es w → Demand3Of L n s w es
 
+-- For a store of either edition (02, R-11).
 abbrev pub Demand3 : Type 0
-Demand3 = Demand3For edition1
+Demand3 = (L : Layout) → Demand3For L

@@ -7,7 +7,7 @@ use mathlib.Core.Bool.{true}
 use mathlib.Core.List.{List, [], _∷_, _++_}
 use lib.ListN.{getD, set}
 use Rattle.word.specs.Number.{Bytes}
-use Rattle.segment.specs.Layout.{Layout, edition1}
+use Rattle.segment.specs.Layout.{Layout, numberOfLayout}
 use Rattle.record.specs.declared.FormatAnswer.{FormatAnswer}
 use Rattle.model.specs.Refused.{Lengths}
 use Rattle.model.specs.Promises.{FormatPromise}
@@ -31,9 +31,10 @@ pub record DeviceHolds (L : Layout) (n s : ℕ) (w x : World) (es : List Event) 
 -- From an accepted format on, behind every list of calls and cuts, for every store that is told and the step that follows.
 abbrev pub DeviceFor : Layout → Type 0
 DeviceFor L =
-    (n s : ℕ) (area₀ area : List ℕ) → Bytes area₀ → FormatPromise L n s area₀ area FormatAnswer.Formatted → (es : List Event) (w x : World) →
-    Run L n s (freshWorld area) es w → (l k : Lengths) (told a : Answer) → Asked L w tells l told → accepted told ≡ true →
-    Moves L n s w (called steps k a) x → DeviceHolds L n s w x es (called steps k a) told
+    (n s : ℕ) (area₀ area : List ℕ) → Bytes area₀ → FormatPromise (numberOfLayout L) n s area₀ area FormatAnswer.Formatted → (es : List Event) (w x : World) →
+    Run n s (freshWorld area) es w → (l k : Lengths) (told a : Answer) → Asked w tells l told → accepted told ≡ true →
+    Moves n s w (called steps k a) x → DeviceHolds L n s w x es (called steps k a) told
 
+-- For a store of either edition (02, R-11).
 abbrev pub DeviceClaim : Type 0
-DeviceClaim = DeviceFor edition1
+DeviceClaim = (L : Layout) → DeviceFor L

@@ -1,5 +1,6 @@
 -- 01, "Rules of use, for the promise about cuts": the lists of calls and cuts that can happen on one store. Every transition is the
--- promise of the call, so whatever is proved of runs is proved of what the contracts say.
+-- promise of the call, so whatever is proved of runs is proved of what the contracts say. No call but the format is told the edition
+-- (02, R-11): a call with a record goes by the record's, recovery and the reads by scan by that of the area's head.
 use Prim.Native.Nat.{ℕ}
 use mathlib.Core.Path.{_≡_}
 use mathlib.Core.Bool.{true}
@@ -8,7 +9,6 @@ use mathlib.Core.Option.{Option, none, some}
 use lib.Dec.{eqb}
 use lib.ListN.{length}
 use Rattle.segment.specs.Choice.{pick}
-use Rattle.segment.specs.Layout.{Layout}
 use Rattle.segment.specs.declared.Key.{Key}
 use Rattle.record.specs.Answers.{recoverSaid, readSaid, startSaid, stepSaid}
 use Rattle.record.specs.declared.Foretold.{Foretold}
@@ -24,6 +24,7 @@ use Rattle.record.specs.declared.Tables.{Tables}
 use Rattle.record.specs.declared.Fewest.{Fewest}
 use Rattle.model.specs.Fewest.{FewestPromise, noLengths}
 use Rattle.model.specs.Operations.{Operation, Typed, TypedKey}
+use Rattle.model.specs.Recovery.{imageLayout}
 use Rattle.model.specs.Refused.{Lengths, Terms, isPending}
 use Rattle.model.specs.Promises.{RecoverPromise, readLengths, ReadPromise, Part, partOf, ValuePromise, lentLengths, StartPromise, StepPromise, tellLengths, TellPromise}
 use Rattle.history.specs.Book.{Question, reads, readsValue, tells, fewest, starts, steps, asks, recovers, Answer, saying, giving, telling, naming, Event, called, cut, accepted, scans, scansValue, joins, pairing}
@@ -61,65 +62,65 @@ recoveredWorld w cells′ r =
 
 -- What a question answers in a world, by its promise. Questions need a record, and are allowed while an operation is pending; what the
 -- next step will store is asked with the work buffer that the step will get.
-pub data Asked (L : Layout) : World → Question → Lengths → Answer → Type 0 where
+pub data Asked : World → Question → Lengths → Answer → Type 0 where
   read :
-      {area : List ℕ} {h : Held} {m : Option ℕ} {v : Tables} {k : Key} {a : Reading} → TypedKey k → ReadPromise L (h .rec) area (h .cells) v k a →
-      Asked L (record { area = area; held = some h; cells = m }) (reads v k) (readLengths area (h .cells)) (saying (readSaid (a .answer)))
+      {area : List ℕ} {h : Held} {m : Option ℕ} {v : Tables} {k : Key} {a : Reading} → TypedKey k → ReadPromise (h .rec .edition) (h .rec) area (h .cells) v k a →
+      Asked (record { area = area; held = some h; cells = m }) (reads v k) (readLengths area (h .cells)) (saying (readSaid (a .answer)))
   readValue :
-      {area : List ℕ} {h : Held} {m : Option ℕ} {v : Tables} {k : Key} {p : Part} → TypedKey k → ValuePromise L (h .rec) area (h .cells) v k p →
-      Asked L (record { area = area; held = some h; cells = m }) (readsValue v k) (readLengths area (h .cells)) (giving (partOf area p))
+      {area : List ℕ} {h : Held} {m : Option ℕ} {v : Tables} {k : Key} {p : Part} → TypedKey k → ValuePromise (h .rec .edition) (h .rec) area (h .cells) v k p →
+      Asked (record { area = area; held = some h; cells = m }) (readsValue v k) (readLengths area (h .cells)) (giving (partOf area p))
   tell :
       {area work : List ℕ} {h : Held} {m : Option ℕ} {a : Foretold} → (isPending (h .rec .pending) ≡ true → work ≡ h .work) →
-      TellPromise L (h .rec) area work a →
-      Asked L (record { area = area; held = some h; cells = m }) tells (tellLengths area work) (telling (a .answer))
+      TellPromise (h .rec .edition) (h .rec) area work a →
+      Asked (record { area = area; held = some h; cells = m }) tells (tellLengths area work) (telling (a .answer))
   least :
-      {area : List ℕ} {h : Held} {m : Option ℕ} {a : Fewest} → FewestPromise L (h .rec) a →
-      Asked L (record { area = area; held = some h; cells = m }) fewest noLengths (naming (a .answer))
+      {area : List ℕ} {h : Held} {m : Option ℕ} {a : Fewest} → FewestPromise (h .rec .edition) (h .rec) a →
+      Asked (record { area = area; held = some h; cells = m }) fewest noLengths (naming (a .answer))
   join :
-      {area : List ℕ} {h : Held} {m : Option ℕ} {a : Joined} → JoinPromise L (h .rec) area (h .cells) a →
-      Asked L (record { area = area; held = some h; cells = m }) joins (readLengths area (h .cells)) (pairing (joinSaid (a .answer)))
+      {area : List ℕ} {h : Held} {m : Option ℕ} {a : Joined} → JoinPromise (h .rec .edition) (h .rec) area (h .cells) a →
+      Asked (record { area = area; held = some h; cells = m }) joins (readLengths area (h .cells)) (pairing (joinSaid (a .answer)))
 
 -- What a read by scan answers, by its promise. It gets N, S and the area alone, so nothing has to be held.
-pub data Scanned (L : Layout) (n s : ℕ) (area : List ℕ) : Question → Lengths → Answer → Type 0 where
+pub data Scanned (n s : ℕ) (area : List ℕ) : Question → Lengths → Answer → Type 0 where
   scan :
-      {v : Tables} {k : Key} {a : ReadAnswer} → TypedKey k → ScanPromise L n s area v k a →
-      Scanned L n s area (scans n s v k) (readLengths area []) (saying (readSaid a))
+      {v : Tables} {k : Key} {a : ReadAnswer} → TypedKey k → ScanPromise (imageLayout n s area) n s area v k a →
+      Scanned n s area (scans n s v k) (readLengths area []) (saying (readSaid a))
   scanValue :
-      {v : Tables} {k : Key} {p : Part} → TypedKey k → ScanValue L n s area v k p →
-      Scanned L n s area (scansValue n s v k) (readLengths area []) (giving (partOf area p))
+      {v : Tables} {k : Key} {p : Part} → TypedKey k → ScanValue (imageLayout n s area) n s area v k p →
+      Scanned n s area (scansValue n s v k) (readLengths area []) (giving (partOf area p))
 
 -- One event. A cut takes what is held and leaves the area with the stores made so far. The stores of an operation are made one by
 -- one, each by a step, and no other call stores anything; so a cut during a call is one before it, or one after it once its store
 -- is done, and a list with a cut at every place between events covers every single store before or after which the power fails.
-pub data Moves (L : Layout) (n s : ℕ) : World → Event → World → Type 0 where
+pub data Moves (n s : ℕ) : World → Event → World → Type 0 where
   -- a write, delete or clean, on any terms, with the newest record and its index, and any work buffer
   start :
       {area work work′ : List ℕ} {h : Held} {m : Option ℕ} {q : Terms} {o : Operation} {a : Start} → Typed o →
-      StartPromise L q o (h .rec) area (h .cells) work work′ a →
-      Moves L n s (record { area = area; held = some h; cells = m })
+      StartPromise (h .rec .edition) q o (h .rec) area (h .cells) work work′ a →
+      Moves n s (record { area = area; held = some h; cells = m })
       (called (starts q o) (lentLengths area (h .cells) work) (saying (startSaid (a .answer))))
       (record { area = area; held = some (heldAfter h work′ a); cells = m })
   -- a step; while an operation is pending it gets the work buffer that the start filled
   step :
       {area area′ cells′ work : List ℕ} {h : Held} {m : Option ℕ} {a : Stepped} →
       (isPending (h .rec .pending) ≡ true → work ≡ h .work) →
-      StepPromise L (h .rec) area area′ (h .cells) cells′ work a →
-      Moves L n s (record { area = area; held = some h; cells = m })
+      StepPromise (h .rec .edition) (h .rec) area area′ (h .cells) cells′ work a →
+      Moves n s (record { area = area; held = some h; cells = m })
       (called steps (lentLengths area (h .cells) work) (saying (stepSaid (a .answer))))
       (record { area = area′; held = some (record { rec = a .rec; cells = cells′; work = h .work }); cells = m })
   -- a question, which leaves all as it was
-  ask : {w : World} {q : Question} {lent : Lengths} {a : Answer} → Asked L w q lent a → Moves L n s w (called (asks q) lent a) w
+  ask : {w : World} {q : Question} {lent : Lengths} {a : Answer} → Asked w q lent a → Moves n s w (called (asks q) lent a) w
   -- a read by scan with the N and S of the format, which also leaves all as it was: before the first recovery, during an operation, after a cut
-  look : {w : World} {q : Question} {lent : Lengths} {a : Answer} → Scanned L n s (w .area) q lent a → Moves L n s w (called (asks q) lent a) w
+  look : {w : World} {q : Question} {lent : Lengths} {a : Answer} → Scanned n s (w .area) q lent a → Moves n s w (called (asks q) lent a) w
   -- a recovery with the N and S of the format, any order list and any index, with or without a cut before it
   recover :
       {w : World} {order cells cells′ : List ℕ} {r : Recovery} →
-      RecoverPromise L n s order (w .area) cells cells′ r →
-      Moves L n s w (called (recovers n s order) (readLengths (w .area) cells) (saying (recoverSaid (r .answer)))) (recoveredWorld w cells′ r)
+      RecoverPromise (imageLayout n s (w .area)) n s order (w .area) cells cells′ r →
+      Moves n s w (called (recovers n s order) (readLengths (w .area) cells) (saying (recoverSaid (r .answer)))) (recoveredWorld w cells′ r)
   -- the power fails
-  cuts : {w : World} → Moves L n s w cut (record { area = w .area; held = none; cells = w .cells })
+  cuts : {w : World} → Moves n s w cut (record { area = w .area; held = none; cells = w .cells })
 
 -- A list of events, one after the other.
-pub data Run (L : Layout) (n s : ℕ) : World → List Event → World → Type 0 where
-  stop : {w : World} → Run L n s w [] w
-  go : {w x y : World} {e : Event} {es : List Event} → Moves L n s w e x → Run L n s x es y → Run L n s w (e ∷ es) y
+pub data Run (n s : ℕ) : World → List Event → World → Type 0 where
+  stop : {w : World} → Run n s w [] w
+  go : {w x y : World} {e : Event} {es : List Event} → Moves n s w e x → Run n s x es y → Run n s w (e ∷ es) y

@@ -13,18 +13,18 @@ use lib.ListN.{length, take, drop, replicate, length-take, length-drop}
 use borrow.Author.Tests.{le-leb, eqb-true, ltb-true, ltb-false, not-false}
 use Rattle.word.specs.Number.{numberOf}
 use Rattle.segment.specs.Choice.{pick, pick-true, pick-false, both, both-left, both-right, both-true, either}
-use Rattle.segment.specs.Layout.{Layout, entrySize, digestSize}
+use Rattle.segment.specs.Layout.{Layout, entrySize, digestSize, table}
 use Rattle.segment.specs.Packed.{field-at}
 use Rattle.segment.specs.Entry.{Entry, bytesIn, entry, entryAt, sizeOf}
 use Rattle.segment.specs.EntryLaws.{decodedAt, decoded-at, found-fits, found-readable}
 use Rattle.slot_map.specs.Bit.{named}
 use Rattle.slot_map.specs.BitLaws.{named-true, set-below}
-use Rattle.model.specs.Log.{Item, Placed, segmentOf, viewsOf, scan, itemsOf, logOf, keysOf, versionShared}
+use Rattle.model.specs.Log.{Item, Placed, isDamaged, segmentOf, viewsOf, scan, itemsOf, logOf, keysOf, versionShared}
 use Rattle.model.specs.Recovery.{lists, listsBelow, orderBad, keysBad}
 use Rattle.model.specs.Index.{IndexRule}
 use Rattle.laws.specs.Members.{In, Within, Same}
 use Rattle.laws.specs.Versions.{shared-apart}
-use Rattle.laws.specs.LogLaws.{AllScanned, itemOf, placed-mem, mem-placed, in-log, log-in, scan-whole}
+use Rattle.laws.specs.LogLaws.{AllOf, AllScanned, itemOf, placed-mem, mem-placed, in-log, log-in, scan-whole}
 use Rattle.laws.specs.Scans.{scan-scans, scans-found}
 use Rattle.index.specs.Area.{InArea, AllIn}
 use Rattle.index.specs.Search.{mostCells}
@@ -55,8 +55,17 @@ module _ (L : Layout) (area : List ℕ) (S i at : ℕ) (e : Entry) (found : entr
         fits = omega (arith, inside);
         table-there = field 2 1 (omega arith) ∙ ap (λ (x : Entry). x .table) fields;
         key-there = field 4 3 (omega arith) ∙ ap (λ (x : Entry). x .key) fields;
-        version-there = field (L .width) 7 (omega arith) ∙ ap (λ (x : Entry). x .version) fields;
+        version-there = field (table L .width) 7 (omega arith) ∙ ap (λ (x : Entry). x .version) fields;
       }
+
+-- ---- a slot of the layout L is read by it
+
+module _ (L : Layout) (area : List ℕ) (S i : ℕ) (of : viewsOf area S i .layout ≡ L) where
+  own-scan : viewsOf area S i .scan ≡ scan L (segmentOf area S i)
+  own-scan = ap (λ (K : Layout). scan K (segmentOf area S i)) of
+
+  own-whole : isDamaged (viewsOf area S i .scan) ≡ false → isDamaged (scan L (segmentOf area S i)) ≡ false
+  own-whole e = ap isDamaged (sym own-scan) ∙ e
 
 -- ---- members of an order list
 
@@ -114,8 +123,9 @@ module _ (L : Layout) (area : List ℕ) (S map : ℕ) where
   listed-to (j ∷ order) i (List·Memᴰ·tail r) e x m =
       Memᴰ·append-right (pick (inLog (length area) S map j) (slotEntries L area S j) []) (listed-to order i r e x m)
 
-  -- n slots of S bytes, and a map of slots below n whose segments are undamaged
-  module _ (n : ℕ) (long : length area ≡ n * S) (below : map < 2 ^ n) (scans : AllScanned (viewsOf L area S) (named map) n) where
+  -- n slots of S bytes, and a map of slots below n whose segments are of the layout and undamaged
+  module _ (n : ℕ) (long : length area ≡ n * S) (below : map < 2 ^ n) (editions : AllOf L (viewsOf area S) (named map) n)
+      (scans : AllScanned (viewsOf area S) (named map) n) where
     slot-below : (i : ℕ) → named map i ≡ true → i < n
     slot-below i e = set-below n map i below (named-true map i e)
 
@@ -129,46 +139,50 @@ module _ (L : Layout) (area : List ℕ) (S map : ℕ) where
         both-true (named map i) (leb (i * S + S) (length area)) e
         (le-leb (i * S + S) (length area) (omega (arith, mul-le-mul-right S (slot-below i e), suc-mul i S)))
 
-    slot-scan : (i : ℕ) → named map i ≡ true → entriesAt L (segmentOf area S i) (digestSize L) ≡ itemsOf (scan L (segmentOf area S i))
-    slot-scan i e = entries-scan L (segmentOf area S i) (scans i (slot-below i e) e)
+    slot-scan : (i : ℕ) → named map i ≡ true → entriesAt L (segmentOf area S i) (digestSize L) ≡ itemsOf (viewsOf area S i .scan)
+    slot-scan i e =
+        let of = editions i (slot-below i e) e in
+        entries-scan L (segmentOf area S i) (own-whole L area S i of (scans i (slot-below i e) e)) ∙ ap itemsOf (sym (own-scan L area S i of))
 
-    pub listed-log : (order : List ℕ) → orderBad n order ≡ false → Same (listed L area S map order) (logOf (viewsOf L area S) (named map) n)
+    pub listed-log : (order : List ℕ) → orderBad n order ≡ false → Same (listed L area S map order) (logOf (viewsOf area S) (named map) n)
     listed-log order ob = record { to = to; from = from }
       where
-        to : Within (listed L area S map order) (logOf (viewsOf L area S) (named map) n)
+        to : Within (listed L area S map order) (logOf (viewsOf area S) (named map) n)
         to x m = go (listed-from order x m)
           where
-            go : (i : ℕ) × (inLog (length area) S map i ≡ true) × In x (slotEntries L area S i) → In x (logOf (viewsOf L area S) (named map) n)
+            go : (i : ℕ) × (inLog (length area) S map i ≡ true) × In x (slotEntries L area S i) → In x (logOf (viewsOf area S) (named map) n)
             go (i, e, p) =
                 let q = in-log-named i e in
                 let w = mem-placed i x (entriesAt L (segmentOf area S i) (digestSize L)) p in
-                in-log (viewsOf L area S) (named map) n x
+                in-log (viewsOf area S) (named map) n x
                 (record {
                   below = omega (arith, w .0, slot-below i q);
                   picked = ap (named map) (w .0) ∙ q;
                   item =
-                      subst (λ (j : ℕ). In (itemOf x) (itemsOf (scan L (segmentOf area S j)))) (sym (w .0))
+                      subst (λ (j : ℕ). In (itemOf x) (itemsOf (viewsOf area S j .scan))) (sym (w .0))
                       (subst (λ (is : List Item). In (itemOf x) is) (slot-scan i q) (w .1));
                 })
 
-        from : Within (logOf (viewsOf L area S) (named map) n) (listed L area S map order)
+        from : Within (logOf (viewsOf area S) (named map) n) (listed L area S map order)
         from x m =
-            let w = log-in (viewsOf L area S) (named map) n x m in
+            let w = log-in (viewsOf area S) (named map) n x m in
             listed-to order (x .slot) (order-lists n order ob (x .slot) (w .below)) (named-in-log (x .slot) (w .picked)) x
             (placed-mem (x .slot) (subst (λ (is : List Item). In (itemOf x) is) (sym (slot-scan (x .slot) (w .picked))) (w .item)))
 
--- ---- the entries of an undamaged log stand in the area
+-- ---- the entries of an undamaged log of one layout stand in the area
 
 pub log-in-area :
-    (L : Layout) (area : List ℕ) (S : ℕ) (p : ℕ → Bool) (n : ℕ) → AllScanned (viewsOf L area S) p n →
-    AllIn L area S (logOf (viewsOf L area S) p n)
-log-in-area L area S p n scans x m =
-    let w = log-in (viewsOf L area S) p n x m in
+    (L : Layout) (area : List ℕ) (S : ℕ) (p : ℕ → Bool) (n : ℕ) → AllOf L (viewsOf area S) p n → AllScanned (viewsOf area S) p n →
+    AllIn L area S (logOf (viewsOf area S) p n)
+log-in-area L area S p n editions scans x m =
+    let w = log-in (viewsOf area S) p n x m in
     let s : List ℕ = segmentOf area S (x .slot) in
+    let of = editions (x .slot) (w .below) (w .picked) in
     found-in-area L area S (x .slot) (x .offset) (x .entry)
-    (scans-found (scan-scans L s (scan-whole (scan L s) (scans (x .slot) (w .below) (w .picked)))) (w .item))
+    (scans-found (scan-scans L s (scan-whole (scan L s) (own-whole L area S (x .slot) of (scans (x .slot) (w .below) (w .picked)))))
+    (subst (λ (is : List Item). In (itemOf x) is) (ap itemsOf (own-scan L area S (x .slot) of)) (w .item)))
 
--- ---- the index of an undamaged log whose versions differ
+-- ---- the index of an undamaged log of one layout whose versions differ
 
 -- The number of a log's keys is told, and the cells keep the rule for it.
 pub record Holds (S m : ℕ) (log : List Placed) (r : Rebuilt) : Type 0 where
@@ -176,36 +190,37 @@ pub record Holds (S m : ℕ) (log : List Placed) (r : Rebuilt) : Type 0 where
   pub rule : IndexRule S log (r .cells)
   pub long : length (r .cells) ≡ m
 
-abbrev logIn : Layout → List ℕ → ℕ → ℕ → ℕ → List Placed
-logIn L area S map n = logOf (viewsOf L area S) (named map) n
+abbrev logIn : List ℕ → ℕ → ℕ → ℕ → List Placed
+logIn area S map n = logOf (viewsOf area S) (named map) n
 
 module _ (L : Layout) (area : List ℕ) (S map n m : ℕ) (order : List ℕ) (long : length area ≡ n * S) (below : map < 2 ^ n)
-    (scans : AllScanned (viewsOf L area S) (named map) n) (versions : versionShared (logIn L area S map n) ≡ false)
+    (editions : AllOf L (viewsOf area S) (named map) n) (scans : AllScanned (viewsOf area S) (named map) n)
+    (versions : versionShared (logIn area S map n) ≡ false)
     (order-good : orderBad n order ≡ false) (some-cell : 0 < m) (most : m ≤ mostCells) where
   abbrev tally : Tally
   tally = insertAll L area S (listed L area S map order) (counted (replicate m 0) 0)
 
-  told : Tells S m (logIn L area S map n) tally
+  told : Tells S m (logIn area S map n) tally
   told =
-      tells-log L area S m (listed L area S map order) (logIn L area S map n) some-cell most
-      (listed-log L area S map n long below scans order order-good) (log-in-area L area S (named map) n scans)
-      (shared-apart (logIn L area S map n) versions)
+      tells-log L area S m (listed L area S map order) (logIn area S map n) some-cell most
+      (listed-log L area S map n long below editions scans order order-good) (log-in-area L area S (named map) n editions scans)
+      (shared-apart (logIn area S map n) versions)
 
   -- at most M - 1 keys
-  pub built-rule : keysBad m (logIn L area S map n) ≡ false → Holds S m (logIn L area S map n) (built L area S map order m)
+  pub built-rule : keysBad m (logIn area S map n) ≡ false → Holds S m (logIn area S map n) (built L area S map order m)
   unfolding Tells finished
   built-rule few = go tally refl told
     where
-      go : (s : Tally) → tally ≡ s → Tells S m (logIn L area S map n) s → Holds S m (logIn L area S map n) (finished m tally)
+      go : (s : Tally) → tally ≡ s → Tells S m (logIn area S map n) s → Holds S m (logIn area S map n) (finished m tally)
       go (counted cells k) e w = rw e (record { answers = ap Built.Keys (w .keys); rule = w .rule; long = w .long })
-      go over e w = absurd (omega (arith, ltb-false (m - 1) (length (keysOf (logIn L area S map n))) few))
+      go over e w = absurd (omega (arith, ltb-false (m - 1) (length (keysOf (logIn area S map n))) few))
 
   -- more: the cells are all 0
-  pub built-over : keysBad m (logIn L area S map n) ≡ true → built L area S map order m ≡ record { answer = Built.TooMany; cells = replicate m 0 }
+  pub built-over : keysBad m (logIn area S map n) ≡ true → built L area S map order m ≡ record { answer = Built.TooMany; cells = replicate m 0 }
   unfolding Tells finished
   built-over many = go tally refl told
     where
-      go : (s : Tally) → tally ≡ s → Tells S m (logIn L area S map n) s → finished m tally ≡ record { answer = Built.TooMany; cells = replicate m 0 }
+      go : (s : Tally) → tally ≡ s → Tells S m (logIn area S map n) s → finished m tally ≡ record { answer = Built.TooMany; cells = replicate m 0 }
       go (counted cells k) e w =
-          absurd (omega (arith, w .keys, w .few, ltb-true (m - 1) (length (keysOf (logIn L area S map n))) many))
+          absurd (omega (arith, w .keys, w .few, ltb-true (m - 1) (length (keysOf (logIn area S map n))) many))
       go over e w = ap (finished m) e

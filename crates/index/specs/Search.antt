@@ -6,7 +6,7 @@ use lib.Dec.{eqb, leb}
 use lib.ListN.{length, getD, take, drop}
 use Rattle.word.specs.Number.{numberOf}
 use Rattle.segment.specs.Choice.{pick, both}
-use Rattle.segment.specs.Layout.{Layout, entrySize}
+use Rattle.segment.specs.Layout.{Layout, entrySize, table}
 use Rattle.segment.specs.declared.Key.{Key}
 use Rattle.model.specs.Index.{around, startCell}
 use Rattle.index.specs.declared.Found.{Found}
@@ -28,7 +28,7 @@ abbrev pub keyAt : List ℕ → ℕ → ℕ
 keyAt area p = numberOf (take 4 (drop (p + 3) area))
 
 abbrev pub versionAt : Layout → List ℕ → ℕ → ℕ
-versionAt L area p = numberOf (take (L .width) (drop (p + 7) area))
+versionAt L area p = numberOf (take (table L .width) (drop (p + 7) area))
 
 -- whether the entry at a place has that key; a place where no entry fits has none
 unfoldable pub hasKeyAt : Layout → List ℕ → Key → ℕ → Bool

@@ -12,7 +12,7 @@ use lib.Seq.{drop-length, drop-cons}
 use borrow.Author.Fill.{fill-more}
 use borrow.Author.Tests.{ltb-true, ltb-false, leb-true}
 use Rattle.segment.specs.Choice.{pick-true, pick-false, both, both-right, both-false-left}
-use Rattle.segment.specs.Layout.{Layout}
+use Rattle.segment.specs.Layout.{Layout, digestSize}
 use Rattle.segment.specs.Entry.{Entry, entry, entryAt, sizeOf, keyOf}
 use Rattle.segment.specs.Entries.{headerOf, nextOf, next-entry, next-fits, next-end, next-damage}
 use Rattle.segment.specs.Packed.{length-part}
@@ -123,6 +123,11 @@ module _ (L : Layout) (area : List ℕ) where
   few-all S (x ∷ xs) over h = few-all S xs over tt
 
 -- ---- a turn over the entries of a slot: going on from here gives the whole tally
+
+pub slot-start : (L : Layout) (area : List ℕ) (S i at : ℕ) (cells : List ℕ) (n : ℕ) → at ≡ digestSize L →
+    insertAll L area S (placedIn i (entriesAt L (segmentOf area S i) at)) (counted cells n) ≡
+    insertAll L area S (slotEntries L area S i) (counted cells n)
+slot-start L area S i at cells n e = ap (λ (k : ℕ). insertAll L area S (placedIn i (entriesAt L (segmentOf area S i) k)) (counted cells n)) e
 
 module _ (L : Layout) (area : List ℕ) (S i at : ℕ) (cells : List ℕ) (n : ℕ) (whole : Tally)
     (from : insertAll L area S (placedIn i (entriesAt L (segmentOf area S i) at)) (counted cells n) ≡ whole) (s : List ℕ)

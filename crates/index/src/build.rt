@@ -2,17 +2,17 @@
 use crate::Built;
 use crate::Inserted;
 use crate::put::insert;
+use segment::Edition;
 use segment::Key;
 use segment::Next;
 use segment::Version;
 use segment::area::cut;
 use segment::entries::next;
-use segment::layout::DIGEST_SIZE;
+use segment::layout::digest_size;
 use slot_map::has_slot;
 ghost use Prim.Native.Nat.{_+_, _*_, _≤_, _<_};
 ghost use mathlib.Core.Path.{_≡_};
 ghost use lib.ListN.{length, replicate};
-ghost use Rattle.segment.specs.Layout.{edition1};
 ghost use Rattle.index.specs.Insert.{counted, insertOne, insertAll};
 ghost use Rattle.index.specs.Build.{inLog, slotEntries, listedSlot, listed, tallyOf, Rebuilt, built};
 
@@ -29,6 +29,7 @@ fn clear(cells: &mut [u32])
 
 // One entry more, with the number of keys so far.
 fn index_entry(
+    edition: Edition,
     area: &[u8],
     cells: &mut [u32],
     place: usize,
@@ -40,10 +41,10 @@ fn index_entry(
     ensures { λ r.
         ⌜
         tallyOf r (now (cells .exit))
-        ≡ insertOne edition1 (now (area .entry)) place key (version .0) (now (cells .entry)) keys
+        ≡ insertOne edition (now (area .entry)) place key (version .0) (now (cells .entry)) keys
         ⌝ }
 {
-    match insert(area, cells, place, key, version) {
+    match insert(edition, area, cells, place, key, version) {
         Inserted::New => {
             if keys + 1 < cells.len() {
                 return Built::Keys(keys + 1);
@@ -57,7 +58,14 @@ fn index_entry(
 }
 
 // The entries of one slot. Damage, which a log that is recovered does not have, ends a segment too.
-fn index_slot(area: &[u8], cells: &mut [u32], slot: usize, size: usize, keys: usize) -> Built
+fn index_slot(
+    edition: Edition,
+    area: &[u8],
+    cells: &mut [u32],
+    slot: usize,
+    size: usize,
+    keys: usize,
+) -> Built
     requires { ⌜
         (slot * size + size ≤ length (now area))
         × (slot * size + size < 4294967295)
@@ -66,20 +74,21 @@ fn index_slot(area: &[u8], cells: &mut [u32], slot: usize, size: usize, keys: us
     ensures { λ r.
         ⌜
         tallyOf r (now (cells .exit))
-        ≡ insertAll edition1 (now (area .entry)) size (slotEntries edition1 (now (area .entry)) size slot) (counted (now (cells .entry)) keys)
+        ≡ insertAll edition (now (area .entry)) size (slotEntries edition (now (area .entry)) size slot) (counted (now (cells .entry)) keys)
         ⌝ }
 {
     let s = cut(size, area, slot);
     let start = slot * size;
-    let mut at = DIGEST_SIZE;
+    let mut at = digest_size(edition);
     let mut keys = keys;
     loop {
-        match next(s, at) {
+        match next(edition, s, at) {
             Next::Entry(header) => {
                 let place = start + at;
                 let key = header.key;
                 let version = header.version;
-                let Built::Keys(n) = index_entry(area, cells, place, key, version, keys) else {
+                let Built::Keys(n) = index_entry(edition, area, cells, place, key, version, keys)
+                else {
                     return Built::TooMany;
                 };
                 keys = n;
@@ -118,6 +127,7 @@ fn in_log(length: usize, size: usize, map: u32, slot: usize) -> bool
 
 // The entries of one slot of the order list, if it is in the log.
 fn index_listed(
+    edition: Edition,
     area: &[u8],
     cells: &mut [u32],
     slot: usize,
@@ -129,29 +139,36 @@ fn index_listed(
     ensures { λ r.
         ⌜
         tallyOf r (now (cells .exit))
-        ≡ insertAll edition1 (now (area .entry)) size (listedSlot edition1 (now (area .entry)) size map slot) (counted (now (cells .entry)) keys)
+        ≡ insertAll edition (now (area .entry)) size (listedSlot edition (now (area .entry)) size map slot) (counted (now (cells .entry)) keys)
         ⌝ }
 {
     if !in_log(area.len(), size, map, slot) {
         return Built::Keys(keys);
     }
-    index_slot(area, cells, slot, size, keys)
+    index_slot(edition, area, cells, slot, size, keys)
 }
 
 // The entries of the slots of the order list, one slot after the other, into cells that are free.
-fn index_order(area: &[u8], cells: &mut [u32], order: &[u8], size: usize, map: u32) -> Built
+fn index_order(
+    edition: Edition,
+    area: &[u8],
+    cells: &mut [u32],
+    order: &[u8],
+    size: usize,
+    map: u32,
+) -> Built
     requires { ⌜ size ≤ 65536 ⌝ }
     ensures { λ r.
         ⌜
         tallyOf r (now (cells .exit))
-        ≡ insertAll edition1 (now (area .entry)) size (listed edition1 (now (area .entry)) size map (now (order .entry))) (counted (now (cells .entry)) 0)
+        ≡ insertAll edition (now (area .entry)) size (listed edition (now (area .entry)) size map (now (order .entry))) (counted (now (cells .entry)) 0)
         ⌝ }
 {
     let mut keys = 0;
     let mut j = 0;
     while j < order.len() {
         let slot = slot_of(order[j]);
-        let Built::Keys(n) = index_listed(area, cells, slot, size, map, keys) else {
+        let Built::Keys(n) = index_listed(edition, area, cells, slot, size, map, keys) else {
             return Built::TooMany;
         };
         keys = n;
@@ -169,16 +186,23 @@ fn give_up(index: &mut [u32]) -> Built
 }
 
 // The index of the log: the slots of the map in the order of the list. With too many keys every cell is left 0.
-pub fn build(area: &[u8], cells: &mut [u32], order: &[u8], size: usize, map: u32) -> Built
+pub fn build(
+    edition: Edition,
+    area: &[u8],
+    cells: &mut [u32],
+    order: &[u8],
+    size: usize,
+    map: u32,
+) -> Built
     requires { ⌜ size ≤ 65536 ⌝ }
     ensures { λ r.
         ⌜
         _≡_ {A = Rebuilt} (record { answer = r; cells = now (cells .exit) })
-        (built edition1 (now (area .entry)) size map (now (order .entry)) (length (now (cells .entry))))
+        (built edition (now (area .entry)) size map (now (order .entry)) (length (now (cells .entry))))
         ⌝ }
 {
     clear(cells);
-    match index_order(area, cells, order, size, map) {
+    match index_order(edition, area, cells, order, size, map) {
         Built::Keys(n) => Built::Keys(n),
         Built::TooMany => give_up(cells),
     }

@@ -2,13 +2,13 @@
 use crate::Found;
 use crate::Inserted;
 use crate::search::search;
+use segment::Edition;
 use segment::Key;
 use segment::Version;
 use segment::reader::version_at;
 ghost use Prim.Native.Nat.{_+_, _<_};
 ghost use mathlib.Core.Path.{_≡_};
 ghost use lib.ListN.{length, set};
-ghost use Rattle.segment.specs.Layout.{edition1};
 ghost use Rattle.index.specs.Insert.{inserted};
 
 // The place of an entry goes into a cell.
@@ -22,15 +22,22 @@ pub fn put(cells: &mut [u32], cell: usize, place: usize)
 // An entry of a key goes into the index, unless a newer one is there. The version of one that is there is read at its offset
 // and not through the entry reader: through the reader a recovery takes 15 to 30 % longer, for this function is then no
 // longer put in line where the index is rebuilt.
-pub fn insert(area: &[u8], cells: &mut [u32], place: usize, key: Key, version: Version) -> Inserted
+pub fn insert(
+    edition: Edition,
+    area: &[u8],
+    cells: &mut [u32],
+    place: usize,
+    key: Key,
+    version: Version,
+) -> Inserted
     requires { ⌜ place < 4294967295 ⌝ }
     ensures { λ r.
         ⌜
         record { answer = r; cells = now (cells .exit) }
-        ≡ inserted edition1 (now (area .entry)) (now (cells .entry)) place key (version .0)
+        ≡ inserted edition (now (area .entry)) (now (cells .entry)) place key (version .0)
         ⌝ }
 {
-    match search(area, cells, key) {
+    match search(edition, area, cells, key) {
         Found::Full => Inserted::Full,
         Found::Free(i) => {
             put(cells, i, place);
@@ -38,7 +45,7 @@ pub fn insert(area: &[u8], cells: &mut [u32], place: usize, key: Key, version: V
         }
         Found::At(i) => {
             let old = cells[i] - 1;
-            let there = version_at(area, old as usize + 7);
+            let there = version_at(edition, area, old as usize + 7);
             if there.0 < version.0 {
                 put(cells, i, place);
                 return Inserted::Newer(old);

@@ -3,12 +3,12 @@
 use Prim.Native.Nat.{ℕ, zero, suc, _+_, _<_}
 use native.Mathlib.Omega.{arith}
 use mathlib.Core.Path.{_≡_, refl, sym, ap, _∙_, subst}
-use mathlib.Core.Bool.{Bool, true, false}
+use mathlib.Core.Bool.{Bool, true, false, not}
 use mathlib.Core.List.{List, [], _∷_, _++_}
 use mathlib.Core.Option.{Option, some}
 use lib.ListN.{length}
 use Rattle.segment.specs.Choice.{both, either, isNone}
-use Rattle.segment.specs.Layout.{Layout}
+use Rattle.segment.specs.Layout.{Layout, sameLayout}
 use Rattle.segment.specs.declared.Digest.{Digest}
 use Rattle.slot_map.specs.Bit.{named}
 use Rattle.record.specs.RangeLaws.{map-in}
@@ -16,7 +16,7 @@ use Rattle.record.specs.declared.Refusal.the-variants.{BadOrder}
 use Rattle.record.specs.declared.Record.{Record}
 use Rattle.model.specs.Log.{View, Head, Placed, viewsOf, newer, headOf, logOf, endOf, isDamaged, keysOf, versionShared, highest}
 use Rattle.model.specs.Causes.{Cause, when, firstCause}
-use Rattle.model.specs.Recovery.{headElse, hasNumber, sharing, namesNoDigest, logDamaged, logSlots, logUnder, recordUnder, imageCauses, keyCauses, lentCauses, orderBad, recoverCauses, recordFrom, recovered, recovery}
+use Rattle.model.specs.Recovery.{headElse, hasNumber, sharing, namesNoDigest, otherEdition, logDamaged, logSlots, logUnder, recordUnder, imageCauses, keyCauses, lentCauses, orderBad, recoverCauses, recordFrom, recovered, recovery}
 use Rattle.model.specs.Operations.{logNow}
 use Rattle.model.specs.Counts.{countsOf}
 use Rattle.laws.specs.LogLaws.{log-same}
@@ -31,9 +31,11 @@ same-by of f h {log} {log′} e = sym (h log) ∙ ap f e ∙ h log′
 
 -- ---- on views
 
--- The slots below n have the same digests, and those that p picks the same entries but for hidden values.
+-- The slots below n have the same digests, and those that p picks are of the same editions and have the same entries but for hidden
+-- values.
 pub record AlikeViews (of : ℕ → Bool) (n : ℕ) (p : ℕ → Bool) (v v′ : ℕ → View) : Type 0 where
   pub digests : (i : ℕ) → i < n → v i .digest ≡ v′ i .digest
+  pub layouts : (i : ℕ) → i < n → p i ≡ true → v i .layout ≡ v′ i .layout
   pub scans : (i : ℕ) → i < n → p i ≡ true → hiddenScan of (v i .scan) ≡ hiddenScan of (v′ i .scan)
 
 module _ (of : ℕ → Bool) (v v′ : ℕ → View) where
@@ -57,6 +59,19 @@ module _ (of : ℕ → Bool) (v v′ : ℕ → View) where
   names-alike p (suc n) d =
       ap (λ (t : Bool). either t (both (p n) (isNone (v n .digest)))) (names-alike p n (λ i l. d i (omega arith))) ∙
       ap (λ (x : Option Digest). either (namesNoDigest v′ p n) (both (p n) (isNone x))) (d n (omega arith))
+
+  editions-alike :
+      (L : Layout) (p : ℕ → Bool) (n : ℕ) → ((i : ℕ) → i < n → p i ≡ true → v i .layout ≡ v′ i .layout) →
+      otherEdition L v p n ≡ otherEdition L v′ p n
+  unfolding otherEdition both
+  editions-alike L p zero f = refl
+  editions-alike L p (suc n) f =
+      ap (λ (t : Bool). either t (both (p n) (not (sameLayout (v n .layout) L)))) (editions-alike L p n (λ i l. f i (omega arith))) ∙
+      ap (either (otherEdition L v′ p n)) (go (p n) refl)
+    where
+      go : (t : Bool) → p n ≡ t → both t (not (sameLayout (v n .layout) L)) ≡ both t (not (sameLayout (v′ n .layout) L))
+      go true e = ap (λ (K : Layout). not (sameLayout K L)) (f n (omega arith) e)
+      go false e = refl
 
   damaged-alike :
       (p : ℕ → Bool) (n : ℕ) → ((i : ℕ) → i < n → p i ≡ true → hiddenScan of (v i .scan) ≡ hiddenScan of (v′ i .scan)) →
@@ -95,12 +110,13 @@ module _ (of : ℕ → Bool) (v v′ : ℕ → View) (n : ℕ) (h : Head) (a : A
   present-bytes : (L : Layout) → countsOf L (logUnder v n h) ≡ countsOf L (logUnder v′ n h)
   present-bytes L = same-by of (countsOf L) (counts-hidden of L) logs
 
-  pub image-alike : (o : Option Head) → headElse o ≡ h → imageCauses v n o ≡ imageCauses v′ n o
-  image-alike o e =
+  pub image-alike : (L : Layout) (o : Option Head) → headElse o ≡ h → imageCauses L v n o ≡ imageCauses L v′ n o
+  image-alike L o e =
       rw (
         e,
         sharing-alike of v v′ (h .digest .number .0) n (a .digests),
         names-alike of v v′ (logSlots h) n (a .digests),
+        editions-alike of v v′ L (logSlots h) n (a .layouts),
         damaged-alike of v v′ (logSlots h) n (a .scans),
         shared,
       )
@@ -120,37 +136,37 @@ module _ (of : ℕ → Bool) (v v′ : ℕ → View) (n : ℕ) (h : Head) (a : A
 -- ---- on areas
 
 -- Two areas of one length whose slots are alike, those of the log being the ones that the map names.
-pub record Alike (of : ℕ → Bool) (L : Layout) (n s map : ℕ) (area area′ : List ℕ) : Type 0 where
+pub record Alike (of : ℕ → Bool) (n s map : ℕ) (area area′ : List ℕ) : Type 0 where
   pub long : length area ≡ length area′
-  pub views : AlikeViews of n (named map) (viewsOf L area s) (viewsOf L area′ s)
+  pub views : AlikeViews of n (named map) (viewsOf area s) (viewsOf area′ s)
 
 module _ (of : ℕ → Bool) (L : Layout) (n s : ℕ) (area area′ : List ℕ) where
   -- the head of the one, and of the other
   abbrev top : Option Head
-  top = headOf (viewsOf L area s) n
+  top = headOf (viewsOf area s) n
 
-  module _ (map : ℕ) (a : Alike of L n s map area area′) (own : map ≡ headElse (headOf (viewsOf L area s) n) .digest .map) where
-    views-own : AlikeViews of n (logSlots (headElse top)) (viewsOf L area s) (viewsOf L area′ s)
-    views-own = subst (λ (k : ℕ). AlikeViews of n (named k) (viewsOf L area s) (viewsOf L area′ s)) own (a .views)
+  module _ (map : ℕ) (a : Alike of n s map area area′) (own : map ≡ headElse (headOf (viewsOf area s) n) .digest .map) where
+    views-own : AlikeViews of n (logSlots (headElse top)) (viewsOf area s) (viewsOf area′ s)
+    views-own = subst (λ (k : ℕ). AlikeViews of n (named k) (viewsOf area s) (viewsOf area′ s)) own (a .views)
 
-    heads : top ≡ headOf (viewsOf L area′ s) n
-    heads = head-alike of (viewsOf L area s) (viewsOf L area′ s) n (a .views .digests)
+    heads : top ≡ headOf (viewsOf area′ s) n
+    heads = head-alike of (viewsOf area s) (viewsOf area′ s) n (a .views .digests)
 
     -- Recovery has the same causes,
     pub causes-alike : (m : ℕ) (order : List ℕ) → recoverCauses L n s m order area ≡ recoverCauses L n s m order area′
     causes-alike m order =
-        ap (λ (l : ℕ). lentCauses n s m l ++ listed ++ imageCauses v n top ++ keyCauses v n m top) (a .long) ∙
+        ap (λ (l : ℕ). lentCauses n s m l ++ listed ++ imageCauses L v n top ++ keyCauses v n m top) (a .long) ∙
         ap (λ (c : List Cause). lentCauses n s m (length area′) ++ listed ++ c ++ keyCauses v n m top)
-        (image-alike of v v′ n (headElse top) views-own top refl) ∙
-        ap (λ (c : List Cause). lentCauses n s m (length area′) ++ listed ++ imageCauses v′ n top ++ c)
+        (image-alike of v v′ n (headElse top) views-own L top refl) ∙
+        ap (λ (c : List Cause). lentCauses n s m (length area′) ++ listed ++ imageCauses L v′ n top ++ c)
         (keys-alike of v v′ n (headElse top) views-own m top refl) ∙
-        ap (λ (o : Option Head). lentCauses n s m (length area′) ++ listed ++ imageCauses v′ n o ++ keyCauses v′ n m o) heads
+        ap (λ (o : Option Head). lentCauses n s m (length area′) ++ listed ++ imageCauses L v′ n o ++ keyCauses v′ n m o) heads
       where
         v : ℕ → View
-        v = viewsOf L area s
+        v = viewsOf area s
 
         v′ : ℕ → View
-        v′ = viewsOf L area′ s
+        v′ = viewsOf area′ s
 
         listed : List Cause
         listed = when (orderBad n order) BadOrder ∷ []
@@ -158,21 +174,21 @@ module _ (of : ℕ → Bool) (L : Layout) (n s : ℕ) (area area′ : List ℕ) 
     -- and gives the same record where the head is a slot of the log.
     pub record-alike : (m : ℕ) → headElse top .slot < n → named map (headElse top .slot) ≡ true → recordFrom L n s m area ≡ recordFrom L n s m area′
     record-alike m below named-own =
-        under-alike of (viewsOf L area s) (viewsOf L area′ s) n (headElse top) views-own L s m below
+        under-alike of (viewsOf area s) (viewsOf area′ s) n (headElse top) views-own L s m below
         (subst (λ (k : ℕ). named k (headElse top .slot) ≡ true) own named-own) ∙
-        ap (λ (o : Option Head). recordUnder L (viewsOf L area′ s) n s m (headElse o)) heads
+        ap (λ (o : Option Head). recordUnder L (viewsOf area′ s) n s m (headElse o)) heads
 
 -- what is known of the head where recovery is accepted
 pub head-inside :
     (L : Layout) (n s m : ℕ) (area : List ℕ) (r : Record) → recovered L n s m area ≡ some r →
-    (headElse (headOf (viewsOf L area s) n) .slot < n)
-    × (named (headElse (headOf (viewsOf L area s) n) .digest .map) (headElse (headOf (viewsOf L area s) n) .slot) ≡ true)
+    (headElse (headOf (viewsOf area s) n) .slot < n)
+    × (named (headElse (headOf (viewsOf area s) n) .digest .map) (headElse (headOf (viewsOf area s) n) .slot) ≡ true)
 unfolding headElse
 head-inside L n s m area r e =
     let f = recovered-facts L n s m area r e in
     rw (f .head-is) (f .sound .top .below, map-in n (f .head .slot) (f .head .digest .map) (f .sound .map-good) .head-named)
 
-module _ (of : ℕ → Bool) (L : Layout) (n s : ℕ) (area area′ : List ℕ) (a : Alike of L n s (recordFrom L n s 16 area .map) area area′) where
+module _ (of : ℕ → Bool) (L : Layout) (n s : ℕ) (area area′ : List ℕ) (a : Alike of n s (recordFrom L n s 16 area .map) area area′) where
   -- Recovery of alike areas answers the same.
   pub records-same : (m k : ℕ) (r : Record) → recovered L n s m area ≡ some r → recordFrom L n s k area ≡ recordFrom L n s k area′
   records-same m k r e =
@@ -189,7 +205,7 @@ module _ (of : ℕ → Bool) (L : Layout) (n s : ℕ) (area area′ : List ℕ) 
 
 -- the logs of alike areas under a record with that map
 pub logs-same :
-    (of : ℕ → Bool) (L : Layout) (r : Record) (area area′ : List ℕ) → Alike of L (r .slots) (r .size) (r .map) area area′ →
-    hiddenLog of (logNow L area r) ≡ hiddenLog of (logNow L area′ r)
-logs-same of L r area area′ a =
-    log-alike of (viewsOf L area (r .size)) (viewsOf L area′ (r .size)) (named (r .map)) (named (r .map)) (r .slots) (a .views) (λ i l e. e)
+    (of : ℕ → Bool) (r : Record) (area area′ : List ℕ) → Alike of (r .slots) (r .size) (r .map) area area′ →
+    hiddenLog of (logNow area r) ≡ hiddenLog of (logNow area′ r)
+logs-same of r area area′ a =
+    log-alike of (viewsOf area (r .size)) (viewsOf area′ (r .size)) (named (r .map)) (named (r .map)) (r .slots) (a .views) (λ i l e. e)

@@ -49,7 +49,7 @@ hiddenScan of damaged = damaged
 hiddenScan of (scanned is e) = scanned (map (hiddenItem of) is) e
 
 abbrev pub hiddenViews : (ℕ → Bool) → (ℕ → View) → (ℕ → View)
-hiddenViews of v i = record { digest = v i .digest; scan = hiddenScan of (v i .scan) }
+hiddenViews of v i = record { layout = v i .layout; digest = v i .digest; scan = hiddenScan of (v i .scan) }
 
 -- ---- a test between two, and a list behind another
 

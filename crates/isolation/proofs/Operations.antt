@@ -10,7 +10,7 @@ use lib.Dec.{leb, ltb}
 use lib.ListN.{length, getD, take, drop, length-append, length-drop}
 use borrow.Author.Tests.{leb-true}
 use Rattle.segment.specs.Choice.{pick, isNone}
-use Rattle.segment.specs.Layout.{Layout, entrySize, digestSize}
+use Rattle.segment.specs.Layout.{Layout, entrySize, digestSize, table}
 use Rattle.segment.specs.Entry.{Entry, bytesIn, kindOf, encoded, sizeOf}
 use Rattle.segment.specs.EntryLaws.{length-encoded, formed-known}
 use Rattle.segment.specs.Digest.{encodedDigest}
@@ -211,9 +211,9 @@ module _ (of any : ℕ → Bool) (L : Layout) (r : Record) (log log′ : List Pl
 
 module _ (of : ℕ → Bool) (L : Layout) (roomy : Roomy L) (before before′ : List ℕ) (idle : Record) where
   twin-entry :
-      (e e′ : Entry) → Entering L before idle e → Entering L before′ idle e′ → hidden of e ≡ hidden of e′ → 256 ≤ idle .size → idle .next .0 < 256 ^ L .width →
+      (e e′ : Entry) → Entering L before idle e → Entering L before′ idle e′ → hidden of e ≡ hidden of e′ → 256 ≤ idle .size → idle .next .0 < 256 ^ table L .width →
       Twin of L idle (planOf idle (laidEntry L idle e .pending 0) (laidEntry L idle e .bytes))
-      (planOf idle (laidEntry L idle e′ .pending 0) (laidEntry L idle e′ .bytes)) (entryRecord L idle (logNow L before idle) e .map)
+      (planOf idle (laidEntry L idle e′ .pending 0) (laidEntry L idle e′ .bytes)) (entryRecord L idle (logNow before idle) e .map)
   unfolding pick planOf
   twin-entry e e′ f f′ same big wide = subst (λ (t : Bool). shape (fitsHead L idle e) t) fits-same (go (fitsHead L idle e) refl)
     where
@@ -223,7 +223,7 @@ module _ (of : ℕ → Bool) (L : Layout) (roomy : Roomy L) (before before′ : 
       shape : Bool → Bool → Type 0
       shape t u =
           Twin of L idle (planOf idle (lay t e .pending 0) (lay t e .bytes)) (planOf idle (lay u e′ .pending 0) (lay u e′ .bytes))
-          (pick t (appendedRecord L idle (logNow L before idle) e) (headedRecord L idle (logNow L before idle) e) .map)
+          (pick t (appendedRecord L idle (logNow before idle) e) (headedRecord L idle (logNow before idle) e) .map)
 
       sizes : sizeOf L e ≡ sizeOf L e′
       sizes = sym (size-hidden of L e) ∙ ap (sizeOf L) same ∙ size-hidden of L e′
@@ -245,7 +245,7 @@ module _ (of : ℕ → Bool) (L : Layout) (roomy : Roomy L) (before before′ : 
           (omega (arith, ap length (encoded-one L e), length-encoded L e, roomy .room (kindOf L e) (length (bytesIn (e .value))) (formed-known L e (f .formed))))))
 
   -- a next version fits its bytes
-  next-wide : (o : Operation) → Accepted L before idle o → idle .next .0 < 256 ^ L .width
+  next-wide : (o : Operation) → Accepted L before idle o → idle .next .0 < 256 ^ table L .width
   next-wide o a = new-next-fits L before idle (a .recovers) (a .area-bytes)
 
   -- cleanings that go by logs which differ in hidden values alone, also those that delete
@@ -260,33 +260,33 @@ module _ (of : ℕ → Bool) (L : Layout) (roomy : Roomy L) (before before′ : 
 
   -- a delete, by whether its tombstone finds room
   module _ (k : Key) (a : Accepted L before idle (delete k)) (a′ : Accepted L before′ idle (delete k))
-      (logs : hiddenLog of (logNow L before idle) ≡ hiddenLog of (logNow L before′ idle))
+      (logs : hiddenLog of (logNow before idle) ≡ hiddenLog of (logNow before′ idle))
     where
-      victims-same : forgetVictim (logNow L before idle) k ≡ forgetVictim (logNow L before′ idle) k
+      victims-same : forgetVictim (logNow before idle) k ≡ forgetVictim (logNow before′ idle) k
       victims-same =
-          sym (victim-hidden of (logNow L before idle) k) ∙ ap (λ (l : List Placed). forgetVictim l k) logs ∙ victim-hidden of (logNow L before′ idle) k
+          sym (victim-hidden of (logNow before idle) k) ∙ ap (λ (l : List Placed). forgetVictim l k) logs ∙ victim-hidden of (logNow before′ idle) k
 
-      stands-same : hiddenLog of (forgottenLog idle (logNow L before idle) k) ≡ hiddenLog of (forgottenLog idle (logNow L before′ idle) k)
+      stands-same : hiddenLog of (forgottenLog idle (logNow before idle) k) ≡ hiddenLog of (forgottenLog idle (logNow before′ idle) k)
       stands-same =
-          sym (forgotten-hidden of idle (logNow L before idle) k) ∙ ap (λ (l : List Placed). forgottenLog idle l k) logs ∙
-          forgotten-hidden of idle (logNow L before′ idle) k
+          sym (forgotten-hidden of idle (logNow before idle) k) ∙ ap (λ (l : List Placed). forgottenLog idle l k) logs ∙
+          forgotten-hidden of idle (logNow before′ idle) k
 
       twin-forget : noRoom idle (entrySize L 0) ≡ true →
           Twin of L idle
-          (headPlan L (idle .size) (newSlot idle) (forgetDigest idle (logNow L before idle) k) (forgetKept idle (logNow L before idle) k))
-          (headPlan L (idle .size) (newSlot idle) (forgetDigest idle (logNow L before′ idle) k) (forgetKept idle (logNow L before′ idle) k))
-          (newDigest idle (forgetVictim (logNow L before idle) k) .map)
+          (headPlan L (idle .size) (newSlot idle) (forgetDigest idle (logNow before idle) k) (forgetKept idle (logNow before idle) k))
+          (headPlan L (idle .size) (newSlot idle) (forgetDigest idle (logNow before′ idle) k) (forgetKept idle (logNow before′ idle) k))
+          (newDigest idle (forgetVictim (logNow before idle) k) .map)
       twin-forget full =
           subst
           (λ (w : ℕ).
           Twin of L idle
-          (headPlan L (idle .size) (newSlot idle) (forgetDigest idle (logNow L before idle) k) (forgetKept idle (logNow L before idle) k))
-          (headPlan L (idle .size) (newSlot idle) (digestWith idle w (nextAfter idle)) (kept w (forgottenLog idle (logNow L before′ idle) k)))
-          (newDigest idle (forgetVictim (logNow L before idle) k) .map))
+          (headPlan L (idle .size) (newSlot idle) (forgetDigest idle (logNow before idle) k) (forgetKept idle (logNow before idle) k))
+          (headPlan L (idle .size) (newSlot idle) (digestWith idle w (nextAfter idle)) (kept w (forgottenLog idle (logNow before′ idle) k)))
+          (newDigest idle (forgetVictim (logNow before idle) k) .map))
           victims-same
-          (twin-clean (forgetVictim (logNow L before idle) k) (nextAfter idle) (forgottenLog idle (logNow L before idle) k)
-          (forgottenLog idle (logNow L before′ idle) k) (forget-cleans L before idle k a full)
-          (subst (λ (w : ℕ). Cleaning L before′ idle w (nextAfter idle) (forgottenLog idle (logNow L before′ idle) k)) (sym victims-same)
+          (twin-clean (forgetVictim (logNow before idle) k) (nextAfter idle) (forgottenLog idle (logNow before idle) k)
+          (forgottenLog idle (logNow before′ idle) k) (forget-cleans L before idle k a full)
+          (subst (λ (w : ℕ). Cleaning L before′ idle w (nextAfter idle) (forgottenLog idle (logNow before′ idle) k)) (sym victims-same)
           (forget-cleans L before′ idle k a′ full)) stands-same)
 
       twin-delete :
@@ -298,9 +298,9 @@ module _ (of : ℕ → Bool) (L : Layout) (roomy : Roomy L) (before before′ : 
           way t log = pick t (laidForget L idle log k) (laidEntry L idle (tombstoneEntry idle k))
 
           go : (t : Bool) → noRoom idle (entrySize L 0) ≡ t →
-              Twin of L idle (planOf idle (way t (logNow L before idle) .pending 0) (way t (logNow L before idle) .bytes))
-              (planOf idle (way t (logNow L before′ idle) .pending 0) (way t (logNow L before′ idle) .bytes))
-              (pick t (forgottenRecord L before idle k) (entryRecord L idle (logNow L before idle) (tombstoneEntry idle k)) .map)
+              Twin of L idle (planOf idle (way t (logNow before idle) .pending 0) (way t (logNow before idle) .bytes))
+              (planOf idle (way t (logNow before′ idle) .pending 0) (way t (logNow before′ idle) .bytes))
+              (pick t (forgottenRecord L before idle k) (entryRecord L idle (logNow before idle) (tombstoneEntry idle k)) .map)
           go true full = unfold pick in twin-forget full
           go false room =
               unfold pick in
@@ -309,7 +309,7 @@ module _ (of : ℕ → Bool) (L : Layout) (roomy : Roomy L) (before before′ : 
 
   pub twins :
       (o o′ : Operation) → Accepted L before idle o → Accepted L before′ idle o′ →
-      hiddenLog of (logNow L before idle) ≡ hiddenLog of (logNow L before′ idle) → hiddenOperation of o ≡ hiddenOperation of o′ →
+      hiddenLog of (logNow before idle) ≡ hiddenLog of (logNow before′ idle) → hiddenOperation of o ≡ hiddenOperation of o′ →
       Twin of L idle (planAt L before idle o) (planAt L before′ idle o′) (finishedRecord L before idle o .map)
   unfolding laid planOf finishedRecord hiddenOperation hiddenValue
   twins (write k v) (write j u) a a′ logs same =
@@ -338,7 +338,7 @@ module _ (of : ℕ → Bool) (L : Layout) (roomy : Roomy L) (before before′ : 
       Twin of L idle (planAt L before idle (clean victims)) (planAt L before′ idle (clean x)) (newDigest idle victims .map))
       keys
       (λ b.
-      twin-clean victims (idle .next) (logNow L before idle) (logNow L before′ idle) (clean-cleans L before idle victims a)
+      twin-clean victims (idle .next) (logNow before idle) (logNow before′ idle) (clean-cleans L before idle victims a)
       (clean-cleans L before′ idle victims b) logs)
       a′
     where
@@ -354,23 +354,23 @@ module _ (of : ℕ → Bool) (L : Layout) (roomy : Roomy L) (before before′ : 
   -- ---- what they leave
 
   module _ (o o′ : Operation) (acc : Accepted L before idle o) (acc′ : Accepted L before′ idle o′)
-      (a : Alike of L (idle .slots) (idle .size) (idle .map) before before′) (same : hiddenOperation of o ≡ hiddenOperation of o′)
+      (a : Alike of (idle .slots) (idle .size) (idle .map) before before′) (same : hiddenOperation of o ≡ hiddenOperation of o′)
     where
       laws : OperationLaws L
       laws = operation-laws L roomy
 
       both : Twin of L idle (planAt L before idle o) (planAt L before′ idle o′) (finishedRecord L before idle o .map)
-      both = twins o o′ acc acc′ (logs-same of L idle before before′ a) same
+      both = twins o o′ acc acc′ (logs-same of idle before before′ a) same
 
       -- After every proper prefix the areas are alike under the old record,
       pub cut-alike :
           (k : ℕ) → k < length (planAt L before idle o) → k < length (planAt L before′ idle o′) →
-          Alike of L (idle .slots) (idle .size) (idle .map) (stored before (take k (planAt L before idle o))) (stored before′ (take k (planAt L before′ idle o′)))
+          Alike of (idle .slots) (idle .size) (idle .map) (stored before (take k (planAt L before idle o))) (stored before′ (take k (planAt L before′ idle o′)))
       cut-alike k h h′ = twin-cut of L idle before before′ (acc .recovers) (acc′ .recovers) a both k h h′
 
       -- and after the whole plans under the finished one,
       pub done-alike :
-          Alike of L (idle .slots) (idle .size) (finishedRecord L before idle o .map) (stored before (planAt L before idle o))
+          Alike of (idle .slots) (idle .size) (finishedRecord L before idle o .map) (stored before (planAt L before idle o))
           (stored before′ (planAt L before′ idle o′))
       done-alike = twin-done of L idle before before′ (acc .recovers) (acc′ .recovers) a both
 
@@ -381,7 +381,7 @@ module _ (of : ℕ → Bool) (L : Layout) (roomy : Roomy L) (before before′ : 
           records-same of L (idle .slots) (idle .size) (stored before (planAt L before idle o)) (stored before′ (planAt L before′ idle o′))
           (subst
           (λ (m : ℕ).
-          Alike of L (idle .slots) (idle .size) m (stored before (planAt L before idle o)) (stored before′ (planAt L before′ idle o′)))
+          Alike of (idle .slots) (idle .size) m (stored before (planAt L before idle o)) (stored before′ (planAt L before′ idle o′)))
           (ap (λ (x : Record). x .map) (recovered-is L (idle .slots) (idle .size) (idle .cells) (stored before (planAt L before idle o)) (finishedRecord L before idle o) done))
           done-alike)
           (idle .cells) (idle .cells) (finishedRecord L before idle o) done ∙

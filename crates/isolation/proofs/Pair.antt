@@ -27,10 +27,10 @@ use Rattle.isolation.proofs.Operations.{hiddenOperation}
 -- An operation that was started on this area and record, so many stores of which are done.
 pub record Half (L : Layout) (area : List ℕ) (r : Record) (work : List ℕ) (idle : Record) (since : ℕ) (before : List ℕ) (o : Operation) : Type 0 where
   pub begun : Accepted L before idle o
-  pub some-left : since < storesFor L idle (logNow L before idle) o
-  pub record-now : r ≡ withPending idle (laid L idle (logNow L before idle) o .pending (storesFor L idle (logNow L before idle) o - since))
-  pub area-now : area ≡ stored before (take since (planFor L idle (logNow L before idle) o))
-  pub work-now : take (length (laid L idle (logNow L before idle) o .bytes)) work ≡ laid L idle (logNow L before idle) o .bytes
+  pub some-left : since < storesFor L idle (logNow before idle) o
+  pub record-now : r ≡ withPending idle (laid L idle (logNow before idle) o .pending (storesFor L idle (logNow before idle) o - since))
+  pub area-now : area ≡ stored before (take since (planFor L idle (logNow before idle) o))
+  pub work-now : take (length (laid L idle (logNow before idle) o .bytes)) work ≡ laid L idle (logNow before idle) o .bytes
 
 abbrev pub half-started :
     {L : Layout} {area : List ℕ} {r : Record} {work : List ℕ} {idle : Record} {since : ℕ} {before : List ℕ} {o : Operation} →
@@ -56,7 +56,7 @@ module _ (L : Layout) (laws : OperationLaws L) where
   -- once it is started
   pub half-first :
       (area : List ℕ) (r : Record) (work : List ℕ) (o : Operation) → Accepted L area r o → r .size ≤ length work →
-      Half L area (startedRecord L r (logNow L area r) o) (sets work 0 (laid L r (logNow L area r) o .bytes)) r 0 area o
+      Half L area (startedRecord L r (logNow area r) o) (sets work 0 (laid L r (logNow area r) o .bytes)) r 0 area o
   unfolding stored
   half-first area r work o acc long =
       record {
@@ -65,21 +65,21 @@ module _ (L : Layout) (laws : OperationLaws L) where
         record-now = rw sub-zero refl;
         area-now = refl;
         work-now =
-            taken-sets work 0 (laid L r (logNow L area r) o .bytes) (length (laid L r (logNow L area r) o .bytes)) refl
+            taken-sets work 0 (laid L r (logNow area r) o .bytes) (length (laid L r (logNow area r) o .bytes)) refl
             (omega (arith, laws .bytes-fit area r o acc));
       }
 
 -- one store on
 pub half-next :
     {L : Layout} {area : List ℕ} {r : Record} {work : List ℕ} {idle : Record} {since : ℕ} {before : List ℕ} {o : Operation} →
-    Half L area r work idle since before o → (left : ℕ) → storesFor L idle (logNow L before idle) o - suc since ≡ suc left →
-    Half L (stored before (take (suc since) (planFor L idle (logNow L before idle) o)))
-    (withPending idle (laid L idle (logNow L before idle) o .pending (suc left))) work idle (suc since) before o
+    Half L area r work idle since before o → (left : ℕ) → storesFor L idle (logNow before idle) o - suc since ≡ suc left →
+    Half L (stored before (take (suc since) (planFor L idle (logNow before idle) o)))
+    (withPending idle (laid L idle (logNow before idle) o .pending (suc left))) work idle (suc since) before o
 half-next {L} {area} {r} {work} {idle} {since} {before} {o} h left e =
     record {
       begun = h .begun;
       some-left = omega (arith, e);
-      record-now = ap (λ (k : ℕ). withPending idle (laid L idle (logNow L before idle) o .pending k)) (sym e);
+      record-now = ap (λ (k : ℕ). withPending idle (laid L idle (logNow before idle) o .pending k)) (sym e);
       area-now = refl;
       work-now = h .work-now;
     }
@@ -96,7 +96,7 @@ pub record Running (of : ℕ → Bool) (L : Layout) (area area′ : List ℕ) (r
   pub operation′ : Operation
   pub one : Half L area r work idle since before operation
   pub other : Half L area′ r work′ idle since before′ operation′
-  pub alike : Alike of L (idle .slots) (idle .size) (idle .map) before before′
+  pub alike : Alike of (idle .slots) (idle .size) (idle .map) before before′
   pub same : hiddenOperation of operation ≡ hiddenOperation of operation′
 
 pub data Together (of : ℕ → Bool) (L : Layout) (area area′ : List ℕ) (r : Record) (work work′ : List ℕ) : Type 0 where
@@ -116,5 +116,5 @@ HeldBoth of L area area′ (some h) none = ⊥
 HeldBoth of L area area′ (some h) (some h′) = HeldPair of L area area′ h h′
 
 pub record Pair (of : ℕ → Bool) (L : Layout) (n s : ℕ) (w w′ : World) : Type 0 where
-  pub alike : Alike of L n s (recordFrom L n s 16 (w .area) .map) (w .area) (w′ .area)
+  pub alike : Alike of n s (recordFrom L n s 16 (w .area) .map) (w .area) (w′ .area)
   pub held : HeldBoth of L (w .area) (w′ .area) (w .held) (w′ .held)

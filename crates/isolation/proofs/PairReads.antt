@@ -110,17 +110,17 @@ module _ (of : ℕ → Bool) where
 -- ---- in two worlds
 
 module _ (of : ℕ → Bool) (L : Layout) (laws : OperationLaws L) (area area′ cells cells′ : List ℕ) (r : Record)
-    (alike : Alike of L (r .slots) (r .size) (r .map) area area′) (g : Genuine L area r cells) (g′ : Genuine L area′ r cells′)
+    (alike : Alike of (r .slots) (r .size) (r .map) area area′) (g : Genuine L area r cells) (g′ : Genuine L area′ r cells′)
     (lent : readLengths area cells ≡ readLengths area′ cells′) (u : Tables) (k : Key)
   where
     abbrev log : List Placed
-    log = logNow L area r
+    log = logNow area r
 
     abbrev log′ : List Placed
-    log′ = logNow L area′ r
+    log′ = logNow area′ r
 
     logs : hiddenLog of log ≡ hiddenLog of log′
-    logs = logs-same of L r area area′ alike
+    logs = logs-same of r area area′ alike
 
     abbrev causes : List Placed → List ℕ → List ℕ → List Cause
     causes l ar ce = readCauses L r l (readLengths ar ce) u k
@@ -133,7 +133,7 @@ module _ (of : ℕ → Bool) (L : Layout) (laws : OperationLaws L) (area area′
 
     -- what stands where the value is
     value-at :
-        (ar ce : List ℕ) → Bytes ar → Genuine L ar r ce → (o : Option Placed) → present (logNow L ar r) k ≡ o →
+        (ar ce : List ℕ) → Bytes ar → Genuine L ar r ce → (o : Option Placed) → present (logNow ar r) k ≡ o →
         partOf ar (valuePart L (r .size) o) ≡ valueIn o
     unfolding valuePart valueIn
     value-at ar ce ab x none e = refl
@@ -163,16 +163,16 @@ module _ (of : ℕ → Bool) (L : Layout) (laws : OperationLaws L) (area area′
 -- ---- which two slots to join: what a cleaning keeps is of one length in both
 
 module _ (of : ℕ → Bool) (L : Layout) (area area′ cells cells′ : List ℕ) (r : Record)
-    (alike : Alike of L (r .slots) (r .size) (r .map) area area′) (g : Genuine L area r cells) (g′ : Genuine L area′ r cells′)
+    (alike : Alike of (r .slots) (r .size) (r .map) area area′) (g : Genuine L area r cells) (g′ : Genuine L area′ r cells′)
     (lent : readLengths area cells ≡ readLengths area′ cells′)
   where
-    kept-long : (victims : ℕ) → keptLength L (logNow L area r) victims ≡ keptLength L (logNow L area′ r) victims
+    kept-long : (victims : ℕ) → keptLength L (logNow area r) victims ≡ keptLength L (logNow area′ r) victims
     kept-long victims =
-        sym (kept-long-hidden of of L (logNow L area r) victims) ∙
-        ap (λ (l : List Placed). keptLength L l victims) (logs-same of L r area area′ alike) ∙
-        kept-long-hidden of of L (logNow L area′ r) victims
+        sym (kept-long-hidden of of L (logNow area r) victims) ∙
+        ap (λ (l : List Placed). keptLength L l victims) (logs-same of r area area′ alike) ∙
+        kept-long-hidden of of L (logNow area′ r) victims
 
-    pairs-same : joinPair L r (logNow L area r) ≡ joinPair L r (logNow L area′ r)
+    pairs-same : joinPair L r (logNow area r) ≡ joinPair L r (logNow area′ r)
     unfolding joinFits
     pairs-same =
         λ t.

@@ -45,21 +45,21 @@ module _ (L : Layout) (laws : OperationLaws L) (n s m : ℕ) (area : List ℕ) (
     fits : fitsLent L rec (length area) (length cells) ≡ true
     fits = ap (λ (c : ℕ). fitsLent L rec (length area) c) (length-replicate m 0) ∙ laws .own-lengths n s m area rec ab base
 
-    image-log : imageLog L n s area ≡ logNow L area rec
+    image-log : imageLog n s area ≡ logNow area rec
     image-log = scan-log L n s m area rec base
 
-    only-sought : firstCause (scanCauses L n s area u k) ≡ firstCause (soughtCauses (imageLog L n s area) u k)
+    only-sought : firstCause (scanCauses L n s area u k) ≡ firstCause (soughtCauses (imageLog n s area) u k)
     only-sought =
         scan-first L n s m area rec base ab u k cells (length-replicate m 0) ∙
-        cause-skip (when (recordBad L rec (readLengths area cells)) BadRecord) (soughtCauses (logNow L area rec) u k) (ap not fits) ∙
+        cause-skip (when (recordBad L rec (readLengths area cells)) BadRecord) (soughtCauses (logNow area rec) u k) (ap not fits) ∙
         ap (λ (l : List Placed). firstCause (soughtCauses l u k)) (sym image-log)
 
     -- an accepted read by scan has tested the range
     pub scan-inside : firstCause (scanCauses L n s area u k) ≡ none → holdsTable u (k .table) ≡ true
-    scan-inside e = not-false (holdsTable u (k .table)) (no-cause (soughtCauses (imageLog L n s area) u k) (sym only-sought ∙ e) .0)
+    scan-inside e = not-false (holdsTable u (k .table)) (no-cause (soughtCauses (imageLog n s area) u k) (sym only-sought ∙ e) .0)
 
     -- what stands where the value is
-    scanned-at : (o : Option Placed) → present (imageLog L n s area) k ≡ o → partOf area (valuePart L s o) ≡ valueIn o
+    scanned-at : (o : Option Placed) → present (imageLog n s area) k ≡ o → partOf area (valuePart L s o) ≡ valueIn o
     unfolding valuePart valueIn
     scanned-at none e = refl
     scanned-at (some y) e = laws .value-part area rec ab base k y (ap (λ (l : List Placed). present l k) (sym image-log) ∙ e)
@@ -68,21 +68,21 @@ module _ (L : Layout) (laws : OperationLaws L) (n s m : ℕ) (area : List ℕ) (
 
 module _ (of : ℕ → Bool) (L : Layout) (laws : OperationLaws L) (n s m m′ : ℕ) (area area′ : List ℕ) (ab : Bytes area) (ab′ : Bytes area′)
     (base : recovered L n s m area ≡ some (recordFrom L n s m area)) (base′ : recovered L n s m′ area′ ≡ some (recordFrom L n s m′ area′))
-    (alike : Alike of L n s (recordFrom L n s 16 area .map) area area′) (u : Tables) (k : Key)
+    (alike : Alike of n s (recordFrom L n s 16 area .map) area area′) (u : Tables) (k : Key)
   where
     abbrev log : List Placed
-    log = imageLog L n s area
+    log = imageLog n s area
 
     abbrev log′ : List Placed
-    log′ = imageLog L n s area′
+    log′ = imageLog n s area′
 
     logs : hiddenLog of log ≡ hiddenLog of log′
     logs =
-        ap (hiddenLog of) (image-log L laws n s m area ab base u k) ∙ logs-same of L (recordFrom L n s m area) area area′ alike ∙
+        ap (hiddenLog of) (image-log L laws n s m area ab base u k) ∙ logs-same of (recordFrom L n s m area) area area′ alike ∙
         sym
         (ap (hiddenLog of)
         (image-log L laws n s m′ area′ ab′ base′ u k ∙
-        ap (logNow L area′) (sym (records-same of L n s area area′ alike m m′ (recordFrom L n s m area) base))))
+        ap (logNow area′) (sym (records-same of L n s area area′ alike m m′ (recordFrom L n s m area) base))))
 
     abbrev cause : Option Refusal
     cause = firstCause (scanCauses L n s area u k)

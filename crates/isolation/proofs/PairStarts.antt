@@ -50,12 +50,12 @@ module _ (of : ℕ → Bool) (L : Layout) (n s : ℕ) where
       (good .genuine .recovers)
 
   pub held-alike :
-      (area area′ : List ℕ) (m : Option ℕ) (b : Book) (h : Held) → Holding L n s area m b h → Alike of L n s (recordFrom L n s 16 area .map) area area′ →
-      Alike of L (h .rec .slots) (h .rec .size) (h .rec .map) area area′
+      (area area′ : List ℕ) (m : Option ℕ) (b : Book) (h : Held) → Holding L n s area m b h → Alike of n s (recordFrom L n s 16 area .map) area area′ →
+      Alike of (h .rec .slots) (h .rec .size) (h .rec .map) area area′
   held-alike area area′ m b h good a =
-      subst (λ (k : ℕ). Alike of L k (h .rec .size) (h .rec .map) area area′) (sym (good .slots-same))
-      (subst (λ (k : ℕ). Alike of L n k (h .rec .map) area area′) (sym (good .size-same))
-      (subst (λ (k : ℕ). Alike of L n s k area area′)
+      subst (λ (k : ℕ). Alike of k (h .rec .size) (h .rec .map) area area′) (sym (good .slots-same))
+      (subst (λ (k : ℕ). Alike of n k (h .rec .map) area area′) (sym (good .size-same))
+      (subst (λ (k : ℕ). Alike of n s k area area′)
       (sym (ap (λ (x : Record). x .map) (recovered-is L n s (h .rec .cells) area (withPending (h .rec) Idle) (held-recovers area m b h good)))) a))
 
 -- ---- the two ways of a start
@@ -67,10 +67,10 @@ module _ (of any : ℕ → Bool) (L : Layout) (roomy : Roomy L) (area area′ : 
       × (startSaid (x .start .answer) ≡ startSaid (x′ .start .answer))
 
   abbrev log : List Placed
-  log = logNow L area (h .rec)
+  log = logNow area (h .rec)
 
   abbrev log′ : List Placed
-  log′ = logNow L area′ (h .rec)
+  log′ = logNow area′ (h .rec)
 
   refused-both : (c : Refusal) → HeldPair of L area area′ h h′ → StartBoth (begun L (h .rec) log o work (some c)) (begun L (h .rec) log′ o′ work′ (some c))
   unfolding begun
@@ -91,7 +91,7 @@ module _ (of any : ℕ → Bool) (L : Layout) (roomy : Roomy L) (area area′ : 
 
   started-both :
       Accepted L area (h .rec) o → Accepted L area′ (h .rec) o′ → h .rec .size ≤ length work → h .rec .size ≤ length work′ →
-      Alike of L (h .rec .slots) (h .rec .size) (h .rec .map) area area′ → hiddenOperation of o ≡ hiddenOperation of o′ →
+      Alike of (h .rec .slots) (h .rec .size) (h .rec .map) area area′ → hiddenOperation of o ≡ hiddenOperation of o′ →
       length (h .cells) ≡ length (h′ .cells) → StartBoth (begun L (h .rec) log o work none) (begun L (h .rec) log′ o′ work′ none)
   unfolding begun pick
   started-both acc acc′ long long′ a same index = (
@@ -119,7 +119,7 @@ module _ (of any : ℕ → Bool) (L : Layout) (roomy : Roomy L) (area area′ : 
   )
     where
       logs : hiddenLog of log ≡ hiddenLog of log′
-      logs = logs-same of L (h .rec) area area′ a
+      logs = logs-same of (h .rec) area area′ a
 
       stores : storesFor L (h .rec) log o ≡ storesFor L (h .rec) log′ o′
       stores = stores-same of of L (h .rec) log log′ o o′ logs same
@@ -132,7 +132,7 @@ module _ (of any : ℕ → Bool) (L : Layout) (roomy : Roomy L) (area area′ : 
   -- A start answers the same, and leaves a pair again.
   pub start-both :
       (w₁ w₁′ : List ℕ) (a a′ : Start) → Bytes area → Bytes area′ → Typed o → Typed o′ → HeldPair of L area area′ h h′ →
-      Alike of L (h .rec .slots) (h .rec .size) (h .rec .map) area area′ → Genuine L area (h .rec) (h .cells) → Genuine L area′ (h′ .rec) (h′ .cells) →
+      Alike of (h .rec .slots) (h .rec .size) (h .rec .map) area area′ → Genuine L area (h .rec) (h .cells) → Genuine L area′ (h′ .rec) (h′ .cells) →
       lentLengths area (h .cells) work ≡ lentLengths area′ (h′ .cells) work′ → hiddenOperation any o ≡ hiddenOperation any o′ →
       (firstCause (startCauses L (h .rec) log (lentLengths area (h .cells) work) q o) ≡ none → hiddenOperation of o ≡ hiddenOperation of o′) →
       StartPromise L q o (h .rec) area (h .cells) work w₁ a → StartPromise L q o′ (h′ .rec) area′ (h′ .cells) work′ w₁′ a′ →
@@ -148,7 +148,7 @@ module _ (of any : ℕ → Bool) (L : Layout) (roomy : Roomy L) (area area′ : 
       cause = firstCause (startCauses L (h .rec) log lengths q o)
 
       logs : hiddenLog of log ≡ hiddenLog of log′
-      logs = logs-same of L (h .rec) area area′ alike
+      logs = logs-same of (h .rec) area area′ alike
 
       same-cause : firstCause (startCauses L (h .rec) log′ (lentLengths area′ (h′ .cells) work′) q o′) ≡ cause
       same-cause =

@@ -41,17 +41,17 @@ told-hidden of r (clean victims) = refl
 -- alike under a record that recovery gives is alike under the map of the area
 as-found :
     (of : ℕ → Bool) (L : Layout) (n n′ s s′ m : ℕ) (area area′ : List ℕ) (r : Record) → n ≡ n′ → s ≡ s′ → recovered L n s m area ≡ some r →
-    Alike of L n s (r .map) area area′ → Alike of L n′ s′ (recordFrom L n′ s′ 16 area .map) area area′
+    Alike of n s (r .map) area area′ → Alike of n′ s′ (recordFrom L n′ s′ 16 area .map) area area′
 as-found of L n n′ s s′ m area area′ r p q e a =
-    subst (λ (k : ℕ). Alike of L k s′ (recordFrom L k s′ 16 area .map) area area′) p
-    (subst (λ (k : ℕ). Alike of L n k (recordFrom L n k 16 area .map) area area′) q
-    (subst (λ (k : ℕ). Alike of L n s k area area′) (ap (λ (x : Record). x .map) (recovered-is L n s m area r e)) a))
+    subst (λ (k : ℕ). Alike of k s′ (recordFrom L k s′ 16 area .map) area area′) p
+    (subst (λ (k : ℕ). Alike of n k (recordFrom L n k 16 area .map) area area′) q
+    (subst (λ (k : ℕ). Alike of n s k area area′) (ap (λ (x : Record). x .map) (recovered-is L n s m area r e)) a))
 
 module _ (of : ℕ → Bool) (L : Layout) (roomy : Roomy L) (n s : ℕ) (h h′ : Held) where
   -- what is to be shown of a step that leaves these areas and cells and answers so
   abbrev pub StepBoth : List ℕ → List ℕ → Stepped → List ℕ → List ℕ → Stepped → Type 0
   StepBoth area cells a area′ cells′ a′ =
-      Alike of L n s (recordFrom L n s 16 area .map) area area′
+      Alike of n s (recordFrom L n s 16 area .map) area area′
       × HeldPair of L area area′ (record { rec = a .rec; cells = cells; work = h .work }) (record { rec = a′ .rec; cells = cells′; work = h′ .work })
       × (stepSaid (a .answer) ≡ stepSaid (a′ .answer))
 
@@ -64,10 +64,10 @@ module _ (of : ℕ → Bool) (L : Layout) (roomy : Roomy L) (n s : ℕ) (h h′ 
       laws = operation-laws L roomy
 
       abbrev log : List Placed
-      log = logNow L (x .before) (x .idle)
+      log = logNow (x .before) (x .idle)
 
       abbrev log′ : List Placed
-      log′ = logNow L (x .before′) (x .idle)
+      log′ = logNow (x .before′) (x .idle)
 
       abbrev plan : List (ℕ × ℕ)
       plan = planFor L (x .idle) log (x .operation)
@@ -76,7 +76,7 @@ module _ (of : ℕ → Bool) (L : Layout) (roomy : Roomy L) (n s : ℕ) (h h′ 
       plan′ = planFor L (x .idle) log′ (x .operation′)
 
       logs : hiddenLog of log ≡ hiddenLog of log′
-      logs = logs-same of L (x .idle) (x .before) (x .before′) (x .alike)
+      logs = logs-same of (x .idle) (x .before) (x .before′) (x .alike)
 
       stores : length plan ≡ length plan′
       stores = stores-same of of L (x .idle) log log′ (x .operation) (x .operation′) logs (x .same)
@@ -143,8 +143,8 @@ module _ (of : ℕ → Bool) (L : Layout) (roomy : Roomy L) (n s : ℕ) (h h′ 
       unfolding stepped
       ends e = (
         as-found of L (x .idle .slots) n (x .idle .size) s (x .idle .cells) after after′ fin idle-slots idle-size recovers
-            (subst⁻¹ (λ (l : List ℕ). Alike of L (x .idle .slots) (x .idle .size) (fin .map) l after′) whole
-            (subst⁻¹ (λ (l : List ℕ). Alike of L (x .idle .slots) (x .idle .size) (fin .map) (stored (x .before) plan) l) whole′
+            (subst⁻¹ (λ (l : List ℕ). Alike of (x .idle .slots) (x .idle .size) (fin .map) l after′) whole
+            (subst⁻¹ (λ (l : List ℕ). Alike of (x .idle .slots) (x .idle .size) (fin .map) (stored (x .before) plan) l) whole′
             (done-alike of L roomy (x .before) (x .before′) (x .idle) (x .operation) (x .operation′) (x .one .begun) (x .other .begun) (x .alike) (x .same)))),
         record {
           rec-same = finished-same of L roomy (x .before) (x .before′) (x .idle) (x .operation) (x .operation′) (x .one .begun) (x .other .begun) (x .alike) (x .same);
@@ -191,7 +191,7 @@ module _ (of : ℕ → Bool) (L : Layout) (roomy : Roomy L) (n s : ℕ) (h h′ 
   -- A step answers the same, and leaves a pair again.
   pub step-both :
       (area area′ area₁ area₁′ cells₁ cells₁′ work work′ : List ℕ) (a a′ : Stepped) → h .rec .slots ≡ n → h .rec .size ≡ s →
-      Alike of L n s (recordFrom L n s 16 area .map) area area′ → HeldPair of L area area′ h h′ → Genuine L area (h .rec) (h .cells) →
+      Alike of n s (recordFrom L n s 16 area .map) area area′ → HeldPair of L area area′ h h′ → Genuine L area (h .rec) (h .cells) →
       Genuine L area′ (h′ .rec) (h′ .cells) → lentLengths area (h .cells) work ≡ lentLengths area′ (h′ .cells) work′ →
       (isPending (h .rec .pending) ≡ true → work ≡ h .work) → (isPending (h′ .rec .pending) ≡ true → work′ ≡ h′ .work) →
       StepPromise L (h .rec) area area₁ (h .cells) cells₁ work a → StepPromise L (h′ .rec) area′ area₁′ (h′ .cells) cells₁′ work′ a′ →

@@ -112,13 +112,13 @@ module _ (of : ℕ → Bool) (L : Layout) (area area′ work work′ : List ℕ)
 
     module _ (x : Running of L area area′ (h .rec) (h .work) (h′ .work)) (goes : cause ≡ none) where
       abbrev log : List Placed
-      log = logNow L (x .before) (x .idle)
+      log = logNow (x .before) (x .idle)
 
       abbrev log′ : List Placed
-      log′ = logNow L (x .before′) (x .idle)
+      log′ = logNow (x .before′) (x .idle)
 
       logs : hiddenLog of log ≡ hiddenLog of log′
-      logs = logs-same of L (x .idle) (x .before) (x .before′) (x .alike)
+      logs = logs-same of (x .idle) (x .before) (x .before′) (x .alike)
 
       same-places : places (planFor L (x .idle) log (x .operation)) ≡ places (planFor L (x .idle) log′ (x .operation′))
       same-places =

@@ -8,7 +8,7 @@ use mathlib.Core.Option.{none}
 use lib.ListN.{length, replicate}
 use borrow.Author.Tests.{not-false}
 use Rattle.segment.specs.Choice.{pick, pick-true, both-true, either-true-left, either-true-right}
-use Rattle.segment.specs.Layout.{Layout, edition1}
+use Rattle.segment.specs.Layout.{Layout}
 use Rattle.segment.specs.declared.Key.{Key}
 use Rattle.record.specs.declared.Record.{Record}
 use Rattle.model.specs.Recovery.{recordFrom}
@@ -19,18 +19,18 @@ use Rattle.model.specs.Causes.{firstCause}
 use Rattle.record.specs.Reach.{holdsTable}
 use Rattle.model.specs.Fewest.{FewestPromise, noLengths}
 use Rattle.model.specs.Refused.{Lengths, Terms, readCauses}
-use Rattle.model.specs.Promises.{RecoverPromise, StartPromise, Genuine, ReadPromise, ValuePromise, partOf, readLengths, lentLengths, tellLengths}
+use Rattle.model.specs.Promises.{RecoverPromise, StartPromise, Genuine, ReadPromise, ValuePromise, partOf, readLengths, lentLengths, tellLengths, StepPromise, TellPromise}
 use Rattle.model.specs.Scanned.{ScanPromise, ScanValue}
 use Rattle.laws.specs.CauseLaws.{no-cause}
 use Rattle.laws.specs.Members.{clash}
 use Rattle.laws.specs.Starts.{StartInside, start-inside}
 use Rattle.laws.specs.Entering.{Roomy}
 use Rattle.laws.specs.Operated.{OperationLaws}
-use Rattle.laws.specs.OperationsKept.{operation-laws, edition1-roomy}
+use Rattle.laws.specs.OperationsKept.{operation-laws, edition-roomy}
 use Rattle.history.specs.Book.{Question, reads, readsValue, tells, fewest, telling, naming, Call, starts, steps, asks, recovers, Answer, saying, giving, Event, called, cut, Book, freshBook, feed, versionTold, scans, scansValue, joins, pairing}
 use Rattle.history.specs.Runs.{World, freshWorld, Asked, read, readValue, tell, least, Moves, start, step, ask, recover, cuts, Run, stop, go, Scanned, scan, scanValue, look, join}
 use Rattle.model.specs.Joining.{JoinPromise}
-use Rattle.history.proofs.Invariant.{Inv, HeldGood, baseCells}
+use Rattle.history.proofs.Invariant.{Inv, HeldGood, baseCells, held-promise, area-promise}
 use Rattle.history.proofs.Theorem.{move-keeps, fresh}
 use Rattle.isolation.specs.Owners.{Owner, servo, media, blankedOperation, blanked, SameCall, SameInput, SameInputs, SameNumbers, SameToServo, SameAnswer, SameAnswers, sameOwner, startRange, rangeOf, rangeHolds, gives}
 use Rattle.isolation.specs.Isolation.{IsolationFor, Isolation}
@@ -171,7 +171,7 @@ byScan joins = false
 byScan (scans n s u k) = true
 byScan (scansValue n s u k) = true
 
-asked-by : {L : Layout} {w : World} {q : Question} {l : Lengths} {a : Answer} → Asked L w q l a → byScan q ≡ false
+asked-by : {w : World} {q : Question} {l : Lengths} {a : Answer} → Asked w q l a → byScan q ≡ false
 unfolding byScan
 asked-by (read ty p) = refl
 asked-by (readValue ty p) = refl
@@ -179,7 +179,7 @@ asked-by (tell own p) = refl
 asked-by (least p) = refl
 asked-by (join p) = refl
 
-scanned-by : {L : Layout} {n s : ℕ} {area : List ℕ} {q : Question} {l : Lengths} {a : Answer} → Scanned L n s area q l a → byScan q ≡ true
+scanned-by : {n s : ℕ} {area : List ℕ} {q : Question} {l : Lengths} {a : Answer} → Scanned n s area q l a → byScan q ≡ true
 unfolding byScan
 scanned-by (scan ty p) = refl
 scanned-by (scanValue ty p) = refl
@@ -191,7 +191,7 @@ module _ (L : Layout) (roomy : Roomy L) (n s : ℕ) (of : ℕ → Bool) where
   -- ---- one event in both runs
 
   asked-both :
-      {w w′ : World} {q q′ : Question} {l l′ : Lengths} {a a′ : Answer} (b b′ : Book) (t t′ : ℕ) (who : Owner) → Asked L w q l a → Asked L w′ q′ l′ a′ →
+      {w w′ : World} {q q′ : Question} {l l′ : Lengths} {a a′ : Answer} (b b′ : Book) (t t′ : ℕ) (who : Owner) → Asked w q l a → Asked w′ q′ l′ a′ →
       Inv L n s w b t → Inv L n s w′ b′ t′ → Pair of L n s w w′ → q ≡ q′ → l ≡ l′ → Covers of who (called (asks q) l a) →
       SameAnswer who (called (asks q) l a) (called (asks q′) l′ a′)
   unfolding HeldGood HeldBoth
@@ -200,10 +200,12 @@ module _ (L : Layout) (roomy : Roomy L) (n s : ℕ) (of : ℕ → Bool) where
       (ap saying
       (read-both of L laws area area′ (h .cells) (h′ .cells) (h .rec) (held-alike of L n s area area′ m b h (inv .held) (pair .alike))
       (inv .held .genuine)
-      (subst⁻¹ (λ (r : Record). Genuine L area′ r (h′ .cells)) (pair .held .rec-same) (inv′ .held .genuine)) lent u k a a′ p
+      (subst⁻¹ (λ (r : Record). Genuine L area′ r (h′ .cells)) (pair .held .rec-same) (inv′ .held .genuine)) lent u k a a′
+      (held-promise L n s area m b h (inv .held) (λ (K : Layout). ReadPromise K (h .rec) area (h .cells) u k a) p)
       (subst⁻¹ (λ (v : Tables). ReadPromise L (h .rec) area′ (h′ .cells) v k a′) tables
       (subst⁻¹ (λ (j : Key). ReadPromise L (h .rec) area′ (h′ .cells) u′ j a′) keys
-      (subst⁻¹ (λ (r : Record). ReadPromise L r area′ (h′ .cells) u′ k′ a′) (pair .held .rec-same) p′)))))
+      (subst⁻¹ (λ (r : Record). ReadPromise L r area′ (h′ .cells) u′ k′ a′) (pair .held .rec-same)
+      (held-promise L n s area′ m′ b′ h′ (inv′ .held) (λ (K : Layout). ReadPromise K (h′ .rec) area′ (h′ .cells) u′ k′ a′) p′))))))
     where
       tables : u ≡ u′
       tables = cc
@@ -229,17 +231,21 @@ module _ (L : Layout) (roomy : Roomy L) (n s : ℕ) (of : ℕ → Bool) where
           (value-both of L laws area area′ (h .cells) (h′ .cells) (h .rec) (held-alike of L n s area area′ m b h (inv .held) (pair .alike))
           (inv .held .genuine)
           (subst⁻¹ (λ (r : Record). Genuine L area′ r (h′ .cells)) (pair .held .rec-same) (inv′ .held .genuine)) lent u k (inv .bytes) (inv′ .bytes) p p′
-          (λ e. c (k .table) (read-inside L (h .rec) (logNow L area (h .rec)) (readLengths area (h .cells)) u k e)) q
+          (λ e. c (k .table) (read-inside L (h .rec) (logNow area (h .rec)) (readLengths area (h .cells)) u k e))
+          (held-promise L n s area m b h (inv .held) (λ (K : Layout). ValuePromise K (h .rec) area (h .cells) u k p) q)
           (subst⁻¹ (λ (v : Tables). ValuePromise L (h .rec) area′ (h′ .cells) v k p′) tables
           (subst⁻¹ (λ (j : Key). ValuePromise L (h .rec) area′ (h′ .cells) u′ j p′) keys
-          (subst⁻¹ (λ (r : Record). ValuePromise L r area′ (h′ .cells) u′ k′ p′) (pair .held .rec-same) q′))))
+          (subst⁻¹ (λ (r : Record). ValuePromise L r area′ (h′ .cells) u′ k′ p′) (pair .held .rec-same)
+          (held-promise L n s area′ m′ b′ h′ (inv′ .held) (λ (K : Layout). ValuePromise K (h′ .rec) area′ (h′ .cells) u′ k′ p′) q′)))))
   asked-both b b′ t t′ who (join {area} {h} {m} {a} p) (join {area = area′} {h = h′} {m = m′} {a = a′} p′) inv inv′ pair e lent c =
       answer-same who (asks joins) (asks joins) (readLengths area (h .cells)) (readLengths area′ (h′ .cells)) _ _
       (ap pairing
       (join-both of L area area′ (h .cells) (h′ .cells) (h .rec) (held-alike of L n s area area′ m b h (inv .held) (pair .alike))
       (inv .held .genuine)
-      (subst⁻¹ (λ (r : Record). Genuine L area′ r (h′ .cells)) (pair .held .rec-same) (inv′ .held .genuine)) lent a a′ p
-      (subst⁻¹ (λ (r : Record). JoinPromise L r area′ (h′ .cells) a′) (pair .held .rec-same) p′)))
+      (subst⁻¹ (λ (r : Record). Genuine L area′ r (h′ .cells)) (pair .held .rec-same) (inv′ .held .genuine)) lent a a′
+      (held-promise L n s area m b h (inv .held) (λ (K : Layout). JoinPromise K (h .rec) area (h .cells) a) p)
+      (subst⁻¹ (λ (r : Record). JoinPromise L r area′ (h′ .cells) a′) (pair .held .rec-same)
+      (held-promise L n s area′ m′ b′ h′ (inv′ .held) (λ (K : Layout). JoinPromise K (h′ .rec) area′ (h′ .cells) a′) p′))))
   asked-both b b′ t t′ who (join p) (read ty′ p′) inv inv′ pair e lent c = let z : _≡_ {A = ℕ} 0 1 = cc in absurd (omega arith)
   asked-both b b′ t t′ who (join p) (readValue ty′ q′) inv inv′ pair e lent c = let z : _≡_ {A = ℕ} 0 1 = cc in absurd (omega arith)
   asked-both b b′ t t′ who (read ty p) (join p′) inv inv′ pair e lent c = let z : _≡_ {A = ℕ} 0 1 = cc in absurd (omega arith)
@@ -248,14 +254,20 @@ module _ (L : Layout) (roomy : Roomy L) (n s : ℕ) (of : ℕ → Bool) where
   asked-both b b′ t t′ who (readValue ty q) (read ty′ p′) inv inv′ pair e lent c = let z : _≡_ {A = ℕ} 0 1 = cc in absurd (omega arith)
   asked-both b b′ t t′ who (tell {area} {work} {h} {m} {a} own p) (tell {area = area′} {work = work′} {h = h′} {m = m′} {a = a′} own′ p′) inv inv′ pair e lent c =
       numbers-same who (tellLengths area work) (tellLengths area′ work′) (telling (a .answer)) (telling (a′ .answer))
-      (tell-both of L area area′ work work′ h h′ a a′ (pair .held) lent own own′ p p′)
+      (tell-both of L area area′ work work′ h h′ a a′ (pair .held) lent own own′
+      (held-promise L n s area m b h (inv .held) (λ (K : Layout). TellPromise K (h .rec) area work a) p)
+      (held-promise L n s area′ m′ b′ h′ (inv′ .held) (λ (K : Layout). TellPromise K (h′ .rec) area′ work′ a′) p′))
   asked-both b b′ t t′ who (tell own p) (read ty′ p′) inv inv′ pair e lent c = let z : _≡_ {A = ℕ} 0 1 = cc in absurd (omega arith)
   asked-both b b′ t t′ who (tell own p) (readValue ty′ q′) inv inv′ pair e lent c = let z : _≡_ {A = ℕ} 0 1 = cc in absurd (omega arith)
   asked-both b b′ t t′ who (read ty p) (tell own′ p′) inv inv′ pair e lent c = let z : _≡_ {A = ℕ} 0 1 = cc in absurd (omega arith)
   asked-both b b′ t t′ who (readValue ty q) (tell own′ p′) inv inv′ pair e lent c = let z : _≡_ {A = ℕ} 0 1 = cc in absurd (omega arith)
   asked-both b b′ t t′ who (least {area} {h} {m} {a} p) (least {area = area′} {h = h′} {m = m′} {a = a′} p′) inv inv′ pair e lent c =
       answer-same who (asks fewest) (asks fewest) noLengths noLengths (naming (a .answer)) (naming (a′ .answer))
-      (ap naming (p .answers ∙ sym (subst⁻¹ (λ (r : Record). FewestPromise L r a′) (pair .held .rec-same) p′ .answers)))
+      (ap naming
+      ((held-promise L n s area m b h (inv .held) (λ (K : Layout). FewestPromise K (h .rec) a) p) .answers ∙
+      sym
+      (subst⁻¹ (λ (r : Record). FewestPromise L r a′) (pair .held .rec-same)
+      (held-promise L n s area′ m′ b′ h′ (inv′ .held) (λ (K : Layout). FewestPromise K (h′ .rec) a′) p′) .answers)))
   asked-both b b′ t t′ who (least p) (read ty′ p′) inv inv′ pair e lent c = let z : _≡_ {A = ℕ} 0 1 = cc in absurd (omega arith)
   asked-both b b′ t t′ who (least p) (readValue ty′ q′) inv inv′ pair e lent c = let z : _≡_ {A = ℕ} 0 1 = cc in absurd (omega arith)
   asked-both b b′ t t′ who (least p) (tell own′ p′) inv inv′ pair e lent c = let z : _≡_ {A = ℕ} 0 1 = cc in absurd (omega arith)
@@ -268,16 +280,18 @@ module _ (L : Layout) (roomy : Roomy L) (n s : ℕ) (of : ℕ → Bool) where
   asked-both b b′ t t′ who (least p) (join p′) inv inv′ pair e lent c = let z : _≡_ {A = ℕ} 0 1 = cc in absurd (omega arith)
 
   looked-both :
-      {w w′ : World} {q q′ : Question} {l l′ : Lengths} {a a′ : Answer} (b b′ : Book) (t t′ : ℕ) (who : Owner) → Scanned L n s (w .area) q l a →
-      Scanned L n s (w′ .area) q′ l′ a′ → Inv L n s w b t → Inv L n s w′ b′ t′ → Pair of L n s w w′ → q ≡ q′ → Covers of who (called (asks q) l a) →
+      {w w′ : World} {q q′ : Question} {l l′ : Lengths} {a a′ : Answer} (b b′ : Book) (t t′ : ℕ) (who : Owner) → Scanned n s (w .area) q l a →
+      Scanned n s (w′ .area) q′ l′ a′ → Inv L n s w b t → Inv L n s w′ b′ t′ → Pair of L n s w w′ → q ≡ q′ → Covers of who (called (asks q) l a) →
       SameAnswer who (called (asks q) l a) (called (asks q′) l′ a′)
   looked-both {w} {w′} b b′ t t′ who (scan {v = u} {k} {a} ty p) (scan {v = u′} {k = k′} {a = a′} ty′ p′) inv inv′ pair e c =
       answer-same who _ _ _ _ _ _
       (ap saying
       (scan-both of L laws n s (baseCells (w .cells)) (baseCells (w′ .cells)) (w .area) (w′ .area) (inv .bytes) (inv′ .bytes) (inv .base) (inv′ .base)
-      (pair .alike) u k a a′ p
+      (pair .alike) u k a a′
+      (area-promise L n s w b t inv (λ (K : Layout). ScanPromise K n s (w .area) u k a) p)
       (subst⁻¹ (λ (v : Tables). ScanPromise L n s (w′ .area) v k a′) tables
-      (subst⁻¹ (λ (j : Key). ScanPromise L n s (w′ .area) u′ j a′) keys p′))))
+      (subst⁻¹ (λ (j : Key). ScanPromise L n s (w′ .area) u′ j a′) keys
+      (area-promise L n s w′ b′ t′ inv′ (λ (K : Layout). ScanPromise K n s (w′ .area) u′ k′ a′) p′)))))
     where
       tables : u ≡ u′
       tables = cc
@@ -302,9 +316,11 @@ module _ (L : Layout) (roomy : Roomy L) (n s : ℕ) (of : ℕ → Bool) where
           ap giving
           (scan-value-both of L laws n s (baseCells (w .cells)) (baseCells (w′ .cells)) (w .area) (w′ .area) (inv .bytes) (inv′ .bytes) (inv .base)
           (inv′ .base) (pair .alike) u k p p′
-          (λ e. c (k .table) (scan-inside L laws n s (baseCells (w .cells)) (w .area) (inv .bytes) (inv .base) u k e)) q
+          (λ e. c (k .table) (scan-inside L laws n s (baseCells (w .cells)) (w .area) (inv .bytes) (inv .base) u k e))
+          (area-promise L n s w b t inv (λ (K : Layout). ScanValue K n s (w .area) u k p) q)
           (subst⁻¹ (λ (v : Tables). ScanValue L n s (w′ .area) v k p′) tables
-          (subst⁻¹ (λ (j : Key). ScanValue L n s (w′ .area) u′ j p′) keys q′)))
+          (subst⁻¹ (λ (j : Key). ScanValue L n s (w′ .area) u′ j p′) keys
+          (area-promise L n s w′ b′ t′ inv′ (λ (K : Layout). ScanValue K n s (w′ .area) u′ k′ p′) q′))))
   looked-both b b′ t t′ who (scan ty p) (scanValue ty′ q′) inv inv′ pair e c = let z : _≡_ {A = ℕ} 0 1 = cc in absurd (omega arith)
   looked-both b b′ t t′ who (scanValue ty q) (scan ty′ p′) inv inv′ pair e c = let z : _≡_ {A = ℕ} 0 1 = cc in absurd (omega arith)
 
@@ -313,7 +329,7 @@ module _ (L : Layout) (roomy : Roomy L) (n s : ℕ) (of : ℕ → Bool) where
 
   started :
       {w w′ x x′ : World} {q q′ : Terms} {o o′ : Operation} {l l′ : Lengths} {a a′ : Answer} (b b′ : Book) (t t′ : ℕ) (who : Owner) →
-      Moves L n s w (called (starts q o) l a) x → Moves L n s w′ (called (starts q′ o′) l′ a′) x′ → Inv L n s w b t → Inv L n s w′ b′ t′ →
+      Moves n s w (called (starts q o) l a) x → Moves n s w′ (called (starts q′ o′) l′ a′) x′ → Inv L n s w b t → Inv L n s w′ b′ t′ →
       Pair of L n s w w′ → SameCall who (starts q o) (starts q′ o′) → q ≡ q′ → blankedOperation o ≡ blankedOperation o′ → l ≡ l′ →
       Covers of who (called (starts q o) l a) → Both who x x′ (called (starts q o) l a) (called (starts q′ o′) l′ a′)
   unfolding HeldGood HeldBoth
@@ -321,35 +337,42 @@ module _ (L : Layout) (roomy : Roomy L) (n s : ℕ) (of : ℕ → Bool) where
       let all =
       start-both of any L roomy area area′ h h′ q o o′ work work′ work₁ work₁′ a a′ (inv .bytes) (inv′ .bytes) ty ty′ (pair .held)
       (held-alike of L n s area area′ m b h (inv .held) (pair .alike)) (inv .held .genuine) (inv′ .held .genuine) lent
-      (any-blanked o ∙ blank ∙ sym (any-blanked o′)) (λ e. hidden-same of who q q′ o o′ _ _ same blank c (start-inside L (h .rec) (logNow L area (h .rec)) (lentLengths area (h .cells) work) q o e)) p
-      (subst⁻¹ (λ (x : Terms). StartPromise L x o′ (h′ .rec) area′ (h′ .cells) work′ work₁′ a′) terms p′) in
+      (any-blanked o ∙ blank ∙ sym (any-blanked o′)) (λ e. hidden-same of who q q′ o o′ _ _ same blank c (start-inside L (h .rec) (logNow area (h .rec)) (lentLengths area (h .cells) work) q o e))
+      (held-promise L n s area m b h (inv .held) (λ (K : Layout). StartPromise K q o (h .rec) area (h .cells) work work₁ a) p)
+      (subst⁻¹ (λ (x : Terms). StartPromise L x o′ (h′ .rec) area′ (h′ .cells) work′ work₁′ a′) terms
+      (held-promise L n s area′ m′ b′ h′ (inv′ .held) (λ (K : Layout). StartPromise K q′ o′ (h′ .rec) area′ (h′ .cells) work′ work₁′ a′) p′)) in
       (record { alike = pair .alike; held = all .0 }, answer-same who _ _ _ _ _ _ (ap saying (all .1)))
 
   stepped-both :
-      {w w′ x x′ : World} {l l′ : Lengths} {a a′ : Answer} (b b′ : Book) (t t′ : ℕ) (who : Owner) → Moves L n s w (called steps l a) x →
-      Moves L n s w′ (called steps l′ a′) x′ → Inv L n s w b t → Inv L n s w′ b′ t′ → Pair of L n s w w′ → l ≡ l′ →
+      {w w′ x x′ : World} {l l′ : Lengths} {a a′ : Answer} (b b′ : Book) (t t′ : ℕ) (who : Owner) → Moves n s w (called steps l a) x →
+      Moves n s w′ (called steps l′ a′) x′ → Inv L n s w b t → Inv L n s w′ b′ t′ → Pair of L n s w w′ → l ≡ l′ →
       Both who x x′ (called steps l a) (called steps l′ a′)
   unfolding HeldGood HeldBoth
   stepped-both b b′ t t′ who (step {area} {area′ = area₁} {cells′ = cells₁} {work} {h} {m} {a} own p) (step {area = area′} {area′ = area₁′} {cells′ = cells₁′} {work = work′} {h = h′} {m = m′} {a = a′} own′ p′) inv inv′ pair lent =
       let all =
       step-both of L roomy n s h h′ area area′ area₁ area₁′ cells₁ cells₁′ work work′ a a′ (inv .held .slots-same) (inv .held .size-same) (pair .alike)
-      (pair .held) (inv .held .genuine) (inv′ .held .genuine) lent own own′ p p′ in
+      (pair .held) (inv .held .genuine) (inv′ .held .genuine) lent own own′
+      (held-promise L n s area m b h (inv .held) (λ (K : Layout). StepPromise K (h .rec) area area₁ (h .cells) cells₁ work a) p)
+      (held-promise L n s area′ m′ b′ h′ (inv′ .held) (λ (K : Layout). StepPromise K (h′ .rec) area′ area₁′ (h′ .cells) cells₁′ work′ a′) p′) in
       (record { alike = all .0; held = all .1 }, answer-same who _ _ _ _ _ _ (ap saying (all .2)))
 
   recovered-both :
       {w w′ x x′ : World} {k k′ j j′ : ℕ} {order order′ : List ℕ} {l l′ : Lengths} {a a′ : Answer} (b b′ : Book) (t t′ : ℕ) (who : Owner) →
-      Moves L n s w (called (recovers k j order) l a) x → Moves L n s w′ (called (recovers k′ j′ order′) l′ a′) x′ → Inv L n s w b t →
+      Moves n s w (called (recovers k j order) l a) x → Moves n s w′ (called (recovers k′ j′ order′) l′ a′) x′ → Inv L n s w b t →
       Inv L n s w′ b′ t′ → Pair of L n s w w′ → order ≡ order′ → l ≡ l′ →
       Both who x x′ (called (recovers k j order) l a) (called (recovers k′ j′ order′) l′ a′)
   recovered-both b b′ t t′ who (recover {w} {order} {cells} {cells′ = cells₁} {r} p) (recover {w = w′} {order = order′} {cells = cells′} {cells′ = cells₁′} {r = r′} p′) inv inv′ pair same lent =
       let all =
       recover-both of L n s w w′ pair (baseCells (w .cells)) (recordFrom L n s (baseCells (w .cells)) (w .area)) (inv .base) order cells cells′ cells₁ cells₁′
-      r r′ lent p (subst⁻¹ (λ (l : List ℕ). RecoverPromise L n s l (w′ .area) cells′ cells₁′ r′) same p′) in
+      r r′ lent
+      (area-promise L n s w b t inv (λ (K : Layout). RecoverPromise K n s order (w .area) cells cells₁ r) p)
+      (subst⁻¹ (λ (l : List ℕ). RecoverPromise L n s l (w′ .area) cells′ cells₁′ r′) same
+      (area-promise L n s w′ b′ t′ inv′ (λ (K : Layout). RecoverPromise K n s order′ (w′ .area) cells′ cells₁′ r′) p′)) in
       (all .0, answer-same who _ _ _ _ _ _ (ap saying (all .1)))
 
   called-both :
       {w w′ x x′ : World} {c c′ : Call} {l l′ : Lengths} {a a′ : Answer} (b b′ : Book) (t t′ : ℕ) (who : Owner) → SameKind c c′ →
-      Moves L n s w (called c l a) x → Moves L n s w′ (called c′ l′ a′) x′ → Inv L n s w b t → Inv L n s w′ b′ t′ → Pair of L n s w w′ →
+      Moves n s w (called c l a) x → Moves n s w′ (called c′ l′ a′) x′ → Inv L n s w b t → Inv L n s w′ b′ t′ → Pair of L n s w w′ →
       SameCall who c c′ → l ≡ l′ → Covers of who (called c l a) → Both who x x′ (called c l a) (called c′ l′ a′)
   called-both b b′ t t′ who (both-start q q′ o o′ d e) m m′ inv inv′ pair same lent c = started b b′ t t′ who m m′ inv inv′ pair same d e lent c
   called-both b b′ t t′ who both-step m m′ inv inv′ pair same lent c = stepped-both b b′ t t′ who m m′ inv inv′ pair lent
@@ -364,7 +387,7 @@ module _ (L : Layout) (roomy : Roomy L) (n s : ℕ) (of : ℕ → Bool) where
   called-both b b′ t t′ who (both-recover k k′ j j′ order order′ e) m m′ inv inv′ pair same lent c = recovered-both b b′ t t′ who m m′ inv inv′ pair e lent
 
   move-both :
-      {w w′ x x′ : World} (e e′ : Event) (b b′ : Book) (t t′ : ℕ) (who : Owner) → Moves L n s w e x → Moves L n s w′ e′ x′ → Inv L n s w b t →
+      {w w′ x x′ : World} (e e′ : Event) (b b′ : Book) (t t′ : ℕ) (who : Owner) → Moves n s w e x → Moves n s w′ e′ x′ → Inv L n s w b t →
       Inv L n s w′ b′ t′ → Pair of L n s w w′ → SameInput who e e′ → Covers of who e → Both who x x′ e e′
   unfolding SameInput SameAnswer
   move-both (called c l a) (called c′ l′ a′) b b′ t t′ who m m′ inv inv′ pair same cov =
@@ -389,7 +412,7 @@ module _ (L : Layout) (roomy : Roomy L) (n s : ℕ) (of : ℕ → Bool) where
   covers-rest who owners e es c = (λ t h. c .0 t (either-true-right _ _ h), λ t h. c .1 t (either-true-right _ _ h))
 
   runs-both :
-      {w w′ x x′ : World} {es es′ : List Event} (owners : List Owner) (b b′ : Book) (t t′ : ℕ) → Run L n s w es x → Run L n s w′ es′ x′ →
+      {w w′ x x′ : World} {es es′ : List Event} (owners : List Owner) (b b′ : Book) (t t′ : ℕ) → Run n s w es x → Run n s w′ es′ x′ →
       Inv L n s w b t → Inv L n s w′ b′ t′ → Pair of L n s w w′ → SameInputs owners es es′ → CoversAll owners es → SameAnswers owners es es′
   unfolding SameInputs SameAnswers
   runs-both [] b b′ t t′ stop stop inv inv′ pair same c = tt
@@ -410,7 +433,7 @@ module _ (L : Layout) (roomy : Roomy L) (n s : ℕ) (of : ℕ → Bool) where
 fresh-pair : (of : ℕ → Bool) (L : Layout) (n s : ℕ) (area : List ℕ) → Pair of L n s (freshWorld area) (freshWorld area)
 unfolding HeldBoth
 fresh-pair of L n s area =
-    record { alike = record { long = refl; views = record { digests = λ i l. refl; scans = λ i l e. refl } }; held = tt }
+    record { alike = record { long = refl; views = record { digests = λ i l. refl; layouts = λ i l e. refl; scans = λ i l e. refl } }; held = tt }
 
 -- Isolation for every layout of which each entry fits a fresh segment.
 pub isolation-for : (L : Layout) → Roomy L → IsolationFor L
@@ -423,6 +446,6 @@ isolation-for L roomy n s area₀ area ab p owners es es′ w w′ run run′ sa
     outside t h true e = absurd (apart t h e)
     outside t h false e = refl
 
--- Isolation.
+-- Isolation, for either edition.
 pub isolation : Isolation
-isolation = isolation-for edition1 edition1-roomy
+isolation L = isolation-for L (edition-roomy L)

@@ -9,8 +9,9 @@ use mathlib.Core.List.{List, [], _∷_, _++_, map, List·Memᴰ}
 use mathlib.Core.Option.{some}
 use lib.ListN.{length, take}
 use Rattle.segment.specs.Choice.{both-left}
-use Rattle.segment.specs.Layout.{Layout, digestSize}
+use Rattle.segment.specs.Layout.{Layout, digestSize, table}
 use Rattle.segment.specs.Entry.{Entry, WellFormed, encoded, sizeOf}
+use Rattle.segment.specs.Digest.{layoutIn}
 use Rattle.segment.specs.declared.Version.{Version}
 use Rattle.slot_map.specs.Bit.{bit, named, within}
 use Rattle.slot_map.specs.NextLaws.{next-clear}
@@ -22,9 +23,9 @@ use Rattle.model.specs.Operations.{newSlot, digestWith, newDigest, allEncoded, 
 use Rattle.laws.specs.Members.{clash}
 use Rattle.laws.specs.Stores.{length-stored}
 use Rattle.laws.specs.Scans.{itemAt, itemsFrom}
-use Rattle.laws.specs.AppendBytes.{append-prefix, append-other, append-digest, append-scan}
+use Rattle.laws.specs.AppendBytes.{append-prefix, append-other, append-digest, append-layout, append-scan}
 use Rattle.laws.specs.NewHeadBytes.{headPlan, new-head-prefix, new-head-other-prefix, new-head-other, new-head-view}
-use Rattle.laws.specs.RecoverLaws.{recovered-holds, recovered-scan}
+use Rattle.laws.specs.RecoverLaws.{recovered-holds, recovered-layout, recovered-scan}
 use Rattle.laws.specs.Headed.{new-others}
 use Rattle.laws.specs.Planned.{new-below, new-free, new-map-fits}
 use Rattle.isolation.proofs.Hidden.{hidden, hiddenItem, hiddenScan, map-append, size-hidden, scan-items, encoded-hidden, items-hidden}
@@ -41,7 +42,7 @@ pub data Twin (of : ℕ → Bool) (L : Layout) (r : Record) : List (ℕ × ℕ) 
       Twin of L r (commit (r .size) (r .head) (r .end) (encoded L x)) (commit (r .size) (r .head) (r .end) (encoded L x′)) (r .map)
   heads :
       (victims : ℕ) (next : Version) (es es′ : List Entry) → within victims (r .map) ≡ true → r .digest .0 + 1 < 256 ^ 4 →
-      next .0 < 256 ^ L .width → Formed L es → Formed L es′ → map (hidden of) es ≡ map (hidden of) es′ →
+      next .0 < 256 ^ table L .width → Formed L es → Formed L es′ → map (hidden of) es ≡ map (hidden of) es′ →
       digestSize L + length (allEncoded L es) ≤ r .size →
       Twin of L r (headPlan L (r .size) (newSlot r) (digestWith r victims next) es)
       (headPlan L (r .size) (newSlot r) (digestWith r victims next) es′) (newDigest r victims .map)
@@ -51,15 +52,20 @@ pub data Twin (of : ℕ → Bool) (L : Layout) (r : Record) : List (ℕ × ℕ) 
 one-changed :
     (of : ℕ → Bool) (v v′ w w′ : ℕ → View) (n j : ℕ) (p q : ℕ → Bool) → AlikeViews of n p v v′ → ((i : ℕ) → (i ≡ j → ⊥) → w i ≡ v i) →
     ((i : ℕ) → (i ≡ j → ⊥) → w′ i ≡ v′ i) → w j .digest ≡ w′ j .digest →
-    (q j ≡ true → hiddenScan of (w j .scan) ≡ hiddenScan of (w′ j .scan)) → ((i : ℕ) → (i ≡ j → ⊥) → q i ≡ true → p i ≡ true) →
+    (q j ≡ true → w j .layout ≡ w′ j .layout) → (q j ≡ true → hiddenScan of (w j .scan) ≡ hiddenScan of (w′ j .scan)) → ((i : ℕ) → (i ≡ j → ⊥) → q i ≡ true → p i ≡ true) →
     AlikeViews of n q w w′
-one-changed of v v′ w w′ n j p q a stays stays′ digest scans old =
-    record { digests = λ i l. digest-of i l (ℕ-discrete i j); scans = λ i l t. scan-of i l t (ℕ-discrete i j) }
+one-changed of v v′ w w′ n j p q a stays stays′ digest layouts scans old =
+    record { digests = λ i l. digest-of i l (ℕ-discrete i j); layouts = λ i l t. layout-of i l t (ℕ-discrete i j); scans = λ i l t. scan-of i l t (ℕ-discrete i j) }
   where
     digest-of : (i : ℕ) → i < n → Dec (i ≡ j) → w i .digest ≡ w′ i .digest
     digest-of i l (yes o) = subst (λ (k : ℕ). w k .digest ≡ w′ k .digest) (sym o) digest
     digest-of i l (no o) =
         ap (λ (x : View). x .digest) (stays i o) ∙ a .digests i l ∙ sym (ap (λ (x : View). x .digest) (stays′ i o))
+
+    layout-of : (i : ℕ) → i < n → q i ≡ true → Dec (i ≡ j) → w i .layout ≡ w′ i .layout
+    layout-of i l t (yes o) = subst (λ (k : ℕ). q k ≡ true → w k .layout ≡ w′ k .layout) (sym o) layouts t
+    layout-of i l t (no o) =
+        ap (λ (x : View). x .layout) (stays i o) ∙ a .layouts i l (old i o t) ∙ sym (ap (λ (x : View). x .layout) (stays′ i o))
 
     scan-of : (i : ℕ) → i < n → q i ≡ true → Dec (i ≡ j) → hiddenScan of (w i .scan) ≡ hiddenScan of (w′ i .scan)
     scan-of i l t (yes o) =
@@ -75,6 +81,7 @@ none-changed :
 none-changed of v v′ w w′ n p a stays stays′ =
     record {
       digests = λ i l. ap (λ (x : View). x .digest) (stays i) ∙ a .digests i l ∙ sym (ap (λ (x : View). x .digest) (stays′ i));
+      layouts = λ i l t. ap (λ (x : View). x .layout) (stays i) ∙ a .layouts i l t ∙ sym (ap (λ (x : View). x .layout) (stays′ i));
       scans =
           λ i l t.
           ap (λ (x : View). hiddenScan of (x .scan)) (stays i) ∙ a .scans i l t ∙ sym (ap (λ (x : View). hiddenScan of (x .scan)) (stays′ i));
@@ -117,10 +124,10 @@ module _ (of : ℕ → Bool) (L : Layout) where
 
 module _ (of : ℕ → Bool) (L : Layout) (r : Record) (area area′ : List ℕ)
     (e : recovered L (r .slots) (r .size) (r .cells) area ≡ some r) (e′ : recovered L (r .slots) (r .size) (r .cells) area′ ≡ some r)
-    (a : Alike of L (r .slots) (r .size) (r .map) area area′)
+    (a : Alike of (r .slots) (r .size) (r .map) area area′)
   where
     abbrev Left : ℕ → List (ℕ × ℕ) → List (ℕ × ℕ) → Type 0
-    Left m plan plan′ = Alike of L (r .slots) (r .size) m (stored area plan) (stored area′ plan′)
+    Left m plan plan′ = Alike of (r .slots) (r .size) m (stored area plan) (stored area′ plan′)
 
     facts : Lent L r (length area) (r .cells)
     facts = recovered-holds L (r .slots) (r .size) (r .cells) area r e
@@ -131,16 +138,22 @@ module _ (of : ℕ → Bool) (L : Layout) (r : Record) (area area′ : List ℕ)
     left-long : (plan plan′ : List (ℕ × ℕ)) → length (stored area plan) ≡ length (stored area′ plan′)
     left-long plan plan′ = length-stored area plan ∙ a .long ∙ sym (length-stored area′ plan′)
 
-    abbrev items : List ℕ → List Item
-    items l = itemsOf (scan L (segmentOf l (r .size) (r .head)))
+    own-edition : layoutIn (segmentOf area (r .size) (r .head)) ≡ L
+    own-edition = recovered-layout L (r .slots) (r .size) (r .cells) area r e
 
-    head-scans : hiddenScan of (viewsOf L area (r .size) (r .head) .scan) ≡ hiddenScan of (viewsOf L area′ (r .size) (r .head) .scan)
+    own-edition′ : layoutIn (segmentOf area′ (r .size) (r .head)) ≡ L
+    own-edition′ = recovered-layout L (r .slots) (r .size) (r .cells) area′ r e′
+
+    abbrev items : List ℕ → List Item
+    items l = itemsOf (viewsOf l (r .size) (r .head) .scan)
+
+    head-scans : hiddenScan of (viewsOf area (r .size) (r .head) .scan) ≡ hiddenScan of (viewsOf area′ (r .size) (r .head) .scan)
     head-scans = a .views .scans (r .head) (facts .head-below) (facts .head-named)
 
     head-items : map (hiddenItem of) (items area) ≡ map (hiddenItem of) (items area′)
     head-items =
-        sym (scan-items of (viewsOf L area (r .size) (r .head) .scan)) ∙ ap itemsOf head-scans ∙
-        scan-items of (viewsOf L area′ (r .size) (r .head) .scan)
+        sym (scan-items of (viewsOf area (r .size) (r .head) .scan)) ∙ ap itemsOf head-scans ∙
+        scan-items of (viewsOf area′ (r .size) (r .head) .scan)
 
     -- an entry at the head's end
     module _ (x x′ : Entry) (f : WellFormed L x) (f′ : WellFormed L x′) (same : hidden of x ≡ hidden of x′) (fits : r .end + sizeOf L x ≤ r .size) where
@@ -156,12 +169,12 @@ module _ (of : ℕ → Bool) (L : Layout) (r : Record) (area area′ : List ℕ)
           record {
             long = left-long (take k (appending x)) (take k (appending x′));
             views =
-                none-changed of (viewsOf L area (r .size)) (viewsOf L area′ (r .size)) (viewsOf L (stored area (take k (appending x))) (r .size))
-                (viewsOf L (stored area′ (take k (appending x′))) (r .size)) (r .slots) (named (r .map)) (a .views)
+                none-changed of (viewsOf area (r .size)) (viewsOf area′ (r .size)) (viewsOf (stored area (take k (appending x))) (r .size))
+                (viewsOf (stored area′ (take k (appending x′))) (r .size)) (r .slots) (named (r .map)) (a .views)
                 (append-prefix L (r .slots) (r .size) (r .head) area (items area) (r .end) x (facts .area-own) (facts .head-below)
-                (recovered-scan L (r .slots) (r .size) (r .cells) area r e) f fits k h)
+                own-edition (recovered-scan L (r .slots) (r .size) (r .cells) area r e) f fits k h)
                 (append-prefix L (r .slots) (r .size) (r .head) area′ (items area′) (r .end) x′ (facts′ .area-own) (facts′ .head-below)
-                (recovered-scan L (r .slots) (r .size) (r .cells) area′ r e′) f′ fits′ k h′);
+                own-edition′ (recovered-scan L (r .slots) (r .size) (r .cells) area′ r e′) f′ fits′ k h′);
           }
 
       append-done : Left (r .map) (appending x) (appending x′)
@@ -169,17 +182,21 @@ module _ (of : ℕ → Bool) (L : Layout) (r : Record) (area area′ : List ℕ)
           record {
             long = left-long (appending x) (appending x′);
             views =
-                one-changed of (viewsOf L area (r .size)) (viewsOf L area′ (r .size)) (viewsOf L (stored area (appending x)) (r .size))
-                (viewsOf L (stored area′ (appending x′)) (r .size)) (r .slots) (r .head) (named (r .map)) (named (r .map)) (a .views)
-                (append-other L (r .slots) (r .size) (r .head) area (items area) (r .end) x (facts .area-own) (facts .head-below) own f fits)
-                (append-other L (r .slots) (r .size) (r .head) area′ (items area′) (r .end) x′ (facts′ .area-own) (facts′ .head-below) own′ f′ fits′)
-                (append-digest L (r .slots) (r .size) (r .head) area (items area) (r .end) x (facts .area-own) (facts .head-below) own f fits ∙
+                one-changed of (viewsOf area (r .size)) (viewsOf area′ (r .size)) (viewsOf (stored area (appending x)) (r .size))
+                (viewsOf (stored area′ (appending x′)) (r .size)) (r .slots) (r .head) (named (r .map)) (named (r .map)) (a .views)
+                (append-other L (r .slots) (r .size) (r .head) area (items area) (r .end) x (facts .area-own) (facts .head-below) own-edition own f fits)
+                (append-other L (r .slots) (r .size) (r .head) area′ (items area′) (r .end) x′ (facts′ .area-own) (facts′ .head-below) own-edition′ own′ f′ fits′)
+                (append-digest L (r .slots) (r .size) (r .head) area (items area) (r .end) x (facts .area-own) (facts .head-below) own-edition own f fits ∙
                 a .views .digests (r .head) (facts .head-below) ∙
-                sym (append-digest L (r .slots) (r .size) (r .head) area′ (items area′) (r .end) x′ (facts′ .area-own) (facts′ .head-below) own′ f′ fits′))
+                sym (append-digest L (r .slots) (r .size) (r .head) area′ (items area′) (r .end) x′ (facts′ .area-own) (facts′ .head-below) own-edition′ own′ f′ fits′))
                 (λ t.
-                ap (hiddenScan of) (append-scan L (r .slots) (r .size) (r .head) area (items area) (r .end) x (facts .area-own) (facts .head-below) own f fits) ∙
+                append-layout L (r .slots) (r .size) (r .head) area (items area) (r .end) x (facts .area-own) (facts .head-below) own-edition own f fits ∙
+                own-edition ∙ sym own-edition′ ∙
+                sym (append-layout L (r .slots) (r .size) (r .head) area′ (items area′) (r .end) x′ (facts′ .area-own) (facts′ .head-below) own-edition′ own′ f′ fits′))
+                (λ t.
+                ap (hiddenScan of) (append-scan L (r .slots) (r .size) (r .head) area (items area) (r .end) x (facts .area-own) (facts .head-below) own-edition own f fits) ∙
                 appended-scan of L (items area) (items area′) (r .end) x x′ head-items same ∙
-                sym (ap (hiddenScan of) (append-scan L (r .slots) (r .size) (r .head) area′ (items area′) (r .end) x′ (facts′ .area-own) (facts′ .head-below) own′ f′ fits′)))
+                sym (ap (hiddenScan of) (append-scan L (r .slots) (r .size) (r .head) area′ (items area′) (r .end) x′ (facts′ .area-own) (facts′ .head-below) own-edition′ own′ f′ fits′)))
                 (λ i o t. t);
           }
         where
@@ -206,27 +223,29 @@ module _ (of : ℕ → Bool) (L : Layout) (r : Record) (area area′ : List ℕ)
             record {
               long = left-long (take (suc k) (heading es)) (take (suc k) (heading es′));
               views =
-                  one-changed of (viewsOf L area (r .size)) (viewsOf L area′ (r .size))
-                  (viewsOf L (stored area (take (suc k) (heading es))) (r .size)) (viewsOf L (stored area′ (take (suc k) (heading es′))) (r .size))
+                  one-changed of (viewsOf area (r .size)) (viewsOf area′ (r .size))
+                  (viewsOf (stored area (take (suc k) (heading es))) (r .size)) (viewsOf (stored area′ (take (suc k) (heading es′))) (r .size))
                   (r .slots) (newSlot r) (named (r .map)) (named (r .map)) (a .views)
                   (new-head-other-prefix L (r .size) (newSlot r) area (digestWith r victims next) es fits (suc k))
                   (new-head-other-prefix L (r .size) (newSlot r) area′ (digestWith r victims next) es′ fits-too (suc k))
                   (new-head-prefix L (r .size) (newSlot r) area (digestWith r victims next) es fits (suc k) (omega arith) h ∙
                   sym (new-head-prefix L (r .size) (newSlot r) area′ (digestWith r victims next) es′ fits-too (suc k) (omega arith) h′))
+                  (λ t. absurd (clash (named (r .map) (newSlot r)) t (new-free L area r e)))
                   (λ t. absurd (clash (named (r .map) (newSlot r)) t (new-free L area r e))) (λ i o t. t);
             }
 
         head-done :
-            Formed L es → Formed L es′ → r .digest .0 + 1 < 256 ^ 4 → next .0 < 256 ^ L .width → Left (newDigest r victims .map) (heading es) (heading es′)
+            Formed L es → Formed L es′ → r .digest .0 + 1 < 256 ^ 4 → next .0 < 256 ^ table L .width → Left (newDigest r victims .map) (heading es) (heading es′)
         head-done f f′ number next-fits =
             record {
               long = left-long (heading es) (heading es′);
               views =
-                  one-changed of (viewsOf L area (r .size)) (viewsOf L area′ (r .size)) (viewsOf L (stored area (heading es)) (r .size))
-                  (viewsOf L (stored area′ (heading es′)) (r .size)) (r .slots) (newSlot r) (named (r .map)) (named (newDigest r victims .map)) (a .views)
+                  one-changed of (viewsOf area (r .size)) (viewsOf area′ (r .size)) (viewsOf (stored area (heading es)) (r .size))
+                  (viewsOf (stored area′ (heading es′)) (r .size)) (r .slots) (newSlot r) (named (r .map)) (named (newDigest r victims .map)) (a .views)
                   (new-head-other L (r .size) (newSlot r) area (digestWith r victims next) es fits)
                   (new-head-other L (r .size) (newSlot r) area′ (digestWith r victims next) es′ fits-too)
                   (ap (λ (x : View). x .digest) view ∙ sym (ap (λ (x : View). x .digest) view′))
+                  (λ t. ap (λ (x : View). x .layout) view ∙ sym (ap (λ (x : View). x .layout) view′))
                   (λ t.
                   ap (λ (x : View). hiddenScan of (x .scan)) view ∙ headed-scan of L (digestSize L) es es′ same ∙
                   sym (ap (λ (x : View). hiddenScan of (x .scan)) view′))
@@ -238,15 +257,15 @@ module _ (of : ℕ → Bool) (L : Layout) (r : Record) (area area′ : List ℕ)
             clear = next-clear (r .slots) (r .map) (r .head) (facts .head-below) (facts .some-free)
 
             view :
-                viewsOf L (stored area (heading es)) (r .size) (newSlot r) ≡
-                record { digest = some (digestWith r victims next); scan = scanned (itemsFrom L (digestSize L) es) (digestSize L + length (allEncoded L es)) }
+                viewsOf (stored area (heading es)) (r .size) (newSlot r) ≡
+                record { layout = L; digest = some (digestWith r victims next); scan = scanned (itemsFrom L (digestSize L) es) (digestSize L + length (allEncoded L es)) }
             view =
                 new-head-view L (digestWith r victims next) es number (new-map-fits L area r e victims sub) next-fits f (r .slots)
                 (r .size) (newSlot r) area (facts .area-own) (new-below L area r e) fits
 
             view′ :
-                viewsOf L (stored area′ (heading es′)) (r .size) (newSlot r) ≡
-                record { digest = some (digestWith r victims next); scan = scanned (itemsFrom L (digestSize L) es′) (digestSize L + length (allEncoded L es′)) }
+                viewsOf (stored area′ (heading es′)) (r .size) (newSlot r) ≡
+                record { layout = L; digest = some (digestWith r victims next); scan = scanned (itemsFrom L (digestSize L) es′) (digestSize L + length (allEncoded L es′)) }
             view′ =
                 new-head-view L (digestWith r victims next) es′ number (new-map-fits L area′ r e′ victims sub) next-fits f′ (r .slots)
                 (r .size) (newSlot r) area′ (facts′ .area-own) (new-below L area′ r e′) fits-too

@@ -2,7 +2,7 @@
 use Prim.Native.Nat.{ℕ}
 use mathlib.Core.List.{List}
 use Rattle.word.specs.Number.{Bytes}
-use Rattle.segment.specs.Layout.{Layout, edition1}
+use Rattle.segment.specs.Layout.{Layout, numberOfLayout}
 use Rattle.record.specs.declared.FormatAnswer.{FormatAnswer}
 use Rattle.model.specs.Promises.{FormatPromise}
 use Rattle.history.specs.Book.{Event}
@@ -14,9 +14,10 @@ use Rattle.isolation.specs.Owners.{Owner, SameInputs, SameAnswers, NoTab
 -- are all numbers that come out to media. Any area of bytes may have been formatted; the runs are those of demand 3.
 abbrev pub IsolationFor : Layout → Type 0
 IsolationFor L =
-    (n s : ℕ) (area₀ area : List ℕ) → Bytes area₀ → FormatPromise L n s area₀ area FormatAnswer.Formatted →
-    (owners : List Owner) (es es′ : List Event) (w w′ : World) → Run L n s (freshWorld area) es w → Run L n s (freshWorld area) es′ w′ →
+    (n s : ℕ) (area₀ area : List ℕ) → Bytes area₀ → FormatPromise (numberOfLayout L) n s area₀ area FormatAnswer.Formatted →
+    (owners : List Owner) (es es′ : List Event) (w w′ : World) → Run n s (freshWorld area) es w → Run n s (freshWorld area) es′ w′ →
     SameInputs owners es es′ → NoTableShared owners es → SameAnswers owners es es′
 
+-- For a store of either edition (02, R-11).
 abbrev pub Isolation : Type 0
-Isolation = IsolationFor edition1
+Isolation = (L : Layout) → IsolationFor L

@@ -132,8 +132,8 @@ keys-lost a b w k gone had =
 
 module _ (L : Layout) (n s m : ℕ) (area : List ℕ) (r : Record) (e : recovered L n s m area ≡ some r) where
   -- a recovered record counts its log's keys
-  pub keys-counted : r .keys ≡ length (keysOf (logOf (viewsOf L area s) (named (r .map)) n))
-  keys-counted = recovered-case L n s m area (λ (k : Record). k .keys ≡ length (keysOf (logOf (viewsOf L area s) (named (k .map)) n))) (λ h l f. refl) r e
+  pub keys-counted : r .keys ≡ length (keysOf (logOf (viewsOf area s) (named (r .map)) n))
+  keys-counted = recovered-case L n s m area (λ (k : Record). k .keys ≡ length (keysOf (logOf (viewsOf area s) (named (k .map)) n))) (λ h l f. refl) r e
 
 -- the version of a key goes by its entry alone
 entryVersion : Option Entry → ℕ
@@ -166,54 +166,54 @@ module _ (L : Layout) (laws : OperationLaws L) (area : List ℕ) (r : Record) (i
     facts : Lent L r (length area) (r .cells)
     facts = recovered-holds L (r .slots) (r .size) (r .cells) area r (acc .recovers)
 
-    cleaning : Cleaning L area r victims (r .next) (logNow L area r)
+    cleaning : Cleaning L area r victims (r .next) (logNow area r)
     cleaning = clean-cleans L area r victims acc
 
     recovers-done : recovered L (r .slots) (r .size) (r .cells) after ≡ some done
     recovers-done = laws .finish-recovers area r (clean victims) acc
 
     -- the log that is left is the cleaned one
-    cleaned : Cleaned victims (logNow L area r) (placedFrom L (newSlot r) (digestSize L) (kept victims (logNow L area r))) (logNow L after done)
+    cleaned : Cleaned victims (logNow area r) (placedFrom L (newSlot r) (digestSize L) (kept victims (logNow area r))) (logNow after done)
     unfolding laid planOf finishedRecord
     cleaned =
-        cleaned-cleaned L (r .slots) (r .size) (r .cells) area after r victims (r .next) (logNow L area r) (acc .recovers) (cleaning .sub) (cleaning .stands)
+        cleaned-cleaned L (r .slots) (r .size) (r .cells) area after r victims (r .next) (logNow area r) (acc .recovers) (cleaning .sub) (cleaning .stands)
         (record {
           others =
-              λ x l o. new-head-other L (r .size) (newSlot r) area (newDigest r victims) (kept victims (logNow L area r)) (cleaning .room) x o;
+              λ x l o. new-head-other L (r .size) (newSlot r) area (newDigest r victims) (kept victims (logNow area r)) (cleaning .room) x o;
           own =
-              new-head-view L (newDigest r victims) (kept victims (logNow L area r)) (cleaning .number-left)
+              new-head-view L (newDigest r victims) (kept victims (logNow area r)) (cleaning .number-left)
               (new-map-fits L area r (acc .recovers) victims (cleaning .sub)) (cleaning .next-fits) (cleaning .formed)
               (r .slots) (r .size) (newSlot r) area (facts .area-own) (new-below L area r (acc .recovers)) (cleaning .room);
         })
 
     -- 21: the key has the same version
-    version-stays : (k : Key) → versionIn (present (logNow L after done) k) ≡ versionIn (present (logNow L area r) k)
+    version-stays : (k : Key) → versionIn (present (logNow after done) k) ≡ versionIn (present (logNow area r) k)
     unfolding mapAfter
     version-stays k =
-        version-of (present (logNow L after done) k) ∙
-        ap entryVersion (laws .finish-map area r (clean victims) acc k) ∙ sym (version-of (present (logNow L area r) k))
+        version-of (present (logNow after done) k) ∙
+        ap entryVersion (laws .finish-map area r (clean victims) acc k) ∙ sym (version-of (present (logNow area r) k))
 
     -- 11: no more keys, and one less where the key is lost
-    keys-fit : (k : Key) → keysFull r (keyFacts (logNow L area r) k) ≡ false → keysFull done (keyFacts (logNow L after done) k) ≡ false
+    keys-fit : (k : Key) → keysFull r (keyFacts (logNow area r) k) ≡ false → keysFull done (keyFacts (logNow after done) k) ≡ false
     unfolding finishedRecord
-    keys-fit k old = go (hasKey (logNow L after done) k) refl (hasKey (logNow L area r) k) refl
+    keys-fit k old = go (hasKey (logNow after done) k) refl (hasKey (logNow area r) k) refl
       where
-        within-keys : KeysWithin (logNow L after done) (logNow L area r)
-        within-keys = clean-keys victims (logNow L area r) (placedFrom L (newSlot r) (digestSize L) (kept victims (logNow L area r))) (logNow L after done) cleaned
+        within-keys : KeysWithin (logNow after done) (logNow area r)
+        within-keys = clean-keys victims (logNow area r) (placedFrom L (newSlot r) (digestSize L) (kept victims (logNow area r))) (logNow after done) cleaned
 
-        counted : done .keys ≡ length (keysOf (logNow L after done))
+        counted : done .keys ≡ length (keysOf (logNow after done))
         counted = keys-counted L (r .slots) (r .size) (r .cells) after done recovers-done
 
-        counted-old : r .keys ≡ length (keysOf (logNow L area r))
+        counted-old : r .keys ≡ length (keysOf (logNow area r))
         counted-old = keys-counted L (r .slots) (r .size) (r .cells) area r (acc .recovers)
 
-        go : (t : Bool) → hasKey (logNow L after done) k ≡ t → (u : Bool) → hasKey (logNow L area r) k ≡ u →
-            both (not (hasKey (logNow L after done) k)) (eqb (done .keys) (r .cells - 1)) ≡ false
+        go : (t : Bool) → hasKey (logNow after done) k ≡ t → (u : Bool) → hasKey (logNow area r) k ≡ u →
+            both (not (hasKey (logNow after done) k)) (eqb (done .keys) (r .cells - 1)) ≡ false
         go true p u q = both-false-left _ _ (ap not p)
         go false p true q =
             both-false-right _ _
             (ne-eqb (done .keys) (r .cells - 1)
-            (λ e. omega (arith, e, counted, counted-old, facts .keys-high, keys-lost (logNow L after done) (logNow L area r) within-keys k p q)))
+            (λ e. omega (arith, e, counted, counted-old, facts .keys-high, keys-lost (logNow after done) (logNow area r) within-keys k p q)))
         go false p false q =
             both-false-right _ _
             (ne-eqb (done .keys) (r .cells - 1)
@@ -224,7 +224,7 @@ module _ (L : Layout) (laws : OperationLaws L) (area : List ℕ) (r : Record) (i
               counted,
               counted-old,
               facts .keys-high,
-              keys-within (logNow L after done) (logNow L area r) within-keys,
+              keys-within (logNow after done) (logNow area r) within-keys,
               eqb-false (r .keys) (r .cells - 1) (both-rest (eqb (r .keys) (r .cells - 1)) (sym (ap (λ (b : Bool). both (not b) (eqb (r .keys) (r .cells - 1))) q) ∙ old)),
             )))
 
@@ -246,12 +246,12 @@ module _ (L : Layout) (laws : OperationLaws L) (area : List ℕ) (r : Record) (i
 
     -- The write passes all its tests.
     pub write-again : (l l′ : Lengths) (t : Terms) (k : Key) (n : ℕ) → (x : Refusal) → numberOfRefusal x ≡ 12 →
-        firstCause (writeCauses L r l t k (keyFacts (logNow L area r) k) n) ≡ some x → r .digest .0 ≤ 4294967293 → fitsLent L done (l′ .area) (l′ .index) ≡ true → r .size ≤ l′ .work →
-        firstCause (writeCauses L done l′ t k (keyFacts (logNow L after done) k) n) ≡ none
+        firstCause (writeCauses L r l t k (keyFacts (logNow area r) k) n) ≡ some x → r .digest .0 ≤ 4294967293 → fitsLent L done (l′ .area) (l′ .index) ≡ true → r .size ≤ l′ .work →
+        firstCause (writeCauses L done l′ t k (keyFacts (logNow after done) k) n) ≡ none
     unfolding finishedRecord isPending
     write-again l l′ t k n x twelve e few fits long =
-        let p = met-12 L r l t k (keyFacts (logNow L area r) k) n x twelve e in
-        causes-none (writeCauses L done l′ t k (keyFacts (logNow L after done) k) n) (
+        let p = met-12 L r l t k (keyFacts (logNow area r) k) n x twelve e in
+        causes-none (writeCauses L done l′ t k (keyFacts (logNow after done) k) n) (
           ap not fits,
           (
             p .in-reach,

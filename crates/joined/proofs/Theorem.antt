@@ -12,7 +12,7 @@ use lib.Seq.{sets, take-all}
 use borrow.Author.Tests.{le-ltb, ne-eqb, eqb-true, not-false, not-true}
 use Rattle.word.specs.Laws.{taken-sets}
 use Rattle.segment.specs.Choice.{pick, pick-false, pick-true, both, both-left, both-right, isNone}
-use Rattle.segment.specs.Layout.{Layout, edition1, numberLimit}
+use Rattle.segment.specs.Layout.{Layout, numberLimit}
 use Rattle.segment.specs.declared.Key.{Key}
 use Rattle.slot_map.specs.Bit.{named}
 use Rattle.record.specs.Answers.{Said, refusal, startSaid, stepSaid, withPending}
@@ -41,11 +41,11 @@ use Rattle.laws.specs.CauseLaws.{causes-none, cause-skip, cause-first, cause-fa
 use Rattle.laws.specs.Members.{clash}
 use Rattle.laws.specs.Passed.{step-passed}
 use Rattle.laws.specs.Operated.{Accepted, OperationLaws, planAt}
-use Rattle.laws.specs.OperationsKept.{edition1-laws}
+use Rattle.laws.specs.OperationsKept.{edition-laws}
 use Rattle.joining.specs.PairLaws.{Joins, pair-given, pair-none}
 use Rattle.history.specs.Book.{joins, starts, steps, asks, Answer, saying, pairing, called, accepted, Book, freshBook, feed, bookOf, versionTold, highestTold}
 use Rattle.history.specs.Runs.{Held, World, heldAfter, Asked, join, Moves, start, step, ask}
-use Rattle.history.proofs.Invariant.{Inv, Holding, HeldGood, idle-same}
+use Rattle.history.proofs.Invariant.{Inv, Holding, HeldGood, idle-same, held-promise}
 use Rattle.history.proofs.Tellings.{started-pending}
 use Rattle.history.proofs.Readings.{held-fits}
 use Rattle.history.proofs.Starts.{not-pending}
@@ -57,7 +57,7 @@ use Rattle.joined.proofs.Again.{pair-good, skips, met-12, write-again}
 abbrev at : List ℕ → Held → Option ℕ → World
 at area h m = record { area = area; held = some h; cells = m }
 
--- ---- what the moves are
+-- ---- what the moves are: a call with a record goes by the record's edition
 
 pub record StartMade (L : Layout) (area : List ℕ) (h : Held) (m : Option ℕ) (q : Terms) (o : Operation) (lent : Lengths) (x : Answer) (y : World) : Type 0 where
   pub work : List ℕ
@@ -69,8 +69,8 @@ pub record StartMade (L : Layout) (area : List ℕ) (h : Held) (m : Option ℕ) 
   pub says : x ≡ saying (startSaid (start-answer .answer))
   pub leads : y ≡ at area (heldAfter h work′ start-answer) m
 
-start-made : {L : Layout} {n s : ℕ} {area : List ℕ} {h : Held} {m : Option ℕ} {q : Terms} {o : Operation} {lent : Lengths} {x : Answer} {y : World} →
-    Moves L n s (at area h m) (called (starts q o) lent x) y → StartMade L area h m q o lent x y
+start-made : {n s : ℕ} {area : List ℕ} {h : Held} {m : Option ℕ} {q : Terms} {o : Operation} {lent : Lengths} {x : Answer} {y : World} →
+    Moves n s (at area h m) (called (starts q o) lent x) y → StartMade (h .rec .edition) area h m q o lent x y
 start-made (start {work = work} {work′ = work′} {a = a} ty p) =
     record { work = work; work′ = work′; start-answer = a; typed = ty; promise = p; lent-is = refl; says = refl; leads = refl }
 
@@ -80,8 +80,8 @@ pub record JoinMade (L : Layout) (area : List ℕ) (h : Held) (m : Option ℕ) (
   pub says : x ≡ pairing (joinSaid (joined .answer))
   pub stays : y ≡ at area h m
 
-join-made : {L : Layout} {n s : ℕ} {area : List ℕ} {h : Held} {m : Option ℕ} {lent : Lengths} {x : Answer} {y : World} →
-    Moves L n s (at area h m) (called (asks joins) lent x) y → JoinMade L area h m x y
+join-made : {n s : ℕ} {area : List ℕ} {h : Held} {m : Option ℕ} {lent : Lengths} {x : Answer} {y : World} →
+    Moves n s (at area h m) (called (asks joins) lent x) y → JoinMade (h .rec .edition) area h m x y
 join-made (ask (join {a = a} p)) = record { joined = a; promise = p; says = refl; stays = refl }
 
 -- ---- the pair that is told
@@ -126,6 +126,18 @@ last true false c p q e = absurd (clash false q refl)
 last false b c p q e = absurd (clash false p refl)
 
 module _ (L : Layout) (laws : OperationLaws L) (n s : ℕ) where
+  -- ---- the same by the edition of the format
+
+  start-here : {area : List ℕ} {h : Held} {m : Option ℕ} {q : Terms} {o : Operation} {lent : Lengths} {x : Answer} {y : World} (b : Book) →
+      Holding L n s area m b h → Moves n s (at area h m) (called (starts q o) lent x) y → StartMade L area h m q o lent x y
+  start-here {area = area} {h = h} {m = m} {q = q} {o = o} {lent = lent} {x = x} {y = y} b good move =
+      held-promise L n s area m b h good (λ (K : Layout). StartMade K area h m q o lent x y) (start-made move)
+
+  join-here : {area : List ℕ} {h : Held} {m : Option ℕ} {lent : Lengths} {x : Answer} {y : World} (b : Book) →
+      Holding L n s area m b h → Moves n s (at area h m) (called (asks joins) lent x) y → JoinMade L area h m x y
+  join-here {area = area} {h = h} {m = m} {x = x} {y = y} b good move =
+      held-promise L n s area m b h good (λ (K : Layout). JoinMade K area h m x y) (join-made move)
+
   -- ---- a store that holds a record
 
   module _ (area : List ℕ) (h : Held) (m : Option ℕ) (b : Book) (told : ℕ) (inv : Inv L n s (at area h m) b told) (good : Holding L n s area m b h) where
@@ -133,7 +145,7 @@ module _ (L : Layout) (laws : OperationLaws L) (n s : ℕ) where
     r = h .rec
 
     abbrev log : List Placed
-    log = logNow L area r
+    log = logNow area r
 
     fits : fitsLent L r (length area) (length (h .cells)) ≡ true
     fits = held-fits L laws n s area m b h (inv .bytes) good
@@ -278,7 +290,7 @@ module _ (L : Layout) (laws : OperationLaws L) (n s : ℕ) where
           some-left = omega (arith, e, st .some-left);
           record-now =
               ap (λ (x : Stepped). x .rec) is ∙
-              ap (λ (x : ℕ). withPending (st .idle) (laid L (st .idle) (logNow L (st .before) (st .idle)) (st .operation) .pending x)) (sym e);
+              ap (λ (x : ℕ). withPending (st .idle) (laid L (st .idle) (logNow (st .before) (st .idle)) (st .operation) .pending x)) (sym e);
           area-now = stores;
           work-now = st .work-now;
         })
@@ -329,15 +341,16 @@ module _ (L : Layout) (laws : OperationLaws L) (n s : ℕ) where
       pub during : During area r victims area₂ held₂
 
     leads : {y : World} (area₁ : List ℕ) (h : Held) (m : Option ℕ) (b : Book) (told : ℕ) → Inv L n s (at area₁ h m) b told → During area r victims area₁ h →
-        Stepping L n s (at area₁ h m) y → Led y
+        Stepping n s (at area₁ h m) y → Led y
     unfolding HeldGood
     leads area₁ h m b told inv d halt =
         record { area₂ = area₁; held₂ = h; cells₂ = m; book = b; told = told; is = refl; inv = inv; during = d }
     leads area₁ h m b told inv d (then (step {area′ = area₂} {cells′ = cells₂} {work = work} {a = a} own p) rest) =
-        let made : Moves L n s (at area₁ h m) (called steps (lentLengths area₁ (h .cells) work) (saying (stepSaid (a .answer)))) (at area₂ (left-held h cells₂ a) m) =
+        let made : Moves n s (at area₁ h m) (called steps (lentLengths area₁ (h .cells) work) (saying (stepSaid (a .answer)))) (at area₂ (left-held h cells₂ a) m) =
         step own p in
         let kept = move-keeps L laws n s b told made inv in
-        leads area₂ (left-held h cells₂ a) m _ _ (kept .0) (step-during area₁ area₂ cells₂ work h a own p (inv .held .genuine) d) rest
+        let promise = held-promise L n s area₁ m b h (inv .held) (λ (K : Layout). StepPromise K (h .rec) area₁ area₂ (h .cells) cells₂ work a) p in
+        leads area₂ (left-held h cells₂ a) m _ _ (kept .0) (step-during area₁ area₂ cells₂ work h a own promise (inv .held .genuine) d) rest
 
   -- ---- the write again
 
@@ -346,20 +359,20 @@ module _ (L : Layout) (laws : OperationLaws L) (n s : ℕ) where
     pub lent : Lengths
     pub cause : Refusal
     pub twelve : numberOfRefusal cause ≡ 12
-    pub refused : firstCause (startCauses L (h .rec) (logNow L area (h .rec)) lent t (write k value)) ≡ some cause
+    pub refused : firstCause (startCauses L (h .rec) (logNow area (h .rec)) lent t (write k value)) ≡ some cause
     pub quiet : isPending (h .rec .pending) ≡ false
-    pub fit : Joins (joinFits L (h .rec) (logNow L area (h .rec))) (h .rec .slots) i j
+    pub fit : Joins (joinFits L (h .rec) (logNow area (h .rec))) (h .rec .slots) i j
     pub few : h .rec .digest .0 ≤ 4294967293
 
   abbrev CleansAt : World → ℕ → ℕ → Type 0
   CleansAt w i j =
-      (q : Terms) (lent : Lengths) (a : Answer) (x : World) → s ≤ lent .work → Moves L n s w (called (starts q (clean (pairOf i j))) lent a) x → accepted a ≡ true
+      (q : Terms) (lent : Lengths) (a : Answer) (x : World) → s ≤ lent .work → Moves n s w (called (starts q (clean (pairOf i j))) lent a) x → accepted a ≡ true
 
   abbrev WritesAt : World → Key → List ℕ → Terms → ℕ → ℕ → Type 0
   WritesAt w k value t i j =
-      (q : Terms) (lent : Lengths) (a : Answer) (x : World) → s ≤ lent .work → Moves L n s w (called (starts q (clean (pairOf i j))) lent a) x → (y : World) →
-      Stepping L n s x y → NonePending y → (lent′ : Lengths) (a′ : Answer) (z : World) → s ≤ lent′ .work →
-      Moves L n s y (called (starts t (write k value)) lent′ a′) z → accepted a′ ≡ true
+      (q : Terms) (lent : Lengths) (a : Answer) (x : World) → s ≤ lent .work → Moves n s w (called (starts q (clean (pairOf i j))) lent a) x → (y : World) →
+      Stepping n s x y → NonePending y → (lent′ : Lengths) (a′ : Answer) (z : World) → s ≤ lent′ .work →
+      Moves n s y (called (starts t (write k value)) lent′ a′) z → accepted a′ ≡ true
 
   module _ (area : List ℕ) (h : Held) (m : Option ℕ) (b : Book) (told : ℕ) (inv : Inv L n s (at area h m) b told) (good : Holding L n s area m b h)
       (k : Key) (value : List ℕ) (t : Terms) (i j : ℕ) (know : Known area h k value t i j)
@@ -371,13 +384,13 @@ module _ (L : Layout) (laws : OperationLaws L) (n s : ℕ) where
       long-work lent work is long = omega (arith, long, good .size-same, ap (λ (l : Lengths). l .work) is)
 
       no-cause-of : (q : Terms) (work : List ℕ) → h .rec .size ≤ length work →
-          firstCause (startCauses L (h .rec) (logNow L area (h .rec)) (lentLengths area (h .cells) work) q (clean victims)) ≡ none
+          firstCause (startCauses L (h .rec) (logNow area (h .rec)) (lentLengths area (h .cells) work) q (clean victims)) ≡ none
       no-cause-of q work long = clean-passes area h m b told inv good (know .quiet) i j (know .fit) (know .few) work long q
 
       cleans-here : CleansAt (at area h m) i j
       unfolding begun
       cleans-here q lent a x long move =
-          let c = start-made move in
+          let c = start-here b good move in
           ap accepted (c .says) ∙
           ap (λ (y : Said). eqb (y .refused) 0)
           (start-says area h m b told inv good q (clean victims) (c .work) (c .work′) (c .start-answer) (c .promise) none
@@ -387,9 +400,9 @@ module _ (L : Layout) (laws : OperationLaws L) (n s : ℕ) where
       begun-held : List ℕ → Held
       begun-held work =
           record {
-            rec = startedRecord L (h .rec) (logNow L area (h .rec)) (clean victims);
+            rec = startedRecord L (h .rec) (logNow area (h .rec)) (clean victims);
             cells = h .cells;
-            work = sets work 0 (laid L (h .rec) (logNow L area (h .rec)) (clean victims) .bytes);
+            work = sets work 0 (laid L (h .rec) (logNow area (h .rec)) (clean victims) .bytes);
           }
 
       begun-here : (q : Terms) (work work′ : List ℕ) (a : Start) → StartPromise L q (clean victims) (h .rec) area (h .cells) work work′ a →
@@ -397,7 +410,7 @@ module _ (L : Layout) (laws : OperationLaws L) (n s : ℕ) where
       unfolding begun pick begun-held
       begun-here q work work′ a p long =
           ap (λ (x : Begun). heldAfter h (x .work) (x .start))
-          (p .exact (good .genuine) ∙ ap (begun L (h .rec) (logNow L area (h .rec)) (clean victims) work) (no-cause-of q work long))
+          (p .exact (good .genuine) ∙ ap (begun L (h .rec) (logNow area (h .rec)) (clean victims) work) (no-cause-of q work long))
 
       began : Typed (clean victims) → (work : List ℕ) → h .rec .size ≤ length work → During area (h .rec) victims area (begun-held work)
       unfolding stored begun-held accepted-clean
@@ -418,8 +431,8 @@ module _ (L : Layout) (laws : OperationLaws L) (n s : ℕ) where
             record-now = rw sub-zero refl;
             area-now = refl;
             work-now =
-                taken-sets work 0 (laid L (h .rec) (logNow L area (h .rec)) (clean victims) .bytes)
-                (length (laid L (h .rec) (logNow L area (h .rec)) (clean victims) .bytes)) refl
+                taken-sets work 0 (laid L (h .rec) (logNow area (h .rec)) (clean victims) .bytes)
+                (length (laid L (h .rec) (logNow area (h .rec)) (clean victims) .bytes)) refl
                 (omega (arith, long, laws .bytes-fit area (h .rec) (clean victims) acc));
           })
           refl refl refl
@@ -427,22 +440,22 @@ module _ (L : Layout) (laws : OperationLaws L) (n s : ℕ) where
       -- at the end of the steps the write is accepted
       written : Accepted L area (h .rec) (clean victims) → (area₂ : List ℕ) (h₂ : Held) (m₂ : Option ℕ) (b₂ : Book) (told₂ : ℕ) →
           Inv L n s (at area₂ h₂ m₂) b₂ told₂ → Holding L n s area₂ m₂ b₂ h₂ → During area (h .rec) victims area₂ h₂ → h₂ .rec .pending ≡ Idle →
-          (lent : Lengths) (a : Answer) (z : World) → s ≤ lent .work → Moves L n s (at area₂ h₂ m₂) (called (starts t (write k value)) lent a) z → accepted a ≡ true
+          (lent : Lengths) (a : Answer) (z : World) → s ≤ lent .work → Moves n s (at area₂ h₂ m₂) (called (starts t (write k value)) lent a) z → accepted a ≡ true
       unfolding isPending begun startCauses
       written acc area₂ h₂ m₂ b₂ told₂ inv₂ good₂ (going st _ _ _) quiet lent a z long move =
           let never : _≡_ {A = Bool} true false = sym (started-pending L area₂ (h₂ .rec) (h₂ .work) st) ∙ ap isPending quiet in
           let w : _≡_ {A = ℕ} 0 1 = cc in
           absurd (omega arith)
       written acc area₂ h₂ m₂ b₂ told₂ inv₂ good₂ (over here is) quiet lent a z long move =
-          let c = start-made move in
+          let c = start-here b₂ good₂ move in
           ap accepted (c .says) ∙
           ap (λ (y : Said). eqb (y .refused) 0)
           (start-says area₂ h₂ m₂ b₂ told₂ inv₂ good₂ t (write k value) (c .work) (c .work′) (c .start-answer) (c .promise) none (passes (c .work) (c .lent-is)))
         where
           passes : (work : List ℕ) → lent ≡ lentLengths area₂ (h₂ .cells) work →
-              firstCause (startCauses L (h₂ .rec) (logNow L area₂ (h₂ .rec)) (lentLengths area₂ (h₂ .cells) work) t (write k value)) ≡ none
+              firstCause (startCauses L (h₂ .rec) (logNow area₂ (h₂ .rec)) (lentLengths area₂ (h₂ .cells) work) t (write k value)) ≡ none
           passes work lent-is =
-              (λ τ. firstCause (writeCauses L (is τ) (lentLengths area₂ (h₂ .cells) work) t k (keyFacts (logNow L (here τ) (is τ)) k) (length value))) ∙
+              (λ τ. firstCause (writeCauses L (is τ) (lentLengths area₂ (h₂ .cells) work) t k (keyFacts (logNow (here τ) (is τ)) k) (length value))) ∙
               write-again L laws area (h .rec) i j (know .fit .apart) (know .fit .below) acc (know .lent) (lentLengths area₂ (h₂ .cells) work) t k (length value)
               (know .cause) (know .twelve) (know .refused) (know .few)
               (subst (λ (x : Record). fitsLent L x (length area₂) (length (h₂ .cells)) ≡ true) is (held-fits L laws n s area₂ m₂ b₂ h₂ (inv₂ .bytes) good₂))
@@ -451,7 +464,7 @@ module _ (L : Layout) (laws : OperationLaws L) (n s : ℕ) where
       writes-here : WritesAt (at area h m) k value t i j
       unfolding HeldGood
       writes-here q lent a x long move y run quiet lent′ a′ z long′ move′ =
-          let c = start-made move in
+          let c = start-here b good move in
           let enough = long-work lent (c .work) (c .lent-is) long in
           let there : x ≡ at area (begun-held (c .work)) m =
           c .leads ∙ ap (λ (g : Held). at area g m) (begun-here q (c .work) (c .work′) (c .start-answer) (c .promise) enough) in
@@ -459,10 +472,10 @@ module _ (L : Layout) (laws : OperationLaws L) (n s : ℕ) where
           let led =
           leads area (h .rec) victims area (begun-held (c .work)) m _ _
           (subst (λ (w : World). Inv L n s w (feed b (called (starts q (clean victims)) lent a)) (max told (versionTold (called (starts q (clean victims)) lent a)))) there (kept .0))
-          (began (c .typed) (c .work) enough) (subst (λ (w : World). Stepping L n s w y) there run) in
+          (began (c .typed) (c .work) enough) (subst (λ (w : World). Stepping n s w y) there run) in
           written (accepted-clean area h m b told inv good (know .quiet) i j (know .fit) (c .typed) (know .few) (c .work) enough) (led .area₂) (led .held₂) (led .cells₂)
           (led .book) (led .told) (led .inv) (led .inv .held) (led .during) (quiet (led .held₂) (ap (λ (w : World). w .held) (led .is))) lent′ a′ z long′
-          (subst (λ (w : World). Moves L n s w (called (starts t (write k value)) lent′ a′) z) (led .is) move′)
+          (subst (λ (w : World). Moves n s w (called (starts t (write k value)) lent′ a′) z) (led .is) move′)
 
   -- ---- together
 
@@ -478,25 +491,28 @@ module _ (L : Layout) (laws : OperationLaws L) (n s : ℕ) where
 
   joins-helps :
       {w x₁ x₂ : World} {t : Terms} {k : Key} {value : List ℕ} {lent₁ lent₂ : Lengths} {a₁ a₂ : Answer} (b : Book) (told : ℕ) → Inv L n s w b told →
-      Moves L n s w (called (starts t (write k value)) lent₁ a₁) x₁ → a₁ .said .refused ≡ 12 → Moves L n s x₁ (called (asks joins) lent₂ a₂) x₂ → (i j : ℕ) →
+      Moves n s w (called (starts t (write k value)) lent₁ a₁) x₁ → a₁ .said .refused ≡ 12 → Moves n s x₁ (called (asks joins) lent₂ a₂) x₂ → (i j : ℕ) →
       a₂ ≡ pairing (record { refused = 0; first = i; second = j }) → NumbersLeft w → CleansAt x₂ i j × WritesAt x₂ k value t i j
   unfolding HeldGood startCauses
   joins-helps {x₂ = x₂} {t = t} {k = k} {value = value} {lent₂ = lent₂} {a₂ = a₂} b told inv (start {area = area} {work = work} {work′ = work′} {h = h} {m = m} {a = a} ty p) twelve ask₂ i j names few =
       subst⁻¹ (λ (x : World). CleansAt x i j × WritesAt x k value t i j) (made .stays)
       (cleans-here area h m b told inv (inv .held) k value t i j known, writes-here area h m b told inv (inv .held) k value t i j known)
     where
+      promise : StartPromise L t (write k value) (h .rec) area (h .cells) work work′ a
+      promise = held-promise L n s area m b h (inv .held) (λ (K : Layout). StartPromise K t (write k value) (h .rec) area (h .cells) work work′ a) p
+
       met : Cause12 area h m b told inv (inv .held) t (write k value) work
-      met = was-12 area h m b told inv (inv .held) t (write k value) work work′ a p twelve
+      met = was-12 area h m b told inv (inv .held) t (write k value) work work′ a promise twelve
 
       made : JoinMade L area h m a₂ x₂
       made =
-          join-made
-          (subst (λ (g : Held). Moves L n s (at area g m) (called (asks joins) lent₂ a₂) x₂)
-          (refused-stays area h m b told inv (inv .held) t (write k value) work work′ a p (met .cause) (met .is-first)) ask₂)
+          join-here b (inv .held)
+          (subst (λ (g : Held). Moves n s (at area g m) (called (asks joins) lent₂ a₂) x₂)
+          (refused-stays area h m b told inv (inv .held) t (write k value) work work′ a promise (met .cause) (met .is-first)) ask₂)
 
       quiet : isPending (h .rec .pending) ≡ false
       quiet =
-          met-12 L (h .rec) (lentLengths area (h .cells) work) t k (keyFacts (logNow L area (h .rec)) k) (length value) (met .cause) (met .twelve) (met .is-first)
+          met-12 L (h .rec) (lentLengths area (h .cells) work) t k (keyFacts (logNow area (h .rec)) k) (length value) (met .cause) (met .twelve) (met .is-first)
           .idle
 
       known : Known area h k value t i j
@@ -514,7 +530,7 @@ module _ (L : Layout) (laws : OperationLaws L) (n s : ℕ) where
   -- 23 means that there is no pair
   module _ (area : List ℕ) (h : Held) (m : Option ℕ) (b : Book) (told : ℕ) (inv : Inv L n s (at area h m) b told) (good : Holding L n s area m b h) where
     abbrev its-pair : Option SlotPair
-    its-pair = joinPair L (h .rec) (logNow L area (h .rec))
+    its-pair = joinPair L (h .rec) (logNow area (h .rec))
 
     told-23 : (c : Option Refusal) → joinSaid (joinAnswer c its-pair) ≡ noneSaid 23 →
         firstCause (joinCauses L (h .rec) (readLengths area (h .cells)) its-pair) ≡ c → (isPending (h .rec .pending) ≡ false) × (its-pair ≡ none)
@@ -547,30 +563,31 @@ module _ (L : Layout) (laws : OperationLaws L) (n s : ℕ) where
         cause-skip (when (workShort (h .rec) (lentLengths area (h .cells) work)) WorkShort) _ (le-ltb (length work) (h .rec .size) (omega (arith, good .size-same, long))) ∙
         cause-skip (when (isPending (h .rec .pending)) Busy) _ (facts .0) ∙
         cause-skip (when (victimsBad (h .rec) (pairOf i j)) BadVictims) _ (pair-good i j (λ e. omega arith) (h .rec) (slots .0) (slots .1)) ∙
-        cause-first (when (keptTooLong L (h .rec) (keptLength L (logNow L area (h .rec)) (pairOf i j))) KeptTooLong) _ long-kept)
+        cause-first (when (keptTooLong L (h .rec) (keptLength L (logNow area (h .rec)) (pairOf i j))) KeptTooLong) _ long-kept)
       where
         facts : (isPending (h .rec .pending) ≡ false) × (its-pair ≡ none)
         facts =
             told-23 (firstCause (joinCauses L (h .rec) (readLengths area (h .cells)) its-pair)) (sym (ap joinSaid (p .exact (good .genuine))) ∙ says) refl
 
-        unfit : joinFits L (h .rec) (logNow L area (h .rec)) i j ≡ false
-        unfit = pair-none (joinFits L (h .rec) (logNow L area (h .rec))) (h .rec .slots) (facts .1) i j l (omega (arith, good .slots-same, below))
+        unfit : joinFits L (h .rec) (logNow area (h .rec)) i j ≡ false
+        unfit = pair-none (joinFits L (h .rec) (logNow area (h .rec))) (h .rec .slots) (facts .1) i j l (omega (arith, good .slots-same, below))
 
-        long-kept : keptTooLong L (h .rec) (keptLength L (logNow L area (h .rec)) (pairOf i j)) ≡ true
+        long-kept : keptTooLong L (h .rec) (keptLength L (logNow area (h .rec)) (pairOf i j)) ≡ true
         long-kept =
-            last (named (h .rec .map) i) (named (h .rec .map) j) (keptTooLong L (h .rec) (keptLength L (logNow L area (h .rec)) (pairOf i j))) (slots .0) (slots .1)
+            last (named (h .rec .map) i) (named (h .rec .map) j) (keptTooLong L (h .rec) (keptLength L (logNow area (h .rec)) (pairOf i j))) (slots .0) (slots .1)
             unfit
 
   no-joins :
       {w x y : World} {lent lent′ : Lengths} {a a′ : Answer} {q : Terms} (b : Book) (told : ℕ) → Inv L n s w b told →
-      Moves L n s w (called (asks joins) lent a) x → a ≡ pairing (noneSaid 23) → (i j : ℕ) → i < j → j < n → LogSlots w i j → s ≤ lent′ .work →
-      Moves L n s x (called (starts q (clean (pairOf i j))) lent′ a′) y → a′ ≡ saying (refusal 14)
+      Moves n s w (called (asks joins) lent a) x → a ≡ pairing (noneSaid 23) → (i j : ℕ) → i < j → j < n → LogSlots w i j → s ≤ lent′ .work →
+      Moves n s x (called (starts q (clean (pairOf i j))) lent′ a′) y → a′ ≡ saying (refusal 14)
   unfolding HeldGood
   no-joins {q = q} b told inv (ask (join {area = area} {h = h} {m = m} {a = a} p)) says i j l below slots long move =
-      let c = start-made move in
+      let c = start-here b (inv .held) move in
+      let promise = held-promise L n s area m b h (inv .held) (λ (K : Layout). JoinPromise K (h .rec) area (h .cells) a) p in
       c .says ∙
       ap saying
-      (no-join-here area h m b told inv (inv .held) a p (pairing-says _ _ says) i j l below (slots h refl) q (c .work) (c .work′) (c .start-answer)
+      (no-join-here area h m b told inv (inv .held) a promise (pairing-says _ _ says) i j l below (slots h refl) q (c .work) (c .work′) (c .start-answer)
       (omega (arith, long, ap (λ (x : Lengths). x .work) (c .lent-is))) (c .promise))
 
 -- 02, R-7: after cleaning the pair the same write is accepted.
@@ -580,8 +597,9 @@ join-helps-for L laws n s area₀ area bytes p es w r t k value d few =
     let both-ways = joins-helps L laws n s (bookOf es) (max 0 (highestTold es)) (kept .0) (d .wrote) (d .met-12) (d .asked) (d .first) (d .second) (d .names) few in
     record { cleans = both-ways .0; writes = both-ways .1 }
 
-pub join-helps : JoinHelps edition1
-join-helps = join-helps-for edition1 edition1-laws
+-- For a store of either edition (02, R-11).
+pub join-helps : (L : Layout) → JoinHelps L
+join-helps L = join-helps-for L (edition-laws L)
 
 -- 02, R-7: 23 means that no two log slots can be cleaned into one head.
 pub no-join-for : (L : Layout) → OperationLaws L → NoJoin L
@@ -589,5 +607,6 @@ no-join-for L laws n s area₀ area bytes p es w r lent a x asked says i j l bel
     let kept = run-keeps L laws n s freshBook 0 r (fresh L laws n s area₀ area bytes p) in
     no-joins L laws n s (bookOf es) (max 0 (highestTold es)) (kept .0) asked says i j l below slots long move
 
-pub no-join : NoJoin edition1
-no-join = no-join-for edition1 edition1-laws
+-- For a store of either edition.
+pub no-join : (L : Layout) → NoJoin L
+no-join L = no-join-for L (edition-laws L)

@@ -22,7 +22,7 @@ told p = p .refused ∷ p .first ∷ p .second ∷ []
 -- what the call says with a record of n slots of 256 bytes and 16 cells
 abbrev joinsWith : ℕ → Record → List ℕ → List ℕ
 joinsWith n r area =
-    let p = joinPair edition1 r (logNow edition1 area r) in
+    let p = joinPair edition1 r (logNow area r) in
     told (pairSaidBy (firstCause (joinCauses edition1 r (record { area = n * 256; index = 16; work = 0 }) p)) p)
 
 abbrev joinsOf : ℕ → List ℕ → List ℕ

@@ -6,7 +6,7 @@ use mathlib.Core.Bool.{true}
 use mathlib.Core.List.{List}
 use mathlib.Core.Option.{some}
 use Rattle.word.specs.Number.{Bytes}
-use Rattle.segment.specs.Layout.{Layout}
+use Rattle.segment.specs.Layout.{Layout, numberOfLayout}
 use Rattle.segment.specs.declared.Key.{Key}
 use Rattle.slot_map.specs.Bit.{named}
 use Rattle.record.specs.Answers.{refusal}
@@ -21,9 +21,9 @@ use Rattle.history.specs.Book.{joins, starts, steps, asks, Answer, saying, pair
 use Rattle.history.specs.Runs.{Held, World, freshWorld, Moves, Run}
 
 -- Steps alone, one after the other.
-pub data Stepping (L : Layout) (n s : ℕ) : World → World → Type 0 where
-  halt : {w : World} → Stepping L n s w w
-  then : {w x y : World} {lent : Lengths} {a : Answer} → Moves L n s w (called steps lent a) x → Stepping L n s x y → Stepping L n s w y
+pub data Stepping (n s : ℕ) : World → World → Type 0 where
+  halt : {w : World} → Stepping n s w w
+  then : {w x y : World} {lent : Lengths} {a : Answer} → Moves n s w (called steps lent a) x → Stepping n s x y → Stepping n s w y
 
 -- the last step of what was pending is made
 abbrev pub NonePending : World → Type 0
@@ -34,36 +34,36 @@ abbrev pub NumbersLeft : World → Type 0
 NumbersLeft w = (h : Held) → w .held ≡ some h → h .rec .digest .0 ≤ 4294967293
 
 -- A write is refused with 12, and right there two slots are named.
-pub record Named (L : Layout) (n s : ℕ) (w : World) (t : Terms) (k : Key) (value : List ℕ) : Type 0 where
+pub record Named (n s : ℕ) (w : World) (t : Terms) (k : Key) (value : List ℕ) : Type 0 where
   pub lent : Lengths
   pub answer : Answer
   pub behind : World
-  pub wrote : Moves L n s w (called (starts t (write k value)) lent answer) behind
+  pub wrote : Moves n s w (called (starts t (write k value)) lent answer) behind
   pub met-12 : answer .said .refused ≡ 12
   pub lent′ : Lengths
   pub answer′ : Answer
   pub now : World
-  pub asked : Moves L n s behind (called (asks joins) lent′ answer′) now
+  pub asked : Moves n s behind (called (asks joins) lent′ answer′) now
   pub first : ℕ
   pub second : ℕ
   pub names : answer′ ≡ pairing (record { refused = 0; first = first; second = second })
 
 -- "after cleaning that pair the same write, with no other call between, is accepted". The work buffers lent are long enough.
-pub record Helps (L : Layout) (n s : ℕ) (w : World) (t : Terms) (k : Key) (value : List ℕ) (d : Named L n s w t k value) : Type 0 where
+pub record Helps (n s : ℕ) (w : World) (t : Terms) (k : Key) (value : List ℕ) (d : Named n s w t k value) : Type 0 where
   pub cleans :
       (q : Terms) (lent : Lengths) (a : Answer) (x : World) → s ≤ lent .work →
-      Moves L n s (d .now) (called (starts q (clean (pairOf (d .first) (d .second)))) lent a) x → accepted a ≡ true
+      Moves n s (d .now) (called (starts q (clean (pairOf (d .first) (d .second)))) lent a) x → accepted a ≡ true
   pub writes :
       (q : Terms) (lent : Lengths) (a : Answer) (x : World) → s ≤ lent .work →
-      Moves L n s (d .now) (called (starts q (clean (pairOf (d .first) (d .second)))) lent a) x → (y : World) → Stepping L n s x y →
+      Moves n s (d .now) (called (starts q (clean (pairOf (d .first) (d .second)))) lent a) x → (y : World) → Stepping n s x y →
       NonePending y → (lent′ : Lengths) (a′ : Answer) (z : World) → s ≤ lent′ .work →
-      Moves L n s y (called (starts t (write k value)) lent′ a′) z → accepted a′ ≡ true
+      Moves n s y (called (starts t (write k value)) lent′ a′) z → accepted a′ ≡ true
 
 abbrev pub JoinHelps : Layout → Type 0
 JoinHelps L =
-    (n s : ℕ) (area₀ area : List ℕ) → Bytes area₀ → FormatPromise L n s area₀ area FormatAnswer.Formatted → (es : List Event) (w : World) →
-    Run L n s (freshWorld area) es w → (t : Terms) (k : Key) (value : List ℕ) (d : Named L n s w t k value) → NumbersLeft w →
-    Helps L n s w t k value d
+    (n s : ℕ) (area₀ area : List ℕ) → Bytes area₀ → FormatPromise (numberOfLayout L) n s area₀ area FormatAnswer.Formatted → (es : List Event) (w : World) →
+    Run n s (freshWorld area) es w → (t : Terms) (k : Key) (value : List ℕ) (d : Named n s w t k value) → NumbersLeft w →
+    Helps n s w t k value d
 
 -- both are slots of the log
 abbrev pub LogSlots : World → ℕ → ℕ → Type 0
@@ -72,7 +72,7 @@ LogSlots w i j = (h : Held) → w .held ≡ some h → (named (h .rec .map) i �
 -- 23 and no other way: a cleaning of any two log slots is then refused with 14.
 abbrev pub NoJoin : Layout → Type 0
 NoJoin L =
-    (n s : ℕ) (area₀ area : List ℕ) → Bytes area₀ → FormatPromise L n s area₀ area FormatAnswer.Formatted → (es : List Event) (w : World) →
-    Run L n s (freshWorld area) es w → (lent : Lengths) (a : Answer) (x : World) → Moves L n s w (called (asks joins) lent a) x →
+    (n s : ℕ) (area₀ area : List ℕ) → Bytes area₀ → FormatPromise (numberOfLayout L) n s area₀ area FormatAnswer.Formatted → (es : List Event) (w : World) →
+    Run n s (freshWorld area) es w → (lent : Lengths) (a : Answer) (x : World) → Moves n s w (called (asks joins) lent a) x →
     a ≡ pairing (noneSaid 23) → (i j : ℕ) → i < j → j < n → LogSlots w i j → (q : Terms) (lent′ : Lengths) (a′ : Answer) (y : World) →
-    s ≤ lent′ .work → Moves L n s x (called (starts q (clean (pairOf i j))) lent′ a′) y → a′ ≡ saying (refusal 14)
+    s ≤ lent′ .work → Moves n s x (called (starts q (clean (pairOf i j))) lent′ a′) y → a′ ≡ saying (refusal 14)

@@ -11,7 +11,7 @@ use lib.Dec.{ltb}
 use lib.ListN.{length, replicate, length-replicate}
 use borrow.Author.Tests.{le-ltb, not-false, not-true}
 use Rattle.segment.specs.Choice.{isNone}
-use Rattle.segment.specs.Layout.{Layout, digestSize, entrySize}
+use Rattle.segment.specs.Layout.{Layout, digestSize}
 use Rattle.record.specs.Range.{fitsLent}
 use Rattle.record.specs.RangeLaws.{Lent, lent}
 use Rattle.record.specs.Pairs.{PairSaid, noneSaid, joinSaid}
@@ -119,9 +119,9 @@ module _ (L : Layout) (area cells : List ℕ) (r : Record) where
         notes-long = length-replicate {A = ℕ} 5958 0;
       })
 
-  promise : 11 ≤ entrySize L 0 → (a : Joined) → a .rec ≡ r → a .answer ≡ joinAnswer (firstCause (joinCauses L r l codePair)) codePair → JoinPromise L r area cells a
+  promise : (a : Joined) → a .rec ≡ r → a .answer ≡ joinAnswer (firstCause (joinCauses L r l codePair)) codePair → JoinPromise L r area cells a
   unfolding joinAnswer pairSaidBy
-  promise wide a back e =
+  promise a back e =
       record {
         hands-back = back;
         early = early;
@@ -133,7 +133,7 @@ module _ (L : Layout) (area cells : List ℕ) (r : Record) where
       early c q = e ∙ ap (λ (o : Option Refusal). joinAnswer o codePair) (early-first codePair c q)
 
       model : Option SlotPair
-      model = joinPair L r (logNow L area r)
+      model = joinPair L r (logNow area r)
 
       exact : Genuine L area r cells → a .answer ≡ joinAnswer (firstCause (joinCauses L r l model)) model
       exact g = e ∙ go (firstCause (joinEarly L r l)) refl
@@ -146,16 +146,16 @@ module _ (L : Layout) (area cells : List ℕ) (r : Record) where
           go none q =
               let f = in-range q in
               ap (λ (p : Option SlotPair). joinAnswer (firstCause (joinCauses L r l p)) p)
-              (pair-model L wide area cells (omega (arith, f .area-own, mul-le-mul (f .slots-high) (f .size-high))) r g (omega (arith, f .cells-high, f .index-own)) (f .slots-high))
+              (pair-model L area cells (omega (arith, f .area-own, mul-le-mul (f .slots-high) (f .size-high))) r g (omega (arith, f .cells-high, f .index-own)) (f .slots-high))
 
       says : Settled L area r cells (joinEarly L r l) → joinSaid (a .answer) ≡ pairSaidBy (firstCause (joinCauses L r l model)) model
       says (inl (c, q)) = ap joinSaid (early c q) ∙ sym (ap (λ (d : Option Refusal). pairSaidBy d model) (early-first model c q))
       says (inr g) = ap joinSaid (exact g) ∙ answer-said (firstCause (joinCauses L r l model)) model
 
-  pub join-refused : 11 ≤ entrySize L 0 → (c : Refusal) → Check.Refused c ≡ checked (firstCause (joinEarly L r l)) → JoinPromise L r area cells (record { answer = JoinAnswer.Refused c; rec = r })
+  pub join-refused : (c : Refusal) → Check.Refused c ≡ checked (firstCause (joinEarly L r l)) → JoinPromise L r area cells (record { answer = JoinAnswer.Refused c; rec = r })
   unfolding joinAnswer
-  join-refused wide c e =
-      promise wide (record { answer = JoinAnswer.Refused c; rec = r }) refl
+  join-refused c e =
+      promise (record { answer = JoinAnswer.Refused c; rec = r }) refl
       (sym (ap (λ (d : Option Refusal). joinAnswer d codePair) (early-first codePair c (checked-some _ c e))))
 
   module _ (e : Check.Passed ≡ checked (firstCause (joinEarly L r l))) (split : Split) (is : split ≡ logSplit r) (chosen : Chosen)
@@ -166,19 +166,19 @@ module _ (L : Layout) (area cells : List ℕ) (r : Record) where
     only : firstCause (joinCauses L r l codePair) ≡ firstCause (when (isNone codePair) NoPair ∷ [])
     only = first-none (joinEarly L r l) (when (isNone codePair) NoPair ∷ []) (checked-none _ e)
 
-    pub join-pair : 11 ≤ entrySize L 0 → (i j : ℕ) → chosen ≡ Chosen.Pair i j → JoinPromise L r area cells (record { answer = JoinAnswer.Pair i j; rec = r })
+    pub join-pair : (i j : ℕ) → chosen ≡ Chosen.Pair i j → JoinPromise L r area cells (record { answer = JoinAnswer.Pair i j; rec = r })
     unfolding joinAnswer pairAnswer isNone firstCause
-    join-pair wide i j p =
+    join-pair i j p =
         let q : codePair ≡ some (record { first = i; second = j }) = was-pair codePair i j (sym p ∙ code) in
-        promise wide (record { answer = JoinAnswer.Pair i j; rec = r }) refl
+        promise (record { answer = JoinAnswer.Pair i j; rec = r }) refl
         (sym
         (ap (λ (d : Option Refusal). joinAnswer d codePair) (only ∙ cause-none (when (isNone codePair) NoPair) [] (ap (λ (o : Option SlotPair). isNone o) q) refl)
         ∙ ap pairAnswer q))
 
-    pub join-none : 11 ≤ entrySize L 0 → chosen ≡ Chosen.Nothing → JoinPromise L r area cells (record { answer = JoinAnswer.Refused NoPair; rec = r })
+    pub join-none : chosen ≡ Chosen.Nothing → JoinPromise L r area cells (record { answer = JoinAnswer.Refused NoPair; rec = r })
     unfolding joinAnswer isNone
-    join-none wide p =
-        promise wide (record { answer = JoinAnswer.Refused NoPair; rec = r }) refl
+    join-none p =
+        promise (record { answer = JoinAnswer.Refused NoPair; rec = r }) refl
         (sym
         (ap (λ (d : Option Refusal). joinAnswer d codePair)
         (only ∙ cause-first (when (isNone codePair) NoPair) [] (ap (λ (o : Option SlotPair). isNone o) (was-nothing codePair (sym p ∙ code))))))

@@ -12,6 +12,7 @@ use lib.ListN.{length, getD, replicate, length-append, length-replicate}
 use borrow.Author.Tests.{eq-eqb, ne-eqb, eqb-true, le-leb, lt-leb, le-ltb, lt-ltb, ltb-true, ltb-false}
 use Rattle.segment.specs.Choice.{pick, pick-true, pick-false, both, both-false-left, both-false-right, either, either-true-left, either-true-right}
 use Rattle.segment.specs.Layout.{Layout, digestSize, entrySize}
+use Rattle.segment.specs.LayoutLaws.{width-low}
 use Rattle.segment.specs.Entries.{headerOf}
 use Rattle.segment.specs.Entry.{Entry, encoded, sizeOf, keyOf, isTombstone}
 use Rattle.segment.specs.EntryLaws.{length-encoded}
@@ -34,7 +35,7 @@ use Rattle.index.specs.SearchLaws.{search-inside}
 use Rattle.index.specs.declared.Found.{Found}
 use Rattle.cleaning.specs.Entries.{slotItems, slotHolds, objectIn}
 use Rattle.cleaning.specs.Outside.{outside-named, slot-items, object-same}
-use Rattle.cleaning.specs.KeptModel.{splitOf, encoded-append, kept-front, kept-behind, kept-append, kept-none, scans, inside, place-one, KeyCell, key-cell, cell-highest}
+use Rattle.cleaning.specs.KeptModel.{splitOf, encoded-append, kept-front, kept-behind, kept-append, kept-none, editions, scans, inside, place-one, KeyCell, key-cell, cell-highest}
 use Rattle.cleaning.specs.declared.Split.{Split}
 use Rattle.joining.specs.declared.Share.{Share}
 use Rattle.joining.specs.Notes.{tellsBut, spotOf, cellSpot, elsewhere, noteAll, foundLength, objectAt, objectsOf}
@@ -122,13 +123,17 @@ scans-apart (more x p r) (List·Memᴰ·tail m) (List·Memᴰ·tail n) l = scans
 
 -- ---- a genuine store
 
-module _ (L : Layout) (wide : 11 ≤ entrySize L 0) (area cells : List ℕ) (short : length area ≤ 65536) (r : Record) (g : Genuine L area r cells)
+-- no entry is shorter than the bytes of a note
+wide : (L : Layout) → 11 ≤ entrySize L 0
+wide L = omega (arith, width-low L)
+
+module _ (L : Layout) (area cells : List ℕ) (short : length area ≤ 65536) (r : Record) (g : Genuine L area r cells)
     (few : length cells ≤ 4096) where
   abbrev v : ℕ → View
-  v = viewsOf L area (r .size)
+  v = viewsOf area (r .size)
 
   abbrev log : List Placed
-  log = logNow L area r
+  log = logNow area r
 
   abbrev pub notes : List ℕ
   notes = noteAll L area cells (logSplit r) (replicate 5958 0)
@@ -145,13 +150,15 @@ module _ (L : Layout) (wide : 11 ≤ entrySize L 0) (area cells : List ℕ) (sho
           let wy = log-in v (named (r .map)) (r .slots) y my in
           let seg : List ℕ = segmentOf area (r .size) (x .slot) in
           let own : In (itemOf y) (itemsOf (v (x .slot) .scan)) = subst (λ (s : ℕ). In (itemOf y) (itemsOf (v s .scan))) (sym e) (wy .item) in
-          let all = scan-scans L seg (scan-whole (scan L seg) (scans L area cells r g (x .slot) (wx .below) (wx .picked))) in
+          let whole = scan-whole (v (x .slot) .scan) (scans L area cells r g (x .slot) (wx .below) (wx .picked)) in
+          let its = ap (λ (K : Layout). scan K seg) (editions L area cells r g (x .slot) (wx .below) (wx .picked)) in
+          let all = scan-scans L seg (sym its ∙ whole) in
           let same : x .slot * r .size ≡ y .slot * r .size = ap (λ (s : ℕ). s * r .size) e in
-          omega (arith, same, wide, scans-apart all (wx .item) own (omega (arith, same)))
+          omega (arith, same, wide L, scans-apart all (wx .item) own (omega (arith, same)))
       go (no n) = at (ltb (x .slot) (y .slot)) refl
         where
           at : (t : Bool) → ltb (x .slot) (y .slot) ≡ t → placeOf (r .size) x + 11 ≤ placeOf (r .size) y
-          at true p = omega (arith, wide, slots-apart (r .size) (ltb-true (x .slot) (y .slot) p), inside L area cells r g x mx)
+          at true p = omega (arith, wide L, slots-apart (r .size) (ltb-true (x .slot) (y .slot) p), inside L area cells r g x mx)
           at false p =
               let above : y .slot < x .slot = omega (arith, ltb-false (x .slot) (y .slot) p) in
               absurd (omega (arith, slots-apart (r .size) above, inside L area cells r g y my))
@@ -178,7 +185,7 @@ module _ (L : Layout) (wide : 11 ≤ entrySize L 0) (area cells : List ℕ) (sho
       (record {
         below = h;
         picked = e;
-        item = subst (λ (is : List Item). In y is) (slot-items L area (r .size) (r .map) (r .slots) (scans L area cells r g) s h e) m;
+        item = subst (λ (is : List Item). In y is) (slot-items L area (r .size) (r .map) (r .slots) (editions L area cells r g) (scans L area cells r g) s h e) m;
       })
 
   -- the search for the key of an entry leads to the note of the key's latest entry, and to no other
@@ -273,7 +280,7 @@ module _ (L : Layout) (wide : 11 ≤ entrySize L 0) (area cells : List ℕ) (sho
   spot-low : (k : Key) (c : KeyCell L area cells r g k) → cellSpot cells (c .cell .cell) < 5958
   spot-low k c =
       let w = search-inside L area cells k (c .cell .cell) (c .finds) in
-      omega (arith, w .taken, w .fits, wide, short)
+      omega (arith, w .taken, w .fits, wide L, short)
 
   -- A note tells of a slot other than j exactly if an object of the key stands outside j and the slot of the key's latest entry.
   note-means : (k : Key) (c : KeyCell L area cells r g k) (j : ℕ) → j < 32 → (c .top .slot ≡ j → ⊥) →
@@ -284,7 +291,7 @@ module _ (L : Layout) (wide : 11 ≤ entrySize L 0) (area cells : List ℕ) (sho
       (replicate 5958 0) (length-replicate {A = ℕ} 5958 0) clear (leads k c j (spot-low k c) low) (r .slots) (omega arith)
       ∙ any-same (standsIn L area cells k (c .cell .cell) (c .top .slot) j (spot-low k c) low (r .size) (cell-slot k c) (logSplit r) refl (replicate 5958 0) (length-replicate {A = ℕ} 5958 0) clear (leads k c j (spot-low k c) low))
       (slotHolds L area (splitOf r (pairOf (c .top .slot) j)) k) (r .slots) slot-same
-      ∙ object-same L area (r .size) (r .map) (pairOf (c .top .slot) j) (r .slots) (scans L area cells r g) k
+      ∙ object-same L area (r .size) (r .map) (pairOf (c .top .slot) j) (r .slots) (editions L area cells r g) (scans L area cells r g) k
     where
       clear : tellsBut (getD (replicate 5958 0) (cellSpot cells (c .cell .cell)) 0) j ≡ false
       clear = ap (λ (n : ℕ). tellsBut n j) (zeros 5958 (cellSpot cells (c .cell .cell)))
@@ -422,7 +429,7 @@ module _ (L : Layout) (wide : 11 ≤ entrySize L 0) (area cells : List ℕ) (sho
       slotWeight L area cells notes (r .size) i j ≡ partLength (pairOf i j) i
   slot-weight i j apart low h e =
       ap (λ (xs : List Placed). objectsOf L area cells (r .size) xs + weightOf L notes (r .size) j xs)
-      (ap (placedIn i) (slot-items L area (r .size) (r .map) (r .slots) (scans L area cells r g) i h e) ∙ sym (part-picked v (named (r .map)) i e))
+      (ap (placedIn i) (slot-items L area (r .size) (r .map) (r .slots) (editions L area cells r g) (scans L area cells r g) i h e) ∙ sym (part-picked v (named (r .map)) i e))
       ∙ weight-same i j apart low (partOf v (named (r .map)) i) (part-in i h e) (part-slot i)
 
   -- all that is kept, slot by slot

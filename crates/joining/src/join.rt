@@ -9,12 +9,12 @@ use record::Joined;
 use record::Record;
 use record::Refusal;
 use record::range::fits_lent;
+use segment::Edition;
 use starting::Check;
 use starting::checks::check_idle;
 ghost use Prim.Native.Nat.{_≤_, _<_};
 ghost use mathlib.Core.Path.{_≡_};
 ghost use lib.ListN.{length, replicate};
-ghost use Rattle.segment.specs.Layout.{edition1};
 ghost use Rattle.model.specs.Causes.{firstCause};
 ghost use Rattle.model.specs.Joining.{lowestPair, joinEarly, JoinPromise};
 ghost use Rattle.starting.specs.Checks.{checked};
@@ -37,7 +37,7 @@ fn split_of(rec: Record) -> Split
 
 // 4 and 5.
 fn check(rec: Record, area: usize, index: usize) -> Check
-    ensures { λ r. ⌜ r ≡ checked (firstCause (joinEarly edition1 rec (record { area = area; index = index; work = 0 }))) ⌝ }
+    ensures { λ r. ⌜ r ≡ checked (firstCause (joinEarly (rec .edition) rec (record { area = area; index = index; work = 0 }))) ⌝ }
 {
     if !fits_lent(rec, area, index) {
         return Check::Refused(Refusal::BadRecord);
@@ -46,22 +46,31 @@ fn check(rec: Record, area: usize, index: usize) -> Check
 }
 
 // The lowest pair of the log.
-fn choose(area: &[u8], index: &[u32], split: Split) -> Chosen
+fn choose(edition: Edition, area: &[u8], index: &[u32], split: Split) -> Chosen
     requires { ⌜ NotesFit split (now area) (now index) (replicate 5958 0) ⌝ }
     ensures { λ r.
         ⌜
         r ≡ chosenIs
         (lowestPair
-        (weightsFit edition1 (now (area .entry)) (now (index .entry)) (noteAll edition1 (now (area .entry)) (now (index .entry)) split (replicate 5958 0)) split)
+        (weightsFit edition (now (area .entry)) (now (index .entry)) (noteAll edition (now (area .entry)) (now (index .entry)) split (replicate 5958 0)) split)
         (split .slots))
         ⌝ }
 {
     let mut notes = [0u8; 5958];
     let mut totals = [0u32; 32];
     let mut tombstones = [0u32; 32];
-    note_all(area, index, &mut notes, &mut totals, &mut tombstones, split);
+    note_all(
+        edition,
+        area,
+        index,
+        &mut notes,
+        &mut totals,
+        &mut tombstones,
+        split,
+    );
     let mut shares = [0u16; 1024];
     weigh_all(
+        edition,
         area,
         index,
         &notes,
@@ -70,19 +79,20 @@ fn choose(area: &[u8], index: &[u32], split: Split) -> Chosen
         &mut totals,
         &mut shares,
     );
-    lowest_pair(&totals, &shares, split)
+    lowest_pair(edition, &totals, &shares, split)
 }
 
 // Which two slots of the log one new head can take over.
 pub fn join(rec: Record, area: &[u8], index: &[u32]) -> Joined
-    ensures { λ r. ⌜ JoinPromise edition1 rec (now (area .entry)) (now (index .entry)) r ⌝ }
+    ensures { λ r. ⌜ JoinPromise (rec .edition) rec (now (area .entry)) (now (index .entry)) r ⌝ }
 {
+    let edition = rec.edition;
     match check(rec, area.len(), index.len()) {
         Check::Refused(c) => Joined {
             answer: JoinAnswer::Refused(c),
             rec,
         },
-        Check::Passed => match choose(area, index, split_of(rec)) {
+        Check::Passed => match choose(edition, area, index, split_of(rec)) {
             Chosen::Pair(i, j) => Joined {
                 answer: JoinAnswer::Pair {
                     first: i as u32,

@@ -5,22 +5,25 @@ use cleaning::Split;
 use index::Found;
 use index::search::search;
 use log::slots::is_named;
+use segment::Edition;
 use segment::Header;
 use segment::Key;
 use segment::Next;
 use segment::area::cut;
 use segment::entries::next;
-use segment::layout::DIGEST_SIZE;
-use segment::layout::HEAD_SIZE;
+use segment::layout::digest_size;
+use segment::layout::head_size;
 ghost use Prim.Native.Nat.{_+_, _*_, _≤_, _<_};
 ghost use mathlib.Core.Path.{_≡_};
 ghost use lib.ListN.{length};
-ghost use Rattle.segment.specs.Layout.{edition1};
 ghost use Rattle.index.specs.Search.{searchFor};
 ghost use Rattle.joining.specs.Notes.{noteWith, elsewhere, noteNewest, noteFound, noteSlot, notePart, noteAll, NotesFit, foundLength, Summed, ObjectsCounted, TombstonesCounted};
 
 // More slots than one.
 const SEVERAL: u8 = 64;
+
+// No entry of either edition is shorter, so that no two have the same note.
+pub const SHORTEST: usize = 11;
 
 // A note with one slot more.
 fn note_with(note: u8, slot: usize) -> u8
@@ -62,12 +65,13 @@ fn note_cell(notes: &mut [u8], newest: usize, size: usize, slot: usize)
     if !is_elsewhere(newest, size, slot) {
         return;
     }
-    let at = (newest - 1) / HEAD_SIZE;
+    let at = (newest - 1) / SHORTEST;
     notes[at] = note_with(notes[at], slot);
 }
 
 // The bytes kept of an object of a slot, by one search for its key. One that is not its key's latest entry is noted.
 fn note_key(
+    edition: Edition,
     area: &[u8],
     cells: &[u32],
     notes: &mut [u8],
@@ -84,12 +88,12 @@ fn note_key(
     requires { ⌜ place < slot * size + size ⌝ }
     ensures { λ r.
         ⌜
-        (r ≡ foundLength (now (cells .entry)) place (header .length) (searchFor edition1 (now (area .entry)) (now (cells .entry)) (header .key)))
+        (r ≡ foundLength (now (cells .entry)) place (header .length) (searchFor edition (now (area .entry)) (now (cells .entry)) (header .key)))
         × (now (notes .exit)
-        ≡ noteFound size slot (now (cells .entry)) (now (notes .entry)) (searchFor edition1 (now (area .entry)) (now (cells .entry)) (header .key)))
+        ≡ noteFound size slot (now (cells .entry)) (now (notes .entry)) (searchFor edition (now (area .entry)) (now (cells .entry)) (header .key)))
         ⌝ }
 {
-    match search(area, cells, header.key) {
+    match search(edition, area, cells, header.key) {
         Found::At(i) => {
             let newest = cells[i] as usize;
             if newest == place + 1 {
@@ -105,28 +109,45 @@ fn note_key(
 
 // The sums of a slot. Damage ends a segment too. A tombstone's length is not taken from its header, so that no turn waits until
 // the turn before has read a length.
-fn note_slot(area: &[u8], cells: &[u32], notes: &mut [u8], split: Split, slot: usize) -> Sums
+fn note_slot(
+    edition: Edition,
+    area: &[u8],
+    cells: &[u32],
+    notes: &mut [u8],
+    split: Split,
+    slot: usize,
+) -> Sums
     requires { ⌜ NotesFit split (now area) (now cells) (now notes) ⌝ }
     requires { ⌜ slot < split .slots ⌝ }
     ensures { λ r.
         ⌜
-        Summed edition1 (now (area .entry)) (now (cells .entry)) (split .size) slot r
-        × (now (notes .exit) ≡ noteSlot edition1 (now (area .entry)) (now (cells .entry)) (split .size) (now (notes .entry)) slot)
+        Summed edition (now (area .entry)) (now (cells .entry)) (split .size) slot r
+        × (now (notes .exit) ≡ noteSlot edition (now (area .entry)) (now (cells .entry)) (split .size) (now (notes .entry)) slot)
         ⌝ }
 {
     let size = split.size;
     let s = cut(size, area, slot);
-    let mut at = DIGEST_SIZE;
+    let head = head_size(edition);
+    let mut at = digest_size(edition);
     let mut objects = 0;
     let mut tombstones = 0;
     loop {
-        match next(s, at) {
+        match next(edition, s, at) {
             Next::Entry(header) => {
                 if header.tombstone {
-                    tombstones += HEAD_SIZE;
-                    at += HEAD_SIZE;
+                    tombstones += head;
+                    at += head;
                 } else {
-                    objects += note_key(area, cells, notes, header, size, slot, slot * size + at);
+                    objects += note_key(
+                        edition,
+                        area,
+                        cells,
+                        notes,
+                        header,
+                        size,
+                        slot,
+                        slot * size + at,
+                    );
                     at += header.length;
                 }
             }
@@ -148,6 +169,7 @@ fn note_slot(area: &[u8], cells: &[u32], notes: &mut [u8], split: Split, slot: u
 
 // The same, kept for the slot; nothing where the slot is not of the log.
 fn note_part(
+    edition: Edition,
     area: &[u8],
     cells: &[u32],
     notes: &mut [u8],
@@ -158,25 +180,26 @@ fn note_part(
 )
     requires { ⌜ NotesFit split (now area) (now cells) (now notes) ⌝ }
     requires { ⌜ slot < split .slots ⌝ }
-    requires { ⌜ ObjectsCounted edition1 (now area) (now cells) split slot (now totals) ⌝ }
-    requires { ⌜ TombstonesCounted edition1 (now area) split slot (now tombstones) ⌝ }
+    requires { ⌜ ObjectsCounted edition (now area) (now cells) split slot (now totals) ⌝ }
+    requires { ⌜ TombstonesCounted edition (now area) split slot (now tombstones) ⌝ }
     ensures { λ _.
         ⌜
-        (now (notes .exit) ≡ notePart edition1 (now (area .entry)) (now (cells .entry)) split (now (notes .entry)) slot)
-        × ObjectsCounted edition1 (now (area .entry)) (now (cells .entry)) split (slot + 1) (now (totals .exit))
-        × TombstonesCounted edition1 (now (area .entry)) split (slot + 1) (now (tombstones .exit))
+        (now (notes .exit) ≡ notePart edition (now (area .entry)) (now (cells .entry)) split (now (notes .entry)) slot)
+        × ObjectsCounted edition (now (area .entry)) (now (cells .entry)) split (slot + 1) (now (totals .exit))
+        × TombstonesCounted edition (now (area .entry)) split (slot + 1) (now (tombstones .exit))
         ⌝ }
 {
     if !is_named(split.outside, slot) {
         return;
     }
-    let sums = note_slot(area, cells, notes, split, slot);
+    let sums = note_slot(edition, area, cells, notes, split, slot);
     totals[slot] = sums.objects as u32;
     tombstones[slot] = sums.tombstones as u32;
 }
 
 // The notes and the sums of the whole log.
 pub fn note_all(
+    edition: Edition,
     area: &[u8],
     cells: &[u32],
     notes: &mut [u8],
@@ -185,18 +208,18 @@ pub fn note_all(
     split: Split,
 )
     requires { ⌜ NotesFit split (now area) (now cells) (now notes) ⌝ }
-    requires { ⌜ ObjectsCounted edition1 (now area) (now cells) split 0 (now totals) ⌝ }
-    requires { ⌜ TombstonesCounted edition1 (now area) split 0 (now tombstones) ⌝ }
+    requires { ⌜ ObjectsCounted edition (now area) (now cells) split 0 (now totals) ⌝ }
+    requires { ⌜ TombstonesCounted edition (now area) split 0 (now tombstones) ⌝ }
     ensures { λ _.
         ⌜
-        (now (notes .exit) ≡ noteAll edition1 (now (area .entry)) (now (cells .entry)) split (now (notes .entry)))
-        × ObjectsCounted edition1 (now (area .entry)) (now (cells .entry)) split (split .slots) (now (totals .exit))
-        × TombstonesCounted edition1 (now (area .entry)) split (split .slots) (now (tombstones .exit))
+        (now (notes .exit) ≡ noteAll edition (now (area .entry)) (now (cells .entry)) split (now (notes .entry)))
+        × ObjectsCounted edition (now (area .entry)) (now (cells .entry)) split (split .slots) (now (totals .exit))
+        × TombstonesCounted edition (now (area .entry)) split (split .slots) (now (tombstones .exit))
         ⌝ }
 {
     let mut i = 0;
     while i < split.slots {
-        note_part(area, cells, notes, totals, tombstones, split, i);
+        note_part(edition, area, cells, notes, totals, tombstones, split, i);
         i += 1;
     }
 }

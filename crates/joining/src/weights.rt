@@ -1,17 +1,18 @@
 // The second walk, over the tombstones alone: for each slot the bytes that are kept of it, and for each other slot how many of them
 // go where that one is a victim too. No key is searched for: a tombstone that is not its key's latest entry has no note.
 use crate::Share;
+use crate::notes::SHORTEST;
 use cleaning::Split;
 use log::slots::is_named;
+use segment::Edition;
 use segment::Next;
 use segment::area::cut;
 use segment::entries::next;
-use segment::layout::DIGEST_SIZE;
-use segment::layout::HEAD_SIZE;
+use segment::layout::digest_size;
+use segment::layout::head_size;
 ghost use Prim.Native.Nat.{_+_, _*_, _≤_, _<_};
 ghost use mathlib.Core.Path.{_≡_};
 ghost use lib.ListN.{length};
-ghost use Rattle.segment.specs.Layout.{edition1};
 ghost use Rattle.cleaning.specs.Entries.{SlotsFit};
 ghost use Rattle.joining.specs.Notes.{NotesFit, TombstonesCounted};
 ghost use Rattle.joining.specs.Weights.{noteShare, Low, sharesWith, shareLength, ShareFits, Weighed, Clear, Rows, Passed};
@@ -51,14 +52,14 @@ fn add_share(shares: &mut [u16], base: usize, share: Share, count: usize) -> usi
 
 // The place behind the objects of that length that stand from a place on, one behind the other. Their length is given, and not
 // taken from each header, so that no turn waits until the turn before has read a length.
-fn behind(s: &[u8], from: usize, count: usize) -> usize
+fn behind(edition: Edition, s: &[u8], from: usize, count: usize) -> usize
     requires { ⌜ from ≤ length (now s) ⌝ }
     requires { ⌜ length (now s) ≤ 2048 ⌝ }
-    ensures { λ r. ⌜ Passed edition1 (now (s .entry)) from r ⌝ }
+    ensures { λ r. ⌜ Passed edition (now (s .entry)) from r ⌝ }
 {
     let mut at = from;
     loop {
-        match next(s, at) {
+        match next(edition, s, at) {
             Next::Entry(header) => {
                 if header.tombstone {
                     return at;
@@ -79,7 +80,14 @@ fn behind(s: &[u8], from: usize, count: usize) -> usize
 }
 
 // What is kept of a slot's tombstones; its numbers hold what goes by the other victim. Damage ends a segment too.
-fn weigh_slot(area: &[u8], notes: &[u8], split: Split, slot: usize, shares: &mut [u16]) -> usize
+fn weigh_slot(
+    edition: Edition,
+    area: &[u8],
+    notes: &[u8],
+    split: Split,
+    slot: usize,
+    shares: &mut [u16],
+) -> usize
     requires { ⌜ SlotsFit split (now area) ⌝ }
     requires { ⌜ length (now notes) ≡ 5958 ⌝ }
     requires { ⌜ slot < split .slots ⌝ }
@@ -87,23 +95,24 @@ fn weigh_slot(area: &[u8], notes: &[u8], split: Split, slot: usize, shares: &mut
     requires { ⌜ Clear (now shares) (slot * 32) ⌝ }
     ensures { λ r.
         ⌜
-        Weighed edition1 (now (area .entry)) (now (notes .entry)) (split .size) slot (now (shares .entry)) (now (shares .exit)) r
+        Weighed edition (now (area .entry)) (now (notes .entry)) (split .size) slot (now (shares .entry)) (now (shares .exit)) r
         ⌝ }
 {
     let size = split.size;
     let base = slot * 32;
     let s = cut(size, area, slot);
-    let mut at = DIGEST_SIZE;
+    let head = head_size(edition);
+    let mut at = digest_size(edition);
     let mut total = 0;
     loop {
-        match next(s, at) {
+        match next(edition, s, at) {
             Next::Entry(header) => {
                 if header.tombstone {
-                    let share = note_share(notes[(slot * size + at) / HEAD_SIZE]);
-                    total += add_share(shares, base, share, HEAD_SIZE);
-                    at += HEAD_SIZE;
+                    let share = note_share(notes[(slot * size + at) / SHORTEST]);
+                    total += add_share(shares, base, share, head);
+                    at += head;
                 } else {
-                    at = behind(s, at + header.length, header.length);
+                    at = behind(edition, s, at + header.length, header.length);
                 }
             }
             Next::End => {
@@ -118,6 +127,7 @@ fn weigh_slot(area: &[u8], notes: &[u8], split: Split, slot: usize, shares: &mut
 
 // The same added to the slot's total; nothing where the slot is not of the log or has no tombstones.
 fn weigh_part(
+    edition: Edition,
     area: &[u8],
     cells: &[u32],
     notes: &[u8],
@@ -129,11 +139,11 @@ fn weigh_part(
 )
     requires { ⌜ NotesFit split (now area) (now cells) (now notes) ⌝ }
     requires { ⌜ slot < split .slots ⌝ }
-    requires { ⌜ TombstonesCounted edition1 (now area) split (split .slots) (now tombstones) ⌝ }
-    requires { ⌜ Rows edition1 (now area) (now cells) (now notes) split slot (now totals) (now shares) ⌝ }
+    requires { ⌜ TombstonesCounted edition (now area) split (split .slots) (now tombstones) ⌝ }
+    requires { ⌜ Rows edition (now area) (now cells) (now notes) split slot (now totals) (now shares) ⌝ }
     ensures { λ _.
         ⌜
-        Rows edition1 (now (area .entry)) (now (cells .entry)) (now (notes .entry)) split (slot + 1) (now (totals .exit))
+        Rows edition (now (area .entry)) (now (cells .entry)) (now (notes .entry)) split (slot + 1) (now (totals .exit))
         (now (shares .exit))
         ⌝ }
 {
@@ -143,12 +153,13 @@ fn weigh_part(
     if tombstones[slot] == 0 {
         return;
     }
-    let total = weigh_slot(area, notes, split, slot, shares);
+    let total = weigh_slot(edition, area, notes, split, slot, shares);
     totals[slot] = totals[slot] + total as u32;
 }
 
 // The numbers of all slots of the log.
 pub fn weigh_all(
+    edition: Edition,
     area: &[u8],
     cells: &[u32],
     notes: &[u8],
@@ -158,17 +169,27 @@ pub fn weigh_all(
     shares: &mut [u16],
 )
     requires { ⌜ NotesFit split (now area) (now cells) (now notes) ⌝ }
-    requires { ⌜ TombstonesCounted edition1 (now area) split (split .slots) (now tombstones) ⌝ }
-    requires { ⌜ Rows edition1 (now area) (now cells) (now notes) split 0 (now totals) (now shares) ⌝ }
+    requires { ⌜ TombstonesCounted edition (now area) split (split .slots) (now tombstones) ⌝ }
+    requires { ⌜ Rows edition (now area) (now cells) (now notes) split 0 (now totals) (now shares) ⌝ }
     ensures { λ _.
         ⌜
-        Rows edition1 (now (area .entry)) (now (cells .entry)) (now (notes .entry)) split (split .slots) (now (totals .exit))
+        Rows edition (now (area .entry)) (now (cells .entry)) (now (notes .entry)) split (split .slots) (now (totals .exit))
         (now (shares .exit))
         ⌝ }
 {
     let mut i = 0;
     while i < split.slots {
-        weigh_part(area, cells, notes, tombstones, split, i, totals, shares);
+        weigh_part(
+            edition,
+            area,
+            cells,
+            notes,
+            tombstones,
+            split,
+            i,
+            totals,
+            shares,
+        );
         i += 1;
     }
 }

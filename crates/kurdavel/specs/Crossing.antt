@@ -7,7 +7,6 @@ use mathlib.Core.Bool.{Bool, true, false}
 use mathlib.Core.List.{List}
 use lib.ListN.{length}
 use lib.Seq.{sets}
-use Rattle.segment.specs.Layout.{edition1}
 use Rattle.segment.specs.declared.Key.{Key}
 use Rattle.record.specs.Answers.{formatSaid, recoverSaid, readSaid, startSaid, stepSaid, tellSaid, fewestSaid}
 use Rattle.record.specs.declared.Record.{Record}
@@ -24,6 +23,7 @@ use Rattle.record.specs.declared.Fewest.{Fewest}
 use Rattle.record.specs.declared.FewestAnswer.{FewestAnswer}
 use Rattle.record.specs.declared.Foretold.{Foretold}
 use Rattle.record.specs.declared.TellAnswer.{TellAnswer}
+use Rattle.model.specs.Recovery.{imageLayout}
 use Rattle.model.specs.Fewest.{FewestPromise}
 use Rattle.model.specs.Operations.{Operation}
 use Rattle.record.specs.declared.Tables.{Tables}
@@ -41,9 +41,9 @@ keptWords false words r = words
 
 -- ---- format and recovery
 
-pub record FormatCrossed (n s : ℕ) (area area′ : List ℕ) (number : ℕ) : Type 0 where
+pub record FormatCrossed (e n s : ℕ) (area area′ : List ℕ) (number : ℕ) : Type 0 where
   pub answer : FormatAnswer
-  pub promised : FormatPromise edition1 n s area area′ answer
+  pub promised : FormatPromise e n s area area′ answer
   pub numbered : number ≡ formatSaid answer .refused
 
 -- the record's words after a recovery
@@ -53,7 +53,7 @@ wordsAfter (RecoverAnswer.Refused c) words r = words
 
 pub record Recovers (n s : ℕ) (order area cells cells′ words words′ : List ℕ) (number : ℕ) : Type 0 where
   pub recovery : Recovery
-  pub promised : RecoverPromise edition1 n s order area cells cells′ recovery
+  pub promised : RecoverPromise (imageLayout n s area) n s order area cells cells′ recovery
   pub numbered : number ≡ recoverSaid (recovery .answer) .refused
   pub says : words′ ≡ wordsAfter (recovery .answer) words (recovery .rec)
   pub long : recovery .answer ≡ RecoverAnswer.Recovered → length (recovery .rec .counts) ≡ 32
@@ -73,7 +73,7 @@ pub record RecoverCrossed (n s : ℕ) (order area cells cells′ words words′ 
 -- What the read says; where it is refused version and kind are 0.
 pub record ReadCrossed (words area cells : List ℕ) (t : Tables) (k : Key) (version kind number : ℕ) : Type 0 where
   pub reading : Reading
-  pub promised : ReadPromise edition1 (decoded words .rec) area cells t k reading
+  pub promised : ReadPromise (decoded words .rec .edition) (decoded words .rec) area cells t k reading
   pub numbered : number ≡ readSaid (reading .answer) .refused
   pub version-told : version ≡ readSaid (reading .answer) .version
   pub kind-told : kind ≡ readSaid (reading .answer) .kind
@@ -82,9 +82,9 @@ pub record ReadCrossed (words area cells : List ℕ) (t : Tables) (k : Key) (ver
 -- the read is refused both are 0.
 pub record ValueCrossed (words area cells : List ℕ) (t : Tables) (k : Key) (place bytes number : ℕ) : Type 0 where
   pub reading : Reading
-  pub promised : ReadPromise edition1 (decoded words .rec) area cells t k reading
+  pub promised : ReadPromise (decoded words .rec .edition) (decoded words .rec) area cells t k reading
   pub numbered : number ≡ readSaid (reading .answer) .refused
-  pub value : ValuePromise edition1 (decoded words .rec) area cells t k (record { place = place; bytes = bytes })
+  pub value : ValuePromise (decoded words .rec .edition) (decoded words .rec) area cells t k (record { place = place; bytes = bytes })
   pub inside : place + bytes ≤ length area
   pub nowhere : (number ≡ 0 → ⊥) → (place ≡ 0) × (bytes ≡ 0)
 
@@ -93,7 +93,7 @@ pub record ValueCrossed (words area cells : List ℕ) (t : Tables) (k : Key) (pl
 -- What the read by scan says (02, R-9); where it is refused version and kind are 0.
 pub record ScanCrossed (n s : ℕ) (area : List ℕ) (t : Tables) (k : Key) (version kind number : ℕ) : Type 0 where
   pub answer : ReadAnswer
-  pub promised : ScanPromise edition1 n s area t k answer
+  pub promised : ScanPromise (imageLayout n s area) n s area t k answer
   pub numbered : number ≡ readSaid answer .refused
   pub version-told : version ≡ readSaid answer .version
   pub kind-told : kind ≡ readSaid answer .kind
@@ -101,9 +101,9 @@ pub record ScanCrossed (n s : ℕ) (area : List ℕ) (t : Tables) (k : Key) (ver
 -- The value's place and length lie in the area; where the read is refused both are 0.
 pub record ScanValueCrossed (n s : ℕ) (area : List ℕ) (t : Tables) (k : Key) (place bytes number : ℕ) : Type 0 where
   pub answer : ReadAnswer
-  pub promised : ScanPromise edition1 n s area t k answer
+  pub promised : ScanPromise (imageLayout n s area) n s area t k answer
   pub numbered : number ≡ readSaid answer .refused
-  pub value : ScanValue edition1 n s area t k (record { place = place; bytes = bytes })
+  pub value : ScanValue (imageLayout n s area) n s area t k (record { place = place; bytes = bytes })
   pub inside : place + bytes ≤ length area
   pub nowhere : (number ≡ 0 → ⊥) → (place ≡ 0) × (bytes ≡ 0)
 
@@ -122,7 +122,7 @@ pub record Handed (ok : Bool) (start : Start) (words words′ : List ℕ) (store
 
 pub record StartCrossed (t : Terms) (o : Operation) (words words′ area cells work work′ : List ℕ) (stores stores′ number : ℕ) : Type 0 where
   pub start : Start
-  pub promised : StartPromise edition1 t o (decoded words .rec) area cells work work′ start
+  pub promised : StartPromise (decoded words .rec .edition) t o (decoded words .rec) area cells work work′ start
   pub handed : Handed (decoded words .ok) start words words′ stores stores′ number
 
 -- ---- step
@@ -139,8 +139,8 @@ toldAfter (StepAnswer.Refused c) old = old
 
 pub record StepCrossed (words words′ area area′ cells cells′ work : List ℕ) (left left′ version version′ number : ℕ) : Type 0 where
   pub stepped : Stepped
-  pub promised : StepPromise edition1 (decoded words .rec) area area′ cells cells′ work stepped
-  pub tested : StepTested edition1 (decoded words .rec) area area′ cells cells′ work stepped
+  pub promised : StepPromise (decoded words .rec .edition) (decoded words .rec) area area′ cells cells′ work stepped
+  pub tested : StepTested (decoded words .rec .edition) (decoded words .rec) area area′ cells cells′ work stepped
   pub numbered : number ≡ stepSaid (stepped .answer) .refused
   pub left-told : left′ ≡ leftTold (stepped .answer) left
   pub version-told : version′ ≡ toldAfter (stepped .answer) version
@@ -160,8 +160,8 @@ byteTold (TellAnswer.Refused c) = 0
 -- What is told of the next store, for every input (`toldBy`) and as it is promised; where it is refused place and byte are 0.
 pub record TellCrossed (words area work : List ℕ) (place byte number : ℕ) : Type 0 where
   pub foretold : Foretold
-  pub found : foretold ≡ toldBy edition1 (decoded words .rec) area work
-  pub promised : TellPromise edition1 (decoded words .rec) area work foretold
+  pub found : foretold ≡ toldBy (decoded words .rec .edition) (decoded words .rec) area work
+  pub promised : TellPromise (decoded words .rec .edition) (decoded words .rec) area work foretold
   pub numbered : number ≡ tellSaid (foretold .answer) .refused
   pub place-told : place ≡ placeTold (foretold .answer)
   pub byte-told : byte ≡ byteTold (foretold .answer)
@@ -175,6 +175,6 @@ slotTold (FewestAnswer.Refused c) = 0
 -- The slot, or 0 where it is refused.
 pub record FewestCrossed (words : List ℕ) (slot number : ℕ) : Type 0 where
   pub fewest : Fewest
-  pub promised : FewestPromise edition1 (decoded words .rec) fewest
+  pub promised : FewestPromise (decoded words .rec .edition) (decoded words .rec) fewest
   pub numbered : number ≡ fewestSaid (fewest .answer) .refused
   pub slot-told : slot ≡ slotTold (fewest .answer)

@@ -10,7 +10,7 @@ use lib.ListN.{length}
 use lib.Seq.{sets}
 use borrow.Author.Tests.{not-true, not-false, eq-eqb}
 use Rattle.segment.specs.Choice.{both, both-true}
-use Rattle.segment.specs.Layout.{edition1}
+use Rattle.segment.specs.Layout.{Layout}
 use Rattle.segment.specs.declared.Key.{Key}
 use Rattle.segment.specs.declared.Version.{Version}
 use Rattle.record.specs.Answers.{bare, formatSaid, recoverSaid, readSaid, startSaid, stepSaid}
@@ -28,6 +28,7 @@ use Rattle.record.specs.declared.StartAnswer.{StartAnswer}
 use Rattle.record.specs.declared.Stepped.{Stepped}
 use Rattle.record.specs.declared.StepAnswer.{StepAnswer}
 use Rattle.record.specs.declared.FewestAnswer.{FewestAnswer}
+use Rattle.model.specs.Recovery.{imageLayout}
 use Rattle.model.specs.Fewest.{fewestSlot}
 use Rattle.fullness.specs.FewestLaws.{refused-promise, told-promise}
 use Rattle.model.specs.Operations.{Operation}
@@ -42,7 +43,7 @@ use Rattle.index.specs.declared.Found.{Found}
 use Rattle.recovery.specs.Lookups.{Reached, lookupAt, lookedUp, toldBy, partBy}
 use Rattle.recovery.specs.LookupLaws.{reached, looked-unfit, looked-fit, read-promise, value-promise, looked-outside}
 use Rattle.recovery.specs.declared.Lookup.{Lookup}
-use Rattle.words.specs.Words.{recordWords, wordsOf, word, countsIn, recordIn, isRecord, decoded}
+use Rattle.words.specs.Words.{recordWords, wordsOf, word, countsIn, recordIn, isRecord, decoded, editionOf}
 use Rattle.words.specs.WordLaws.{record-long, counts-long, decoded-record, decoded-none, too-short, none-unfit, encode-decode, fits-record, fits-decoded}
 use Rattle.words.specs.declared.Decoded.{Decoded}
 use Rattle.kurdavel.specs.Crossing.{FormatCrossed, RecoverCrossed, wordsAfter, ReadCrossed, ValueCrossed, Handed, storesAfter, StartCrossed, keptWords, StepCrossed, leftTold, toldAfter, slotTold, FewestCrossed, ScanCrossed, ScanValueCrossed}
@@ -103,9 +104,9 @@ said-long words ok =
 
 -- ---- format and recovery
 
-pub format-crossed : {n s : ℕ} {area area′ : List ℕ} {a b : FormatAnswer} {number : ℕ} → FormatPromise edition1 n s area area′ a → a ≡ b
-    → number ≡ formatSaid b .refused → FormatCrossed n s area area′ number
-format-crossed {a = a} p e m = record { answer = a; promised = p; numbered = m ∙ ap (λ (x : FormatAnswer). formatSaid x .refused) (sym e) }
+pub format-crossed : {e n s : ℕ} {area area′ : List ℕ} {a b : FormatAnswer} {number : ℕ} → FormatPromise e n s area area′ a → a ≡ b
+    → number ≡ formatSaid b .refused → FormatCrossed e n s area area′ number
+format-crossed {a = a} p q m = record { answer = a; promised = p; numbered = m ∙ ap (λ (x : FormatAnswer). formatSaid x .refused) (sym q) }
 
 -- a refusal is no acceptance
 pub never-recovered : {A : Type 0} {c : Refusal} → RecoverAnswer.Refused c ≡ RecoverAnswer.Recovered → A
@@ -116,7 +117,7 @@ pub recover-short : {n s : ℕ} {order area cells words : List ℕ} → length w
 recover-short h = record { short = λ _. record { numbered = refl; index-same = refl; words-same = refl }; recovers = λ g. absurd (omega arith) }
 
 pub recover-crossed : {n s : ℕ} {order area cells cells′ words words′ : List ℕ} {x : Recovery} {b : RecoverAnswer} {number : ℕ}
-    → recordWords ≤ length words → RecoverPromise edition1 n s order area cells cells′ x → x .answer ≡ b
+    → recordWords ≤ length words → RecoverPromise (imageLayout n s area) n s order area cells cells′ x → x .answer ≡ b
     → number ≡ recoverSaid b .refused → words′ ≡ wordsAfter b words (x .rec) → (b ≡ RecoverAnswer.Recovered → length (x .rec .counts) ≡ 32)
     → RecoverCrossed n s order area cells cells′ words words′ number
 recover-crossed {words = words} {x = x} h p e m w l =
@@ -134,61 +135,69 @@ recover-crossed {words = words} {x = x} h p e m w l =
 -- ---- read
 
 pub looked-crossed : (words area cells : List ℕ) (t : Tables) (k : Key) {d : Decoded} {x : Lookup} → d ≡ decoded words
-    → x ≡ lookedUp edition1 (d .rec) area cells t k → x ≡ lookedUp edition1 (decoded words .rec) area cells t k
-looked-crossed words area cells t k f l = l ∙ ap (λ (a : Decoded). lookedUp edition1 (a .rec) area cells t k) f
+    → x ≡ lookedUp (d .rec .edition) (d .rec) area cells t k → x ≡ lookedUp (decoded words .rec .edition) (decoded words .rec) area cells t k
+looked-crossed words area cells t k f l = l ∙ ap (λ (a : Decoded). lookedUp (a .rec .edition) (a .rec) area cells t k) f
 
 -- a record that does not fit what is lent is bad; with one that fits, a key out of reach is not looked for, and another is looked up where
 -- the search has ended
 pub looked-lost : (words area cells : List ℕ) (t : Tables) (k : Key) {d : Decoded} → d ≡ decoded words
-    → fitsLent edition1 (d .rec) (length area) (length cells) ≡ false → Lookup.Bad ≡ lookedUp edition1 (decoded words .rec) area cells t k
-looked-lost words area cells t k {d} f unfit = looked-crossed words area cells t k f (sym (looked-unfit edition1 (d .rec) area cells t k unfit))
+    → fitsLent (d .rec .edition) (d .rec) (length area) (length cells) ≡ false → Lookup.Bad ≡ lookedUp (decoded words .rec .edition) (decoded words .rec) area cells t k
+looked-lost words area cells t k {d} f unfit = looked-crossed words area cells t k f (sym (looked-unfit (d .rec .edition) (d .rec) area cells t k unfit))
 
 pub looked-away : (words area cells : List ℕ) (t : Tables) (k : Key) {d : Decoded} → d ≡ decoded words
-    → fitsLent edition1 (d .rec) (length area) (length cells) ≡ true → holdsTable t (k .table) ≡ false
-    → Lookup.Outside ≡ lookedUp edition1 (decoded words .rec) area cells t k
-looked-away words area cells t k {d} f fit out = looked-crossed words area cells t k f (sym (looked-outside edition1 (d .rec) area cells t k fit out))
+    → fitsLent (d .rec .edition) (d .rec) (length area) (length cells) ≡ true → holdsTable t (k .table) ≡ false
+    → Lookup.Outside ≡ lookedUp (decoded words .rec .edition) (decoded words .rec) area cells t k
+looked-away words area cells t k {d} f fit out = looked-crossed words area cells t k f (sym (looked-outside (d .rec .edition) (d .rec) area cells t k fit out))
 
 pub looked-found : (words area cells : List ℕ) (t : Tables) (k : Key) {d : Decoded} {x : Lookup} {found : Found} → d ≡ decoded words
-    → fitsLent edition1 (d .rec) (length area) (length cells) ≡ true → holdsTable t (k .table) ≡ true → found ≡ searchFor edition1 area cells k
-    → x ≡ lookupAt edition1 (d .rec .size) area cells found → x ≡ lookedUp edition1 (decoded words .rec) area cells t k
+    → fitsLent (d .rec .edition) (d .rec) (length area) (length cells) ≡ true → holdsTable t (k .table) ≡ true → found ≡ searchFor (d .rec .edition) area cells k
+    → x ≡ lookupAt (d .rec .edition) (d .rec .size) area cells found → x ≡ lookedUp (decoded words .rec .edition) (decoded words .rec) area cells t k
 looked-found words area cells t k {d} f fit held e l =
     looked-crossed words area cells t k f
-    (l ∙ ap (lookupAt edition1 (d .rec .size) area cells) e ∙ sym (looked-fit edition1 (d .rec) area cells t k fit held))
+    (l ∙ ap (lookupAt (d .rec .edition) (d .rec .size) area cells) e ∙ sym (looked-fit (d .rec .edition) (d .rec) area cells t k fit held))
 
 -- the same of words that were tested as they are
-pub fits-words : (words : List ℕ) (a i : ℕ) → fitsLent edition1 (decoded words .rec) a i ≡ true → recordWords ≤ length words
-fits-words words a i fit = record-long words (fits-record edition1 words a i fit)
+pub fits-words : (words : List ℕ) (a i : ℕ) → fitsLent (decoded words .rec .edition) (decoded words .rec) a i ≡ true → recordWords ≤ length words
+fits-words words a i fit = record-long words (fits-record _ words a i fit)
 
-pub size-word : (words : List ℕ) (a i : ℕ) → fitsLent edition1 (decoded words .rec) a i ≡ true → decoded words .rec .size ≡ word words 1
-size-word words a i fit = ap (λ (d : Decoded). d .rec .size) (fits-decoded edition1 words a i fit)
+pub size-word : (words : List ℕ) (a i : ℕ) → fitsLent (decoded words .rec .edition) (decoded words .rec) a i ≡ true → decoded words .rec .size ≡ word words 1
+size-word words a i fit = ap (λ (d : Decoded). d .rec .size) (fits-decoded _ words a i fit)
+
+pub edition-word : (words : List ℕ) (a i : ℕ) → fitsLent (decoded words .rec .edition) (decoded words .rec) a i ≡ true
+    → (e : Layout) → e ≡ editionOf (word words 10) → e ≡ decoded words .rec .edition
+edition-word words a i fit e is = is ∙ sym (ap (λ (d : Decoded). d .rec .edition) (fits-decoded _ words a i fit))
 
 -- and the front that they say is the record's
-pub front-says : (words : List ℕ) (a i : ℕ) {t : Bool} → t ≡ fitsLent edition1 (decoded words .rec) a i → not t ≡ false → {f : Record}
+pub front-says : (words : List ℕ) (a i : ℕ) {t : Bool} → t ≡ fitsLent (decoded words .rec .edition) (decoded words .rec) a i → not t ≡ false → {f : Record}
     → f ≡ bare (recordIn words) → f ≡ bare (decoded words .rec)
 front-says words a i {t} e fit f =
-    f ∙ ap (λ (d : Decoded). bare (d .rec)) (sym (fits-decoded edition1 words a i (sym e ∙ not-false t fit)))
+    f ∙ ap (λ (d : Decoded). bare (d .rec)) (sym (fits-decoded _ words a i (sym e ∙ not-false t fit)))
 
-pub looked-word : (words area cells : List ℕ) (t : Tables) (k : Key) {x : Lookup} {found : Found}
-    → fitsLent edition1 (decoded words .rec) (length area) (length cells) ≡ true → holdsTable t (k .table) ≡ true → found ≡ searchFor edition1 area cells k
-    → x ≡ lookupAt edition1 (word words 1) area cells found → x ≡ lookedUp edition1 (decoded words .rec) area cells t k
-looked-word words area cells t k {found = found} fit held e l =
-    looked-found words area cells t k refl fit held e
-    (l ∙ ap (λ (s : ℕ). lookupAt edition1 s area cells found) (sym (size-word words (length area) (length cells) fit)))
+pub looked-word : (words area cells : List ℕ) (t : Tables) (k : Key) {x : Lookup} {found : Found} {e : Layout}
+    → fitsLent (decoded words .rec .edition) (decoded words .rec) (length area) (length cells) ≡ true → holdsTable t (k .table) ≡ true
+    → e ≡ editionOf (word words 10) → found ≡ searchFor e area cells k → x ≡ lookupAt e (word words 1) area cells found
+    → x ≡ lookedUp (decoded words .rec .edition) (decoded words .rec) area cells t k
+looked-word words area cells t k {found = found} {e = e} fit held is f l =
+    let own = edition-word words (length area) (length cells) fit e is in
+    looked-found words area cells t k refl fit held (f ∙ ap (λ (L : Layout). searchFor L area cells k) own)
+    (l ∙ ap (λ (s : ℕ). lookupAt e s area cells found) (sym (size-word words (length area) (length cells) fit))
+    ∙ ap (λ (L : Layout). lookupAt L (decoded words .rec .size) area cells found) own)
 
-pub reached-word : (words area cells : List ℕ) (t : Tables) (k : Key)
-    → fitsLent edition1 (decoded words .rec) (length area) (length cells) ≡ true → holdsTable t (k .table) ≡ true → (i : ℕ)
-    → searchFor edition1 area cells k ≡ Found.At i → Reached (word words 1) cells i
-reached-word words area cells t k fit held i e =
+pub reached-word : (words area cells : List ℕ) (t : Tables) (k : Key) (e : Layout)
+    → fitsLent (decoded words .rec .edition) (decoded words .rec) (length area) (length cells) ≡ true → holdsTable t (k .table) ≡ true
+    → e ≡ editionOf (word words 10) → (i : ℕ) → searchFor e area cells k ≡ Found.At i → Reached (word words 1) cells i
+reached-word words area cells t k e fit held is i f =
     subst (λ (s : ℕ). Reached s cells i) (size-word words (length area) (length cells) fit)
-    (reached edition1 (decoded words .rec) area cells t k fit held i e)
+    (reached (decoded words .rec .edition) (decoded words .rec) area cells t k fit held i
+    (ap (λ (L : Layout). searchFor L area cells k) (sym (edition-word words (length area) (length cells) fit e is)) ∙ f))
 
 pub read-crossed : {words area cells : List ℕ} {t : Tables} {k : Key} {version kind number : ℕ} {x : Lookup} {a b : ReadAnswer}
-    → x ≡ lookedUp edition1 (decoded words .rec) area cells t k → a ≡ toldBy x → a ≡ b → number ≡ readSaid b .refused
+    → x ≡ lookedUp (decoded words .rec .edition) (decoded words .rec) area cells t k → a ≡ toldBy x → a ≡ b → number ≡ readSaid b .refused
     → version ≡ readSaid b .version → kind ≡ readSaid b .kind → ReadCrossed words area cells t k version kind number
 read-crossed {words} {area} {cells} {t} {k} {x = x} {a = a} l its e m v w =
     record {
       reading = record { answer = a; rec = decoded words .rec };
-      promised = read-promise edition1 (decoded words .rec) area cells t k x a l its;
+      promised = read-promise (decoded words .rec .edition) (decoded words .rec) area cells t k x a l its;
       numbered = m ∙ ap (λ (c : ReadAnswer). readSaid c .refused) (sym e);
       version-told = v ∙ ap (λ (c : ReadAnswer). readSaid c .version) (sym e);
       kind-told = w ∙ ap (λ (c : ReadAnswer). readSaid c .kind) (sym e);
@@ -196,54 +205,54 @@ read-crossed {words} {area} {cells} {t} {k} {x = x} {a = a} l its e m v w =
 
 -- a record that an object was looked up with fits what is lent, which is at most the largest area
 pub found-small : (r : Record) (area cells : List ℕ) (t : Tables) (k : Key) {p kind n : ℕ} {v : Version}
-    → lookedUp edition1 r area cells t k ≡ Lookup.Object p v kind n → length area ≤ 65536
-found-small r area cells t k e = go (fitsLent edition1 r (length area) (length cells)) refl
+    → lookedUp (r .edition) r area cells t k ≡ Lookup.Object p v kind n → length area ≤ 65536
+found-small r area cells t k e = go (fitsLent (r .edition) r (length area) (length cells)) refl
   where
-    go : (x : Bool) → fitsLent edition1 r (length area) (length cells) ≡ x → length area ≤ 65536
-    go false f = let g = looked-unfit edition1 r area cells t k f in let z : _≡_ {A = ℕ} 0 1 = cc in absurd (omega arith)
+    go : (x : Bool) → fitsLent (r .edition) r (length area) (length cells) ≡ x → length area ≤ 65536
+    go false f = let g = looked-unfit (r .edition) r area cells t k f in let z : _≡_ {A = ℕ} 0 1 = cc in absurd (omega arith)
     go true f =
-        let l = lent edition1 r (length area) (length cells) f in
+        let l = lent (r .edition) r (length area) (length cells) f in
         let most : r .slots * r .size ≤ 32 * 2048 = mul-le-mul (l .slots-high) (l .size-high) in
         omega arith
 
 pub value-crossed : {words area cells : List ℕ} {t : Tables} {k : Key} {place bytes number : ℕ} {x b : Lookup}
-    → x ≡ lookedUp edition1 (decoded words .rec) area cells t k → x ≡ b → number ≡ readSaid (toldBy b) .refused
-    → record { place = place; bytes = bytes } ≡ partBy edition1 b → place + bytes ≤ length area
+    → x ≡ lookedUp (decoded words .rec .edition) (decoded words .rec) area cells t k → x ≡ b → number ≡ readSaid (toldBy b) .refused
+    → record { place = place; bytes = bytes } ≡ partBy (decoded words .rec .edition) b → place + bytes ≤ length area
     → ((number ≡ 0 → ⊥) → (place ≡ 0) × (bytes ≡ 0)) → ValueCrossed words area cells t k place bytes number
 value-crossed {words} {area} {cells} {t} {k} {place} {bytes} {b = b} l e m v i w =
-    let found : b ≡ lookedUp edition1 (decoded words .rec) area cells t k = sym e ∙ l in
+    let found : b ≡ lookedUp (decoded words .rec .edition) (decoded words .rec) area cells t k = sym e ∙ l in
     record {
       reading = record { answer = toldBy b; rec = decoded words .rec };
-      promised = read-promise edition1 (decoded words .rec) area cells t k b (toldBy b) found refl;
+      promised = read-promise (decoded words .rec .edition) (decoded words .rec) area cells t k b (toldBy b) found refl;
       numbered = m;
-      value = subst⁻¹ (ValuePromise edition1 (decoded words .rec) area cells t k) v (value-promise edition1 (decoded words .rec) area cells t k b found);
+      value = subst⁻¹ (ValuePromise (decoded words .rec .edition) (decoded words .rec) area cells t k) v (value-promise (decoded words .rec .edition) (decoded words .rec) area cells t k b found);
       inside = i;
       nowhere = w;
     }
 
 -- ---- read by scan
 
-module _ {n s : ℕ} {area : List ℕ} {t : Tables} {k : Key} {number : ℕ} {x b : Sought} (found : x ≡ sought edition1 n s area t k) (is : x ≡ b)
+module _ {n s : ℕ} {area : List ℕ} {t : Tables} {k : Key} {number : ℕ} {x b : Sought} (found : x ≡ sought (imageLayout n s area) n s area t k) (is : x ≡ b)
     (told : number ≡ readSaid (answerOf b) .refused) where
   pub scan-crossed : {version kind : ℕ} → version ≡ readSaid (answerOf b) .version → kind ≡ readSaid (answerOf b) .kind
       → ScanCrossed n s area t k version kind number
   scan-crossed v w =
       record {
         answer = answerOf b;
-        promised = scan-promise edition1 n s area t k b (sym is ∙ found);
+        promised = scan-promise (imageLayout n s area) n s area t k b (sym is ∙ found);
         numbered = told;
         version-told = v;
         kind-told = w;
       }
 
-  pub scan-value-crossed : {place bytes : ℕ} → record { place = place; bytes = bytes } ≡ partFor edition1 b → place + bytes ≤ length area
+  pub scan-value-crossed : {place bytes : ℕ} → record { place = place; bytes = bytes } ≡ partFor b → place + bytes ≤ length area
       → ((number ≡ 0 → ⊥) → (place ≡ 0) × (bytes ≡ 0)) → ScanValueCrossed n s area t k place bytes number
   scan-value-crossed v i w =
       record {
         answer = answerOf b;
-        promised = scan-promise edition1 n s area t k b (sym is ∙ found);
+        promised = scan-promise (imageLayout n s area) n s area t k b (sym is ∙ found);
         numbered = told;
-        value = subst⁻¹ (ScanValue edition1 n s area t k) v (scan-value edition1 n s area t k b (sym is ∙ found));
+        value = subst⁻¹ (ScanValue (imageLayout n s area) n s area t k) v (scan-value (imageLayout n s area) n s area t k b (sym is ∙ found));
         inside = i;
         nowhere = w;
       }
@@ -262,7 +271,7 @@ handed {stores = stores} w e m s =
     }
 
 pub start-crossed : {t : Terms} {o : Operation} {words words′ area cells work work′ : List ℕ} {stores stores′ number : ℕ} {d : Decoded} {x : Start}
-    → d ≡ decoded words → StartPromise edition1 t o (d .rec) area cells work work′ x
+    → d ≡ decoded words → StartPromise (d .rec .edition) t o (d .rec) area cells work work′ x
     → Handed (d .ok) x words words′ stores stores′ number → StartCrossed t o words words′ area cells work work′ stores stores′ number
 start-crossed {x = x} f p h =
     record {
@@ -274,7 +283,7 @@ start-crossed {x = x} f p h =
 -- ---- step
 
 pub step-crossed : {words words′ area area′ cells cells′ work : List ℕ} {left left′ version version′ number : ℕ} {d : Decoded} {x : Stepped}
-    {b : StepAnswer} → d ≡ decoded words → StepPromise edition1 (d .rec) area area′ cells cells′ work x × StepTested edition1 (d .rec) area area′ cells cells′ work x
+    {b : StepAnswer} → d ≡ decoded words → StepPromise (d .rec .edition) (d .rec) area area′ cells cells′ work x × StepTested (d .rec .edition) (d .rec) area area′ cells cells′ work x
     → (words′ ≡ keptWords (d .ok) words (x .rec)) × (d .ok ≡ true → length (x .rec .counts) ≡ 32) → x .answer ≡ b → number ≡ stepSaid b .refused
     → left′ ≡ leftTold b left → version′ ≡ toldAfter b version
     → StepCrossed words words′ area area′ cells cells′ work left left′ version version′ number
@@ -298,33 +307,33 @@ both-done true = refl
 both-done false = refl
 
 -- with the lengths that the record says, 4's test is that of the range
-own-tested : (r : Record) → fitsLent edition1 r (r .slots * r .size) (r .cells) ≡ inRange edition1 r
+own-tested : (r : Record) → fitsLent (r .edition) r (r .slots * r .size) (r .cells) ≡ inRange (r .edition) r
 unfolding fitsLent lengthsOwn
 own-tested r =
-    ap (both (inRange edition1 r)) (both-true _ _ (eq-eqb (r .slots * r .size) (r .slots * r .size) refl) (eq-eqb (r .cells) (r .cells) refl)) ∙
-    both-done (inRange edition1 r)
+    ap (both (inRange (r .edition) r)) (both-true _ _ (eq-eqb (r .slots * r .size) (r .slots * r .size) refl) (eq-eqb (r .cells) (r .cells) refl)) ∙
+    both-done (inRange (r .edition) r)
 
-none-range : (words : List ℕ) → isRecord words ≡ false → inRange edition1 (decoded words .rec) ≡ false
-none-range words f = ap (λ (d : Decoded). inRange edition1 (d .rec)) (decoded-none words f) ∙ blank-out edition1
+none-range : (words : List ℕ) → isRecord words ≡ false → inRange (decoded words .rec .edition) (decoded words .rec) ≡ false
+none-range words f = ap (λ (d : Decoded). inRange (d .rec .edition) (d .rec)) (decoded-none words f) ∙ blank-out _
 
 words-range : (words : List ℕ)
-    → fitsLent edition1 (decoded words .rec) (word words 0 * word words 1) (word words 2) ≡ inRange edition1 (decoded words .rec)
+    → fitsLent (decoded words .rec .edition) (decoded words .rec) (word words 0 * word words 1) (word words 2) ≡ inRange (decoded words .rec .edition) (decoded words .rec)
 words-range words = turn (isRecord words) refl
   where
     turn : (t : Bool) → isRecord words ≡ t
-        → fitsLent edition1 (decoded words .rec) (word words 0 * word words 1) (word words 2) ≡ inRange edition1 (decoded words .rec)
+        → fitsLent (decoded words .rec .edition) (decoded words .rec) (word words 0 * word words 1) (word words 2) ≡ inRange (decoded words .rec .edition) (decoded words .rec)
     turn true f =
-        subst (λ (d : Decoded). fitsLent edition1 (d .rec) (word words 0 * word words 1) (word words 2) ≡ inRange edition1 (d .rec))
+        subst (λ (d : Decoded). fitsLent (d .rec .edition) (d .rec) (word words 0 * word words 1) (word words 2) ≡ inRange (d .rec .edition) (d .rec))
         (sym (decoded-record words f)) (own-tested (recordIn words))
-    turn false f = none-unfit edition1 words (word words 0 * word words 1) (word words 2) f ∙ sym (none-range words f)
+    turn false f = none-unfit _ words (word words 0 * word words 1) (word words 2) f ∙ sym (none-range words f)
 
 module _ (words : List ℕ) where
-  refused-fewest : inRange edition1 (decoded words .rec) ≡ false → FewestCrossed words 0 4
+  refused-fewest : inRange (decoded words .rec .edition) (decoded words .rec) ≡ false → FewestCrossed words 0 4
   unfolding slotTold
   refused-fewest e =
       record {
         fewest = record { answer = FewestAnswer.Refused BadRecord; rec = decoded words .rec };
-        promised = refused-promise edition1 (decoded words .rec) e;
+        promised = refused-promise (decoded words .rec .edition) (decoded words .rec) e;
         numbered = refl;
         slot-told = refl;
       }
@@ -333,31 +342,31 @@ module _ (words : List ℕ) where
   fewest-few h = refused-fewest (none-range words (too-short words h))
 
   -- t is what the code finds for the range
-  module _ {t : Bool} (tested : t ≡ fitsLent edition1 (decoded words .rec) (word words 0 * word words 1) (word words 2)) where
+  module _ {t : Bool} (tested : t ≡ fitsLent (decoded words .rec .edition) (decoded words .rec) (word words 0 * word words 1) (word words 2)) where
     pub fewest-bad : not t ≡ true → FewestCrossed words 0 4
     fewest-bad e = refused-fewest (sym (tested ∙ words-range words) ∙ not-true t e)
 
     module _ (passed : not t ≡ false) where
-      in-range : inRange edition1 (decoded words .rec) ≡ true
+      in-range : inRange (decoded words .rec .edition) (decoded words .rec) ≡ true
       in-range = sym (tested ∙ words-range words) ∙ not-false t passed
 
       said : decoded words ≡ record { ok = true; rec = recordIn words }
-      said = fits-decoded edition1 words (word words 0 * word words 1) (word words 2) (sym tested ∙ not-false t passed)
+      said = fits-decoded _ words (word words 0 * word words 1) (word words 2) (sym tested ∙ not-false t passed)
 
       pub fewest-counts : length (countsIn words) ≡ 32
-      fewest-counts = counts-long words (fits-record edition1 words (word words 0 * word words 1) (word words 2) (sym tested ∙ not-false t passed))
+      fewest-counts = counts-long words (fits-record _ words (word words 0 * word words 1) (word words 2) (sym tested ∙ not-false t passed))
 
-      pub fewest-lent : Lent edition1 (recordIn words) (word words 0 * word words 1) (word words 2)
+      pub fewest-lent : Lent (recordIn words .edition) (recordIn words) (word words 0 * word words 1) (word words 2)
       fewest-lent =
-          lent edition1 (recordIn words) (word words 0 * word words 1) (word words 2)
-          (ap (λ (d : Decoded). fitsLent edition1 (d .rec) (word words 0 * word words 1) (word words 2)) (sym said) ∙ sym tested ∙ not-false t passed)
+          lent (recordIn words .edition) (recordIn words) (word words 0 * word words 1) (word words 2)
+          (ap (λ (d : Decoded). fitsLent (d .rec .edition) (d .rec) (word words 0 * word words 1) (word words 2)) (sym said) ∙ sym tested ∙ not-false t passed)
 
       pub fewest-told : {slot : ℕ} → slot ≡ fewestSlot (recordIn words) → FewestCrossed words slot 0
       unfolding slotTold
       fewest-told {slot} e =
           record {
             fewest = record { answer = FewestAnswer.Slot slot; rec = decoded words .rec };
-            promised = told-promise edition1 (decoded words .rec) slot in-range (e ∙ ap (λ (d : Decoded). fewestSlot (d .rec)) (sym said));
+            promised = told-promise (decoded words .rec .edition) (decoded words .rec) slot in-range (e ∙ ap (λ (d : Decoded). fewestSlot (d .rec)) (sym said));
             numbered = refl;
             slot-told = refl;
           }

@@ -7,7 +7,6 @@ use mathlib.Core.Logic.{_⊎_, inl, inr}
 use lib.Dec.{eqb}
 use lib.ListN.{set}
 use borrow.Author.Tests.{eq-eqb}
-use Rattle.segment.specs.Layout.{edition1}
 use Rattle.record.specs.Answers.{tellSaid}
 use Rattle.record.specs.Refusals.{numberOfRefusal}
 use Rattle.record.specs.declared.Refusal.{Refusal}
@@ -31,7 +30,7 @@ pub next-store-made : {words words′ area area′ cells cells′ work : List �
 unfolding Follows placeTold byteTold
 next-store-made {words} {words′} {area} {area′} {cells} {cells′} {work} {place = place} {byte = byte} t zero x =
     go (t .foretold .answer) (sym (t .numbered) ∙ zero) (t .place-told) (t .byte-told)
-    (tell-step edition1 (decoded words .rec) area area′ cells cells′ work (x .stepped) (x .promised) (x .tested) (t .found))
+    (tell-step (decoded words .rec .edition) (decoded words .rec) area area′ cells cells′ work (x .stepped) (x .promised) (x .tested) (t .found))
   where
     go : (a : TellAnswer) → tellSaid a .refused ≡ 0 → place ≡ placeTold a → byte ≡ byteTold a
         → Follows (decoded words .rec) area area′ cells cells′ (x .stepped) a
@@ -48,7 +47,7 @@ pub no-store-made : {words words′ area area′ cells cells′ work : List ℕ}
 unfolding Follows
 no-store-made {words} {words′} {area} {area′} {cells} {cells′} {work} t some x =
     go (t .foretold .answer) (λ z. some (t .numbered ∙ z))
-    (tell-step edition1 (decoded words .rec) area area′ cells cells′ work (x .stepped) (x .promised) (x .tested) (t .found))
+    (tell-step (decoded words .rec .edition) (decoded words .rec) area area′ cells cells′ work (x .stepped) (x .promised) (x .tested) (t .found))
   where
     go : (a : TellAnswer) → (tellSaid a .refused ≡ 0 → ⊥) → Follows (decoded words .rec) area area′ cells cells′ (x .stepped) a
         → (c : Refusal) × StepRefused (decoded words .rec) area area′ cells cells′ (x .stepped) c

@@ -7,7 +7,6 @@ use mathlib.Core.Bool.{Bool, true, false, not}
 use mathlib.Core.List.{List}
 use native.Mathlib.Omega.{arith}
 use lib.ListN.{length}
-use Rattle.segment.specs.Layout.{edition1}
 use Rattle.segment.specs.declared.Key.{Key}
 use Rattle.record.specs.Answers.{blank, readSaid, startSaid, stepSaid, tellSaid}
 use Rattle.record.specs.Range.{fitsLent}
@@ -34,10 +33,10 @@ use Rattle.kurdavel.specs.Crossing.{RecoverCrossed, ReadCrossed, ValueCr
 not-ok : (words : List ℕ) → isRecord words ≡ false → decoded words .ok ≡ false
 not-ok words f = ap (λ (d : Decoded). d .ok) (decoded-none words f)
 
-unfit : (words : List ℕ) → isRecord words ≡ false → (a i : ℕ) → not (fitsLent edition1 (decoded words .rec) a i) ≡ true
+unfit : (words : List ℕ) → isRecord words ≡ false → (a i : ℕ) → not (fitsLent (decoded words .rec .edition) (decoded words .rec) a i) ≡ true
 unfit words f a i =
     let says : decoded words .rec ≡ blank = ap (λ (d : Decoded). d .rec) (decoded-none words f) in
-    subst⁻¹ (λ (r : Record). not (fitsLent edition1 r a i) ≡ true) says (rw (blank-unfit edition1 a i))
+    subst⁻¹ (λ (r : Record). not (fitsLent (r .edition) r a i) ≡ true) says (rw (blank-unfit _ a i))
 
 -- and stay as they are
 kept-none : (words words′ : List ℕ) (r : Record) → isRecord words ≡ false → words′ ≡ keptWords (decoded words .ok) words r → words′ ≡ words
@@ -70,7 +69,7 @@ pub start-none : {t : Terms} {o : Operation} {words words′ area cells work wor
     → (number ≡ 4) × (words′ ≡ words) × (work′ ≡ work) × (stores′ ≡ stores)
 unfolding begun storesAfter
 start-none {t} {o} {words} {words′} {stores = stores} f x =
-    let b = x .promised .early BadRecord (early-bad edition1 (decoded words .rec) _ t o (unfit words f _ _)) in
+    let b = x .promised .early BadRecord (early-bad (decoded words .rec .edition) (decoded words .rec) _ t o (unfit words f _ _)) in
     let e : x .start .answer ≡ StartAnswer.Refused BadRecord = ap (λ (y : Begun). y .start .answer) b in (
       x .handed .numbered ∙ ap (λ (a : StartAnswer). startSaid a .refused) e,
       kept-none words words′ (x .start .rec) f (x .handed .says),

@@ -9,7 +9,7 @@ use lib.ListN.{length}
 use lib.Seq.{sets}
 use borrow.Author.Tests.{not-false}
 use Rattle.segment.specs.Choice.{pick, orZero}
-use Rattle.segment.specs.Layout.{edition1, objectKind}
+use Rattle.segment.specs.Layout.{objectKind}
 use Rattle.segment.specs.Entry.{Entry, sizeOf}
 use Rattle.segment.specs.Written.{entryOf}
 use Rattle.segment.specs.declared.Key.{Key}
@@ -47,13 +47,13 @@ abbrev behind : Record → Begun → Begun
 behind r b = record { start = record { answer = b .start .answer; rec = withPending r (b .start .rec .pending) }; work = b .work }
 
 laid-bare : (r : Record) (e : Entry) (work : List ℕ)
-    → behind r (laidBegun (bare r) (laidEntry edition1 (bare r) e) work) ≡ laidBegun r (laidEntry edition1 r e) work
+    → behind r (laidBegun (bare r) (laidEntry (r .edition) (bare r) e) work) ≡ laidBegun r (laidEntry (r .edition) r e) work
 unfolding laidBegun planOf pick
-laid-bare r e work = go (fitsHead edition1 r e)
+laid-bare r e work = go (fitsHead (r .edition) r e)
   where
     go : (t : Bool)
-        → behind r (laidBegun (bare r) (pick t (laidAppend edition1 e) (laidHead edition1 (bare r) e)) work)
-        ≡ laidBegun r (pick t (laidAppend edition1 e) (laidHead edition1 r e)) work
+        → behind r (laidBegun (bare r) (pick t (laidAppend (r .edition) e) (laidHead (r .edition) (bare r) e)) work)
+        ≡ laidBegun r (pick t (laidAppend (r .edition) e) (laidHead (r .edition) r e)) work
     go true = refl
     go false = refl
 
@@ -63,57 +63,58 @@ module _ (q : Terms) (words area cells work : List ℕ) (k : Key) (value : List 
 
   -- what the tests of a write say of a record
   abbrev pub tests : Record → Check
-  tests r = checked (firstCause (writeCauses edition1 r (lentLengths area cells work) q k (factsFor edition1 r area cells k) (length value)))
+  tests r = checked (firstCause (writeCauses (r .edition) r (lentLengths area cells work) q k (factsFor (r .edition) r area cells k) (length value)))
 
-  module _ (half : word words 7 < 4294967296) (stores : ℕ) {t : Bool} (tested : t ≡ fitsLent edition1 says (length area) (length cells)) where
+  module _ (half : word words 7 < 4294967296) (stores : ℕ) {t : Bool} (tested : t ≡ fitsLent (says .edition) says (length area) (length cells)) where
     refused-crossed : (c : Refusal) {number : ℕ} → Check.Refused c ≡ tests says → number ≡ startSaid (StartAnswer.Refused c) .refused
         → StartCrossed q (write k value) words words area cells work work stores stores number
     unfolding storesAfter
     refused-crossed c e m =
-        start-crossed refl (write-refused edition1 q says area cells work k value c e (refusedStart says c) refl)
+        start-crossed refl (write-refused _ q says area cells work k value c e (refusedStart says c) refl)
         (handed {b = StartAnswer.Refused c} (same-words words half, said-long words) refl m refl)
 
     pub write-bad : not t ≡ true → StartCrossed q (write k value) words words area cells work work stores stores 4
     write-bad e =
         refused-crossed BadRecord
-        (write-first edition1 says (lentLengths area cells work) q k (presenceFor edition1 (says .size) area cells k) (length value) BadRecord
-        (first-bad edition1 says (lentLengths area cells work) (q .tables) k tested e))
+        (write-first (says .edition) says (lentLengths area cells work) q k (presenceFor (says .edition) (says .size) area cells k) (length value) BadRecord
+        (first-bad (says .edition) says (lentLengths area cells work) (q .tables) k tested e))
         refl
 
     module _ (passed : not t ≡ false) {f : Record} (front : f ≡ bare (recordIn words)) where
-      fit : fitsLent edition1 says (length area) (length cells) ≡ true
+      fit : fitsLent (says .edition) says (length area) (length cells) ≡ true
       fit = sym tested ∙ not-false t passed
 
       is : f ≡ bare says
       is = front-says words (length area) (length cells) tested passed front
 
-      pub front-fit : fitsLent edition1 f (length area) (length cells) ≡ true
-      front-fit = ap (λ (r : Record). fitsLent edition1 r (length area) (length cells)) is ∙ fits-bare edition1 says (length area) (length cells) fit
+      pub front-fit : fitsLent (f .edition) f (length area) (length cells) ≡ true
+      front-fit = ap (λ (r : Record). fitsLent (r .edition) r (length area) (length cells)) is ∙ fits-bare (says .edition) says (length area) (length cells) fit
 
       same-tests : tests f ≡ tests says
       same-tests =
           ap tests is
           ∙ ap checked
-          (cause-skip _ _ (ap not (fits-bare edition1 says (length area) (length cells) fit)) ∙ sym (cause-skip _ _ (ap not fit)))
+          (cause-skip _ _ (ap not (fits-bare (says .edition) says (length area) (length cells) fit)) ∙ sym (cause-skip _ _ (ap not fit)))
 
       pub write-turned : (c : Refusal) {number : ℕ} → Check.Refused c ≡ tests f → number ≡ startSaid (StartAnswer.Refused c) .refused
           → StartCrossed q (write k value) words words area cells work work stores stores number
       write-turned c e m = refused-crossed c (e ∙ same-tests) m
 
-      pub write-begun : {words′ work′ : List ℕ} {p : Pending} {left : ℕ} → Check.Passed ≡ tests f → (kind : ℕ) → kind ≡ orZero (objectKind edition1 (length value))
-          → record { start = startedWith f p left; work = work′ } ≡ laidBegun f (laidEntry edition1 f (entryOf edition1 kind k (f .next) value)) work
+      pub write-begun : {words′ work′ : List ℕ} {p : Pending} {left : ℕ} → Check.Passed ≡ tests f → (kind : ℕ) → kind ≡ orZero (objectKind (f .edition) (length value))
+          → record { start = startedWith f p left; work = work′ } ≡ laidBegun f (laidEntry (f .edition) f (entryOf (f .edition) kind k (f .next) value)) work
           → words′ ≡ sets words 12 (pendingWords p)
           → StartCrossed q (write k value) words words′ area cells work work′ stores left 0
       unfolding storesAfter
       write-begun {words′} {work′} {p} {left} e kind known laid w =
-          let are = fits-record edition1 words (length area) (length cells) fit in
+          let are = fits-record _ words (length area) (length cells) fit in
           let said : decoded words ≡ record { ok = true; rec = recordIn words } = decoded-record words are in
           let begun : record { start = startedWith says p left; work = work′ }
-          ≡ laidBegun says (laidEntry edition1 says (entryOf edition1 kind k (says .next) value)) work =
-          ap (behind says) (laid ∙ ap (λ (r : Record). laidBegun r (laidEntry edition1 r (entryOf edition1 kind k (r .next) value)) work) is)
-          ∙ laid-bare says (entryOf edition1 kind k (says .next) value) work in
+          ≡ laidBegun says (laidEntry (says .edition) says (entryOf (says .edition) kind k (says .next) value)) work =
+          ap (behind says) (laid ∙ ap (λ (r : Record). laidBegun r (laidEntry (r .edition) r (entryOf (r .edition) kind k (r .next) value)) work) is)
+          ∙ laid-bare says (entryOf (says .edition) kind k (says .next) value) work in
           start-crossed refl
-          (write-laid edition1 q says area cells work k value (e ∙ same-tests) work′ (startedWith says p left) kind known begun)
+          (write-laid _ q says area cells work k value (e ∙ same-tests) work′ (startedWith says p left) kind
+          (known ∙ ap (λ (r : Record). orZero (objectKind (r .edition) (length value))) is) begun)
           (handed {b = StartAnswer.Started left} (
             kept-on words words′ (withPending says p) (ap (λ (d : Decoded). d .ok) said)
                 (w ∙ pending-alone words are half p ∙ ap (λ (d : Decoded). sets words 0 (wordsOf (withPending (d .rec) p))) (sym said)),

@@ -7,7 +7,7 @@ use native.Mathlib.Omega.{arith}
 use lib.ListN.{length, length-set, getD, take, set}
 use lib.Seq.{sets}
 use borrow.Author.Tests.{not-false}
-use Rattle.segment.specs.Layout.{edition1, digestSize}
+use Rattle.segment.specs.Layout.{Layout, digestSize}
 use Rattle.record.specs.Answers.{bare, storesLeft, stepSaid, tellSaid, withPending}
 use Rattle.record.specs.Range.{countsGood, fitsLent}
 use Rattle.record.specs.RangeLaws.{lent}
@@ -20,7 +20,7 @@ use Rattle.record.specs.declared.Stepped.{Stepped}
 use Rattle.record.specs.declared.StepAnswer.{StepAnswer}
 use Rattle.record.specs.declared.TellAnswer.{TellAnswer}
 use Rattle.model.specs.Promises.{StepPromise}
-use Rattle.laws.specs.OperationsKept.{edition1-roomy, edition1-laws}
+use Rattle.laws.specs.OperationsKept.{edition-roomy, edition-laws}
 use Rattle.telling.specs.Agree.{agreesWith}
 use Rattle.telling.specs.Next.{PendingIn}
 use Rattle.telling.specs.BareLaws.{found-bad, front-fits, found-front}
@@ -37,7 +37,7 @@ use Rattle.kurdavel.specs.CrossingLaws.{fits-words, front-says, same-wor
 
 -- what the words say but the present bytes fits the area
 abbrev pub frontFits : List ℕ → List ℕ → Type 0
-frontFits words area = fitsLent edition1 (bare (recordIn words)) (length area) (word words 2) ≡ true
+frontFits words area = fitsLent (recordIn words .edition) (bare (recordIn words)) (length area) (word words 2) ≡ true
 
 -- what the last step relies on, once its store is made
 pub record AdvanceReady (r : Record) (area : List ℕ) : Type 0 where
@@ -46,14 +46,14 @@ pub record AdvanceReady (r : Record) (area : List ℕ) : Type 0 where
   pub size-high : r .size ≤ 2048
   pub area-own : length area ≡ r .slots * r .size
   pub inside : PendingIn r (r .pending)
-  pub agrees : agreesWith edition1 r (r .pending) ≡ true
+  pub agrees : agreesWith (r .edition) r (r .pending) ≡ true
   pub size-some : 0 < r .size
-  pub counts-high : countsGood (r .size - digestSize edition1) (r .counts) ≡ true
+  pub counts-high : countsGood (r .size - digestSize (r .edition)) (r .counts) ≡ true
 
 -- What the last step makes of the words, given the area with its store.
 pub record Finished (words words′ area cells cells′ : List ℕ) (left left′ version version′ number : ℕ) : Type 0 where
   pub stepped : Stepped
-  pub advances : record { stepped = stepped; cells = cells′ } ≡ advanced edition1 (decoded words .rec) area cells
+  pub advances : record { stepped = stepped; cells = cells′ } ≡ advanced (decoded words .rec .edition) (decoded words .rec) area cells
   pub same-length : length cells′ ≡ length cells
   pub says : words′ ≡ keptWords (decoded words .ok) words (stepped .rec)
   pub long : decoded words .ok ≡ true → length (stepped .rec .counts) ≡ 32
@@ -63,14 +63,14 @@ pub record Finished (words words′ area cells cells′ : List ℕ) (left left�
 
 -- the same from what the code finds, in each case of the answer
 pub finished : {words words′ area cells cells′ : List ℕ} {left left′ version version′ number : ℕ} {d : Decoded} {x : Stepped} {b : StepAnswer}
-    → d ≡ decoded words → record { stepped = x; cells = cells′ } ≡ advanced edition1 (d .rec) area cells → length cells′ ≡ length cells
+    → d ≡ decoded words → record { stepped = x; cells = cells′ } ≡ advanced (d .rec .edition) (d .rec) area cells → length cells′ ≡ length cells
     → (words′ ≡ keptWords (d .ok) words (x .rec)) × (d .ok ≡ true → length (x .rec .counts) ≡ 32) → x .answer ≡ b → number ≡ stepSaid b .refused
     → left′ ≡ leftTold b left → version′ ≡ toldAfter b version
     → Finished words words′ area cells cells′ left left′ version version′ number
 finished {words = words} {area = area} {cells = cells} {left = left} {version = version} {x = x} f a n w e m l v =
     record {
       stepped = x;
-      advances = a ∙ ap (λ (y : Decoded). advanced edition1 (y .rec) area cells) f;
+      advances = a ∙ ap (λ (y : Decoded). advanced (y .rec .edition) (y .rec) area cells) f;
       same-length = n;
       says = w .0 ∙ ap (λ (y : Decoded). keptWords (y .ok) words (x .rec)) f;
       long = λ ok. w .1 (ap (λ (y : Decoded). y .ok) f ∙ ok);
@@ -106,35 +106,42 @@ module _ (words area work : List ℕ) where
   says = decoded words .rec
 
   abbrev found : ℕ → TellAnswer
-  found cells = foundBy edition1 says area cells work
+  found cells = foundBy (says .edition) says area cells work
 
   -- a record that does not fit is refused with 4
-  unfit-found : (cells : ℕ) → fitsLent edition1 says (length area) cells ≡ false → TellAnswer.Refused BadRecord ≡ found cells
-  unfit-found cells e = found-bad edition1 says area cells work {t = false} (sym e) refl
+  unfit-found : (cells : ℕ) → fitsLent (says .edition) says (length area) cells ≡ false → TellAnswer.Refused BadRecord ≡ found cells
+  unfit-found cells e = found-bad (says .edition) says area cells work {t = false} (sym e) refl
 
   -- what the code finds: t for the test on the words, f for what they say but the present bytes
-  module _ (cells : ℕ) {t : Bool} (tested : t ≡ fitsLent edition1 says (length area) cells) where
+  module _ (cells : ℕ) {t : Bool} (tested : t ≡ fitsLent (says .edition) says (length area) cells) where
     pub bad-found : not t ≡ true → found cells ≡ TellAnswer.Refused BadRecord
-    bad-found e = sym (found-bad edition1 says area cells work tested e)
+    bad-found e = sym (found-bad (says .edition) says area cells work tested e)
 
     module _ (passed : not t ≡ false) where
       front : bare (recordIn words) ≡ bare says
       front = front-says words (length area) cells tested passed refl
 
-      pub front-lent : frontFits words area
-      front-lent = front-fits edition1 says area cells work tested (not-false t passed) front
+      own : recordIn words .edition ≡ says .edition
+      own = ap (λ (r : Record). r .edition) front
 
-      pub front-found : {a : TellAnswer} → a ≡ toldBy edition1 (bare (recordIn words)) area work .answer → a ≡ found cells
-      front-found h = found-front edition1 says area cells work tested (not-false t passed) front h
+      pub front-lent : frontFits words area
+      front-lent =
+          ap (λ (L : Layout). fitsLent L (bare (recordIn words)) (length area) (word words 2)) own
+          ∙ front-fits (says .edition) says area cells work tested (not-false t passed) front
+
+      pub front-found : {a : TellAnswer} → a ≡ toldBy (recordIn words .edition) (bare (recordIn words)) area work .answer → a ≡ found cells
+      front-found h =
+          found-front (says .edition) says area cells work tested (not-false t passed) front
+          (h ∙ ap (λ (L : Layout). toldBy L (bare (recordIn words)) area work .answer) own)
 
       pub front-long : recordWords ≤ length words
       front-long = fits-words words (length area) cells (sym tested ∙ not-false t passed)
 
   -- a record for which a store is found fits, and the words are a record's
-  found-fit : (cells p b : ℕ) → found cells ≡ TellAnswer.At p b → fitsLent edition1 says (length area) cells ≡ true
-  found-fit cells p b e = go (fitsLent edition1 says (length area) cells) refl
+  found-fit : (cells p b : ℕ) → found cells ≡ TellAnswer.At p b → fitsLent (says .edition) says (length area) cells ≡ true
+  found-fit cells p b e = go (fitsLent (says .edition) says (length area) cells) refl
     where
-      go : (t : Bool) → fitsLent edition1 says (length area) cells ≡ t → fitsLent edition1 says (length area) cells ≡ true
+      go : (t : Bool) → fitsLent (says .edition) says (length area) cells ≡ t → fitsLent (says .edition) says (length area) cells ≡ true
       go true f = f
       go false f =
           let w : TellAnswer.Refused BadRecord ≡ TellAnswer.At p b = unfit-found cells f ∙ e in
@@ -142,14 +149,14 @@ module _ (words area work : List ℕ) where
           absurd (omega arith)
 
   found-record : (cells p b : ℕ) → found cells ≡ TellAnswer.At p b → isRecord words ≡ true
-  found-record cells p b e = fits-record edition1 words (length area) cells (found-fit cells p b e)
+  found-record cells p b e = fits-record _ words (length area) cells (found-fit cells p b e)
 
   -- and it lies in the area
   pub on-inside : (cells p b : ℕ) → found cells ≡ TellAnswer.At p b → p < length area
   on-inside cells p b e =
       let fit = found-fit cells p b e in
-      let own : cells ≡ says .cells = lent edition1 says (length area) cells fit .index-own in
-      told-promise edition1 edition1-laws says area work refl .inside p b (ap found (sym own) ∙ e)
+      let own : cells ≡ says .cells = lent (says .edition) says (length area) cells fit .index-own in
+      told-promise _ (edition-laws _) says area work refl .inside p b (ap found (sym own) ∙ e)
 
   -- ---- the step
 
@@ -158,7 +165,7 @@ module _ (words area work : List ℕ) where
         → StepCrossed words words area area cells cells work left left version version number
     unfolding leftTold toldAfter
     on-refused c e m =
-        step-crossed {b = StepAnswer.Refused c} refl (found-refused edition1 edition1-roomy says area cells work c e refl) (same-words words half, said-long words) refl m refl refl
+        step-crossed {b = StepAnswer.Refused c} refl (found-refused _ (edition-roomy _) says area cells work c e refl) (same-words words half, said-long words) refl m refl refl
 
     pub on-stored : (p b : ℕ) {words′ : List ℕ} → found (length cells) ≡ TellAnswer.At p b → 1 < word words 16
         → words′ ≡ set words 16 (word words 16 - 1)
@@ -175,8 +182,8 @@ module _ (words area work : List ℕ) where
         let its : after ≡ withPending (recordIn words) (oneLess (recordIn words .pending)) =
         ap (λ (d : Decoded). withPending (d .rec) (oneLess (d .rec .pending))) is in
         step-crossed {x = record { answer = StepAnswer.Left (word words 16 - 1); rec = after }} refl
-        (found-stored edition1 edition1-roomy says area cells work p b e
-        (advance-left edition1 says (set area p b) cells k-said more refl refl) refl) (
+        (found-stored _ (edition-roomy _) says area cells work p b e
+        (advance-left (says .edition) says (set area p b) cells k-said more refl refl) refl) (
           kept-on words words′ after (ap (λ (d : Decoded). d .ok) is)
               (w
               ∙ left-alone words are half (word words 16 - 1) (oneLess (recordIn words .pending)) (less-words (recordIn words .pending) ∙ ap less five)
@@ -191,14 +198,14 @@ module _ (words area work : List ℕ) where
         → Finished words words′ (set area p b) cells cells′ left left′ version version′ number
         → StepCrossed words words′ area (set area p b) cells cells′ work left left′ version version′ number
     on-last p b e f =
-        step-crossed refl (found-stored edition1 edition1-roomy says area cells work p b e (f .advances) (f .same-length)) (f .says, f .long) refl (f .numbered)
+        step-crossed refl (found-stored _ (edition-roomy _) says area cells work p b e (f .advances) (f .same-length)) (f .says, f .long) refl (f .numbered)
         (f .left-told) (f .version-told)
 
     pub on-ready : (p b : ℕ) → found (length cells) ≡ TellAnswer.At p b → AdvanceReady says (set area p b)
     on-ready p b e =
         let fit = found-fit (length cells) p b e in
-        let k = found-known edition1 edition1-roomy says area cells work fit p b e in
-        let l = lent edition1 says (length area) (length cells) fit in
+        let k = found-known _ (edition-roomy _) says area cells work fit p b e in
+        let l = lent (says .edition) says (length area) (length cells) fit in
         record {
           left = k .left;
           slots-high = l .slots-high;
@@ -223,23 +230,23 @@ module _ (words area work : List ℕ) where
   -- ---- the store told
 
   -- no index is lent: it counts as long as the record says, and words that are no record are refused whatever they say of it
-  found-told : found (word words 2) ≡ toldBy edition1 says area work .answer
+  found-told : found (word words 2) ≡ toldBy (says .edition) says area work .answer
   found-told = go (isRecord words) refl
     where
       go : (t : Bool) → isRecord words ≡ t → found (word words 2) ≡ found (says .cells)
       go true f = ap found (ap (λ (d : Decoded). d .rec .cells) (sym (decoded-record words f)))
       go false f =
-          sym (unfit-found (word words 2) (none-unfit edition1 words (length area) (word words 2) f))
-          ∙ unfit-found (says .cells) (none-unfit edition1 words (length area) (says .cells) f)
+          sym (unfit-found (word words 2) (none-unfit _ words (length area) (word words 2) f))
+          ∙ unfit-found (says .cells) (none-unfit _ words (length area) (says .cells) f)
 
   pub told-crossed : {a b : TellAnswer} {place byte number : ℕ} → a ≡ found (word words 2) → a ≡ b → number ≡ tellSaid b .refused
       → place ≡ placeTold b → byte ≡ byteTold b → TellCrossed words area work place byte number
   told-crossed {a} {b} e f m l v =
-      let is : toldBy edition1 says area work .answer ≡ b = sym (e ∙ found-told) ∙ f in
+      let is : toldBy (says .edition) says area work .answer ≡ b = sym (e ∙ found-told) ∙ f in
       record {
-        foretold = toldBy edition1 says area work;
+        foretold = toldBy (says .edition) says area work;
         found = refl;
-        promised = told-promise edition1 edition1-laws says area work refl;
+        promised = told-promise _ (edition-laws _) says area work refl;
         numbered = m ∙ ap (λ (x : TellAnswer). tellSaid x .refused) (sym is);
         place-told = l ∙ ap placeTold (sym is);
         byte-told = v ∙ ap byteTold (sym is);
@@ -248,4 +255,4 @@ module _ (words area work : List ℕ) where
   pub told-few : length words < recordWords → TellCrossed words area work 0 0 4
   unfolding placeTold byteTold
   told-few h =
-      told-crossed (unfit-found (word words 2) (none-unfit edition1 words (length area) (word words 2) (too-short words h))) refl refl refl refl
+      told-crossed (unfit-found (word words 2) (none-unfit _ words (length area) (word words 2) (too-short words h))) refl refl refl refl

@@ -22,7 +22,7 @@ use recovery::read::look_at;
 use recovery::read::told;
 use segment::Key;
 use segment::Version;
-use segment::layout::HEAD_SIZE;
+use segment::layout::head_size;
 use segment::layout::object_kind;
 use starting::Check;
 use store::clean;
@@ -30,9 +30,11 @@ use store::delete;
 use store::format;
 use store::join;
 use store::recover;
+use words::EDITION;
 use words::SIZE;
 use words::WORDS;
 use words::decode;
+use words::edition_of;
 use words::encode;
 use words::encode_pending;
 use words::fits;
@@ -56,10 +58,10 @@ pub mod scan;
 pub mod step;
 
 #[no_mangle]
-pub extern "C" fn kurdavel_format(slots: u32, size: u32, area: &mut [u8]) -> u32
-    ensures { λ r. ⌜ FormatCrossed slots size (now (area .entry)) (now (area .exit)) r ⌝ }
+pub extern "C" fn kurdavel_format(slots: u32, size: u32, edition: u32, area: &mut [u8]) -> u32
+    ensures { λ r. ⌜ FormatCrossed edition slots size (now (area .entry)) (now (area .exit)) r ⌝ }
 {
-    match format(slots, size, area) {
+    match format(slots, size, edition, area) {
         FormatAnswer::Formatted => 0,
         FormatAnswer::Refused(cause) => number(cause),
     }
@@ -123,8 +125,9 @@ pub extern "C" fn kurdavel_read(
     if !holds_table(Tables { first, last }, table) {
         return 22;
     }
-    let found = search(area, index, Key { table, key });
-    let answer = told(look_at(words[SIZE] as usize, area, index, found));
+    let edition = edition_of(words[EDITION]);
+    let found = search(edition, area, index, Key { table, key });
+    let answer = told(look_at(edition, words[SIZE] as usize, area, index, found));
     match answer {
         ReadAnswer::Refused(cause) => number(cause),
         ReadAnswer::Present {
@@ -164,16 +167,18 @@ pub extern "C" fn kurdavel_read_value(
     if !holds_table(Tables { first, last }, table) {
         return 22;
     }
-    let found = search(area, index, Key { table, key });
-    match look_at(words[SIZE] as usize, area, index, found) {
+    let edition = edition_of(words[EDITION]);
+    let found = search(edition, area, index, Key { table, key });
+    match look_at(edition, words[SIZE] as usize, area, index, found) {
         Lookup::Object {
             place: entry,
             version: _,
             kind: _,
             length,
         } => {
-            *place = (entry + HEAD_SIZE) as u32;
-            *bytes = (length - HEAD_SIZE) as u32;
+            let head = head_size(edition);
+            *place = (entry + head) as u32;
+            *bytes = (length - head) as u32;
             0
         }
         Lookup::Absent => 8,
@@ -248,7 +253,8 @@ fn start_write(
     ) {
         Check::Refused(cause) => number(cause),
         Check::Passed => {
-            let laying = lay_entry(front, work, object_kind(value.len()), key, value);
+            let edition = front.edition;
+            let laying = lay_entry(front, work, object_kind(edition, value.len()), key, value);
             let pending = laying.pending;
             encode_pending(pending, words);
             *stores = laying.left;

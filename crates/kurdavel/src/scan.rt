@@ -4,7 +4,7 @@ use record::number;
 use scanning::Sought;
 use scanning::read::seek;
 use segment::Key;
-use segment::layout::HEAD_SIZE;
+use segment::layout::head_size;
 ghost use Rattle.kurdavel.specs.Crossing.{ScanCrossed, ScanValueCrossed};
 
 // Version and kind, 0 where it is refused.
@@ -37,6 +37,7 @@ pub extern "C" fn kurdavel_scan_read(
     ) {
         Sought::Refused(cause) => number(cause),
         Sought::Object {
+            edition: _,
             place: _,
             version: found,
             kind: told,
@@ -79,13 +80,15 @@ pub extern "C" fn kurdavel_scan_read_value(
     ) {
         Sought::Refused(cause) => number(cause),
         Sought::Object {
+            edition,
             place: entry,
             version: _,
             kind: _,
             length,
         } => {
-            *place = (entry + HEAD_SIZE) as u32;
-            *bytes = (length - HEAD_SIZE) as u32;
+            let head = head_size(edition);
+            *place = (entry + head) as u32;
+            *bytes = (length - head) as u32;
             0
         }
     }

@@ -16,7 +16,6 @@ use words::front_in;
 ghost use Prim.Native.Nat.{_≤_};
 ghost use mathlib.Core.Path.{_≡_};
 ghost use lib.ListN.{length};
-ghost use Rattle.segment.specs.Layout.{edition1};
 ghost use Rattle.record.specs.Answers.{bare};
 ghost use Rattle.telling.specs.Places.{PlaceTold};
 ghost use Rattle.words.specs.Words.{recordWords, recordIn, decoded};
@@ -28,7 +27,7 @@ ghost use Rattle.kurdavel.specs.StepOn.{frontFits, AdvanceReady, Finishe
 fn found_in(words: &[u32], area: &[u8], work: usize) -> PlaceAnswer
     requires { ⌜ recordWords ≤ length (now words) ⌝ }
     requires { ⌜ frontFits (now words) (now area) ⌝ }
-    ensures { λ r. ⌜ PlaceTold edition1 (bare (recordIn (now (words .entry)))) (now (area .entry)) work r ⌝ }
+    ensures { λ r. ⌜ PlaceTold (recordIn (now (words .entry)) .edition) (bare (recordIn (now (words .entry)))) (now (area .entry)) work r ⌝ }
 {
     place_of(front_in(words), area, work)
 }

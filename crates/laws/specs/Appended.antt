@@ -24,6 +24,7 @@ use Rattle.laws.specs.RecoverLaws.{Sound, Allowed, sound-recovered, reco
 -- Slot j has the item x more, and its entries now end at e; nothing else has changed.
 pub record Appends (v v′ : ℕ → View) (n j : ℕ) (x : Item) (e : ℕ) : Type 0 where
   pub others : (i : ℕ) → i < n → (i ≡ j → ⊥) → v′ i ≡ v i
+  pub layout : v′ j .layout ≡ v j .layout
   pub digest : v′ j .digest ≡ v j .digest
   pub scan : v′ j .scan ≡ scanned (itemsOf (v j .scan) ++ x ∷ []) e
 
@@ -34,7 +35,7 @@ pub record Takes (next keys m : ℕ) (log : List Placed) (x : Entry) : Type 0 wh
 
 -- ---- on views
 
-module _ (v v′ : ℕ → View) (n m : ℕ) (h : Head) (x : Item) (e : ℕ) (f : Sound v n m h) (a : Appends v v′ n (h .slot) x e) where
+module _ (L : Layout) (v v′ : ℕ → View) (n m : ℕ) (h : Head) (x : Item) (e : ℕ) (f : Sound L v n m h) (a : Appends v v′ n (h .slot) x e) where
   -- the log before and after, and the entry in its place
   abbrev log : List Placed
   log = logUnder v n h
@@ -66,7 +67,7 @@ module _ (v v′ : ℕ → View) (n m : ℕ) (h : Head) (x : Item) (e : ℕ) (f 
     above : highest log < x .entry .version
     above = omega (arith, t .version)
 
-    pub appended-sound : Sound v′ n m h
+    pub appended-sound : Sound L v′ n m h
     appended-sound =
         record {
           top = top-stays v n h v′ (λ i l o d q. ap (λ (w : View). w .digest) (sym (a .others i l o)) ∙ q) (a .digest) (f .top);
@@ -74,6 +75,7 @@ module _ (v v′ : ℕ → View) (n m : ℕ) (h : Head) (x : Item) (e : ℕ) (f 
           map-good = f .map-good;
           digests = λ i l q. digested i l q (ℕ-discrete i (h .slot));
           next-set = f .next-set;
+          editions = λ i l q. alike i l q (ℕ-discrete i (h .slot));
           scans = λ i l q. whole i l q (ℕ-discrete i (h .slot));
           versions = entered-versions log placed after appended-log above (f .versions);
           keys = omega (arith, entered-keys log placed after appended-log, t .room);
@@ -83,6 +85,10 @@ module _ (v v′ : ℕ → View) (n m : ℕ) (h : Head) (x : Item) (e : ℕ) (f 
         digested i l q (yes o) = (h .digest, ap (λ (k : ℕ). v′ k .digest) o ∙ a .digest ∙ f .top .own)
         digested i l q (no o) = let d = f .digests i l q in (d .0, ap (λ (w : View). w .digest) (a .others i l o) ∙ d .1)
 
+        alike : (i : ℕ) → i < n → logSlots h i ≡ true → Dec (i ≡ h .slot) → v′ i .layout ≡ L
+        alike i l q (yes o) = ap (λ (k : ℕ). v′ k .layout) o ∙ a .layout ∙ f .editions (h .slot) (f .top .below) head-named
+        alike i l q (no o) = ap (λ (w : View). w .layout) (a .others i l o) ∙ f .editions i l q
+
         whole : (i : ℕ) → i < n → logSlots h i ≡ true → Dec (i ≡ h .slot) → isDamaged (v′ i .scan) ≡ false
         whole i l q (yes o) = ap (λ (k : ℕ). isDamaged (v′ k .scan)) o ∙ scanned-undamaged (v′ (h .slot) .scan) (a .scan)
         whole i l q (no o) = ap (λ (w : View). isDamaged (w .scan)) (a .others i l o) ∙ f .scans i l q
@@ -90,38 +96,38 @@ module _ (v v′ : ℕ → View) (n m : ℕ) (h : Head) (x : Item) (e : ℕ) (f 
     pub appended-next : nextVersion (h .digest) after ≡ nextVersion (h .digest) log + 1
     appended-next = omega (arith, entered-highest log placed after appended-log above, t .version)
 
-    pub appended-record : (L : Layout) (s : ℕ) → e ≡ endOf (v (h .slot) .scan) + sizeOf L (x .entry)
+    pub appended-record : (s : ℕ) → e ≡ endOf (v (h .slot) .scan) + sizeOf L (x .entry)
         → recordUnder L v′ n s m h ≡ appendedRecord L (recordUnder L v n s m h) log (x .entry)
-    appended-record L s q =
+    appended-record s q =
         rw (end-scanned (v′ (h .slot) .scan) (a .scan), q, appended-next, entered-keys log placed after appended-log, entered-counts L log placed after appended-log above (f .versions))
 
 -- ---- on areas
 
 module _ (L : Layout) (n s m : ℕ) (area area′ : List ℕ) (r : Record) (x : Item) (e : recovered L n s m area ≡ some r)
-    (a : Appends (viewsOf L area s) (viewsOf L area′ s) n (r .head) x (r .end + sizeOf L (x .entry))) where
+    (a : Appends (viewsOf area s) (viewsOf area′ s) n (r .head) x (r .end + sizeOf L (x .entry))) where
   pub appended-entered :
-      Entered (logNow L area r) (placedAt (r .head) x) (logNow L area′ (appendedRecord L r (logNow L area r) (x .entry)))
+      Entered (logNow area r) (placedAt (r .head) x) (logNow area′ (appendedRecord L r (logNow area r) (x .entry)))
   appended-entered =
       recovered-case L n s m area
       (λ (k : Record).
-      Appends (viewsOf L area s) (viewsOf L area′ s) n (k .head) x (k .end + sizeOf L (x .entry))
-      → Entered (logNow L area k) (placedAt (k .head) x) (logNow L area′ (appendedRecord L k (logNow L area k) (x .entry))))
+      Appends (viewsOf area s) (viewsOf area′ s) n (k .head) x (k .end + sizeOf L (x .entry))
+      → Entered (logNow area k) (placedAt (k .head) x) (logNow area′ (appendedRecord L k (logNow area k) (x .entry))))
       (λ h l f b.
-      appended-log (viewsOf L area s) (viewsOf L area′ s) n m h x (endOf (viewsOf L area s (h .slot) .scan) + sizeOf L (x .entry)) f b)
+      appended-log L (viewsOf area s) (viewsOf area′ s) n m h x (endOf (viewsOf area s (h .slot) .scan) + sizeOf L (x .entry)) f b)
       r e a
 
   pub appended-recovered : length area′ ≡ length area
-      → Takes (r .next .0) (r .keys) m (logNow L area r) (x .entry)
-      → recovered L n s m area′ ≡ some (appendedRecord L r (logNow L area r) (x .entry))
+      → Takes (r .next .0) (r .keys) m (logNow area r) (x .entry)
+      → recovered L n s m area′ ≡ some (appendedRecord L r (logNow area r) (x .entry))
   appended-recovered same-length =
       recovered-case L n s m area
       (λ (k : Record).
-      Appends (viewsOf L area s) (viewsOf L area′ s) n (k .head) x (k .end + sizeOf L (x .entry))
-      → Takes (k .next .0) (k .keys) m (logNow L area k) (x .entry)
-      → recovered L n s m area′ ≡ some (appendedRecord L k (logNow L area k) (x .entry)))
+      Appends (viewsOf area s) (viewsOf area′ s) n (k .head) x (k .end + sizeOf L (x .entry))
+      → Takes (k .next .0) (k .keys) m (logNow area k) (x .entry)
+      → recovered L n s m area′ ≡ some (appendedRecord L k (logNow area k) (x .entry)))
       (λ h l f b t.
-      let end = endOf (viewsOf L area s (h .slot) .scan) + sizeOf L (x .entry) in
+      let end = endOf (viewsOf area s (h .slot) .scan) + sizeOf L (x .entry) in
       sound-recovered L n s m area′ h (subst (Allowed n s m) (sym same-length) l)
-      (appended-sound (viewsOf L area s) (viewsOf L area′ s) n m h x end f b t) ∙
-      ap some (appended-record (viewsOf L area s) (viewsOf L area′ s) n m h x end f b t L s refl))
+      (appended-sound L (viewsOf area s) (viewsOf area′ s) n m h x end f b t) ∙
+      ap some (appended-record L (viewsOf area s) (viewsOf area′ s) n m h x end f b t s refl))
       r e a

@@ -44,7 +44,7 @@ pub record StandsFor (m victims : ℕ) (log stand : List Placed) (next : ℕ) : 
 
 -- ---- on views
 
-module _ (L : Layout) (v v′ : ℕ → View) (n s m : ℕ) (h : Head) (victims : ℕ) (next : Version) (stand : List Placed) (f : Sound v n m h)
+module _ (L : Layout) (v v′ : ℕ → View) (n s m : ℕ) (h : Head) (victims : ℕ) (next : Version) (stand : List Placed) (f : Sound L v n m h)
     (sub : within victims (h .digest .map) ≡ true) (w : StandsFor m victims (logUnder v n h) stand (next .0))
     (c : Heads L v v′ n (newSlot (recordUnder L v n s m h)) (digestWith (recordUnder L v n s m h) victims next) (kept victims stand)) where
   -- the new head, its log, the entries kept in their places, and what is left of the old log
@@ -97,7 +97,7 @@ module _ (L : Layout) (v v′ : ℕ → View) (n s m : ℕ) (h : Head) (victims 
       (slot-below L v v′ n s m h victims next (kept victims stand) f sub c)
       (slot-clear L v v′ n s m h victims next (kept victims stand) f sub c)
 
-  pub cleaned-sound : 0 < victims → Sound v′ n m cleaned
+  pub cleaned-sound : 0 < victims → Sound L v′ n m cleaned
   cleaned-sound some-victim =
       new-sound L v v′ n s m h victims next (kept victims stand) f sub c (omega (arith, w .below))
       (omega (arith, cleaned-used some-victim, map-in n (h .slot) (h .digest .map) (f .map-good) .some-free))
@@ -111,20 +111,20 @@ module _ (L : Layout) (v v′ : ℕ → View) (n s m : ℕ) (h : Head) (victims 
 -- ---- on areas
 
 module _ (L : Layout) (n s m : ℕ) (area area′ : List ℕ) (r : Record) (victims : ℕ) (next : Version) (stand : List Placed)
-    (e : recovered L n s m area ≡ some r) (sub : within victims (r .map) ≡ true) (w : StandsFor m victims (logNow L area r) stand (next .0))
-    (c : Heads L (viewsOf L area s) (viewsOf L area′ s) n (newSlot r) (digestWith r victims next) (kept victims stand)) where
+    (e : recovered L n s m area ≡ some r) (sub : within victims (r .map) ≡ true) (w : StandsFor m victims (logNow area r) stand (next .0))
+    (c : Heads L (viewsOf area s) (viewsOf area′ s) n (newSlot r) (digestWith r victims next) (kept victims stand)) where
   pub cleaned-cleaned :
       Cleaned victims stand (placedFrom L (newSlot r) (digestSize L) (kept victims stand))
-      (logNow L area′ (renewedRecord L area r victims (kept victims stand) next))
+      (logNow area′ (renewedRecord L area r victims (kept victims stand) next))
   cleaned-cleaned =
       recovered-case L n s m area
       (λ (k : Record).
       within victims (k .map) ≡ true
-      → StandsFor m victims (logNow L area k) stand (next .0)
-      → Heads L (viewsOf L area s) (viewsOf L area′ s) n (newSlot k) (digestWith k victims next) (kept victims stand)
+      → StandsFor m victims (logNow area k) stand (next .0)
+      → Heads L (viewsOf area s) (viewsOf area′ s) n (newSlot k) (digestWith k victims next) (kept victims stand)
       → Cleaned victims stand (placedFrom L (newSlot k) (digestSize L) (kept victims stand))
-      (logNow L area′ (renewedRecord L area k victims (kept victims stand) next)))
-      (λ h l f. cleaned-log L (viewsOf L area s) (viewsOf L area′ s) n s m h victims next stand f) r e sub w c
+      (logNow area′ (renewedRecord L area k victims (kept victims stand) next)))
+      (λ h l f. cleaned-log L (viewsOf area s) (viewsOf area′ s) n s m h victims next stand f) r e sub w c
 
   pub cleaned-recovered : length area′ ≡ length area → 0 < victims
       → recovered L n s m area′ ≡ some (renewedRecord L area r victims (kept victims stand) next)
@@ -132,17 +132,17 @@ module _ (L : Layout) (n s m : ℕ) (area area′ : List ℕ) (r : Record) (vict
       recovered-case L n s m area
       (λ (k : Record).
       within victims (k .map) ≡ true
-      → StandsFor m victims (logNow L area k) stand (next .0)
-      → Heads L (viewsOf L area s) (viewsOf L area′ s) n (newSlot k) (digestWith k victims next) (kept victims stand)
+      → StandsFor m victims (logNow area k) stand (next .0)
+      → Heads L (viewsOf area s) (viewsOf area′ s) n (newSlot k) (digestWith k victims next) (kept victims stand)
       → recovered L n s m area′ ≡ some (renewedRecord L area k victims (kept victims stand) next))
       (λ h l f b q d.
-      sound-recovered L n s m area′ (cleaned L (viewsOf L area s) (viewsOf L area′ s) n s m h victims next stand f b q d)
+      sound-recovered L n s m area′ (cleaned L (viewsOf area s) (viewsOf area′ s) n s m h victims next stand f b q d)
       (subst (Allowed n s m) (sym same-length) l)
-      (cleaned-sound L (viewsOf L area s) (viewsOf L area′ s) n s m h victims next stand f b q d some-victim) ∙
+      (cleaned-sound L (viewsOf area s) (viewsOf area′ s) n s m h victims next stand f b q d some-victim) ∙
       ap some
       (rw (
-        new-end L (viewsOf L area s) (viewsOf L area′ s) n s m h victims next (kept victims stand) f b d,
-        cleaned-next L (viewsOf L area s) (viewsOf L area′ s) n s m h victims next stand f b q d,
-        cleaned-keys L (viewsOf L area s) (viewsOf L area′ s) n s m h victims next stand f b q d,
-        cleaned-counts L (viewsOf L area s) (viewsOf L area′ s) n s m h victims next stand f b q d,
+        new-end L (viewsOf area s) (viewsOf area′ s) n s m h victims next (kept victims stand) f b d,
+        cleaned-next L (viewsOf area s) (viewsOf area′ s) n s m h victims next stand f b q d,
+        cleaned-keys L (viewsOf area s) (viewsOf area′ s) n s m h victims next stand f b q d,
+        cleaned-counts L (viewsOf area s) (viewsOf area′ s) n s m h victims next stand f b q d,
       ))) r e sub w c

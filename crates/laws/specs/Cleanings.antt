@@ -11,7 +11,7 @@ use borrow.Author.Tests.{not-false, not-true, ltb-false, eqb-false}
 use Rattle.word.specs.Number.{Bytes}
 use Rattle.word.specs.Laws.{bytes-take, bytes-drop}
 use Rattle.segment.specs.Choice.{both-left, either-false-left, either-false-right, isNone, pick}
-use Rattle.segment.specs.Layout.{Layout, digestSize, entrySize, numberLimit}
+use Rattle.segment.specs.Layout.{Layout, digestSize, entrySize, numberLimit, table}
 use Rattle.segment.specs.Entry.{Entry, WellFormed, bytesIn}
 use Rattle.segment.specs.declared.Key.{Key}
 use Rattle.segment.specs.declared.Version.{Version}
@@ -30,7 +30,7 @@ use Rattle.laws.specs.Forgotten.{IsLive, present-live, Was, kept-as, put
 use Rattle.laws.specs.Counted.{forgotten-present}
 use Rattle.laws.specs.Scans.{scan-scans, scans-stands}
 use Rattle.laws.specs.LogLaws.{log-in, scan-whole}
-use Rattle.laws.specs.RecoverLaws.{recovered-case, recovered-highest}
+use Rattle.laws.specs.RecoverLaws.{recovered-case, recovered-highest, log-whole}
 use Rattle.laws.specs.Cleaned.{StandsFor}
 use Rattle.laws.specs.Operated.{Accepted}
 use Rattle.laws.specs.Entering.{idle-lent, idle-next, idle-number, delete-next, delete-number, delete-formed, delete-live}
@@ -40,14 +40,14 @@ use Rattle.laws.specs.Room.{full-delete-fits}
 -- every entry of a recovered log of bytes is well formed
 pub log-formed :
     (L : Layout) (n s m : ℕ) (area : List ℕ) (r : Record) → Bytes area → recovered L n s m area ≡ some r → (x : Placed) →
-    In x (logOf (viewsOf L area s) (named (r .map)) n) → WellFormed L (x .entry)
+    In x (logOf (viewsOf area s) (named (r .map)) n) → WellFormed L (x .entry)
 log-formed L n s m area r bytes e x =
     recovered-case L n s m area
-    (λ (k : Record). In x (logOf (viewsOf L area s) (named (k .map)) n) → WellFormed L (x .entry))
+    (λ (k : Record). In x (logOf (viewsOf area s) (named (k .map)) n) → WellFormed L (x .entry))
     (λ h l f i.
-    let at = log-in (viewsOf L area s) (named (h .digest .map)) n x i in
+    let at = log-in (viewsOf area s) (named (h .digest .map)) n x i in
     scans-stands (bytes-take s _ (bytes-drop (x .slot * s) area bytes))
-    (scan-scans L (segmentOf area s (x .slot)) (scan-whole (scan L (segmentOf area s (x .slot))) (f .scans (x .slot) (at .below) (at .picked))))
+    (scan-scans L (segmentOf area s (x .slot)) (log-whole L n s m area h f (x .slot) (at .below) (at .picked)))
     (at .item) .formed)
     r e
 
@@ -62,36 +62,36 @@ pub record Cleaning (L : Layout) (before : List ℕ) (idle : Record) (victims : 
   pub recovers : recovered L (idle .slots) (idle .size) (idle .cells) before ≡ some idle
   pub sub : within victims (idle .map) ≡ true
   pub some-victim : 0 < victims
-  pub stands : StandsFor (idle .cells) victims (logNow L before idle) stand (next .0)
+  pub stands : StandsFor (idle .cells) victims (logNow before idle) stand (next .0)
   pub room : digestSize L + length (allEncoded L (kept victims stand)) ≤ idle .size
   pub number-left : idle .digest .0 + 1 < 256 ^ 4
-  pub next-fits : next .0 < 256 ^ L .width
+  pub next-fits : next .0 < 256 ^ table L .width
   pub formed : (x : Entry) → List·Memᴰ x (kept victims stand) → WellFormed L x
 
 module _ (L : Layout) (area : List ℕ) (r : Record) (e : recovered L (r .slots) (r .size) (r .cells) area ≡ some r) where
   -- the log stands for itself
-  pub log-stands : (victims : ℕ) → StandsFor (r .cells) victims (logNow L area r) (logNow L area r) (r .next .0)
+  pub log-stands : (victims : ℕ) → StandsFor (r .cells) victims (logNow area r) (logNow area r) (r .next .0)
   log-stands victims =
       recovered-case L (r .slots) (r .size) (r .cells) area
       (λ (k : Record).
-      highest (logNow L area k) < k .next .0 → StandsFor (r .cells) victims (logNow L area k) (logNow L area k) (k .next .0))
+      highest (logNow area k) < k .next .0 → StandsFor (r .cells) victims (logNow area k) (logNow area k) (k .next .0))
       (λ h l f b. record { outside-same = refl; outside-present = λ y m. refl; versions = f .versions; keys = f .keys; below = b }) r e
       (recovered-highest L (r .slots) (r .size) (r .cells) area r e)
 
 -- ---- a cleaning
 
 module _ (L : Layout) (before : List ℕ) (idle : Record) (victims : ℕ) (a : Accepted L before idle (clean victims)) where
-  tests : CleanPassed L idle (a .lengths) (keptLength L (logNow L before idle) victims) victims
+  tests : CleanPassed L idle (a .lengths) (keptLength L (logNow before idle) victims) victims
   unfolding startCauses
-  tests = clean-passed L idle (a .lengths) (keptLength L (logNow L before idle) victims) victims (a .no-cause)
+  tests = clean-passed L idle (a .lengths) (keptLength L (logNow before idle) victims) victims (a .no-cause)
 
-  formed-log : (x : Entry) → List·Memᴰ x (kept victims (logNow L before idle)) → WellFormed L x
+  formed-log : (x : Entry) → List·Memᴰ x (kept victims (logNow before idle)) → WellFormed L x
   formed-log x i =
-      let y = kept-in victims (logNow L before idle) x i in
+      let y = kept-in victims (logNow before idle) x i in
       subst (WellFormed L) (y .2)
       (log-formed L (idle .slots) (idle .size) (idle .cells) before idle (a .area-bytes) (a .recovers) (y .0) (y .1))
 
-  pub clean-cleans : Cleaning L before idle victims (idle .next) (logNow L before idle)
+  pub clean-cleans : Cleaning L before idle victims (idle .next) (logNow before idle)
   clean-cleans =
       record {
         area-bytes = a .area-bytes;
@@ -99,7 +99,7 @@ module _ (L : Layout) (before : List ℕ) (idle : Record) (victims : ℕ) (a : A
         sub = not-false (within victims (idle .map)) (either-false-right _ _ (tests .victims-good));
         some-victim = omega (arith, eqb-false victims 0 (either-false-left _ _ (tests .victims-good)));
         stands = log-stands L before idle (a .recovers) victims;
-        room = ltb-false (idle .size) (digestSize L + length (allEncoded L (kept victims (logNow L before idle)))) (tests .kept-fits);
+        room = ltb-false (idle .size) (digestSize L + length (allEncoded L (kept victims (logNow before idle)))) (tests .kept-fits);
         number-left = omega (arith, idle-number L before idle (clean victims) a, eqb-false (idle .digest .0) numberLimit (tests .number-left));
         next-fits = omega (arith, idle-next L before idle (clean victims) a, idle-lent L before idle (clean victims) a .next-some);
         formed = formed-log;
@@ -109,7 +109,7 @@ module _ (L : Layout) (before : List ℕ) (idle : Record) (victims : ℕ) (a : A
 
 module _ (L : Layout) (before : List ℕ) (idle : Record) (k : Key) (a : Accepted L before idle (delete k)) where
   abbrev log : List Placed
-  log = logNow L before idle
+  log = logNow before idle
 
   abbrev x : Placed
   x = delete-live L before idle k a .0
@@ -160,7 +160,7 @@ module _ (L : Layout) (before : List ℕ) (idle : Record) (k : Key) (a : Accepte
   sub =
       rw is
       (within-pow (idle .map) (x .slot)
-      (named-true (idle .map) (x .slot) (log-in (viewsOf L before (idle .size)) (named (idle .map)) (idle .slots) x member .picked)))
+      (named-true (idle .map) (x .slot) (log-in (viewsOf before (idle .size)) (named (idle .map)) (idle .slots) x member .picked)))
 
   pub forget-cleans : noRoom idle (entrySize L 0) ≡ true → Cleaning L before idle (forgetVictim log k) (nextAfter idle) (forgottenLog idle log k)
   unfolding bytesIn

@@ -10,7 +10,7 @@ use lib.Dec.{eqb, ltb}
 use lib.ListN.{length}
 use borrow.Author.Tests.{eqb-false, ltb-false}
 use Rattle.segment.specs.Choice.{pick, both, isNone}
-use Rattle.segment.specs.Layout.{Layout, valueLength, entrySize, digestSize, versionLimit, numberLimit}
+use Rattle.segment.specs.Layout.{Layout, valueLength, entrySize, digestSize, versionLimit, numberLimit, table}
 use Rattle.segment.specs.LayoutLaws.{version-good}
 use Rattle.segment.specs.Entry.{Entry, bytesIn, lengthKnown, WellFormed}
 use Rattle.segment.specs.declared.Key.{Key}
@@ -29,13 +29,13 @@ use Rattle.laws.specs.LogLaws.{both-true-false}
 
 -- A layout of which every entry fits a fresh segment of the smallest size, and whose versions take a byte at least.
 pub record Roomy (L : Layout) : Type 0 where
-  pub wide : 0 < L .width
+  pub wide : 0 < table L .width
   pub room : (k n : ℕ) → valueLength L k ≡ some n → digestSize L + entrySize L n ≤ 256
 
 -- What is known of the entry of an accepted write or delete.
 pub record Entering (L : Layout) (before : List ℕ) (idle : Record) (e : Entry) : Type 0 where
   pub formed : WellFormed L e
-  pub takes : Takes (idle .next .0) (idle .keys) (idle .cells) (logNow L before idle) e
+  pub takes : Takes (idle .next .0) (idle .keys) (idle .cells) (logNow before idle) e
   pub two-free : fitsHead L idle e ≡ false → used (idle .slots) (idle .map) + 2 ≤ idle .slots
   pub number-left : fitsHead L idle e ≡ false → idle .digest .0 < numberLimit
 
@@ -90,7 +90,7 @@ some-of (some x) e = (x, refl)
 
 module _ (L : Layout) (before : List ℕ) (idle : Record) (k : Key) where
   abbrev log : List Placed
-  log = logNow L before idle
+  log = logNow before idle
 
   pub write-enters : (value : List ℕ) → Accepted L before idle (write k value) → Entering L before idle (writtenEntry idle k value)
   unfolding startCauses countNew lengthKnown bytesIn

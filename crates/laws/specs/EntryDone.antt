@@ -24,10 +24,10 @@ use Rattle.laws.specs.Versions.{below-highest}
 use Rattle.laws.specs.MapLaws.{valueAt, gives, Above, value-added}
 use Rattle.laws.specs.Stores.{length-stored}
 use Rattle.laws.specs.Scans.{itemAt, encoded-one}
-use Rattle.laws.specs.AppendBytes.{append-other, append-digest, append-scan}
+use Rattle.laws.specs.AppendBytes.{append-other, append-digest, append-scan, append-layout}
 use Rattle.laws.specs.NewHeadBytes.{headPlan, formed-one, new-head-other, new-head-view}
 use Rattle.laws.specs.LogLaws.{entered-added}
-use Rattle.laws.specs.RecoverLaws.{recovered-holds, recovered-scan, recovered-highest, recovered-apart}
+use Rattle.laws.specs.RecoverLaws.{recovered-holds, recovered-scan, recovered-highest, recovered-apart, recovered-layout}
 use Rattle.laws.specs.Appended.{Appends, appended-entered, appended-recovered}
 use Rattle.laws.specs.Headed.{none-within, Heads, headed-entered, headed-recovered}
 use Rattle.laws.specs.Entering.{Roomy, Entering}
@@ -45,11 +45,11 @@ module _ (L : Layout) (roomy : Roomy L) (area : List ℕ) (r : Record) (x : Entr
     abbrev Done : List ℕ → Record → Type 0
     Done area′ r′ =
         (recovered L (r .slots) (r .size) (r .cells) area′ ≡ some r′)
-        × ((j : Key) → valueAt (logNow L area′ r′) j ≡ pick (sameKey j x) (gives x) (valueAt (logNow L area r) j))
+        × ((j : Key) → valueAt (logNow area′ r′) j ≡ pick (sameKey j x) (gives x) (valueAt (logNow area r) j))
 
-    above : (slot offset : ℕ) → Above (record { slot = slot; offset = offset; entry = x }) (logNow L area r)
+    above : (slot offset : ℕ) → Above (record { slot = slot; offset = offset; entry = x }) (logNow area r)
     above slot offset =
-        below-highest (logNow L area r) (x .version) (subst⁻¹ (λ (v : ℕ). highest (logNow L area r) < v) (f .takes .version) (recovered-highest L (r .slots) (r .size) (r .cells) area r e))
+        below-highest (logNow area r) (x .version) (subst⁻¹ (λ (v : ℕ). highest (logNow area r) < v) (f .takes .version) (recovered-highest L (r .slots) (r .size) (r .cells) area r e))
 
     -- at the end of the head
     module _ (fits : r .end + sizeOf L x ≤ r .size) where
@@ -57,40 +57,43 @@ module _ (L : Layout) (roomy : Roomy L) (area : List ℕ) (r : Record) (x : Entr
       append-plan = commit (r .size) (r .head) (r .end) (encoded L x)
 
       abbrev items : List Item
-      items = itemsOf (scan L (segmentOf area (r .size) (r .head)))
+      items = itemsOf (viewsOf area (r .size) (r .head) .scan)
 
       append-views :
-          Appends (viewsOf L area (r .size)) (viewsOf L (stored area append-plan) (r .size)) (r .slots) (r .head) (itemAt (r .end) x)
+          Appends (viewsOf area (r .size)) (viewsOf (stored area append-plan) (r .size)) (r .slots) (r .head) (itemAt (r .end) x)
           (r .end + sizeOf L x)
       append-views =
           record {
             others =
                 λ i l o.
                 append-other L (r .slots) (r .size) (r .head) area items (r .end) x (facts .area-own) (facts .head-below)
-                (recovered-scan L (r .slots) (r .size) (r .cells) area r e) (f .formed) fits i o;
+                (recovered-layout L (r .slots) (r .size) (r .cells) area r e) (recovered-scan L (r .slots) (r .size) (r .cells) area r e) (f .formed) fits i o;
+            layout =
+                append-layout L (r .slots) (r .size) (r .head) area items (r .end) x (facts .area-own) (facts .head-below)
+                (recovered-layout L (r .slots) (r .size) (r .cells) area r e) (recovered-scan L (r .slots) (r .size) (r .cells) area r e) (f .formed) fits;
             digest =
                 append-digest L (r .slots) (r .size) (r .head) area items (r .end) x (facts .area-own) (facts .head-below)
-                (recovered-scan L (r .slots) (r .size) (r .cells) area r e) (f .formed) fits;
+                (recovered-layout L (r .slots) (r .size) (r .cells) area r e) (recovered-scan L (r .slots) (r .size) (r .cells) area r e) (f .formed) fits;
             scan =
                 append-scan L (r .slots) (r .size) (r .head) area items (r .end) x (facts .area-own) (facts .head-below)
-                (recovered-scan L (r .slots) (r .size) (r .cells) area r e) (f .formed) fits;
+                (recovered-layout L (r .slots) (r .size) (r .cells) area r e) (recovered-scan L (r .slots) (r .size) (r .cells) area r e) (f .formed) fits;
           }
 
       -- the log has the entry more, where the head ended
       pub appended-added :
-          Added (logNow L area r) (record { slot = r .head; offset = r .end; entry = x })
-          (logNow L (stored area append-plan) (appendedRecord L r (logNow L area r) x))
+          Added (logNow area r) (record { slot = r .head; offset = r .end; entry = x })
+          (logNow (stored area append-plan) (appendedRecord L r (logNow area r) x))
       appended-added =
-          entered-added (logNow L area r) (record { slot = r .head; offset = r .end; entry = x })
-          (logNow L (stored area append-plan) (appendedRecord L r (logNow L area r) x))
+          entered-added (logNow area r) (record { slot = r .head; offset = r .end; entry = x })
+          (logNow (stored area append-plan) (appendedRecord L r (logNow area r) x))
           (appended-entered L (r .slots) (r .size) (r .cells) area (stored area append-plan) r (itemAt (r .end) x) e append-views)
 
-      appended : Done (stored area append-plan) (appendedRecord L r (logNow L area r) x)
+      appended : Done (stored area append-plan) (appendedRecord L r (logNow area r) x)
       appended = (
         appended-recovered L (r .slots) (r .size) (r .cells) area (stored area append-plan) r (itemAt (r .end) x) e append-views
             (length-stored area append-plan) (f .takes),
-        value-added (logNow L area r) (record { slot = r .head; offset = r .end; entry = x })
-            (logNow L (stored area append-plan) (appendedRecord L r (logNow L area r) x)) appended-added (above (r .head) (r .end))
+        value-added (logNow area r) (record { slot = r .head; offset = r .end; entry = x })
+            (logNow (stored area append-plan) (appendedRecord L r (logNow area r) x)) appended-added (above (r .head) (r .end))
             (recovered-apart L (r .slots) (r .size) (r .cells) area r e),
       )
 
@@ -110,7 +113,7 @@ module _ (L : Layout) (roomy : Roomy L) (area : List ℕ) (r : Record) (x : Entr
           )
 
       head-views :
-          Heads L (viewsOf L area (r .size)) (viewsOf L (stored area head-plan) (r .size)) (r .slots) (newSlot r) (newDigest r 0) (x ∷ [])
+          Heads L (viewsOf area (r .size)) (viewsOf (stored area head-plan) (r .size)) (r .slots) (newSlot r) (newDigest r 0) (x ∷ [])
       head-views =
           record {
             others = λ i l o. new-head-other L (r .size) (newSlot r) area (newDigest r 0) (x ∷ []) head-fits i o;
@@ -122,47 +125,47 @@ module _ (L : Layout) (roomy : Roomy L) (area : List ℕ) (r : Record) (x : Entr
 
       -- the log has the entry more, behind the new digest
       headed-added-one :
-          Added (logNow L area r) (record { slot = newSlot r; offset = digestSize L; entry = x })
-          (logNow L (stored area head-plan) (headedRecord L r (logNow L area r) x))
+          Added (logNow area r) (record { slot = newSlot r; offset = digestSize L; entry = x })
+          (logNow (stored area head-plan) (headedRecord L r (logNow area r) x))
       headed-added-one =
-          entered-added (logNow L area r) (record { slot = newSlot r; offset = digestSize L; entry = x })
-          (logNow L (stored area head-plan) (headedRecord L r (logNow L area r) x))
+          entered-added (logNow area r) (record { slot = newSlot r; offset = digestSize L; entry = x })
+          (logNow (stored area head-plan) (headedRecord L r (logNow area r) x))
           (headed-entered L (r .slots) (r .size) (r .cells) area (stored area head-plan) r x e head-views)
 
       pub headed-added :
-          Added (logNow L area r) (record { slot = newSlot r; offset = digestSize L; entry = x })
-          (logNow L
+          Added (logNow area r) (record { slot = newSlot r; offset = digestSize L; entry = x })
+          (logNow
           (stored area ((newSlot r * r .size, 0) ∷ commit (r .size) (newSlot r) 0 (encodedDigest L (newDigest r 0) ++ encoded L x)))
-          (headedRecord L r (logNow L area r) x))
+          (headedRecord L r (logNow area r) x))
       headed-added =
           subst
           (λ (b : List ℕ).
-          Added (logNow L area r) (record { slot = newSlot r; offset = digestSize L; entry = x })
-          (logNow L (stored area ((newSlot r * r .size, 0) ∷ commit (r .size) (newSlot r) 0 (encodedDigest L (newDigest r 0) ++ b)))
-          (headedRecord L r (logNow L area r) x)))
+          Added (logNow area r) (record { slot = newSlot r; offset = digestSize L; entry = x })
+          (logNow (stored area ((newSlot r * r .size, 0) ∷ commit (r .size) (newSlot r) 0 (encodedDigest L (newDigest r 0) ++ b)))
+          (headedRecord L r (logNow area r) x)))
           (encoded-one L x) headed-added-one
 
-      headed : Done (stored area head-plan) (headedRecord L r (logNow L area r) x)
+      headed : Done (stored area head-plan) (headedRecord L r (logNow area r) x)
       headed = (
         headed-recovered L (r .slots) (r .size) (r .cells) area (stored area head-plan) r x e head-views (length-stored area head-plan)
             (omega (arith, f .two-free no-fit)) (f .takes),
-        value-added (logNow L area r) (record { slot = newSlot r; offset = digestSize L; entry = x })
-            (logNow L (stored area head-plan) (headedRecord L r (logNow L area r) x)) headed-added-one (above (newSlot r) (digestSize L))
+        value-added (logNow area r) (record { slot = newSlot r; offset = digestSize L; entry = x })
+            (logNow (stored area head-plan) (headedRecord L r (logNow area r) x)) headed-added-one (above (newSlot r) (digestSize L))
             (recovered-apart L (r .slots) (r .size) (r .cells) area r e),
       )
 
     -- Whichever it is: recovery gives the record of 01's formulas, and the map is the old one with the key set or gone.
     pub entry-done :
         (recovered L (r .slots) (r .size) (r .cells) (stored area (planOf r (laidEntry L r x .pending 0) (laidEntry L r x .bytes))) ≡
-        some (entryRecord L r (logNow L area r) x))
+        some (entryRecord L r (logNow area r) x))
         × ((j : Key) →
-        valueAt (logNow L (stored area (planOf r (laidEntry L r x .pending 0) (laidEntry L r x .bytes))) (entryRecord L r (logNow L area r) x)) j ≡
-        pick (sameKey j x) (gives x) (valueAt (logNow L area r) j))
+        valueAt (logNow (stored area (planOf r (laidEntry L r x .pending 0) (laidEntry L r x .bytes))) (entryRecord L r (logNow area r) x)) j ≡
+        pick (sameKey j x) (gives x) (valueAt (logNow area r) j))
     unfolding pick planOf
     entry-done = go (fitsHead L r x) refl
       where
         goal : Bool → Type 0
-        goal t = Done (stored area (planOf r (pick t (laidAppend L x) (laidHead L r x) .pending 0) (pick t (laidAppend L x) (laidHead L r x) .bytes))) (pick t (appendedRecord L r (logNow L area r) x) (headedRecord L r (logNow L area r) x))
+        goal t = Done (stored area (planOf r (pick t (laidAppend L x) (laidHead L r x) .pending 0) (pick t (laidAppend L x) (laidHead L r x) .bytes))) (pick t (appendedRecord L r (logNow area r) x) (headedRecord L r (logNow area r) x))
 
         go : (t : Bool) → fitsHead L r x ≡ t → goal t
         go true p = appended (leb-true (r .end + sizeOf L x) (r .size) p)
@@ -170,5 +173,5 @@ module _ (L : Layout) (roomy : Roomy L) (area : List ℕ) (r : Record) (x : Entr
             subst
             (λ (b : List ℕ).
             Done (stored area ((newSlot r * r .size, 0) ∷ commit (r .size) (newSlot r) 0 (encodedDigest L (newDigest r 0) ++ b)))
-            (headedRecord L r (logNow L area r) x))
+            (headedRecord L r (logNow area r) x))
             (encoded-one L x) (headed p)

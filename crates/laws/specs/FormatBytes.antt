@@ -12,7 +12,7 @@ use lib.Seq.{sets}
 use borrow.Author.Tests.{eqb-true, eqb-false}
 use Rattle.word.specs.Number.{Bytes}
 use Rattle.word.specs.Laws.{bytes-set, bytes-append, sets-append}
-use Rattle.segment.specs.Layout.{Layout, digestSize}
+use Rattle.segment.specs.Layout.{Layout, digestSize, table}
 use Rattle.segment.specs.Digest.{encodedDigest}
 use Rattle.segment.specs.DigestLaws.{length-encodedDigest, bytes-encodedDigest}
 use Rattle.model.specs.Log.{scanned, segmentOf, viewsOf}
@@ -70,23 +70,23 @@ module _ (L : Layout) (n S : ℕ) (area : List ℕ) where
     run-fits : 0 + length (encodedDigest L firstDigest ++ 0 ∷ []) ≤ S
     run-fits = omega (arith, length-append (encodedDigest L firstDigest) (0 ∷ []), length-encodedDigest L firstDigest)
 
-    pub formatted-other : (i : ℕ) → 0 < i → i < n → viewsOf L (formatted L n S area) S i .digest ≡ none
+    pub formatted-other : (i : ℕ) → 0 < i → i < n → viewsOf (formatted L n S area) S i .digest ≡ none
     formatted-other i p h =
-        no-digest L (segmentOf (formatted L n S area) S i)
+        no-digest (segmentOf (formatted L n S area) S i)
         (ap (λ (a : List ℕ). getD (segmentOf a S i) 0 0) at-start
         ∙ ap (λ (s : List ℕ). getD s 0 0) (run-other (cleared S n area) S 0 0 (encodedDigest L firstDigest ++ 0 ∷ []) run-fits i (λ e. omega arith))
         ∙ cleared-first S n area i (omega arith) h)
 
     -- a next version takes a byte at least, for the first is 1
-    pub formatted-head : length area ≡ n * S → 0 < n → 0 < L .width
-        → viewsOf L (formatted L n S area) S 0 ≡ record { digest = some firstDigest; scan = scanned [] (digestSize L) }
+    pub formatted-head : length area ≡ n * S → 0 < n → 0 < table L .width
+        → viewsOf (formatted L n S area) S 0 ≡ record { layout = L; digest = some firstDigest; scan = scanned [] (digestSize L) }
     unfolding itemsFrom allEncoded
     formatted-head whole some-slot wide =
         head-view L firstDigest [] (lit< tt) (lit< tt) next (λ x m. absurd (List·Memᴰ·not-nil m)) (segmentOf (cleared S n area) S 0)
         (segmentOf (formatted L n S area) S 0) written (omega (arith, size))
-        ∙ λ i. record { digest = some firstDigest; scan = scanned [] (ends i) }
+        ∙ λ i. record { layout = L; digest = some firstDigest; scan = scanned [] (ends i) }
       where
-        next : 1 < 256 ^ L .width
+        next : 1 < 256 ^ table L .width
         next = omega (arith, pow-le-pow-right {n = 256} (lit< tt) wide)
 
         ends : digestSize L + 0 ≡ digestSize L

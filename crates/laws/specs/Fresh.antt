@@ -11,7 +11,7 @@ use lib.Pow.{pow-mono}
 use lib.ListN.{length}
 use borrow.Author.Tests.{eqb-true, not-false}
 use Rattle.segment.specs.Choice.{both, both-left, both-right}
-use Rattle.segment.specs.Layout.{Layout, digestSize}
+use Rattle.segment.specs.Layout.{Layout, digestSize, table}
 use Rattle.segment.specs.LayoutLaws.{tombstone-length}
 use Rattle.segment.specs.declared.Digest.{Digest}
 use Rattle.slot_map.specs.Bit.{bit, named}
@@ -34,7 +34,7 @@ others-unnamed i o = clear-named 1 i (bit-above 1 1 i (lit< tt) (omega arith))
 
 -- ---- on views
 
-module _ (v : ℕ → View) (n e : ℕ) (some-slots : 4 ≤ n) (own : v 0 ≡ record { digest = some firstDigest; scan = scanned [] e })
+module _ (L : Layout) (v : ℕ → View) (n e : ℕ) (some-slots : 4 ≤ n) (own : v 0 ≡ record { layout = L; digest = some firstDigest; scan = scanned [] e })
     (others : (i : ℕ) → 0 < i → i < n → v i .digest ≡ none)
   where
     abbrev first-head : Head
@@ -53,7 +53,7 @@ module _ (v : ℕ → View) (n e : ℕ) (some-slots : 4 ≤ n) (own : v 0 ≡ re
             ap (placedIn 0) (items-scanned (v 0 .scan) own-scan)
         go i (no q) = part-passed v (logSlots first-head) i (others-unnamed i q)
 
-    pub fresh-sound : (k : ℕ) → Sound v n k first-head
+    pub fresh-sound : (k : ℕ) → Sound L v n k first-head
     unfolding bit versionShared keysOf
     fresh-sound k =
         record {
@@ -66,6 +66,7 @@ module _ (v : ℕ → View) (n e : ℕ) (some-slots : 4 ≤ n) (own : v 0 ≡ re
           numbered = λ z. omega arith;
           map-good = in-map n 0 1 (omega (arith, pow-mono {i = 1} some-slots′)) refl (used-free n 1 1 (omega arith) refl);
           digests = λ i l q. at-zero i q (firstDigest, ap (λ (w : View). w .digest) own);
+          editions = λ i l q. first-edition i (ℕ-discrete i 0) q;
           next-set = λ z. omega arith;
           scans = λ i l q. undamaged i (ℕ-discrete i 0) q;
           versions = ap versionShared fresh-log;
@@ -84,6 +85,10 @@ module _ (v : ℕ → View) (n e : ℕ) (some-slots : 4 ≤ n) (own : v 0 ≡ re
             go : Dec (i ≡ 0) → (d : Digest) × (v i .digest ≡ some d)
             go (yes p) = (x .0, ap (λ (j : ℕ). v j .digest) p ∙ x .1)
             go (no p) = absurd (clash (named 1 i) q (others-unnamed i p))
+
+        first-edition : (i : ℕ) → Dec (i ≡ 0) → named 1 i ≡ true → v i .layout ≡ L
+        first-edition i (yes p) q = ap (λ (j : ℕ). v j .layout) p ∙ ap (λ (w : View). w .layout) own
+        first-edition i (no p) q = absurd (clash (named 1 i) q (others-unnamed i p))
 
         undamaged : (i : ℕ) → Dec (i ≡ 0) → named 1 i ≡ true → isDamaged (v i .scan) ≡ false
         undamaged i (yes p) q = ap (λ (j : ℕ). isDamaged (v j .scan)) p ∙ scanned-undamaged (v 0 .scan) own-scan
@@ -105,22 +110,22 @@ module _ (L : Layout) (roomy : Roomy L) (n s : ℕ) (area : List ℕ) (geometry 
   whole = eqb-true (length area) (n * s) (both-right _ _ good)
 
   digest-room : digestSize L < s
-  digest-room = omega (arith, roomy .room (L .tombstoneKind) 0 (tombstone-length L), big)
+  digest-room = omega (arith, roomy .room (table L .tombstoneKind) 0 (tombstone-length L), big)
 
   abbrev views : ℕ → View
-  views = viewsOf L (formatted L n s area) s
+  views = viewsOf (formatted L n s area) s
 
-  own : views 0 ≡ record { digest = some firstDigest; scan = scanned [] (digestSize L) }
+  own : views 0 ≡ record { layout = L; digest = some firstDigest; scan = scanned [] (digestSize L) }
   own = formatted-head L n s area digest-room whole (omega (arith, some-slots)) (roomy .wide)
 
   others : (i : ℕ) → 0 < i → i < n → views i .digest ≡ none
   others i p l = formatted-other L n s area digest-room i p l
 
-  sound : (k : ℕ) → Sound views n k (record { slot = 0; digest = firstDigest })
-  sound k = fresh-sound views n (digestSize L) some-slots own others k
+  sound : (k : ℕ) → Sound L views n k (record { slot = 0; digest = firstDigest })
+  sound k = fresh-sound L views n (digestSize L) some-slots own others k
 
   head-is : headOf views n ≡ some (record { slot = 0; digest = firstDigest })
-  head-is = sound-head views n 16 (record { slot = 0; digest = firstDigest }) (sound 16)
+  head-is = sound-head L views n 16 (record { slot = 0; digest = firstDigest }) (sound 16)
 
   pub format-recovers : (m : ℕ) → cellsGood m ≡ true → recovered L n s m (formatted L n s area) ≡ some (recordFrom L n s m (formatted L n s area))
   unfolding headElse
@@ -136,10 +141,10 @@ module _ (L : Layout) (roomy : Roomy L) (n s : ℕ) (area : List ℕ) (geometry 
 
   pub format-log :
       (m : ℕ) →
-      (logNow L (formatted L n s area) (recordFrom L n s m (formatted L n s area)) ≡ []) × (recordFrom L n s m (formatted L n s area) .next .0 ≡ 1)
+      (logNow (formatted L n s area) (recordFrom L n s m (formatted L n s area)) ≡ []) × (recordFrom L n s m (formatted L n s area) .next .0 ≡ 1)
   unfolding headElse highest
   format-log m = (
-    ap (λ (o : Option Head). logUnder views n (headElse o)) head-is ∙ fresh-log views n (digestSize L) some-slots own others,
+    ap (λ (o : Option Head). logUnder views n (headElse o)) head-is ∙ fresh-log L views n (digestSize L) some-slots own others,
     ap (λ (o : Option Head). nextVersion (headElse o .digest) (logUnder views n (headElse o))) head-is ∙
-        ap (λ (l : List Placed). nextVersion firstDigest l) (fresh-log views n (digestSize L) some-slots own others),
+        ap (λ (l : List Placed). nextVersion firstDigest l) (fresh-log L views n (digestSize L) some-slots own others),
   )

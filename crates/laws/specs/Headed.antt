@@ -74,9 +74,9 @@ none-outside map i = rw (clear-named 0 i (bit-of-zero i)) (go (named map i))
 -- Slot j has this digest, and behind it these entries; no other slot has changed.
 pub record Heads (L : Layout) (v v′ : ℕ → View) (n j : ℕ) (d : Digest) (es : List Entry) : Type 0 where
   pub others : (i : ℕ) → i < n → (i ≡ j → ⊥) → v′ i ≡ v i
-  pub own : v′ j ≡ record { digest = some d; scan = scanned (itemsFrom L (digestSize L) es) (digestSize L + length (allEncoded L es)) }
+  pub own : v′ j ≡ record { layout = L; digest = some d; scan = scanned (itemsFrom L (digestSize L) es) (digestSize L + length (allEncoded L es)) }
 
-module _ (L : Layout) (v v′ : ℕ → View) (n s m : ℕ) (h : Head) (victims : ℕ) (next : Version) (es : List Entry) (f : Sound v n m h)
+module _ (L : Layout) (v v′ : ℕ → View) (n s m : ℕ) (h : Head) (victims : ℕ) (next : Version) (es : List Entry) (f : Sound L v n m h)
     (sub : within victims (h .digest .map) ≡ true)
     (c : Heads L v v′ n (newSlot (recordUnder L v n s m h)) (digestWith (recordUnder L v n s m h) victims next) es) where
   -- the old record, the new slot and the new head
@@ -129,7 +129,7 @@ module _ (L : Layout) (v v′ : ℕ → View) (n s m : ℕ) (h : Head) (victims 
           ap (placedIn j) (items-scanned (v′ j .scan) own-scan) ∙ placed-items L j (digestSize L) es
 
   pub new-sound : 0 < next .0 → used n (digestWith r victims next .map) < n → versionShared (logUnder v′ n g) ≡ false → length (keysOf (logUnder v′ n g)) ≤ m - 1
-      → Sound v′ n m g
+      → Sound L v′ n m g
   new-sound some-next room versions keys =
       record {
         top =
@@ -144,6 +144,7 @@ module _ (L : Layout) (v v′ : ℕ → View) (n s m : ℕ) (h : Head) (victims 
             (new-named (h .digest .map) victims j sub slot-clear) room;
         digests = λ i l q. digested i l q (ℕ-discrete i j);
         next-set = λ z. omega arith;
+        editions = λ i l q. alike i l q (ℕ-discrete i j);
         scans = λ i l q. whole i l q (ℕ-discrete i j);
         versions = versions;
         keys = keys;
@@ -155,6 +156,10 @@ module _ (L : Layout) (v v′ : ℕ → View) (n s m : ℕ) (h : Head) (victims 
           let d = f .digests i l (old-slot i o q) in
           (d .0, ap (λ (w : View). w .digest) (c .others i l o) ∙ d .1)
 
+      alike : (i : ℕ) → i < n → logSlots g i ≡ true → Dec (i ≡ j) → v′ i .layout ≡ L
+      alike i l q (yes o) = ap (λ (k : ℕ). v′ k .layout) o ∙ ap (λ (w : View). w .layout) (c .own)
+      alike i l q (no o) = ap (λ (w : View). w .layout) (c .others i l o) ∙ f .editions i l (old-slot i o q)
+
       whole : (i : ℕ) → i < n → logSlots g i ≡ true → Dec (i ≡ j) → isDamaged (v′ i .scan) ≡ false
       whole i l q (yes o) = ap (λ (k : ℕ). isDamaged (v′ k .scan)) o ∙ scanned-undamaged (v′ j .scan) own-scan
       whole i l q (no o) = ap (λ (w : View). isDamaged (w .scan)) (c .others i l o) ∙ f .scans i l (old-slot i o q)
@@ -164,7 +169,7 @@ module _ (L : Layout) (v v′ : ℕ → View) (n s m : ℕ) (h : Head) (victims 
 
 -- ---- one entry in a new head, on views
 
-module _ (L : Layout) (v v′ : ℕ → View) (n s m : ℕ) (h : Head) (x : Entry) (f : Sound v n m h)
+module _ (L : Layout) (v v′ : ℕ → View) (n s m : ℕ) (h : Head) (x : Entry) (f : Sound L v n m h)
     (c : Heads L v v′ n (newSlot (recordUnder L v n s m h)) (newDigest (recordUnder L v n s m h) 0) (x ∷ [])) where
   -- the old log, the new head, its log, and the entry in its place
   abbrev old : List Placed
@@ -191,7 +196,7 @@ module _ (L : Layout) (v v′ : ℕ → View) (n s m : ℕ) (h : Head) (x : Entr
     above : highest old < x .version
     above = omega (arith, t .version)
 
-    pub headed-sound : used n (h .digest .map) + 2 ≤ n → Sound v′ n m headed
+    pub headed-sound : used n (h .digest .map) + 2 ≤ n → Sound L v′ n m headed
     headed-sound room =
         new-sound L v v′ n s m h 0 (recordUnder L v n s m h .next) (x ∷ []) f (none-within (h .digest .map)) c (omega arith)
         (omega (
@@ -220,28 +225,28 @@ module _ (L : Layout) (v v′ : ℕ → View) (n s m : ℕ) (h : Head) (x : Entr
 -- ---- one entry in a new head, on areas
 
 module _ (L : Layout) (n s m : ℕ) (area area′ : List ℕ) (r : Record) (x : Entry) (e : recovered L n s m area ≡ some r)
-    (c : Heads L (viewsOf L area s) (viewsOf L area′ s) n (newSlot r) (newDigest r 0) (x ∷ [])) where
+    (c : Heads L (viewsOf area s) (viewsOf area′ s) n (newSlot r) (newDigest r 0) (x ∷ [])) where
   pub headed-entered :
-      Entered (logNow L area r) (record { slot = newSlot r; offset = digestSize L; entry = x })
-      (logNow L area′ (headedRecord L r (logNow L area r) x))
+      Entered (logNow area r) (record { slot = newSlot r; offset = digestSize L; entry = x })
+      (logNow area′ (headedRecord L r (logNow area r) x))
   headed-entered =
       recovered-case L n s m area
       (λ (k : Record).
-      Heads L (viewsOf L area s) (viewsOf L area′ s) n (newSlot k) (newDigest k 0) (x ∷ [])
-      → Entered (logNow L area k) (record { slot = newSlot k; offset = digestSize L; entry = x })
-      (logNow L area′ (headedRecord L k (logNow L area k) x)))
-      (λ h l f. headed-log L (viewsOf L area s) (viewsOf L area′ s) n s m h x f) r e c
+      Heads L (viewsOf area s) (viewsOf area′ s) n (newSlot k) (newDigest k 0) (x ∷ [])
+      → Entered (logNow area k) (record { slot = newSlot k; offset = digestSize L; entry = x })
+      (logNow area′ (headedRecord L k (logNow area k) x)))
+      (λ h l f. headed-log L (viewsOf area s) (viewsOf area′ s) n s m h x f) r e c
 
   pub headed-recovered : length area′ ≡ length area → used n (r .map) + 2 ≤ n
-      → Takes (r .next .0) (r .keys) m (logNow L area r) x
-      → recovered L n s m area′ ≡ some (headedRecord L r (logNow L area r) x)
+      → Takes (r .next .0) (r .keys) m (logNow area r) x
+      → recovered L n s m area′ ≡ some (headedRecord L r (logNow area r) x)
   headed-recovered same-length =
       recovered-case L n s m area
       (λ (k : Record).
-      Heads L (viewsOf L area s) (viewsOf L area′ s) n (newSlot k) (newDigest k 0) (x ∷ []) → used n (k .map) + 2 ≤ n
-      → Takes (k .next .0) (k .keys) m (logNow L area k) x
-      → recovered L n s m area′ ≡ some (headedRecord L k (logNow L area k) x))
+      Heads L (viewsOf area s) (viewsOf area′ s) n (newSlot k) (newDigest k 0) (x ∷ []) → used n (k .map) + 2 ≤ n
+      → Takes (k .next .0) (k .keys) m (logNow area k) x
+      → recovered L n s m area′ ≡ some (headedRecord L k (logNow area k) x))
       (λ h l f d room t.
-      sound-recovered L n s m area′ (headed L (viewsOf L area s) (viewsOf L area′ s) n s m h x f d)
-      (subst (Allowed n s m) (sym same-length) l) (headed-sound L (viewsOf L area s) (viewsOf L area′ s) n s m h x f d t room) ∙
-      ap some (headed-record L (viewsOf L area s) (viewsOf L area′ s) n s m h x f d t)) r e c
+      sound-recovered L n s m area′ (headed L (viewsOf area s) (viewsOf area′ s) n s m h x f d)
+      (subst (Allowed n s m) (sym same-length) l) (headed-sound L (viewsOf area s) (viewsOf area′ s) n s m h x f d t room) ∙
+      ap some (headed-record L (viewsOf area s) (viewsOf area′ s) n s m h x f d t)) r e c

@@ -1,7 +1,7 @@
 -- The log of slots by their views: it is put together slot by slot, so a change of one slot changes one part of it.
 use Prim.Native.Nat.{ℕ, zero, suc, _+_, _<_}
 use mathlib.Core.Path.{_≡_, refl, sym, ap, subst, _∙_}
-use mathlib.Core.Bool.{Bool, true, false}
+use mathlib.Core.Bool.{Bool, true, false, not}
 use mathlib.Core.Logic.{_⊎_, inl, inr}
 use mathlib.Core.List.{List, [], _∷_, _++_, append-assoc, append-nil, List·Memᴰ·head, List·Memᴰ·tail}
 use mathlib.Core.List.{List·Memᴰ·append-cases, List·Memᴰ·not-nil, List·Memᴰ·eq-of-singleton, Memᴰ·append-left, Memᴰ·append-right}
@@ -14,7 +14,10 @@ use Rattle.segment.specs.Entry.{keyOf}
 use Rattle.segment.specs.declared.Digest.{Digest}
 use Rattle.model.specs.Log.{View, Item, Placed, Scan, damaged, scanned, itemsOf, endOf, isDamaged, placedIn, logOf, keysOf, hasVersion, versionShared, highest}
 use Rattle.model.specs.Operations.{countNew}
-use Rattle.model.specs.Recovery.{namesNoDigest, logDamaged}
+use borrow.Author.Tests.{not-false}
+use Rattle.segment.specs.Layout.{Layout, sameLayout}
+use Rattle.segment.specs.LayoutLaws.{same-layout, layout-same}
+use Rattle.model.specs.Recovery.{namesNoDigest, logDamaged, otherEdition}
 use Rattle.laws.specs.Members.{In, Within, Same, Added, added-between, those, total}
 use Rattle.laws.specs.Versions.{count, count-append, shared-fewer, shared-append, below-highest, highest-added}
 use Rattle.laws.specs.Keys.{keys-added}
@@ -40,7 +43,7 @@ below-none (suc n) g e i l = go (ℕ-discrete i n) (λ m. below-none n g (either
     go (yes q) r = ap g q ∙ either-false-right (anyBelow g n) (g n) e
     go (no q) r = r (omega arith)
 
--- the two that recovery makes
+-- the three that recovery makes
 names-any : (v : ℕ → View) (p : ℕ → Bool) (n : ℕ) → namesNoDigest v p n ≡ anyBelow (λ i. both (p i) (isNone (v i .digest))) n
 unfolding namesNoDigest anyBelow
 names-any v p zero = refl
@@ -51,9 +54,17 @@ unfolding logDamaged anyBelow
 damaged-any v p zero = refl
 damaged-any v p (suc n) = cc (damaged-any v p n)
 
+other-any : (L : Layout) (v : ℕ → View) (p : ℕ → Bool) (n : ℕ) → otherEdition L v p n ≡ anyBelow (λ i. both (p i) (not (sameLayout (v i .layout) L))) n
+unfolding otherEdition anyBelow
+other-any L v p zero = refl
+other-any L v p (suc n) = cc (other-any L v p n)
+
 -- ---- what the tests of every slot say
 
--- Every slot that p picks has a digest, and its entries can all be read.
+-- Every slot that p picks has a digest, is of the store's edition, and its entries can all be read.
+abbrev pub AllOf : Layout → (ℕ → View) → (ℕ → Bool) → ℕ → Type 0
+AllOf L v p n = (i : ℕ) → i < n → p i ≡ true → v i .layout ≡ L
+
 abbrev pub AllDigests : (ℕ → View) → (ℕ → Bool) → ℕ → Type 0
 AllDigests v p n = (i : ℕ) → i < n → p i ≡ true → (d : Digest) × (v i .digest ≡ some d)
 
@@ -91,6 +102,18 @@ module _ (v : ℕ → View) (p : ℕ → Bool) (n : ℕ) where
       names-any v p n ∙
       none-below n (λ k. both (p k) (isNone (v k .digest)))
       (λ i l. both-of-true (p i) (isNone (v i .digest)) (λ q. let d = f i l q in digest-had (v i .digest) (d .0) (d .1)))
+
+  pub editions-one : (L : Layout) → otherEdition L v p n ≡ false → AllOf L v p n
+  editions-one L e i l q =
+      same-layout (v i .layout) L
+      (not-false _ (both-true-false (p i) (not (sameLayout (v i .layout) L))
+      (below-none n (λ k. both (p k) (not (sameLayout (v k .layout) L))) (sym (other-any L v p n) ∙ e) i l) q))
+
+  pub one-edition : (L : Layout) → AllOf L v p n → otherEdition L v p n ≡ false
+  one-edition L f =
+      other-any L v p n ∙
+      none-below n (λ k. both (p k) (not (sameLayout (v k .layout) L)))
+      (λ i l. both-of-true (p i) (not (sameLayout (v i .layout) L)) (λ q. ap (λ (K : Layout). not (sameLayout K L)) (f i l q) ∙ ap not (layout-same L)))
 
   pub undamaged-scans : logDamaged v p n ≡ false → AllScanned v p n
   undamaged-scans e i l q =

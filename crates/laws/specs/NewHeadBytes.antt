@@ -9,15 +9,15 @@ use native.Mathlib.Omega.{arith}
 use lib.ListN.{length, getD, take, drop, set, length-append, length-set}
 use Rattle.word.specs.Number.{Bytes}
 use Rattle.word.specs.Laws.{bytes-append}
-use Rattle.segment.specs.Layout.{Layout, digestSize}
+use Rattle.segment.specs.Layout.{Layout, digestSize, table}
 use Rattle.segment.specs.Entry.{Entry, WellFormed}
-use Rattle.segment.specs.Digest.{encodedDigest}
+use Rattle.segment.specs.Digest.{encodedDigest, layoutIn}
 use Rattle.segment.specs.DigestLaws.{length-encodedDigest, bytes-encodedDigest}
 use Rattle.segment.specs.declared.Digest.{Digest}
 use Rattle.model.specs.Log.{scanned, scan, segmentOf, digestIn, viewOf, viewsOf}
 use Rattle.model.specs.Operations.{allEncoded, commit, stored}
 use Rattle.laws.specs.Stores.{StoresBytes, Within, one-store, Written, slot-inside, length-segment, first-own, bytes-stored, stores-bytes-take, stores-bytes-commit, within-take, within-other, within-front, prefix-within, commit-within, commit-written}
-use Rattle.laws.specs.Scans.{itemsFrom, byte-alike, part-first, part-second, bytes-allEncoded, scans-scan, scans-encoded, no-digest, digest-begins}
+use Rattle.laws.specs.Scans.{itemsFrom, byte-alike, part-first, part-second, bytes-allEncoded, scans-scan, scans-encoded, no-digest, digest-begins, layout-begins}
 
 -- the bytes of a new head
 abbrev pub headBytes : Layout → Digest → List Entry → List ℕ
@@ -46,11 +46,11 @@ module _ (L : Layout) (S i : ℕ) (area : List ℕ) (d : Digest) (es : List Entr
 
   -- after every proper prefix of the stores but the empty one, which leaves the area as it was, the slot has no digest
   pub new-head-prefix : (k : ℕ) → 0 < k → k < length (headPlan L S i d es)
-      → viewsOf L (stored area (take k (headPlan L S i d es))) S i .digest ≡ none
+      → viewsOf (stored area (take k (headPlan L S i d es))) S i .digest ≡ none
   unfolding stored
   new-head-prefix zero p h = absurd (omega arith)
   new-head-prefix (suc k) p h =
-      no-digest L t
+      no-digest t
       (byte-alike 1 (segmentOf (set area (i * S) 0) S i) t (within-front (set area (i * S) 0) within) 0 (omega arith)
       ∙ first-own area S i (omega arith))
     where
@@ -63,20 +63,20 @@ module _ (L : Layout) (S i : ℕ) (area : List ℕ) (d : Digest) (es : List Entr
           (omega arith)
 
   -- after any of them, and after all, the other slots are viewed as before
-  pub new-head-other-prefix : (k j : ℕ) → (j ≡ i → ⊥) → viewsOf L (stored area (take k (headPlan L S i d es))) S j ≡ viewsOf L area S j
-  new-head-other-prefix k j apart = ap (viewOf L) (within-other area (within-take k new-head-within) j apart)
+  pub new-head-other-prefix : (k j : ℕ) → (j ≡ i → ⊥) → viewsOf (stored area (take k (headPlan L S i d es))) S j ≡ viewsOf area S j
+  new-head-other-prefix k j apart = ap viewOf (within-other area (within-take k new-head-within) j apart)
 
-  pub new-head-other : (j : ℕ) → (j ≡ i → ⊥) → viewsOf L (stored area (headPlan L S i d es)) S j ≡ viewsOf L area S j
-  new-head-other j apart = ap (viewOf L) (within-other area new-head-within j apart)
+  pub new-head-other : (j : ℕ) → (j ≡ i → ⊥) → viewsOf (stored area (headPlan L S i d es)) S j ≡ viewsOf area S j
+  new-head-other j apart = ap viewOf (within-other area new-head-within j apart)
 
 -- ---- after the last store
 
 module _ (L : Layout) (d : Digest) (es : List Entry) (number : d .number .0 < 256 ^ 4) (map : d .map < 256 ^ 4)
-    (next : d .next .0 < 256 ^ L .width) (formed : (x : Entry) → List·Memᴰ x es → WellFormed L x) where
+    (next : d .next .0 < 256 ^ table L .width) (formed : (x : Entry) → List·Memᴰ x es → WellFormed L x) where
   -- the view of a segment that begins with a digest and entries, with the end behind them
   pub head-view : (s t : List ℕ) → Written s t 0 (headBytes L d es) → digestSize L + length (allEncoded L es) ≤ length s
-      → viewOf L t ≡ record { digest = some d; scan = scanned (itemsFrom L (digestSize L) es) (digestSize L + length (allEncoded L es)) }
-  head-view s t w fits = λ i. record { digest = digest i; scan = entries i }
+      → viewOf t ≡ record { layout = L; digest = some d; scan = scanned (itemsFrom L (digestSize L) es) (digestSize L + length (allEncoded L es)) }
+  head-view s t w fits = λ i. record { layout = edition i; digest = digest i; scan = (ap (λ (K : Layout). scan K t) edition ∙ entries) i }
     where
       own-digest : take (digestSize L) t ≡ encodedDigest L d
       own-digest =
@@ -90,7 +90,10 @@ module _ (L : Layout) (d : Digest) (es : List Entry) (number : d .number .0 < 25
       at-end : digestSize L + length (allEncoded L es) ≡ 0 + length (headBytes L d es)
       at-end = omega (arith, length-headBytes L d es)
 
-      digest : digestIn L t ≡ some d
+      edition : layoutIn t ≡ L
+      edition = layout-begins L t d own-digest
+
+      digest : digestIn t ≡ some d
       digest = digest-begins L t d own-digest number map next
 
       entries : scan L t ≡ scanned (itemsFrom L (digestSize L) es) (digestSize L + length (allEncoded L es))
@@ -101,8 +104,8 @@ module _ (L : Layout) (d : Digest) (es : List Entry) (number : d .number .0 < 25
 
   -- the slot holds the digest and the entries
   pub new-head-view : (n S i : ℕ) (area : List ℕ) → length area ≡ n * S → i < n → digestSize L + length (allEncoded L es) ≤ S
-      → viewsOf L (stored area (headPlan L S i d es)) S i
-      ≡ record { digest = some d; scan = scanned (itemsFrom L (digestSize L) es) (digestSize L + length (allEncoded L es)) }
+      → viewsOf (stored area (headPlan L S i d es)) S i
+      ≡ record { layout = L; digest = some d; scan = scanned (itemsFrom L (digestSize L) es) (digestSize L + length (allEncoded L es)) }
   unfolding stored
   new-head-view n S i area whole below fits =
       head-view (segmentOf (set area (i * S) 0) S i) (segmentOf (stored area (headPlan L S i d es)) S i)

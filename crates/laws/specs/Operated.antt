@@ -27,10 +27,10 @@ pub record Accepted (L : Layout) (before : List ℕ) (idle : Record) (o : Operat
   pub area-bytes : Bytes before
   pub typed : Typed o
   pub recovers : recovered L (idle .slots) (idle .size) (idle .cells) before ≡ some idle
-  pub no-cause : firstCause (startCauses L idle (logNow L before idle) lengths freely o) ≡ none
+  pub no-cause : firstCause (startCauses L idle (logNow before idle) lengths freely o) ≡ none
 
 abbrev pub planAt : Layout → List ℕ → Record → Operation → List (ℕ × ℕ)
-planAt L before idle o = planFor L idle (logNow L before idle) o
+planAt L before idle o = planFor L idle (logNow before idle) o
 
 -- The map that an operation leaves, from the map before it: the key set, the key gone, or every key as it was.
 unfoldable pub mapAfter : Record → Operation → (Key → Option Entry) → Key → Option Entry
@@ -46,7 +46,7 @@ pub record OperationLaws (L : Layout) : Type 0 where
       recovered L (idle .slots) (idle .size) (idle .cells) (stored before (take k (planAt L before idle o))) ≡ some idle
   pub prefix-log :
       (before : List ℕ) (idle : Record) (o : Operation) → Accepted L before idle o → (k : ℕ) → k < length (planAt L before idle o) →
-      logNow L (stored before (take k (planAt L before idle o))) idle ≡ logNow L before idle
+      logNow (stored before (take k (planAt L before idle o))) idle ≡ logNow before idle
   -- Every prefix, and the whole plan, leaves bytes.
   pub plan-bytes :
       (before : List ℕ) (idle : Record) (o : Operation) → Accepted L before idle o → (k : ℕ) →
@@ -58,15 +58,15 @@ pub record OperationLaws (L : Layout) : Type 0 where
   -- Demand 2.
   pub finish-map :
       (before : List ℕ) (idle : Record) (o : Operation) → Accepted L before idle o → (j : Key) →
-      valueAt (logNow L (stored before (planAt L before idle o)) (finishedRecord L before idle o)) j ≡
-      mapAfter idle o (valueAt (logNow L before idle)) j
+      valueAt (logNow (stored before (planAt L before idle o)) (finishedRecord L before idle o)) j ≡
+      mapAfter idle o (valueAt (logNow before idle)) j
   -- An operation has from 1 to S + 1 stores, and its bytes fit a segment.
   pub some-stores : (before : List ℕ) (idle : Record) (o : Operation) → Accepted L before idle o → 0 < length (planAt L before idle o)
   pub few-stores :
       (before : List ℕ) (idle : Record) (o : Operation) → Accepted L before idle o → length (planAt L before idle o) ≤ idle .size + 1
   pub bytes-fit :
       (before : List ℕ) (idle : Record) (o : Operation) → Accepted L before idle o →
-      length (laid L idle (logNow L before idle) o .bytes) ≤ idle .size
+      length (laid L idle (logNow before idle) o .bytes) ≤ idle .size
   -- A recovered record passes the tests of range and length with the area and the cells that it was recovered from.
   pub own-lengths :
       (n s m : ℕ) (area : List ℕ) (r : Record) → Bytes area → recovered L n s m area ≡ some r → fitsLent L r (length area) m ≡ true
@@ -77,10 +77,10 @@ pub record OperationLaws (L : Layout) : Type 0 where
   -- Every version in the log is below the next version, and a key's value is a part of the area.
   pub version-below :
       (area : List ℕ) (r : Record) → recovered L (r .slots) (r .size) (r .cells) area ≡ some r → (k : Key) (x : Placed) →
-      present (logNow L area r) k ≡ some x → x .entry .version < r .next .0
+      present (logNow area r) k ≡ some x → x .entry .version < r .next .0
   pub value-part :
       (area : List ℕ) (r : Record) → Bytes area → recovered L (r .slots) (r .size) (r .cells) area ≡ some r → (k : Key) (x : Placed) →
-      present (logNow L area r) k ≡ some x → partOf area (valuePart L (r .size) (some x)) ≡ bytesIn (x .entry .value)
+      present (logNow area r) k ≡ some x → partOf area (valuePart L (r .size) (some x)) ≡ bytesIn (x .entry .value)
   -- A fresh area has an empty log and next version 1, at any number of cells.
   pub format-bytes : (n s : ℕ) (area : List ℕ) → Bytes area → Bytes (formatted L n s area)
   pub format-recovers :
@@ -88,5 +88,5 @@ pub record OperationLaws (L : Layout) : Type 0 where
       recovered L n s m (formatted L n s area) ≡ some (recordFrom L n s m (formatted L n s area))
   pub format-log :
       (n s m : ℕ) (area : List ℕ) → geometryBad n s (length area) ≡ false →
-      (logNow L (formatted L n s area) (recordFrom L n s m (formatted L n s area)) ≡ []) ×
+      (logNow (formatted L n s area) (recordFrom L n s m (formatted L n s area)) ≡ []) ×
       (recordFrom L n s m (formatted L n s area) .next .0 ≡ 1)

@@ -11,7 +11,8 @@ use lib.Seq.{take-length}
 use borrow.Author.Tests.{not-false, ltb-true, ltb-false, eqb-false}
 use Rattle.segment.specs.Choice.{pick, pick-true, pick-false, both, both-left, both-right, isNone, either-false-left, either-false-right}
 use Rattle.segment.specs.Packed.{field-at}
-use Rattle.segment.specs.Layout.{Layout, edition1, lookup, valueLength, digestSize, entrySize, numberLimit}
+use Rattle.segment.specs.declared.Edition.the-variants.{First, Second}
+use Rattle.segment.specs.Layout.{Layout, edition1, edition2, lookup, valueLength, digestSize, entrySize, numberLimit, table}
 use Rattle.segment.specs.Entry.{Entry, WellFormed, isTombstone, bytesIn, sizeOf, entryAt, entry}
 use Rattle.segment.specs.EntryLaws.{Readable, found-readable, found-bytes}
 use Rattle.segment.specs.declared.Key.{Key}
@@ -33,7 +34,7 @@ use Rattle.laws.specs.NewHeadBytes.{headPlan, new-head-other, new-head-v
 use Rattle.laws.specs.FormatBytes.{bytes-formatted}
 use Rattle.laws.specs.Fresh.{format-recovers, format-log}
 use Rattle.laws.specs.LogLaws.{log-in, scan-whole}
-use Rattle.laws.specs.RecoverLaws.{recovered-case, recovered-fits, recovered-holds, recovered-apart, recovered-above, recovered-more}
+use Rattle.laws.specs.RecoverLaws.{recovered-case, recovered-fits, recovered-holds, recovered-apart, recovered-above, recovered-more, log-whole}
 use Rattle.laws.specs.Headed.{Heads}
 use Rattle.laws.specs.Cleaned.{cleaned-cleaned, cleaned-recovered}
 use Rattle.laws.specs.Operated.{Accepted, planAt, mapAfter, OperationLaws}
@@ -53,7 +54,7 @@ module _ (L : Layout) (before : List ℕ) (idle : Record) (victims : ℕ) (next 
   clean-plan = headPlan L (idle .size) (newSlot idle) (digestWith idle victims next) (kept victims stand)
 
   views :
-      Heads L (viewsOf L before (idle .size)) (viewsOf L (stored before clean-plan) (idle .size)) (idle .slots) (newSlot idle)
+      Heads L (viewsOf before (idle .size)) (viewsOf (stored before clean-plan) (idle .size)) (idle .slots) (newSlot idle)
       (digestWith idle victims next) (kept victims stand)
   views =
       record {
@@ -70,19 +71,21 @@ module _ (L : Layout) (before : List ℕ) (idle : Record) (victims : ℕ) (next 
   pub clean-scan :
       scan L (segmentOf (stored before clean-plan) (idle .size) (newSlot idle)) ≡
       scanned (itemsFrom L (digestSize L) (kept victims stand)) (digestSize L + length (allEncoded L (kept victims stand)))
-  clean-scan = ap (λ (w : View). w .scan) (views .own)
+  clean-scan =
+      ap (λ (K : Layout). scan K (segmentOf (stored before clean-plan) (idle .size) (newSlot idle))) (sym (ap (λ (w : View). w .layout) (views .own)))
+      ∙ ap (λ (w : View). w .scan) (views .own)
 
   -- Recovery gives the record of 01's formulas, and the map is that of the log by which the cleaning went.
   pub clean-done :
       (recovered L (idle .slots) (idle .size) (idle .cells) (stored before clean-plan) ≡
       some (renewedRecord L before idle victims (kept victims stand) next))
       × ((j : Key) →
-      valueAt (logNow L (stored before clean-plan) (renewedRecord L before idle victims (kept victims stand) next)) j ≡ valueAt stand j)
+      valueAt (logNow (stored before clean-plan) (renewedRecord L before idle victims (kept victims stand) next)) j ≡ valueAt stand j)
   clean-done = (
     cleaned-recovered L (idle .slots) (idle .size) (idle .cells) before (stored before clean-plan) idle victims next stand (c .recovers)
         (c .sub) (c .stands) views (length-stored before clean-plan) (c .some-victim),
     log-clean victims stand (placedFrom L (newSlot idle) (digestSize L) (kept victims stand))
-        (logNow L (stored before clean-plan) (renewedRecord L before idle victims (kept victims stand) next))
+        (logNow (stored before clean-plan) (renewedRecord L before idle victims (kept victims stand) next))
         (cleaned-cleaned L (idle .slots) (idle .size) (idle .cells) before (stored before clean-plan) idle victims next stand (c .recovers)
         (c .sub) (c .stands) views) (shared-apart stand (c .stands .versions)),
   )
@@ -102,8 +105,8 @@ module _ (L : Layout) (roomy : Roomy L) (before : List ℕ) (idle : Record) wher
   Finishes o =
       (recovered L (idle .slots) (idle .size) (idle .cells) (stored before (planAt L before idle o)) ≡ some (finishedRecord L before idle o))
       × ((j : Key) →
-      valueAt (logNow L (stored before (planAt L before idle o)) (finishedRecord L before idle o)) j ≡
-      mapAfter idle o (valueAt (logNow L before idle)) j)
+      valueAt (logNow (stored before (planAt L before idle o)) (finishedRecord L before idle o)) j ≡
+      mapAfter idle o (valueAt (logNow before idle)) j)
 
   -- a delete, by whether its tombstone finds room
   finishes-delete : (k : Key) → Accepted L before idle (delete k) → Finishes (delete k)
@@ -117,11 +120,11 @@ module _ (L : Layout) (roomy : Roomy L) (before : List ℕ) (idle : Record) wher
       shape l r =
           (recovered L (idle .slots) (idle .size) (idle .cells) (stored before (planOf idle (l .pending 0) (l .bytes))) ≡ some r)
           × ((j : Key) →
-          valueAt (logNow L (stored before (planOf idle (l .pending 0) (l .bytes))) r) j ≡ pick (sameKey j x) none (valueAt (logNow L before idle) j))
+          valueAt (logNow (stored before (planOf idle (l .pending 0) (l .bytes))) r) j ≡ pick (sameKey j x) none (valueAt (logNow before idle) j))
 
       go : (t : Bool) → noRoom idle (entrySize L 0) ≡ t →
-          shape (pick t (laidForget L idle (logNow L before idle) k) (laidEntry L idle x))
-          (pick t (forgottenRecord L before idle k) (entryRecord L idle (logNow L before idle) x))
+          shape (pick t (laidForget L idle (logNow before idle) k) (laidEntry L idle x))
+          (pick t (forgottenRecord L before idle k) (entryRecord L idle (logNow before idle) x))
       go true full =
           let done = clean-done L before idle _ _ _ (forget-cleans L before idle k a full) in
           (done .0, λ j. done .1 j ∙ forget-value L before idle k a j)
@@ -130,7 +133,7 @@ module _ (L : Layout) (roomy : Roomy L) (before : List ℕ) (idle : Record) wher
             done .0,
             λ j.
                 done .1 j ∙
-                ap (λ (y : Option Entry). pick (sameKey j x) y (valueAt (logNow L before idle) j)) (gives-tombstone x refl),
+                ap (λ (y : Option Entry). pick (sameKey j x) y (valueAt (logNow before idle) j)) (gives-tombstone x refl),
           )
 
   pub finishes : (o : Operation) → Accepted L before idle o → Finishes o
@@ -142,7 +145,7 @@ module _ (L : Layout) (roomy : Roomy L) (before : List ℕ) (idle : Record) wher
         done .0,
         λ j.
             done .1 j ∙
-            ap (λ (y : Option Entry). pick (sameKey j x) y (valueAt (logNow L before idle) j)) (gives-object x refl),
+            ap (λ (y : Option Entry). pick (sameKey j x) y (valueAt (logNow before idle) j)) (gives-object x refl),
       )
   finishes (delete k) a = finishes-delete k a
   finishes (clean victims) a = clean-done L before idle _ _ _ (clean-cleans L before idle victims a)
@@ -154,8 +157,8 @@ deleted-next L before idle k = go (noRoom idle (entrySize L 0)) (fitsHead L idle
   where
     go : (full fits : Bool) →
         pick full (forgottenRecord L before idle k)
-        (pick fits (appendedRecord L idle (logNow L before idle) (tombstoneEntry idle k))
-        (headedRecord L idle (logNow L before idle) (tombstoneEntry idle k))) .next .0 ≡ idle .next .0 + 1
+        (pick fits (appendedRecord L idle (logNow before idle) (tombstoneEntry idle k))
+        (headedRecord L idle (logNow before idle) (tombstoneEntry idle k))) .next .0 ≡ idle .next .0 + 1
     go true fits = refl
     go false true = refl
     go false false = refl
@@ -180,15 +183,15 @@ present-in log k x e = go (latest log k) refl e
 
 -- an entry of the log stands in its segment
 log-found :
-    (L : Layout) (n s m : ℕ) (area : List ℕ) (r : Record) → recovered L n s m area ≡ some r → (x : Placed) → In x (logNow L area r) →
+    (L : Layout) (n s m : ℕ) (area : List ℕ) (r : Record) → recovered L n s m area ≡ some r → (x : Placed) → In x (logNow area r) →
     (x .slot < n) × (entryAt L (segmentOf area s (x .slot)) (x .offset) ≡ entry (x .entry))
 log-found L n s m area r e x =
     recovered-case L n s m area
-    (λ (k : Record). In x (logNow L area k) → (x .slot < n) × (entryAt L (segmentOf area s (x .slot)) (x .offset) ≡ entry (x .entry)))
+    (λ (k : Record). In x (logNow area k) → (x .slot < n) × (entryAt L (segmentOf area s (x .slot)) (x .offset) ≡ entry (x .entry)))
     (λ h l f i.
-    let at = log-in (viewsOf L area s) (named (h .digest .map)) n x i in (
+    let at = log-in (viewsOf area s) (named (h .digest .map)) n x i in (
       at .below,
-      scans-found (scan-scans L (segmentOf area s (x .slot)) (scan-whole (scan L (segmentOf area s (x .slot))) (f .scans (x .slot) (at .below) (at .picked))))
+      scans-found (scan-scans L (segmentOf area s (x .slot)) (log-whole L n s m area h f (x .slot) (at .below) (at .picked)))
           (at .item),
     ))
     r e
@@ -200,18 +203,18 @@ value-there :
 unfolding valuePart
 value-there L area s x long e =
     ap (λ (p : ℕ). take (length (bytesIn (x .entry .value))) (drop p area)) place ∙
-    sym (field-at (length (bytesIn (x .entry .value))) (x .offset + (7 + L .width)) s (x .slot * s) area (omega (arith, there .fits, long))) ∙
+    sym (field-at (length (bytesIn (x .entry .value))) (x .offset + (7 + table L .width)) s (x .slot * s) area (omega (arith, there .fits, long))) ∙
     sym
-    (field-at (length (bytesIn (x .entry .value))) (7 + L .width) (sizeOf L (x .entry)) (x .offset) (segmentOf area s (x .slot)) (omega arith)) ∙
+    (field-at (length (bytesIn (x .entry .value))) (7 + table L .width) (sizeOf L (x .entry)) (x .offset) (segmentOf area s (x .slot)) (omega arith)) ∙
     ap (take (length (bytesIn (x .entry .value)))) value ∙ take-length (bytesIn (x .entry .value))
   where
     there : Readable L (segmentOf area s (x .slot)) (x .offset) (x .entry)
     there = found-readable L (segmentOf area s (x .slot)) (x .offset) (x .entry) e
 
-    value : drop (7 + L .width) (take (sizeOf L (x .entry)) (drop (x .offset) (segmentOf area s (x .slot)))) ≡ bytesIn (x .entry .value)
+    value : drop (7 + table L .width) (take (sizeOf L (x .entry)) (drop (x .offset) (segmentOf area s (x .slot)))) ≡ bytesIn (x .entry .value)
     value = found-bytes L (segmentOf area s (x .slot)) (x .offset) (x .entry) e
 
-    place : placeOf s x + entrySize L 0 ≡ x .slot * s + (x .offset + (7 + L .width))
+    place : placeOf s x + entrySize L 0 ≡ x .slot * s + (x .offset + (7 + table L .width))
     place = omega arith
 
 -- ---- together
@@ -231,10 +234,10 @@ operation-laws L roomy =
       more-cells = λ n s m k area e good l. recovered-more L n s m k area (recordFrom L n s m area) e good l;
       version-below =
           λ area r e k x p.
-          recovered-above L (r .slots) (r .size) (r .cells) area r e x (present-in (logNow L area r) k x p);
+          recovered-above L (r .slots) (r .size) (r .cells) area r e x (present-in (logNow area r) k x p);
       value-part =
           λ area r ab e k x p.
-          let found = log-found L (r .slots) (r .size) (r .cells) area r e x (present-in (logNow L area r) k x p) in
+          let found = log-found L (r .slots) (r .size) (r .cells) area r e x (present-in (logNow area r) k x p) in
           value-there L area (r .size) x
           (length-segment area (r .size) (x .slot)
           (slot-inside area (r .slots) (r .size) (x .slot) (recovered-holds L (r .slots) (r .size) (r .cells) area r e .area-own) (found .0)))
@@ -264,21 +267,22 @@ table-fits before (p ∷ ps) f k n e = go (eqb k (p .0)) e (table-fits before ps
     go false q rest = rest q
 
 -- a tombstone's value has no bytes
-table-roomy : (L : Layout) → 0 < L .width → fitting (digestSize L + entrySize L 0) ((L .tombstoneKind, 0) ∷ L .objects) ≡ true → Roomy L
+table-roomy : (L : Layout) → 0 < table L .width → fitting (digestSize L + entrySize L 0) ((table L .tombstoneKind, 0) ∷ table L .objects) ≡ true → Roomy L
 unfolding valueLength lookup
 table-roomy L w f =
     record {
       wide = w;
       room =
-          λ k n e. let h = table-fits (digestSize L + entrySize L 0) ((L .tombstoneKind, 0) ∷ L .objects) f k n e in omega (arith, h);
+          λ k n e. let h = table-fits (digestSize L + entrySize L 0) ((table L .tombstoneKind, 0) ∷ table L .objects) f k n e in omega (arith, h);
     }
 
--- ---- the first edition
+-- ---- either edition
 
--- its longest entry, 131 bytes, fits behind a digest in the smallest segment
-pub edition1-roomy : Roomy edition1
-unfolding edition1 fitting both
-edition1-roomy = table-roomy edition1 (lit< tt) refl
+-- the longest entry, 131 or 135 bytes, fits behind a digest in the smallest segment
+pub edition-roomy : (L : Layout) → Roomy L
+unfolding table fitting both
+edition-roomy First = table-roomy edition1 (lit< tt) refl
+edition-roomy Second = table-roomy edition2 (lit< tt) refl
 
-pub edition1-laws : OperationLaws edition1
-edition1-laws = operation-laws edition1 edition1-roomy
+pub edition-laws : (L : Layout) → OperationLaws L
+edition-laws L = operation-laws L (edition-roomy L)

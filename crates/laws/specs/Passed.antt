@@ -14,7 +14,7 @@ use Rattle.record.specs.declared.Refusal.the-variants.{BadOrder}
 use Rattle.record.specs.declared.Record.{Record}
 use Rattle.model.specs.Log.{View, Head, Placed, versionShared}
 use Rattle.model.specs.Causes.{Cause, when, firstCause}
-use Rattle.model.specs.Recovery.{geometryBad, orderBad, headElse, digestBad, mapBad, namesNoDigest, logDamaged, logSlots, logUnder, lentCauses, imageCauses}
+use Rattle.model.specs.Recovery.{geometryBad, orderBad, headElse, digestBad, mapBad, namesNoDigest, otherEdition, logDamaged, logSlots, logUnder, lentCauses, imageCauses}
 use Rattle.model.specs.Operations.{Operation, write, delete, clean}
 use Rattle.model.specs.Refused.{Lengths, Terms, KeyFacts, keyFacts, expectsOther, outsideTables, keptLength, recordBad, workShort, isPending, valueBad, versionsSpent, numbersSpent, keysFull, noRoom, noNumber, victimsBad, keptTooLong, writeCauses, deleteCauses, cleanCauses, startCauses, stepCauses}
 use Rattle.laws.specs.CauseLaws.{NoCause, no-cause}
@@ -138,22 +138,24 @@ lent-passed n s m areaLength order e =
     record { geometry-good = t .0; cells-within = t .1 .0; order-good = t .1 .1 .0 }
 
 -- and of the image before it counts keys.
-pub record ImagePassed (v : ℕ → View) (n : ℕ) (h : Option Head) : Type 0 where
+pub record ImagePassed (L : Layout) (v : ℕ → View) (n : ℕ) (h : Option Head) : Type 0 where
   pub has-head : isNone h ≡ false
   pub digest-good : digestBad v n (headElse h) ≡ false
   pub map-within : mapBad n (headElse h) ≡ false
   pub all-digests : namesNoDigest v (logSlots (headElse h)) n ≡ false
+  pub one-edition : otherEdition L v (logSlots (headElse h)) n ≡ false
   pub undamaged : logDamaged v (logSlots (headElse h)) n ≡ false
   pub versions-apart : versionShared (logUnder v n (headElse h)) ≡ false
 
-pub image-passed : (v : ℕ → View) (n : ℕ) (h : Option Head) → firstCause (imageCauses v n h) ≡ none → ImagePassed v n h
-image-passed v n h e =
-    let t : NoCause (imageCauses v n h) = no-cause (imageCauses v n h) e in
+pub image-passed : (L : Layout) (v : ℕ → View) (n : ℕ) (h : Option Head) → firstCause (imageCauses L v n h) ≡ none → ImagePassed L v n h
+image-passed L v n h e =
+    let t : NoCause (imageCauses L v n h) = no-cause (imageCauses L v n h) e in
     record {
       has-head = t .0;
       digest-good = t .1 .0;
       map-within = t .1 .1 .0;
       all-digests = t .1 .1 .1 .0;
-      undamaged = t .1 .1 .1 .1 .0;
-      versions-apart = t .1 .1 .1 .1 .1 .0;
+      one-edition = t .1 .1 .1 .1 .0;
+      undamaged = t .1 .1 .1 .1 .1 .0;
+      versions-apart = t .1 .1 .1 .1 .1 .1 .0;
     }

@@ -13,7 +13,7 @@ use borrow.Author.Tests.{leb-true, ltb-false}
 use Rattle.word.specs.Number.{Bytes}
 use Rattle.word.specs.Laws.{bytes-take, bytes-drop}
 use Rattle.segment.specs.Choice.{pick}
-use Rattle.segment.specs.Layout.{Layout, digestSize, entrySize}
+use Rattle.segment.specs.Layout.{Layout, digestSize, entrySize, table}
 use Rattle.segment.specs.Entry.{Entry, WellFormed, bytesIn, kindOf, encoded, sizeOf}
 use Rattle.segment.specs.EntryLaws.{length-encoded, formed-known}
 use Rattle.segment.specs.Digest.{encodedDigest}
@@ -34,7 +34,7 @@ use Rattle.laws.specs.Scans.{encoded-one, scan-scans, scans-stands}
 use Rattle.laws.specs.AppendBytes.{append-prefix, append-prefix-bytes}
 use Rattle.laws.specs.NewHeadBytes.{headBytes, headPlan, length-headBytes, formed-one, new-head-prefix, new-head-other-prefix, new-head-prefix-bytes}
 use Rattle.laws.specs.LogLaws.{log-same, log-in, scan-whole}
-use Rattle.laws.specs.RecoverLaws.{recovered-case, recovered-holds, recovered-next, recovered-scan, views-recovered, cut-recovered, cut-log}
+use Rattle.laws.specs.RecoverLaws.{recovered-case, recovered-holds, recovered-next, recovered-scan, views-recovered, cut-recovered, cut-log, recovered-layout}
 use Rattle.laws.specs.Operated.{Accepted, planAt}
 use Rattle.laws.specs.Entering.{Roomy, Entering, idle-lent, write-enters, delete-enters}
 use Rattle.laws.specs.Cleanings.{Cleaning, clean-cleans, forget-cleans}
@@ -77,8 +77,8 @@ module _ (L : Layout) (roomy : Roomy L) (before : List ℕ) (idle : Record) wher
   -- a delete, by whether its tombstone finds room
   planned-delete :
       (k : Key) → Accepted L before idle (delete k) →
-      Planned L idle (laidDelete L idle (logNow L before idle) k .bytes)
-      (planOf idle (laidDelete L idle (logNow L before idle) k .pending 0) (laidDelete L idle (logNow L before idle) k .bytes))
+      Planned L idle (laidDelete L idle (logNow before idle) k .bytes)
+      (planOf idle (laidDelete L idle (logNow before idle) k .pending 0) (laidDelete L idle (logNow before idle) k .bytes))
   unfolding pick planOf
   planned-delete k a = go (noRoom idle (entrySize L 0)) refl
     where
@@ -86,14 +86,14 @@ module _ (L : Layout) (roomy : Roomy L) (before : List ℕ) (idle : Record) wher
       shape l = Planned L idle (l .bytes) (planOf idle (l .pending 0) (l .bytes))
 
       go : (t : Bool) → noRoom idle (entrySize L 0) ≡ t →
-          shape (pick t (laidForget L idle (logNow L before idle) k) (laidEntry L idle (tombstoneEntry idle k)))
+          shape (pick t (laidForget L idle (logNow before idle) k) (laidEntry L idle (tombstoneEntry idle k)))
       go true full = planned-clean L before idle _ _ _ (forget-cleans L before idle k a full)
       go false room =
           planned-entry L roomy before idle (tombstoneEntry idle k) (delete-enters L before idle k a room)
           (idle-lent L before idle (delete k) a .size-low)
 
   -- The plan of an accepted operation.
-  pub planned : (o : Operation) → Accepted L before idle o → Planned L idle (laid L idle (logNow L before idle) o .bytes) (planAt L before idle o)
+  pub planned : (o : Operation) → Accepted L before idle o → Planned L idle (laid L idle (logNow before idle) o .bytes) (planAt L before idle o)
   unfolding laid planOf
   planned (write k value) a =
       planned-entry L roomy before idle (writtenEntry idle k value) (write-enters L before idle k value a)
@@ -124,19 +124,19 @@ module _ (L : Layout) (area : List ℕ) (r : Record) (e : recovered L (r .slots)
         pow-mono (facts .slots-high),
       )
 
-  pub new-next-fits : Bytes area → r .next .0 < 256 ^ L .width
+  pub new-next-fits : Bytes area → r .next .0 < 256 ^ table L .width
   new-next-fits bytes = omega (arith, facts .next-some, recovered-next L (r .slots) (r .size) (r .cells) area r e bytes)
 
   -- what is to be shown of an area that a prefix leaves
   abbrev Stays : List ℕ → Type 0
   Stays area′ =
       (recovered L (r .slots) (r .size) (r .cells) area′ ≡ some r)
-      × (logOf (viewsOf L area′ (r .size)) (named (r .map)) (r .slots) ≡ logOf (viewsOf L area (r .size)) (named (r .map)) (r .slots))
+      × (logOf (viewsOf area′ (r .size)) (named (r .map)) (r .slots) ≡ logOf (viewsOf area (r .size)) (named (r .map)) (r .slots))
 
-  same-stays : (area′ : List ℕ) → length area′ ≡ length area → ((i : ℕ) → viewsOf L area′ (r .size) i ≡ viewsOf L area (r .size) i) → Stays area′
+  same-stays : (area′ : List ℕ) → length area′ ≡ length area → ((i : ℕ) → viewsOf area′ (r .size) i ≡ viewsOf area (r .size) i) → Stays area′
   same-stays area′ long same = (
     views-recovered L (r .slots) (r .size) (r .cells) area area′ long (λ i l. same i) ∙ e,
-    log-same (viewsOf L area (r .size)) (viewsOf L area′ (r .size)) (named (r .map)) (named (r .map)) (r .slots) (λ i l. refl)
+    log-same (viewsOf area (r .size)) (viewsOf area′ (r .size)) (named (r .map)) (named (r .map)) (r .slots) (λ i l. refl)
         (λ i l p. ap (λ (w : View). w .scan) (same i)),
   )
 
@@ -145,13 +145,13 @@ module _ (L : Layout) (area : List ℕ) (r : Record) (e : recovered L (r .slots)
   unfolding stored
   prefix-stays bytes plan (appends x f fits) k h =
       same-stays (stored area (take k plan)) (length-stored area (take k plan))
-      (append-prefix L (r .slots) (r .size) (r .head) area (itemsOf (scan L (segmentOf area (r .size) (r .head)))) (r .end) x (facts .area-own)
-      (facts .head-below) (recovered-scan L (r .slots) (r .size) (r .cells) area r e) f fits k h)
+      (append-prefix L (r .slots) (r .size) (r .head) area (itemsOf (viewsOf area (r .size) (r .head) .scan)) (r .end) x (facts .area-own)
+      (facts .head-below) (recovered-layout L (r .slots) (r .size) (r .cells) area r e) (recovered-scan L (r .slots) (r .size) (r .cells) area r e) f fits k h)
   prefix-stays bytes plan (heads d es f fits) k h = go k h
     where
       others :
           (j i : ℕ) → (i ≡ newSlot r → ⊥) →
-          viewsOf L (stored area (take j (headPlan L (r .size) (newSlot r) d es))) (r .size) i ≡ viewsOf L area (r .size) i
+          viewsOf (stored area (take j (headPlan L (r .size) (newSlot r) d es))) (r .size) i ≡ viewsOf area (r .size) i
       others j i q = new-head-other-prefix L (r .size) (newSlot r) area d es fits j i q
 
       go : (j : ℕ) → j < length (headPlan L (r .size) (newSlot r) d es) → Stays (stored area (take j (headPlan L (r .size) (newSlot r) d es)))

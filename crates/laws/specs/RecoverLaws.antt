@@ -12,12 +12,12 @@ use borrow.Author.Tests.{ltb-false, eqb-true, eqb-false, not-false, lt-ltb, le-l
 use Rattle.segment.specs.Choice.{pick, both, both-left, both-right, both-true, either, either-false, either-false-left, either-false-right, isNone}
 use Rattle.word.specs.Number.{Bytes}
 use Rattle.word.specs.Laws.{bytes-take, bytes-drop}
-use Rattle.segment.specs.Layout.{Layout, digestSize, versionLimit, numberLimit}
+use Rattle.segment.specs.Layout.{Layout, digestSize, versionLimit, numberLimit, table}
 use Rattle.segment.specs.LayoutLaws.{version-below}
 use Rattle.segment.specs.Entry.{Entry, entry, entryAt}
 use Rattle.segment.specs.EntryLaws.{found-readable}
 use Rattle.segment.specs.DigestLaws.{digest-number-fits, digest-next-fits}
-use Rattle.segment.specs.Digest.{digestOf}
+use Rattle.segment.specs.Digest.{digestOf, layoutIn}
 use Rattle.segment.specs.declared.Digest.{Digest}
 use Rattle.slot_map.specs.Bit.{named}
 use Rattle.slot_map.specs.Count.{used}
@@ -31,7 +31,7 @@ use Rattle.record.specs.declared.RecoverAnswer.{RecoverAnswer}
 use Rattle.model.specs.Log.{View, Head, Placed, scanned, itemsOf, scan, digestIn, segmentOf, viewsOf, headOf, logOf, endOf, isDamaged, keysOf, versionShared, highest, nextVersion}
 use Rattle.model.specs.Causes.{Cause, when, firstCause}
 use Rattle.model.specs.Counts.{countsOf}
-use Rattle.model.specs.Recovery.{headElse, sharing, mapBad, logSlots, logUnder, recordUnder, imageCauses, keyCauses, lentCauses, areaCauses, ifNone, recordFrom, recovered, orderBad, recoveryFor, recovery, recoverCauses}
+use Rattle.model.specs.Recovery.{headElse, sharing, mapBad, logSlots, logUnder, recordUnder, imageCauses, keyCauses, lentCauses, areaCauses, ifNone, recordFrom, recovered, orderBad, recoveryFor, recovery, recoverCauses, imageLayout}
 use Rattle.model.specs.Operations.{logNow, allEncoded}
 use Rattle.laws.specs.CauseLaws.{NoCause, no-cause, none-left, causes-none, cause-passed}
 use Rattle.laws.specs.Passed.{lent-passed}
@@ -42,27 +42,28 @@ use Rattle.laws.specs.Stores.{slot-inside, length-segment}
 use Rattle.laws.specs.Scans.{itemEntries, scan-scans, scans-low, scans-high, scans-total, scans-found}
 use Rattle.laws.specs.HeadLaws.{SameViews, digests-same, TopHead, head-is, is-top, top-head, top-alone, top-stays}
 use Rattle.laws.specs.Counted.{counts-fit}
-use Rattle.laws.specs.LogLaws.{AllDigests, AllScanned, names-digests, digests-named, undamaged-scans, scans-undamaged, log-same, log-in, scan-whole}
+use Rattle.laws.specs.LogLaws.{AllOf, AllDigests, AllScanned, names-digests, digests-named, editions-one, one-edition, undamaged-scans, scans-undamaged, log-same, log-in, scan-whole}
 
 -- ---- an image that recovery accepts
 
 -- The slots with these views have the head h and a log that nothing is wrong with, of no more keys than the index has room for.
-pub record Sound (v : ℕ → View) (n m : ℕ) (h : Head) : Type 0 where
+pub record Sound (L : Layout) (v : ℕ → View) (n m : ℕ) (h : Head) : Type 0 where
   pub top : TopHead v n h
   pub numbered : h .digest .number .0 ≡ 0 → ⊥
   pub map-good : mapGood n (h .slot) (h .digest .map) ≡ true
   pub digests : AllDigests v (logSlots h) n
   pub next-set : h .digest .next .0 ≡ 0 → ⊥
+  pub editions : AllOf L v (logSlots h) n
   pub scans : AllScanned v (logSlots h) n
   pub versions : versionShared (logUnder v n h) ≡ false
   pub keys : length (keysOf (logUnder v n h)) ≤ m - 1
 
-module _ (v : ℕ → View) (n m : ℕ) where
-  -- 16 to 20 with 24 and 25, as tests of a head that was found
+module _ (L : Layout) (v : ℕ → View) (n m : ℕ) where
+  -- 16 to 20 with 24, 25 and 28, as tests of a head that was found
   abbrev pub headCauses : Head → List Cause
-  headCauses h = imageCauses v n (some h) ++ keyCauses v n m (some h)
+  headCauses h = imageCauses L v n (some h) ++ keyCauses v n m (some h)
 
-  pub clear-sound : (h : Head) → headOf v n ≡ some h → NoCause (headCauses h) → Sound v n m h
+  pub clear-sound : (h : Head) → headOf v n ≡ some h → NoCause (headCauses h) → Sound L v n m h
   unfolding isNone headElse
   clear-sound h e f =
       let digest = f .1 .0 in
@@ -75,12 +76,13 @@ module _ (v : ℕ → View) (n m : ℕ) where
         map-good = not-false _ (f .1 .1 .0);
         digests = names-digests v (logSlots h) n (f .1 .1 .1 .0);
         next-set = eqb-false (h .digest .next .0) 0 (either-false-right _ _ digest);
-        scans = undamaged-scans v (logSlots h) n (f .1 .1 .1 .1 .0);
-        versions = f .1 .1 .1 .1 .1 .0;
-        keys = ltb-false (m - 1) (length (keysOf (logUnder v n h))) (f .1 .1 .1 .1 .1 .1 .0);
+        editions = editions-one v (logSlots h) n L (f .1 .1 .1 .1 .0);
+        scans = undamaged-scans v (logSlots h) n (f .1 .1 .1 .1 .1 .0);
+        versions = f .1 .1 .1 .1 .1 .1 .0;
+        keys = ltb-false (m - 1) (length (keysOf (logUnder v n h))) (f .1 .1 .1 .1 .1 .1 .1 .0);
       }
 
-  pub sound-clear : (h : Head) → Sound v n m h → NoCause (headCauses h)
+  pub sound-clear : (h : Head) → Sound L v n m h → NoCause (headCauses h)
   unfolding isNone headElse
   sound-clear h s =
       let number =
@@ -94,21 +96,24 @@ module _ (v : ℕ → View) (n m : ℕ) where
             map,
             (
               digests-named v (logSlots h) n (s .digests),
-              (scans-undamaged v (logSlots h) n (s .scans), (s .versions, (le-ltb (m - 1) (length (keysOf (logUnder v n h))) (s .keys), tt))),
+              (
+                one-edition v (logSlots h) n L (s .editions),
+                (scans-undamaged v (logSlots h) n (s .scans), (s .versions, (le-ltb (m - 1) (length (keysOf (logUnder v n h))) (s .keys), tt))),
+              ),
             ),
           ),
         ),
       )
 
-  pub sound-head : (h : Head) → Sound v n m h → headOf v n ≡ some h
+  pub sound-head : (h : Head) → Sound L v n m h → headOf v n ≡ some h
   sound-head h s = top-head v n h (s .top)
 
   -- an image without a cause has a head
-  pub clear-head : NoCause (imageCauses v n (headOf v n) ++ keyCauses v n m (headOf v n)) → (h : Head) × (headOf v n ≡ some h) × Sound v n m h
+  pub clear-head : NoCause (imageCauses L v n (headOf v n) ++ keyCauses v n m (headOf v n)) → (h : Head) × (headOf v n ≡ some h) × Sound L v n m h
   unfolding isNone
   clear-head = go (headOf v n) refl
     where
-      go : (o : Option Head) → headOf v n ≡ o → NoCause (imageCauses v n o ++ keyCauses v n m o) → (h : Head) × (headOf v n ≡ some h) × Sound v n m h
+      go : (o : Option Head) → headOf v n ≡ o → NoCause (imageCauses L v n o ++ keyCauses v n m o) → (h : Head) × (headOf v n ≡ some h) × Sound L v n m h
       go none e f = let q : true ≡ false = f .0 in let z : _≡_ {A = ℕ} 0 1 = cc in absurd (omega arith)
       go (some h) e f = (h, e, clear-sound h e f)
 
@@ -125,9 +130,9 @@ pub record Allowed (n s m areaLength : ℕ) : Type 0 where
 pub record Recovers (L : Layout) (n s m : ℕ) (area : List ℕ) (r : Record) : Type 0 where
   pub lent : Allowed n s m (length area)
   pub head : Head
-  pub head-is : headOf (viewsOf L area s) n ≡ some head
-  pub sound : Sound (viewsOf L area s) n m head
-  pub same : r ≡ recordUnder L (viewsOf L area s) n s m head
+  pub head-is : headOf (viewsOf area s) n ≡ some head
+  pub sound : Sound L (viewsOf area s) n m head
+  pub same : r ≡ recordUnder L (viewsOf area s) n s m head
 
 clear-lent : (n s m areaLength : ℕ) → NoCause (lentCauses n s m areaLength) → Allowed n s m areaLength
 clear-lent n s m areaLength f =
@@ -154,14 +159,14 @@ if-none (some c) a r e = let z : _≡_ {A = ℕ} 0 1 = cc in absurd (omega arith
 module _ (L : Layout) (n s m : ℕ) (area : List ℕ) where
   -- the views of the area
   abbrev v : ℕ → View
-  v = viewsOf L area s
+  v = viewsOf area s
 
   pub recovered-facts : (r : Record) → recovered L n s m area ≡ some r → Recovers L n s m area r
   unfolding recovered headElse
   recovered-facts r e =
       let accepted = if-none (firstCause (areaCauses L n s m area)) (recordFrom L n s m area) r e in
       let clear = no-cause (areaCauses L n s m area) (accepted .0) in
-      let found = clear-head v n m (clear .1 .1) in
+      let found = clear-head L v n m (clear .1 .1) in
       record {
         lent = clear-lent n s m (length area) (clear .0, (clear .1 .0, tt));
         head = found .0;
@@ -174,21 +179,21 @@ module _ (L : Layout) (n s m : ℕ) (area : List ℕ) where
   unfolding recovered headElse ifNone
   facts-recovered r f =
       let lent = lent-clear n s m (length area) (f .lent) in
-      let image : NoCause (imageCauses v n (headOf v n) ++ keyCauses v n m (headOf v n)) =
-      subst (λ (o : Option Head). NoCause (imageCauses v n o ++ keyCauses v n m o)) (sym (f .head-is))
-      (sound-clear v n m (f .head) (f .sound)) in
+      let image : NoCause (imageCauses L v n (headOf v n) ++ keyCauses v n m (headOf v n)) =
+      subst (λ (o : Option Head). NoCause (imageCauses L v n o ++ keyCauses v n m o)) (sym (f .head-is))
+      (sound-clear L v n m (f .head) (f .sound)) in
       let accepted = causes-none (areaCauses L n s m area) (lent .0, (lent .1 .0, image)) in
       ap (λ (o : Option Refusal). ifNone o (recordFrom L n s m area)) accepted ∙
       ap some (ap (λ (o : Option Head). recordUnder L v n s m (headElse o)) (f .head-is) ∙ sym (f .same))
 
   -- the record by the facts alone: the head's slot and its equation follow from the rest
-  pub sound-recovered : (h : Head) → Allowed n s m (length area) → Sound v n m h → recovered L n s m area ≡ some (recordUnder L v n s m h)
+  pub sound-recovered : (h : Head) → Allowed n s m (length area) → Sound L v n m h → recovered L n s m area ≡ some (recordUnder L v n s m h)
   sound-recovered h l f =
       facts-recovered (recordUnder L v n s m h)
-      (record { lent = l; head = h; head-is = sound-head v n m h f; sound = f; same = refl })
+      (record { lent = l; head = h; head-is = sound-head L v n m h f; sound = f; same = refl })
 
   -- What is shown of every record under a sound head holds of a recovered one.
-  pub recovered-case : (P : Record → Type 0) → ((h : Head) → Allowed n s m (length area) → Sound v n m h → P (recordUnder L v n s m h))
+  pub recovered-case : (P : Record → Type 0) → ((h : Head) → Allowed n s m (length area) → Sound L v n m h → P (recordUnder L v n s m h))
       → (r : Record) → recovered L n s m area ≡ some r → P r
   recovered-case P t r e =
       let f = recovered-facts r e in
@@ -203,7 +208,7 @@ module _ (L : Layout) (n s m : ℕ) (area : List ℕ) where
   order-free order e =
       ap (λ (o : Option Refusal). recoveryFor o (recordFrom L n s m area))
       (cause-passed (lentCauses n s m (length area)) (when (orderBad n order) BadOrder)
-      (imageCauses v n (headOf v n) ++ keyCauses v n m (headOf v n)) e)
+      (imageCauses L v n (headOf v n) ++ keyCauses v n m (headOf v n)) e)
 
   recovery-none : (o : Option Refusal) (a r : Record) → recoveryFor o a ≡ record { answer = RecoverAnswer.Recovered; rec = r } → (o ≡ none) × (a ≡ r)
   unfolding recoveryFor
@@ -219,7 +224,7 @@ module _ (L : Layout) (n s m : ℕ) (area : List ℕ) where
   unfolding recovery
   recovery-order order r e =
       lent-passed n s m (length area) order
-      (none-left (lentCauses n s m (length area) ++ (when (orderBad n order) BadOrder ∷ [])) (imageCauses v n (headOf v n) ++ keyCauses v n m (headOf v n))
+      (none-left (lentCauses n s m (length area) ++ (when (orderBad n order) BadOrder ∷ [])) (imageCauses L v n (headOf v n) ++ keyCauses v n m (headOf v n))
       (recovery-none (firstCause (recoverCauses L n s m order area)) (recordFrom L n s m area) r e .0)) .order-good
 
   pub recovery-recovered : (order : List ℕ) (r : Record) → recovery L n s m order area ≡ record { answer = RecoverAnswer.Recovered; rec = r }
@@ -253,7 +258,7 @@ module _ (L : Layout) (v : ℕ → View) (n s m : ℕ) (h : Head) where
   abbrev pub CountsInside : Type 0
   CountsInside = countsGood (s - digestSize L) (countsOf L (logUnder v n h)) ≡ true
 
-  pub under-lent : (areaLength : ℕ) → Allowed n s m areaLength → Sound v n m h → EndsInside → CountsInside → Lent L (recordUnder L v n s m h) areaLength m
+  pub under-lent : (areaLength : ℕ) → Allowed n s m areaLength → Sound L v n m h → EndsInside → CountsInside → Lent L (recordUnder L v n s m h) areaLength m
   under-lent areaLength l f e c =
       let map = map-in n (h .slot) (h .digest .map) (f .map-good) in
       record {
@@ -282,31 +287,32 @@ module _ (L : Layout) (v : ℕ → View) (n s m : ℕ) (h : Head) where
 -- ---- the log of a recovered record
 
 module _ (L : Layout) (n s m : ℕ) (area : List ℕ) (r : Record) (e : recovered L n s m area ≡ some r) where
-  pub recovered-versions : versionShared (logNow L area r) ≡ false
-  recovered-versions = recovered-case L n s m area (λ (k : Record). versionShared (logNow L area k) ≡ false) (λ h l f. f .versions) r e
+  pub recovered-versions : versionShared (logNow area r) ≡ false
+  recovered-versions = recovered-case L n s m area (λ (k : Record). versionShared (logNow area k) ≡ false) (λ h l f. f .versions) r e
 
-  pub recovered-apart : Apart (logNow L area r)
-  recovered-apart = shared-apart (logNow L area r) recovered-versions
+  pub recovered-apart : Apart (logNow area r)
+  recovered-apart = shared-apart (logNow area r) recovered-versions
 
-  pub recovered-keys : r .keys ≡ length (keysOf (logNow L area r))
-  recovered-keys = recovered-case L n s m area (λ (k : Record). k .keys ≡ length (keysOf (logNow L area k))) (λ h l f. refl) r e
+  pub recovered-keys : r .keys ≡ length (keysOf (logNow area r))
+  recovered-keys = recovered-case L n s m area (λ (k : Record). k .keys ≡ length (keysOf (logNow area k))) (λ h l f. refl) r e
 
   -- the next version is above every version in the log
-  pub recovered-highest : highest (logNow L area r) < r .next .0
-  recovered-highest = recovered-case L n s m area (λ (k : Record). highest (logNow L area k) < k .next .0) (λ h l f. omega arith) r e
+  pub recovered-highest : highest (logNow area r) < r .next .0
+  recovered-highest = recovered-case L n s m area (λ (k : Record). highest (logNow area k) < k .next .0) (λ h l f. omega arith) r e
 
-  pub recovered-above : (x : Placed) → In x (logNow L area r) → x .entry .version < r .next .0
-  recovered-above = below-highest (logNow L area r) (r .next .0) recovered-highest
+  pub recovered-above : (x : Placed) → In x (logNow area r) → x .entry .version < r .next .0
+  recovered-above = below-highest (logNow area r) (r .next .0) recovered-highest
 
 -- A larger index changes nothing but the number of its cells.
-pub more-sound : (v : ℕ → View) (n m k : ℕ) (h : Head) → m ≤ k → Sound v n m h → Sound v n k h
-more-sound v n m k h l f =
+pub more-sound : (L : Layout) (v : ℕ → View) (n m k : ℕ) (h : Head) → m ≤ k → Sound L v n m h → Sound L v n k h
+more-sound L v n m k h l f =
     record {
       top = f .top;
       numbered = f .numbered;
       map-good = f .map-good;
       digests = f .digests;
       next-set = f .next-set;
+      editions = f .editions;
       scans = f .scans;
       versions = f .versions;
       keys = omega (arith, f .keys);
@@ -319,8 +325,8 @@ recovered-more L n s m k area r e good l =
     let f = recovered-facts L n s m area r e in
     sound-recovered L n s k area (f .head)
     (record { slots-good = f .lent .slots-good; size-good = f .lent .size-good; long = f .lent .long; cells-good = good })
-    (more-sound (viewsOf L area s) n m k (f .head) l (f .sound)) ∙
-    ap (λ (o : Option Head). some (recordUnder L (viewsOf L area s) n s k (headElse o))) (sym (f .head-is))
+    (more-sound L (viewsOf area s) n m k (f .head) l (f .sound)) ∙
+    ap (λ (o : Option Head). some (recordUnder L (viewsOf area s) n s k (headElse o))) (sym (f .head-is))
 
 -- ---- what leaves the store as it was
 
@@ -346,7 +352,7 @@ cut-untouched v v′ n j h free s e =
     go i l d f (yes q) = let z : v′ i .digest ≡ none = ap (λ (k : ℕ). v′ k .digest) q ∙ e in cc
     go i l d f (no q) = sym (ap (λ (x : View). x .digest) (s i l q)) ∙ f
 
-module _ (v v′ : ℕ → View) (n m : ℕ) (h : Head) (f : Sound v n m h) (u : Untouched v v′ n h) where
+module _ (L : Layout) (v v′ : ℕ → View) (n m : ℕ) (h : Head) (f : Sound L v n m h) (u : Untouched v v′ n h) where
   pub untouched-log : logUnder v′ n h ≡ logUnder v n h
   untouched-log =
       log-same v v′ (logSlots h) (logSlots h) n (λ i l. refl) (λ i l e. ap (λ (x : View). x .scan) (u .kept i l e))
@@ -354,7 +360,7 @@ module _ (v v′ : ℕ → View) (n m : ℕ) (h : Head) (f : Sound v n m h) (u :
   head-kept : v′ (h .slot) ≡ v (h .slot)
   head-kept = u .kept (h .slot) (f .top .below) (map-in n (h .slot) (h .digest .map) (f .map-good) .head-named)
 
-  pub untouched-sound : Sound v′ n m h
+  pub untouched-sound : Sound L v′ n m h
   untouched-sound =
       record {
         top =
@@ -363,13 +369,14 @@ module _ (v v′ : ℕ → View) (n m : ℕ) (h : Head) (f : Sound v n m h) (u :
         map-good = f .map-good;
         digests = λ i l e. let d = f .digests i l e in (d .0, ap (λ (x : View). x .digest) (u .kept i l e) ∙ d .1);
         next-set = f .next-set;
+        editions = λ i l e. ap (λ (x : View). x .layout) (u .kept i l e) ∙ f .editions i l e;
         scans = λ i l e. ap (λ (x : View). isDamaged (x .scan)) (u .kept i l e) ∙ f .scans i l e;
         versions = ap versionShared untouched-log ∙ f .versions;
         keys = rw untouched-log (f .keys);
       }
 
-  pub untouched-record : (L : Layout) (s : ℕ) → recordUnder L v′ n s m h ≡ recordUnder L v n s m h
-  untouched-record L s = rw (untouched-log, head-kept)
+  pub untouched-record : (s : ℕ) → recordUnder L v′ n s m h ≡ recordUnder L v n s m h
+  untouched-record s = rw (untouched-log, head-kept)
 
 both-ways : (a b : Option Record) → ((r : Record) → a ≡ some r → b ≡ some r) → ((r : Record) → b ≡ some r → a ≡ some r) → b ≡ a
 both-ways none none to from = refl
@@ -377,47 +384,49 @@ both-ways none (some r) to from = sym (from r refl)
 both-ways (some r) b to from = to r refl
 
 module _ (L : Layout) (n s m : ℕ) (area area′ : List ℕ) (same-length : length area′ ≡ length area) where
-  pub untouched-recovered : (r : Record) (f : Recovers L n s m area r) → Untouched (viewsOf L area s) (viewsOf L area′ s) n (f .head)
+  pub untouched-recovered : (r : Record) (f : Recovers L n s m area r) → Untouched (viewsOf area s) (viewsOf area′ s) n (f .head)
       → recovered L n s m area′ ≡ some r
   untouched-recovered r f u =
       sound-recovered L n s m area′ (f .head) (subst (Allowed n s m) (sym same-length) (f .lent))
-      (untouched-sound (viewsOf L area s) (viewsOf L area′ s) n m (f .head) (f .sound) u) ∙
-      ap some (untouched-record (viewsOf L area s) (viewsOf L area′ s) n m (f .head) (f .sound) u L s ∙ sym (f .same))
+      (untouched-sound L (viewsOf area s) (viewsOf area′ s) n m (f .head) (f .sound) u) ∙
+      ap some (untouched-record L (viewsOf area s) (viewsOf area′ s) n m (f .head) (f .sound) u s ∙ sym (f .same))
 
-  views-kept : SameViews n (viewsOf L area s) (viewsOf L area′ s) → (r : Record) → recovered L n s m area ≡ some r
+  views-kept : SameViews n (viewsOf area s) (viewsOf area′ s) → (r : Record) → recovered L n s m area ≡ some r
       → recovered L n s m area′ ≡ some r
   views-kept same r e =
       let f = recovered-facts L n s m area r e in
-      untouched-recovered r f (same-untouched (viewsOf L area s) (viewsOf L area′ s) n (f .head) same)
+      untouched-recovered r f (same-untouched (viewsOf area s) (viewsOf area′ s) n (f .head) same)
 
 module _ (L : Layout) (n s m : ℕ) (area area′ : List ℕ) (same-length : length area′ ≡ length area) where
   -- Where no view changes recovery gives what it gave, a refusal too.
-  pub views-recovered : SameViews n (viewsOf L area s) (viewsOf L area′ s) → recovered L n s m area′ ≡ recovered L n s m area
+  pub views-recovered : SameViews n (viewsOf area s) (viewsOf area′ s) → recovered L n s m area′ ≡ recovered L n s m area
   views-recovered same =
       both-ways (recovered L n s m area) (recovered L n s m area′) (views-kept L n s m area area′ same-length same)
       (views-kept L n s m area′ area (sym same-length) (λ i l. sym (same i l)))
 
   -- A slot that the map does not name may change, as long as it has no digest then.
   module _ (r : Record) (j : ℕ) (free : named (r .map) j ≡ false)
-      (others : (i : ℕ) → i < n → (i ≡ j → ⊥) → viewsOf L area′ s i ≡ viewsOf L area s i) where
-    pub cut-recovered : recovered L n s m area ≡ some r → viewsOf L area′ s j .digest ≡ none → recovered L n s m area′ ≡ some r
+      (others : (i : ℕ) → i < n → (i ≡ j → ⊥) → viewsOf area′ s i ≡ viewsOf area s i) where
+    pub cut-recovered : recovered L n s m area ≡ some r → viewsOf area′ s j .digest ≡ none → recovered L n s m area′ ≡ some r
     cut-recovered e d =
         let f = recovered-facts L n s m area r e in
         untouched-recovered L n s m area area′ same-length r f
-        (cut-untouched (viewsOf L area s) (viewsOf L area′ s) n j (f .head)
+        (cut-untouched (viewsOf area s) (viewsOf area′ s) n j (f .head)
         (ap (λ (x : Record). named (x .map) j) (sym (f .same)) ∙ free) others d)
 
-    pub cut-log : logOf (viewsOf L area′ s) (named (r .map)) n ≡ logOf (viewsOf L area s) (named (r .map)) n
+    pub cut-log : logOf (viewsOf area′ s) (named (r .map)) n ≡ logOf (viewsOf area s) (named (r .map)) n
     cut-log =
-        log-same (viewsOf L area s) (viewsOf L area′ s) (named (r .map)) (named (r .map)) n (λ i l. refl)
+        log-same (viewsOf area s) (viewsOf area′ s) (named (r .map)) (named (r .map)) n (λ i l. refl)
         (λ i l e. ap (λ (x : View). x .scan) (others i l (λ q. clash (named (r .map) i) e (ap (named (r .map)) q ∙ free))))
 
 -- ---- what the bytes of the area add
 
 -- a digest that is found is the one that the segment's first bytes say
-digest-in : (L : Layout) (b : List ℕ) (d : Digest) → digestIn L b ≡ some d → d ≡ digestOf L b
+digest-in : (L : Layout) (b : List ℕ) (d : Digest) → layoutIn b ≡ L → digestIn b ≡ some d → d ≡ digestOf L b
 unfolding digestIn pick
-digest-in L b d e = go (eqb (getD b 0 0) (L .digestKind)) e
+digest-in L b d own e =
+    go (eqb (getD b 0 0) (table L .digestKind))
+    (ap (λ (K : Layout). pick (eqb (getD b 0 0) (table K .digestKind)) (some (digestOf K b)) none) (sym own) ∙ e)
   where
     go : (t : Bool) → pick t (some (digestOf L b)) none ≡ some d → d ≡ digestOf L b
     go true q = cc
@@ -425,6 +434,20 @@ digest-in L b d e = go (eqb (getD b 0 0) (L .digestKind)) e
 
 segment-bytes : (area : List ℕ) (s i : ℕ) → Bytes area → Bytes (segmentOf area s i)
 segment-bytes area s i h = bytes-take s (drop (i * s) area) (bytes-drop (i * s) area h)
+
+-- ---- the slots of the log
+
+module _ (L : Layout) (n s m : ℕ) (area : List ℕ) (h : Head) (f : Sound L (viewsOf area s) n m h) where
+  head-slot : logSlots h (h .slot) ≡ true
+  head-slot = map-in n (h .slot) (h .digest .map) (f .map-good) .head-named
+
+  -- a log slot is of the store's edition, and its entries are read by it
+  pub log-scan : (i : ℕ) → i < n → logSlots h i ≡ true → viewsOf area s i .scan ≡ scan L (segmentOf area s i)
+  log-scan i b q = ap (λ (K : Layout). scan K (segmentOf area s i)) (f .editions i b q)
+
+  pub log-whole : (i : ℕ) → i < n → logSlots h i ≡ true
+      → scan L (segmentOf area s i) ≡ scanned (itemsOf (viewsOf area s i .scan)) (endOf (viewsOf area s i .scan))
+  log-whole i b q = sym (log-scan i b q) ∙ scan-whole (viewsOf area s i .scan) (f .scans i b q)
 
 -- an entry that is found has a version below the limit
 found-version : (L : Layout) (b : List ℕ) (at : ℕ) (x : Entry) → entryAt L b at ≡ entry x → x .version < versionLimit L
@@ -437,14 +460,29 @@ module _ (L : Layout) (n s m : ℕ) (area : List ℕ) (r : Record) (e : recovere
   pub recovered-below : r .head < n
   recovered-below = recovered-case L n s m area (λ (k : Record). k .head < n) (λ h l f. f .top .below) r e
 
+  pub recovered-layout : layoutIn (segmentOf area s (r .head)) ≡ L
+  recovered-layout =
+      recovered-case L n s m area (λ (k : Record). layoutIn (segmentOf area s (k .head)) ≡ L)
+      (λ h l f. f .editions (h .slot) (f .top .below) (head-slot L n s m area h f)) r e
+
+  -- the edition that the record has
+  pub recovered-edition : r .edition ≡ L
+  recovered-edition = recovered-case L n s m area (λ (k : Record). k .edition ≡ L) (λ h l f. refl) r e
+
+  -- is the one that the head's slot tells
+  pub recovered-image : imageLayout n s area ≡ L
+  unfolding headElse
+  recovered-image =
+      let f = recovered-facts L n s m area r e in
+      ap (λ (o : Option Head). viewsOf area s (headElse o .slot) .layout) (f .head-is)
+      ∙ f .sound .editions (f .head .slot) (f .sound .top .below) (head-slot L n s m area (f .head) (f .sound))
+
   -- the head's entries end where the record says, behind the digest and in the segment
-  pub recovered-scan : scan L (segmentOf area s (r .head)) ≡ scanned (itemsOf (scan L (segmentOf area s (r .head)))) (r .end)
+  pub recovered-scan : scan L (segmentOf area s (r .head)) ≡ scanned (itemsOf (viewsOf area s (r .head) .scan)) (r .end)
   recovered-scan =
       recovered-case L n s m area
-      (λ (k : Record). scan L (segmentOf area s (k .head)) ≡ scanned (itemsOf (scan L (segmentOf area s (k .head)))) (k .end))
-      (λ h l f.
-      scan-whole (scan L (segmentOf area s (h .slot)))
-      (f .scans (h .slot) (f .top .below) (map-in n (h .slot) (h .digest .map) (f .map-good) .head-named))) r e
+      (λ (k : Record). scan L (segmentOf area s (k .head)) ≡ scanned (itemsOf (viewsOf area s (k .head) .scan)) (k .end))
+      (λ h l f. log-whole L n s m area h f (h .slot) (f .top .below) (head-slot L n s m area h f)) r e
 
   pub recovered-ends : (digestSize L ≤ r .end) × (r .end ≤ s)
   recovered-ends =
@@ -453,23 +491,24 @@ module _ (L : Layout) (n s m : ℕ) (area : List ℕ) (r : Record) (e : recovere
       (scans-low scans, omega (arith, scans-high scans))
 
   -- what a log slot holds fits behind a digest
-  slot-holds : (h : Head) → Allowed n s m (length area) → Sound (viewsOf L area s) n m h → (i : ℕ) → i < n → logSlots h i ≡ true
-      → length (allEncoded L (itemEntries (itemsOf (viewsOf L area s i .scan)))) ≤ s - digestSize L
+  slot-holds : (h : Head) → Allowed n s m (length area) → Sound L (viewsOf area s) n m h → (i : ℕ) → i < n → logSlots h i ≡ true
+      → length (allEncoded L (itemEntries (itemsOf (viewsOf area s i .scan)))) ≤ s - digestSize L
   slot-holds h l f i b q =
-      let scans = scan-scans L (segmentOf area s i) (scan-whole (scan L (segmentOf area s i)) (f .scans i b q)) in
+      let scans = scan-scans L (segmentOf area s i) (log-whole L n s m area h f i b q) in
       omega (arith, scans-total scans, scans-high scans, length-segment area s i (slot-inside area n s i (l .long) b))
 
   pub recovered-holds : Lent L r (length area) m
   recovered-holds =
       recovered-case L n s m area (λ (k : Record). (digestSize L ≤ k .end) × (k .end ≤ s) → Lent L k (length area) m)
       (λ h l f ends.
-      under-lent L (viewsOf L area s) n s m h (length area) l f ends
-      (counts-fit L (viewsOf L area s) (h .digest .map) n (s - digestSize L) (slot-holds h l f))) r e recovered-ends
+      under-lent L (viewsOf area s) n s m h (length area) l f ends
+      (counts-fit L (viewsOf area s) (h .digest .map) n (s - digestSize L) (slot-holds h l f))) r e recovered-ends
 
   -- in an area of bytes the record's numbers fit theirs
   module _ (bytes : Bytes area) where
-    own-digest : (h : Head) → Sound (viewsOf L area s) n m h → h .digest ≡ digestOf L (segmentOf area s (h .slot))
-    own-digest h f = digest-in L (segmentOf area s (h .slot)) (h .digest) (f .top .own)
+    own-digest : (h : Head) → Sound L (viewsOf area s) n m h → h .digest ≡ digestOf L (segmentOf area s (h .slot))
+    own-digest h f =
+        digest-in L (segmentOf area s (h .slot)) (h .digest) (f .editions (h .slot) (f .top .below) (head-slot L n s m area h f)) (f .top .own)
 
     pub recovered-number : r .digest .0 ≤ numberLimit
     recovered-number =
@@ -481,22 +520,21 @@ module _ (L : Layout) (n s m : ℕ) (area : List ℕ) (r : Record) (e : recovere
           ap (λ (d : Digest). d .number .0) (own-digest h f),
         )) r e
 
-    log-version : (h : Head) → Sound (viewsOf L area s) n m h → (x : Placed) → In x (logUnder (viewsOf L area s) n h)
+    log-version : (h : Head) → Sound L (viewsOf area s) n m h → (x : Placed) → In x (logUnder (viewsOf area s) n h)
         → x .entry .version < versionLimit L
     log-version h f x i =
-        let at = log-in (viewsOf L area s) (logSlots h) n x i in
-        let whole = scan-whole (scan L (segmentOf area s (x .slot))) (f .scans (x .slot) (at .below) (at .picked)) in
+        let at = log-in (viewsOf area s) (logSlots h) n x i in
         found-version L (segmentOf area s (x .slot)) (x .offset) (x .entry)
-        (scans-found (scan-scans L (segmentOf area s (x .slot)) whole) (at .item))
+        (scans-found (scan-scans L (segmentOf area s (x .slot)) (log-whole L n s m area h f (x .slot) (at .below) (at .picked))) (at .item))
 
     pub recovered-next : r .next .0 ≤ versionLimit L
     recovered-next =
         recovered-case L n s m area (λ (k : Record). k .next .0 ≤ versionLimit L)
         (λ h l f.
-        let fits : h .digest .next .0 < 256 ^ L .width =
+        let fits : h .digest .next .0 < 256 ^ table L .width =
         rw (own-digest h f) (digest-next-fits L (segmentOf area s (h .slot)) (segment-bytes area s (h .slot) bytes)) in
         let set : 0 < h .digest .next .0 = omega (arith, f .next-set) in
-        omega (arith, highest-below (logUnder (viewsOf L area s) n h) (versionLimit L) (omega arith) (log-version h f))) r e
+        omega (arith, highest-below (logUnder (viewsOf area s) n h) (versionLimit L) (omega arith) (log-version h f))) r e
 
     pub recovered-fits : fitsLent L r (length area) m ≡ true
     recovered-fits = fits-lent L r (length area) m recovered-holds recovered-next

@@ -22,7 +22,7 @@ use Rattle.slot_map.specs.Count.{used, free}
 use Rattle.slot_map.specs.CountLaws.{renewed-le, used-add}
 use Rattle.record.specs.RangeLaws.{Lent, lent}
 use Rattle.record.specs.declared.Record.{Record}
-use Rattle.model.specs.Log.{View, Item, Placed, scan, scanned, itemsOf, endOf, isDamaged, segmentOf, viewsOf, logOf, placedIn, present}
+use Rattle.model.specs.Log.{View, Item, Placed, scan, scanned, itemsOf, endOf, isDamaged, segmentOf, viewsOf, logOf, placedIn, present, Scan}
 use Rattle.model.specs.Recovery.{recovered}
 use Rattle.model.specs.Operations.{logNow, tombstoneEntry, newSlot, newDigest, kept, allEncoded, replaced, replacedBy, slotOf, forgetKept}
 use Rattle.model.specs.Refused.{keptTooLong, keptLength}
@@ -34,7 +34,7 @@ use Rattle.laws.specs.Stores.{slot-inside, length-segment}
 use Rattle.laws.specs.Scans.{itemEntries, Scans, scan-scans, scans-total, scans-high}
 use Rattle.laws.specs.LogLaws.{partOf, part-picked, part-passed, no-parts, log-those, log-in, scan-whole}
 use Rattle.laws.specs.Counted.{entries-in, slot-log}
-use Rattle.laws.specs.RecoverLaws.{recovered-case, recovered-holds}
+use Rattle.laws.specs.RecoverLaws.{recovered-case, recovered-holds, log-whole}
 
 module _ (L : Layout) (area : List ℕ) (r : Record) (e : recovered L (r .slots) (r .size) (r .cells) area ≡ some r) where
   facts : Lent L r (length area) (r .cells)
@@ -44,26 +44,30 @@ module _ (L : Layout) (area : List ℕ) (r : Record) (e : recovered L (r .slots)
   new-below = next-below (r .slots) (r .map) (r .head) (facts .head-below) (facts .some-free)
 
   -- what a log slot holds fits behind a digest
-  slot-fits : (i : ℕ) → i < r .slots → named (r .map) i ≡ true → digestSize L + length (allEncoded L (entriesOf (inSlot i (logNow L area r)))) ≤ r .size
+  slot-fits : (i : ℕ) → i < r .slots → named (r .map) i ≡ true → digestSize L + length (allEncoded L (entriesOf (inSlot i (logNow area r)))) ≤ r .size
   slot-fits i l q =
       rw held (omega (arith, scans-total scans, scans-high scans, length-segment area (r .size) i (slot-inside area (r .slots) (r .size) i (facts .area-own) l)))
     where
-      whole : scan L (segmentOf area (r .size) i) ≡ scanned (itemsOf (scan L (segmentOf area (r .size) i))) (endOf (scan L (segmentOf area (r .size) i)))
-      whole =
-          scan-whole (scan L (segmentOf area (r .size) i))
-          (recovered-case L (r .slots) (r .size) (r .cells) area
-          (λ (k : Record). named (k .map) i ≡ true → isDamaged (scan L (segmentOf area (r .size) i)) ≡ false) (λ h a f p. f .scans i l p) r e q)
+      -- what is read of the slot
+      read : Scan
+      read = viewsOf area (r .size) i .scan
 
-      scans : Scans L (segmentOf area (r .size) i) (digestSize L) (itemsOf (scan L (segmentOf area (r .size) i))) (endOf (scan L (segmentOf area (r .size) i)))
+      whole : scan L (segmentOf area (r .size) i) ≡ scanned (itemsOf read) (endOf read)
+      whole =
+          recovered-case L (r .slots) (r .size) (r .cells) area
+          (λ (k : Record). named (k .map) i ≡ true → scan L (segmentOf area (r .size) i) ≡ scanned (itemsOf read) (endOf read))
+          (λ h a f p. log-whole L (r .slots) (r .size) (r .cells) area h f i l p) r e q
+
+      scans : Scans L (segmentOf area (r .size) i) (digestSize L) (itemsOf read) (endOf read)
       scans = scan-scans L (segmentOf area (r .size) i) whole
 
-      held : entriesOf (inSlot i (logNow L area r)) ≡ itemEntries (itemsOf (scan L (segmentOf area (r .size) i)))
-      held = ap entriesOf (slot-log (viewsOf L area (r .size)) (r .map) (r .slots) i l q) ∙ entries-in i (itemsOf (scan L (segmentOf area (r .size) i)))
+      held : entriesOf (inSlot i (logNow area r)) ≡ itemEntries (itemsOf read)
+      held = ap entriesOf (slot-log (viewsOf area (r .size)) (r .map) (r .slots) i l q) ∙ entries-in i (itemsOf read)
 
   -- what is kept of one slot fits, also by a log whose entries there take no more bytes
   one-fits :
       (i : ℕ) → named (r .map) i ≡ true → (stand : List Placed) →
-      length (allEncoded L (entriesOf (inSlot i stand))) ≤ length (allEncoded L (entriesOf (inSlot i (logNow L area r)))) →
+      length (allEncoded L (entriesOf (inSlot i stand))) ≤ length (allEncoded L (entriesOf (inSlot i (logNow area r)))) →
       digestSize L + length (allEncoded L (kept (2 ^ i) stand)) ≤ r .size
   one-fits i q stand few =
       omega (
@@ -80,32 +84,32 @@ module _ (L : Layout) (area : List ℕ) (r : Record) (e : recovered L (r .slots)
           go (no h) = absurd (omega (arith, named-true (2 ^ i) j p, bit-pow-other i j (λ z. h (sym z))))
 
   -- One victim always fits: 14 never holds for a single victim.
-  pub one-victim-fits : (i : ℕ) → named (r .map) i ≡ true → keptTooLong L r (keptLength L (logNow L area r) (2 ^ i)) ≡ false
+  pub one-victim-fits : (i : ℕ) → named (r .map) i ≡ true → keptTooLong L r (keptLength L (logNow area r) (2 ^ i)) ≡ false
   one-victim-fits i q =
-      le-ltb (r .size) (digestSize L + length (allEncoded L (kept (2 ^ i) (logNow L area r)))) (one-fits i q (logNow L area r) (omega arith))
+      le-ltb (r .size) (digestSize L + length (allEncoded L (kept (2 ^ i) (logNow area r)))) (one-fits i q (logNow area r) (omega arith))
 
   -- 02, R-4: a delete that finds no room always fits its new head, for a tombstone is no longer than the object whose place it takes.
-  pub full-delete-fits : (k : Key) (x : Placed) → present (logNow L area r) k ≡ some x →
-      digestSize L + length (allEncoded L (forgetKept r (logNow L area r) k)) ≤ r .size
+  pub full-delete-fits : (k : Key) (x : Placed) → present (logNow area r) k ≡ some x →
+      digestSize L + length (allEncoded L (forgetKept r (logNow area r) k)) ≤ r .size
   unfolding replacedBy slotOf bytesIn
   full-delete-fits k x is =
       rw is
-      (one-fits (x .slot) (log-in (viewsOf L area (r .size)) (named (r .map)) (r .slots) x member .picked)
-      (replaced (x .entry .version) (tombstoneEntry r k) (logNow L area r)) few)
+      (one-fits (x .slot) (log-in (viewsOf area (r .size)) (named (r .map)) (r .slots) x member .picked)
+      (replaced (x .entry .version) (tombstoneEntry r k) (logNow area r)) few)
     where
-      member : In x (logNow L area r)
-      member = latest-some (logNow L area r) k x (present-live (logNow L area r) k x is .latest-of) .member
+      member : In x (logNow area r)
+      member = latest-some (logNow area r) k x (present-live (logNow area r) k x is .latest-of) .member
 
       few :
-          length (allEncoded L (entriesOf (inSlot (x .slot) (replaced (x .entry .version) (tombstoneEntry r k) (logNow L area r))))) ≤
-          length (allEncoded L (entriesOf (inSlot (x .slot) (logNow L area r))))
+          length (allEncoded L (entriesOf (inSlot (x .slot) (replaced (x .entry .version) (tombstoneEntry r k) (logNow area r))))) ≤
+          length (allEncoded L (entriesOf (inSlot (x .slot) (logNow area r))))
       few =
-          rw (replaced-those (x .entry .version) (tombstoneEntry r k) (λ j. eqb j (x .slot)) (logNow L area r))
+          rw (replaced-those (x .entry .version) (tombstoneEntry r k) (λ j. eqb j (x .slot)) (logNow area r))
           (omega (
             arith,
-            encoded-total L (entriesOf (replaced (x .entry .version) (tombstoneEntry r k) (inSlot (x .slot) (logNow L area r)))),
-            encoded-total L (entriesOf (inSlot (x .slot) (logNow L area r))),
-            replaced-total (x .entry .version) (tombstoneEntry r k) (λ d. length (encoded L d)) (inSlot (x .slot) (logNow L area r))
+            encoded-total L (entriesOf (replaced (x .entry .version) (tombstoneEntry r k) (inSlot (x .slot) (logNow area r)))),
+            encoded-total L (entriesOf (inSlot (x .slot) (logNow area r))),
+            replaced-total (x .entry .version) (tombstoneEntry r k) (λ d. length (encoded L d)) (inSlot (x .slot) (logNow area r))
                 (λ y m. omega (arith, length-encoded L (tombstoneEntry r k), length-encoded L (y .entry))),
           ))
 

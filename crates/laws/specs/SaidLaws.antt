@@ -62,16 +62,16 @@ pub read-settled :
     (L : Layout) (r : Record) (area cells : List ℕ) (t : Tables) (k : Key) (a : ReadAnswer) →
     ((c : Refusal) → firstCause (reachCauses L r (readLengths area cells) t k) ≡ some c → a ≡ ReadAnswer.Refused c) →
     (Genuine L area r cells → a ≡
-    readAnswer L (firstCause (readCauses L r (logNow L area r) (readLengths area cells) t k)) (present (logNow L area r) k)) →
+    readAnswer L (firstCause (readCauses L r (logNow area r) (readLengths area cells) t k)) (present (logNow area r) k)) →
     Settled L area r cells (reachCauses L r (readLengths area cells) t k) → readSaid a ≡
-    saidBy (firstCause (readCauses L r (logNow L area r) (readLengths area cells) t k)) (objectSaid L (present (logNow L area r) k))
+    saidBy (firstCause (readCauses L r (logNow area r) (readLengths area cells) t k)) (objectSaid L (present (logNow area r) k))
 unfolding saidBy
 read-settled L r area cells t k a early exact (inl (c, e)) =
     ap readSaid (early c e) ∙
-    sym (ap (λ (x : Option Refusal). saidBy x (objectSaid L (present (logNow L area r) k))) (read-early L r (logNow L area r) (readLengths area cells) t k c e))
+    sym (ap (λ (x : Option Refusal). saidBy x (objectSaid L (present (logNow area r) k))) (read-early L r (logNow area r) (readLengths area cells) t k c e))
 read-settled L r area cells t k a early exact (inr genuine) =
     ap readSaid (exact genuine) ∙
-    read-says L (firstCause (readCauses L r (logNow L area r) (readLengths area cells) t k)) (present (logNow L area r) k)
+    read-says L (firstCause (readCauses L r (logNow area r) (readLengths area cells) t k)) (present (logNow area r) k)
 
 -- and likewise a start
 pub start-settled :
@@ -79,14 +79,14 @@ pub start-settled :
     ((c : Refusal) → firstCause (earlyCauses L r (lentLengths area cells work) t o) ≡ some c →
     _≡_ {A = Begun} (record { start = a; work = work′ }) (begun L r [] o work (some c))) →
     (Genuine L area r cells → _≡_ {A = Begun} (record { start = a; work = work′ })
-    (begun L r (logNow L area r) o work (firstCause (startCauses L r (logNow L area r) (lentLengths area cells work) t o)))) →
+    (begun L r (logNow area r) o work (firstCause (startCauses L r (logNow area r) (lentLengths area cells work) t o)))) →
     Settled L area r cells (earlyCauses L r (lentLengths area cells work) t o) → startSaid (a .answer) ≡
-    saidBy (firstCause (startCauses L r (logNow L area r) (lentLengths area cells work) t o)) (takenWith (storesFor L r (logNow L area r) o))
+    saidBy (firstCause (startCauses L r (logNow area r) (lentLengths area cells work) t o)) (takenWith (storesFor L r (logNow area r) o))
 unfolding saidBy begun
 start-settled L t o r area cells work work′ a early exact (inl (c, e)) =
     ap (λ (b : Begun). startSaid (b .start .answer)) (early c e) ∙
-    sym (ap (λ (x : Option Refusal). saidBy x (takenWith (storesFor L r (logNow L area r) o)))
-    (start-early L r (logNow L area r) (lentLengths area cells work) t o c e))
+    sym (ap (λ (x : Option Refusal). saidBy x (takenWith (storesFor L r (logNow area r) o)))
+    (start-early L r (logNow area r) (lentLengths area cells work) t o c e))
 start-settled L t o r area cells work work′ a early exact (inr genuine) =
     ap (λ (b : Begun). startSaid (b .start .answer)) (exact genuine) ∙
-    start-says L r (logNow L area r) o work (firstCause (startCauses L r (logNow L area r) (lentLengths area cells work) t o))
+    start-says L r (logNow area r) o work (firstCause (startCauses L r (logNow area r) (lentLengths area cells work) t o))

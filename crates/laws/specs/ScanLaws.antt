@@ -31,33 +31,33 @@ use Rattle.laws.specs.RecoverLaws.{Allowed, Sound, lent-clear, sound-cle
 
 module _ (L : Layout) (n s : ℕ) (area : List ℕ) (t : Tables) (k : Key) where
   abbrev image : List Cause
-  image = imageCauses (viewsOf L area s) n (headOf (viewsOf L area s) n)
+  image = imageCauses L (viewsOf area s) n (headOf (viewsOf area s) n)
 
   pub scan-passed :
       geometryBad n s (length area) ≡ false → firstCause image ≡ none →
-      firstCause (scanCauses L n s area t k) ≡ firstCause (soughtCauses (imageLog L n s area) t k)
+      firstCause (scanCauses L n s area t k) ≡ firstCause (soughtCauses (imageLog n s area) t k)
   scan-passed g e =
-      cause-skip (when (geometryBad n s (length area)) Geometry) (image ++ soughtCauses (imageLog L n s area) t k) g ∙
-      first-none image (soughtCauses (imageLog L n s area) t k) e
+      cause-skip (when (geometryBad n s (length area)) Geometry) (image ++ soughtCauses (imageLog n s area) t k) g ∙
+      first-none image (soughtCauses (imageLog n s area) t k) e
 
   -- An image that recovery refuses for its number of keys alone is read all the same.
   pub scan-any-keys :
       (m : ℕ) → firstCause (areaCauses L n s m area) ≡ some TooManyKeys →
-      firstCause (scanCauses L n s area t k) ≡ firstCause (soughtCauses (imageLog L n s area) t k)
+      firstCause (scanCauses L n s area t k) ≡ firstCause (soughtCauses (imageLog n s area) t k)
   scan-any-keys m e = go (firstCause before) refl
     where
       before : List Cause
       before = lentCauses n s m (length area) ++ image
 
-      go : (c : Option Refusal) → firstCause before ≡ c → firstCause (scanCauses L n s area t k) ≡ firstCause (soughtCauses (imageLog L n s area) t k)
+      go : (c : Option Refusal) → firstCause before ≡ c → firstCause (scanCauses L n s area t k) ≡ firstCause (soughtCauses (imageLog n s area) t k)
       go none p =
           let clear = no-cause before p in
           scan-passed (clear .0) (causes-none image (clear .1 .1))
       go (some c) p =
           let met : _≡_ {A = Option Refusal} (some c) (some TooManyKeys) =
-          sym (first-some before (keyCauses (viewsOf L area s) n m (headOf (viewsOf L area s) n)) c p) ∙ e in
+          sym (first-some before (keyCauses (viewsOf area s) n m (headOf (viewsOf area s) n)) c p) ∙ e in
           let same : c ≡ TooManyKeys = cc in
-          let other = never-met 20 before (refl, (refl, (refl, (refl, (refl, (refl, (refl, (refl, tt)))))))) c p in
+          let other = never-met 20 before (refl, (refl, (refl, (refl, (refl, (refl, (refl, (refl, (refl, tt))))))))) c p in
           let z : _≡_ {A = ℕ} 0 1 = cc in absurd (omega arith)
 
 -- ---- an area that recovery accepts, with any index of as many cells that keeps its rule
@@ -69,36 +69,36 @@ pub record ReadsAlike (L : Layout) (n s : ℕ) (area : List ℕ) (r : Record) (c
 
 module _ (L : Layout) (n s m : ℕ) (area : List ℕ) where
   abbrev v : ℕ → View
-  v = viewsOf L area s
+  v = viewsOf area s
 
-  module _ (h : Head) (lent : Allowed n s m (length area)) (sound : Sound v n m h) where
+  module _ (h : Head) (lent : Allowed n s m (length area)) (sound : Sound L v n m h) where
     abbrev own : Record
     own = recordUnder L v n s m h
 
-    own-log : imageLog L n s area ≡ logNow L area own
+    own-log : imageLog n s area ≡ logNow area own
     unfolding headElse
-    own-log = ap (λ (o : Option Head). logUnder v n (headElse o)) (sound-head v n m h sound)
+    own-log = ap (λ (o : Option Head). logUnder v n (headElse o)) (sound-head L v n m h sound)
 
-    own-image : firstCause (imageCauses v n (headOf v n)) ≡ none
+    own-image : firstCause (imageCauses L v n (headOf v n)) ≡ none
     own-image =
-        ap (λ (o : Option Head). firstCause (imageCauses v n o)) (sound-head v n m h sound) ∙
-        none-left (imageCauses v n (some h)) (keyCauses v n m (some h)) (causes-none _ (sound-clear v n m h sound))
+        ap (λ (o : Option Head). firstCause (imageCauses L v n o)) (sound-head L v n m h sound) ∙
+        none-left (imageCauses L v n (some h)) (keyCauses v n m (some h)) (causes-none _ (sound-clear L v n m h sound))
 
     own-first :
         Bytes area → (t : Tables) (k : Key) (cells : List ℕ) → length cells ≡ m →
-        firstCause (scanCauses L n s area t k) ≡ firstCause (readCauses L own (logNow L area own) (readLengths area cells) t k)
+        firstCause (scanCauses L n s area t k) ≡ firstCause (readCauses L own (logNow area own) (readLengths area cells) t k)
     own-first bytes t k cells long =
         scan-passed L n s area t k (lent-clear n s m (length area) lent .0) own-image ∙
         ap (λ (log : List Placed). firstCause (soughtCauses log t k)) own-log ∙
         sym
-        (cause-skip (when (recordBad L own (readLengths area cells)) BadRecord) (soughtCauses (logNow L area own) t k)
+        (cause-skip (when (recordBad L own (readLengths area cells)) BadRecord) (soughtCauses (logNow area own) t k)
         (ap not
         (ap (λ (c : ℕ). fitsLent L own (length area) c) long ∙ recovered-fits L n s m area own (sound-recovered L n s m area h lent sound) bytes)))
 
-    own-genuine : (cells : List ℕ) → IndexRule s (logNow L area own) cells → Genuine L area own cells
+    own-genuine : (cells : List ℕ) → IndexRule s (logNow area own) cells → Genuine L area own cells
     own-genuine cells rule = record { recovers = sound-recovered L n s m area h lent sound; rule = rule }
 
-    own-alike : Bytes area → (cells : List ℕ) → length cells ≡ m → IndexRule s (logNow L area own) cells → (t : Tables) (k : Key) → ReadsAlike L n s area own cells t k
+    own-alike : Bytes area → (cells : List ℕ) → length cells ≡ m → IndexRule s (logNow area own) cells → (t : Tables) (k : Key) → ReadsAlike L n s area own cells t k
     own-alike bytes cells long rule t k =
         record {
           answer =
@@ -112,26 +112,26 @@ module _ (L : Layout) (n s m : ℕ) (area : List ℕ) where
         }
 
   -- the log that a scan reads is the recovered record's
-  pub scan-log : (r : Record) → recovered L n s m area ≡ some r → imageLog L n s area ≡ logNow L area r
-  scan-log = recovered-case L n s m area (λ (r : Record). imageLog L n s area ≡ logNow L area r) own-log
+  pub scan-log : (r : Record) → recovered L n s m area ≡ some r → imageLog n s area ≡ logNow area r
+  scan-log = recovered-case L n s m area (λ (r : Record). imageLog n s area ≡ logNow area r) own-log
 
   -- and its first cause that of an indexed read with as many cells
   pub scan-first :
       (r : Record) → recovered L n s m area ≡ some r → Bytes area → (t : Tables) (k : Key) (cells : List ℕ) → length cells ≡ m →
-      firstCause (scanCauses L n s area t k) ≡ firstCause (readCauses L r (logNow L area r) (readLengths area cells) t k)
+      firstCause (scanCauses L n s area t k) ≡ firstCause (readCauses L r (logNow area r) (readLengths area cells) t k)
   scan-first =
       recovered-case L n s m area
       (λ (r : Record).
       Bytes area → (t : Tables) (k : Key) (cells : List ℕ) → length cells ≡ m →
-      firstCause (scanCauses L n s area t k) ≡ firstCause (readCauses L r (logNow L area r) (readLengths area cells) t k))
+      firstCause (scanCauses L n s area t k) ≡ firstCause (readCauses L r (logNow area r) (readLengths area cells) t k))
       own-first
 
   -- For every area of bytes that recovery accepts, and every index of as many cells that keeps its rule, the two reads are one.
   pub scan-reads :
-      (r : Record) → recovered L n s m area ≡ some r → Bytes area → (cells : List ℕ) → length cells ≡ m → IndexRule s (logNow L area r) cells →
+      (r : Record) → recovered L n s m area ≡ some r → Bytes area → (cells : List ℕ) → length cells ≡ m → IndexRule s (logNow area r) cells →
       (t : Tables) (k : Key) → ReadsAlike L n s area r cells t k
   scan-reads =
       recovered-case L n s m area
       (λ (r : Record).
-      Bytes area → (cells : List ℕ) → length cells ≡ m → IndexRule s (logNow L area r) cells → (t : Tables) (k : Key) → ReadsAlike L n s area r cells t k)
+      Bytes area → (cells : List ℕ) → length cells ≡ m → IndexRule s (logNow area r) cells → (t : Tables) (k : Key) → ReadsAlike L n s area r cells t k)
       own-alike

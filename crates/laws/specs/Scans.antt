@@ -12,11 +12,12 @@ use borrow.Author.Tests.{eq-eqb, ne-eqb}
 use Rattle.word.specs.Number.{Bytes}
 use Rattle.word.specs.Laws.{bytes-append}
 use Rattle.segment.specs.Choice.{pick, pick-true, pick-false}
-use Rattle.segment.specs.Layout.{Layout, digestSize, digest-not-end}
+use Rattle.segment.specs.Layout.{Layout, digestSize, digest-not-end, table}
 use Rattle.segment.specs.Packed.{take-drop-take}
 use Rattle.segment.specs.Entry.{Entry, Found, entry, end, damage, entryAt, encoded, sizeOf, WellFormed, Stands}
 use Rattle.segment.specs.EntryLaws.{length-encoded, bytes-encoded, found-fits, found-end, found-stands, stands-found, zero-end, own-bytes, own-end}
-use Rattle.segment.specs.Digest.{digestOf, encodedDigest}
+use Rattle.segment.specs.Digest.{digestOf, encodedDigest, layoutIn}
+use Rattle.segment.specs.LayoutLaws.{layout-in, layout-byte}
 use Rattle.segment.specs.DigestLaws.{digest-own-bytes, digest-decoded}
 use Rattle.segment.specs.declared.Digest.{Digest}
 use Rattle.model.specs.Log.{Item, Scan, damaged, scanned, itemFirst, scanFrom, scan, placedIn, digestIn, viewOf}
@@ -207,39 +208,51 @@ module _ (L : Layout) where
 -- ---- the view of a segment
 
 -- the digest depends on its own bytes
-pub digest-alike : (L : Layout) (m : ℕ) (s t : List ℕ) → digestSize L ≤ m → take m t ≡ take m s → digestIn L t ≡ digestIn L s
+pub layout-alike : (m : ℕ) (s t : List ℕ) → 0 < m → take m t ≡ take m s → layoutIn t ≡ layoutIn s
+layout-alike m s t h same = layout-byte t s (byte-alike m s t same 0 h)
+
+pub digest-alike : (L : Layout) (m : ℕ) (s t : List ℕ) → layoutIn s ≡ L → digestSize L ≤ m → take m t ≡ take m s → digestIn t ≡ digestIn s
 unfolding digestIn
-digest-alike L m s t h same =
-    ap (λ (b : ℕ). pick (eqb b (L .digestKind)) (some (digestOf L t)) none) (byte-alike m s t same 0 (omega arith))
-    ∙ ap (λ (d : Digest). pick (eqb (getD s 0 0) (L .digestKind)) (some d) none)
+digest-alike L m s t own h same =
+    ap (λ (K : Layout). pick (eqb (getD t 0 0) (table K .digestKind)) (some (digestOf K t)) none) (layout-alike m s t (omega arith) same ∙ own)
+    ∙ ap (λ (b : ℕ). pick (eqb b (table L .digestKind)) (some (digestOf L t)) none) (byte-alike m s t same 0 (omega arith))
+    ∙ ap (λ (d : Digest). pick (eqb (getD s 0 0) (table L .digestKind)) (some d) none)
     (digest-own-bytes L t s (part-alike m s t same 0 (digestSize L) (omega arith)))
+    ∙ ap (λ (K : Layout). pick (eqb (getD s 0 0) (table K .digestKind)) (some (digestOf K s)) none) (sym own)
 
 -- a segment whose byte 0 is 0 has none
-pub no-digest : (L : Layout) (s : List ℕ) → getD s 0 0 ≡ 0 → digestIn L s ≡ none
+pub no-digest : (s : List ℕ) → getD s 0 0 ≡ 0 → digestIn s ≡ none
 unfolding digestIn
-no-digest L s z =
-    pick-false (eqb (getD s 0 0) (L .digestKind)) (some (digestOf L s)) none
-    (ne-eqb (getD s 0 0) (L .digestKind) (λ e. digest-not-end L (sym e ∙ z)))
+no-digest s z =
+    pick-false (eqb (getD s 0 0) (table (layoutIn s) .digestKind)) (some (digestOf (layoutIn s) s)) none
+    (ne-eqb (getD s 0 0) (table (layoutIn s) .digestKind) (λ e. digest-not-end (layoutIn s) (sym e ∙ z)))
 
--- a segment that begins with a digest's bytes has that digest
+-- a segment that begins with a digest's bytes is of the digest's edition and has that digest
+pub layout-begins : (L : Layout) (s : List ℕ) (d : Digest) → take (digestSize L) s ≡ encodedDigest L d → layoutIn s ≡ L
+layout-begins L s d own = layout-in L s (sym (getD-take (digestSize L) s 0 0 (omega arith)) ∙ ap (λ (l : List ℕ). getD l 0 0) own)
+
 pub digest-begins : (L : Layout) (s : List ℕ) (d : Digest) → take (digestSize L) s ≡ encodedDigest L d
-    → d .number .0 < 256 ^ 4 → d .map < 256 ^ 4 → d .next .0 < 256 ^ L .width → digestIn L s ≡ some d
+    → d .number .0 < 256 ^ 4 → d .map < 256 ^ 4 → d .next .0 < 256 ^ table L .width → digestIn s ≡ some d
 unfolding digestIn
 digest-begins L s d own number map next =
-    pick-true (eqb (getD s 0 0) (L .digestKind)) (some (digestOf L s)) none (eq-eqb (getD s 0 0) (L .digestKind) first)
+    ap (λ (K : Layout). pick (eqb (getD s 0 0) (table K .digestKind)) (some (digestOf K s)) none) (layout-begins L s d own)
+    ∙ pick-true (eqb (getD s 0 0) (table L .digestKind)) (some (digestOf L s)) none (eq-eqb (getD s 0 0) (table L .digestKind) first)
     ∙ ap some (ap (digestOf L) (sym both) ∙ digest-decoded L d (drop (digestSize L) s) number map next)
   where
-    first : getD s 0 0 ≡ L .digestKind
+    first : getD s 0 0 ≡ table L .digestKind
     first = sym (getD-take (digestSize L) s 0 0 (omega arith)) ∙ ap (λ (l : List ℕ). getD l 0 0) own
 
     both : encodedDigest L d ++ drop (digestSize L) s ≡ s
     both = ap (λ (l : List ℕ). l ++ drop (digestSize L) s) (sym own) ∙ take-append-drop (digestSize L) s
 
 -- segments that have the same bytes up to and with the kind byte at the end are viewed alike
-pub view-agree : (L : Layout) (s t : List ℕ) {is : List Item} {e : ℕ} → length t ≡ length s → scan L s ≡ scanned is e
-    → take (e + 1) t ≡ take (e + 1) s → viewOf L t ≡ viewOf L s
-view-agree L s t {is} {e} size p same =
+pub view-agree : (L : Layout) (s t : List ℕ) {is : List Item} {e : ℕ} → layoutIn s ≡ L → length t ≡ length s → scan L s ≡ scanned is e
+    → take (e + 1) t ≡ take (e + 1) s → viewOf t ≡ viewOf s
+view-agree L s t {is} {e} own size p same =
     let r : Scans L s (digestSize L) is e = scan-scans L s p in
-    let d : digestIn L t ≡ digestIn L s = digest-alike L (e + 1) s t (omega (arith, scans-low r)) same in
+    let d : digestIn t ≡ digestIn s = digest-alike L (e + 1) s t own (omega (arith, scans-low r)) same in
     let c : scan L t ≡ scan L s = scans-scan L t (scans-agree t size r same) ∙ sym p in
-    λ i. record { digest = d i; scan = c i }
+    let k : layoutIn t ≡ layoutIn s = layout-alike (e + 1) s t (omega arith) same in
+    let w : scan (layoutIn t) t ≡ scan (layoutIn s) s =
+    ap (λ (K : Layout). scan K t) (k ∙ own) ∙ c ∙ ap (λ (K : Layout). scan K s) (sym own) in
+    λ i. record { layout = k i; digest = d i; scan = w i }

@@ -54,14 +54,14 @@ pub record Filtered (log past : List Placed) (filter table : List ℕ) : Type 0 
   pub marks : (v : ℕ) → 1 ≤ count v past → isMarked filter v ≡ true
   pub suspects : Suspects log table
 
-pub filtered-none : (L : Layout) → versionLimit L ≤ vacant → (area : List ℕ) (s : ℕ) (p : ℕ → Bool) (n : ℕ) (filter : List ℕ)
-    → Filtered (logOf (viewsOf L area s) p n) (logOf (viewsOf L area s) p 0) filter (replicate 192 vacant)
+pub filtered-none : (area : List ℕ) (s : ℕ) (p : ℕ → Bool) (n : ℕ) (filter : List ℕ)
+    → Filtered (logOf (viewsOf area s) p n) (logOf (viewsOf area s) p 0) filter (replicate 192 vacant)
 unfolding logOf total
-filtered-none L limit area s p n filter =
+filtered-none area s p n filter =
     record {
       once = λ u e. omega arith;
       marks = λ u h. absurd (omega arith);
-      suspects = suspects-none (logOf (viewsOf L area s) p n) (log-below L limit area s p n) (replicate 192 vacant) empty-new;
+      suspects = suspects-none (logOf (viewsOf area s) p n) (log-below area s p n) (replicate 192 vacant) empty-new;
     }
 
 pub count-more : (log : List Placed) (x : Placed) (u : ℕ) → count u (log ++ (x ∷ [])) ≡ count u log + counted u (x .entry)

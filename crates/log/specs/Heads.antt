@@ -1,7 +1,7 @@
 -- The head search: the enum for a head, and what a turn of each loop adds.
 use Prim.Native.Nat.{ℕ, zero, suc, _+_, _≤_, _<_}
 use mathlib.Core.Path.{_≡_, refl, sym, _∙_, ap, subst}
-use mathlib.Core.Bool.{Bool, true, false}
+use mathlib.Core.Bool.{Bool, true, false, not}
 use mathlib.Core.List.{List}
 use mathlib.Core.Option.{Option, none, some}
 use native.Mathlib.Numerals.{add-one}
@@ -9,11 +9,12 @@ use native.Mathlib.Omega.{arith}
 use lib.Dec.{eqb, ltb}
 use borrow.Author.Tests.{lt-ltb, le-ltb, eq-eqb, ne-eqb, eqb-true, eqb-false}
 use Rattle.segment.specs.Choice.{pick-true, pick-false, both, both-true, both-false-left, both-false-right, either-false, either-true-left, either-true-right, isNone}
-use Rattle.segment.specs.Layout.{Layout}
-use Rattle.segment.specs.Digest.{digestOf, isDigest}
+use Rattle.segment.specs.Layout.{Layout, edition1, edition2, sameLayout}
+use Rattle.segment.specs.declared.Edition.the-variants.{First, Second}
+use Rattle.segment.specs.Digest.{layoutIn, digestOf, isDigest}
 use Rattle.segment.specs.declared.Digest.{Digest}
 use Rattle.model.specs.Log.{View, Head, segmentOf, viewsOf, headOf, newer, digestIn}
-use Rattle.model.specs.Recovery.{hasNumber, sharing, namesNoDigest}
+use Rattle.model.specs.Recovery.{hasNumber, sharing, namesNoDigest, otherEdition}
 use Rattle.log.specs.declared.HeadFound.{HeadFound}
 use Rattle.log.specs.declared.HeadFound.the-variants.{Nothing, At}
 use Rattle.laws.specs.HeadLaws.{number-le}
@@ -48,79 +49,79 @@ told-at h i d e = sym (untold-told h) ∙ ap untold e
 
 -- ---- the digest of a slot's bytes, by the test for one
 
-module _ (L : Layout) (s : List ℕ) (t : Bool) (tested : t ≡ isDigest L s) where
-  none-in : t ≡ false → digestIn L s ≡ none
+module _ (s : List ℕ) (t : Bool) (tested : t ≡ isDigest s) where
+  none-in : t ≡ false → digestIn s ≡ none
   unfolding digestIn
-  none-in e = pick-false (isDigest L s) _ _ (sym tested ∙ e)
+  none-in e = pick-false (isDigest s) _ _ (sym tested ∙ e)
 
-  some-in : t ≡ true → digestIn L s ≡ some (digestOf L s)
+  some-in : t ≡ true → digestIn s ≡ some (digestOf (layoutIn s) s)
   unfolding digestIn
-  some-in e = pick-true (isDigest L s) _ _ (sym tested ∙ e)
+  some-in e = pick-true (isDigest s) _ _ (sym tested ∙ e)
 
 -- ---- the later of the newest so far and a slot's
 
-module _ (L : Layout) (s : List ℕ) (t : Bool) (tested : t ≡ isDigest L s) (best : HeadFound) (slot : ℕ) where
-  pub later-none : t ≡ false → best ≡ told (newer (untold best) slot (digestIn L s))
+module _ (s : List ℕ) (t : Bool) (tested : t ≡ isDigest s) (best : HeadFound) (slot : ℕ) where
+  pub later-none : t ≡ false → best ≡ told (newer (untold best) slot (digestIn s))
   unfolding newer
-  later-none e = sym (ap (λ (d : Option Digest). told (newer (untold best) slot d)) (none-in L s t tested e) ∙ told-untold best)
+  later-none e = sym (ap (λ (d : Option Digest). told (newer (untold best) slot d)) (none-in s t tested e) ∙ told-untold best)
 
   -- d is the slot's digest
-  module _ (d : Digest) (its : d ≡ digestOf L s) (has : t ≡ true) where
-    found : digestIn L s ≡ some d
-    found = some-in L s t tested has ∙ ap some (sym its)
+  module _ (d : Digest) (its : d ≡ digestOf (layoutIn s) s) (has : t ≡ true) where
+    found : digestIn s ≡ some d
+    found = some-in s t tested has ∙ ap some (sym its)
 
-    pub later-first : best ≡ Nothing → At slot d ≡ told (newer (untold best) slot (digestIn L s))
+    pub later-first : best ≡ Nothing → At slot d ≡ told (newer (untold best) slot (digestIn s))
     unfolding told untold newer
     later-first e = rw (found, e)
 
     pub later-higher : (i : ℕ) (top : Digest) → best ≡ At i top → top .number .0 < d .number .0
-        → At slot d ≡ told (newer (untold best) slot (digestIn L s))
+        → At slot d ≡ told (newer (untold best) slot (digestIn s))
     unfolding told untold newer
     later-higher i top e h = rw (found, e, pick-true (ltb (top .number .0) (d .number .0)) _ _ (lt-ltb (top .number .0) (d .number .0) h))
 
     pub later-lower : (i : ℕ) (top : Digest) → best ≡ At i top → d .number .0 ≤ top .number .0
-        → At i top ≡ told (newer (untold best) slot (digestIn L s))
+        → At i top ≡ told (newer (untold best) slot (digestIn s))
     unfolding told untold newer
     later-lower i top e h = rw (found, e, pick-false (ltb (top .number .0) (d .number .0)) _ _ (le-ltb (top .number .0) (d .number .0) h))
 
 -- ---- 1 where a slot's digest has the number k
 
-module _ (L : Layout) (s : List ℕ) (t : Bool) (tested : t ≡ isDigest L s) (k : ℕ) where
-  pub number-none : t ≡ false → 0 ≡ hasNumber (digestIn L s) k
+module _ (s : List ℕ) (t : Bool) (tested : t ≡ isDigest s) (k : ℕ) where
+  pub number-none : t ≡ false → 0 ≡ hasNumber (digestIn s) k
   unfolding hasNumber
-  number-none e = rw (none-in L s t tested e)
+  number-none e = rw (none-in s t tested e)
 
-  module _ (d : Digest) (its : d ≡ digestOf L s) (has : t ≡ true) where
-    own : digestIn L s ≡ some d
-    own = some-in L s t tested has ∙ ap some (sym its)
+  module _ (d : Digest) (its : d ≡ digestOf (layoutIn s) s) (has : t ≡ true) where
+    own : digestIn s ≡ some d
+    own = some-in s t tested has ∙ ap some (sym its)
 
-    pub number-same : d .number .0 ≡ k → 1 ≡ hasNumber (digestIn L s) k
+    pub number-same : d .number .0 ≡ k → 1 ≡ hasNumber (digestIn s) k
     unfolding hasNumber
     number-same e = rw (own, pick-true {A = ℕ} (eqb (d .number .0) k) 1 0 (eq-eqb (d .number .0) k e))
 
-    pub number-other : (d .number .0 ≡ k → ⊥) → 0 ≡ hasNumber (digestIn L s) k
+    pub number-other : (d .number .0 ≡ k → ⊥) → 0 ≡ hasNumber (digestIn s) k
     unfolding hasNumber
     number-other e = rw (own, pick-false {A = ℕ} (eqb (d .number .0) k) 1 0 (ne-eqb (d .number .0) k e))
 
 -- ---- the turns of the loops; part is slot i's part of the area
 
-module _ (L : Layout) (area : List ℕ) (s i : ℕ) (part : List ℕ) (its : part ≡ segmentOf area s i) where
-  pub head-turn : (best r : HeadFound) → best ≡ told (headOf (viewsOf L area s) i) → r ≡ told (newer (untold best) i (digestIn L part))
-      → r ≡ told (headOf (viewsOf L area s) (i + 1))
+module _ (area : List ℕ) (s i : ℕ) (part : List ℕ) (its : part ≡ segmentOf area s i) where
+  pub head-turn : (best r : HeadFound) → best ≡ told (headOf (viewsOf area s) i) → r ≡ told (newer (untold best) i (digestIn part))
+      → r ≡ told (headOf (viewsOf area s) (i + 1))
   unfolding headOf
   head-turn best r e f =
       f
-      ∙ ap (λ (h : Option Head). told (newer h i (digestIn L part))) (ap untold e ∙ untold-told (headOf (viewsOf L area s) i))
-      ∙ ap (λ (l : List ℕ). told (newer (headOf (viewsOf L area s) i) i (digestIn L l))) its
-      ∙ ap (λ (m : ℕ). told (headOf (viewsOf L area s) m)) (sym (add-one i))
+      ∙ ap (λ (h : Option Head). told (newer h i (digestIn part))) (ap untold e ∙ untold-told (headOf (viewsOf area s) i))
+      ∙ ap (λ (l : List ℕ). told (newer (headOf (viewsOf area s) i) i (digestIn l))) its
+      ∙ ap (λ (m : ℕ). told (headOf (viewsOf area s) m)) (sym (add-one i))
 
-  pub number-turn : (k count h : ℕ) → count ≡ sharing (viewsOf L area s) k i → h ≡ hasNumber (digestIn L part) k
-      → count + h ≡ sharing (viewsOf L area s) k (i + 1)
+  pub number-turn : (k count h : ℕ) → count ≡ sharing (viewsOf area s) k i → h ≡ hasNumber (digestIn part) k
+      → count + h ≡ sharing (viewsOf area s) k (i + 1)
   unfolding sharing
   number-turn k count h e f =
       ap (λ (m : ℕ). m + h) e
-      ∙ ap (λ (m : ℕ). sharing (viewsOf L area s) k i + m) (f ∙ ap (λ (l : List ℕ). hasNumber (digestIn L l) k) its)
-      ∙ ap (sharing (viewsOf L area s) k) (sym (add-one i))
+      ∙ ap (λ (m : ℕ). sharing (viewsOf area s) k i + m) (f ∙ ap (λ (l : List ℕ). hasNumber (digestIn l) k) its)
+      ∙ ap (sharing (viewsOf area s) k) (sym (add-one i))
 
 -- at most one for each slot
 pub sharing-le : (v : ℕ → View) (k n : ℕ) → sharing v k n ≤ n
@@ -161,13 +162,48 @@ module _ (v : ℕ → View) (p : ℕ → Bool) (i : ℕ) where
       (both-true (p i) (isNone (v i .digest)) q (ap isNone e)))
 
 -- the test for a digest decides a slot that the map names
-module _ (L : Layout) (area : List ℕ) (s i : ℕ) (part : List ℕ) (its : part ≡ segmentOf area s i) (t : Bool) (tested : t ≡ isDigest L part)
+module _ (area : List ℕ) (s i : ℕ) (part : List ℕ) (its : part ≡ segmentOf area s i) (t : Bool) (tested : t ≡ isDigest part)
     (p : ℕ → Bool) where
-  here : t ≡ isDigest L (segmentOf area s i)
-  here = tested ∙ ap (isDigest L) its
+  here : t ≡ isDigest (segmentOf area s i)
+  here = tested ∙ ap isDigest its
 
-  pub names-turn : t ≡ true → namesNoDigest (viewsOf L area s) p i ≡ false → namesNoDigest (viewsOf L area s) p (i + 1) ≡ false
-  names-turn e = names-has (viewsOf L area s) p i (digestOf L (segmentOf area s i)) (some-in L (segmentOf area s i) t here e)
+  pub names-turn : t ≡ true → namesNoDigest (viewsOf area s) p i ≡ false → namesNoDigest (viewsOf area s) p (i + 1) ≡ false
+  names-turn e = names-has (viewsOf area s) p i (digestOf (layoutIn (segmentOf area s i)) (segmentOf area s i)) (some-in (segmentOf area s i) t here e)
 
-  pub names-found : t ≡ false → p i ≡ true → (n : ℕ) → i < n → true ≡ namesNoDigest (viewsOf L area s) p n
-  names-found e q n h = sym (names-lacks (viewsOf L area s) p i q (none-in L (segmentOf area s i) t here e) n h)
+  pub names-found : t ≡ false → p i ≡ true → (n : ℕ) → i < n → true ≡ namesNoDigest (viewsOf area s) p n
+  names-found e q n h = sym (names-lacks (viewsOf area s) p i q (none-in (segmentOf area s i) t here e) n h)
+
+-- ---- whether the map names a slot of another edition
+
+pub same-first : (L : Layout) → sameLayout edition1 L ≡ sameLayout L edition1
+unfolding sameLayout
+same-first First = refl
+same-first Second = refl
+
+pub same-second : (L : Layout) → sameLayout edition2 L ≡ not (sameLayout L edition1)
+unfolding sameLayout
+same-second First = refl
+same-second Second = refl
+
+module _ (L : Layout) (v : ℕ → View) (p : ℕ → Bool) (i : ℕ) where
+  pub other-skip : p i ≡ false → otherEdition L v p i ≡ false → otherEdition L v p (i + 1) ≡ false
+  unfolding otherEdition
+  other-skip q e =
+      ap (otherEdition L v p) (add-one i)
+      ∙ either-false (otherEdition L v p i) (both (p i) (not (sameLayout (v i .layout) L))) e
+      (both-false-left (p i) (not (sameLayout (v i .layout) L)) q)
+
+  pub other-turn : (t : Bool) → t ≡ sameLayout (v i .layout) L → t ≡ true → otherEdition L v p i ≡ false → otherEdition L v p (i + 1) ≡ false
+  unfolding otherEdition
+  other-turn t is same e =
+      ap (otherEdition L v p) (add-one i)
+      ∙ either-false (otherEdition L v p i) (both (p i) (not (sameLayout (v i .layout) L))) e
+      (both-false-right (p i) (not (sameLayout (v i .layout) L)) (ap not (sym is ∙ same)))
+
+  pub other-found : (t : Bool) → t ≡ sameLayout (v i .layout) L → t ≡ false → p i ≡ true → (n : ℕ) → i < n → true ≡ otherEdition L v p n
+  unfolding otherEdition
+  other-found t is other q n h =
+      sym
+      (stays (otherEdition L v p) (λ m. either-true-left (otherEdition L v p m) (both (p m) (not (sameLayout (v m .layout) L)))) (suc i) n h
+      (either-true-right (otherEdition L v p i) (both (p i) (not (sameLayout (v i .layout) L)))
+      (both-true (p i) (not (sameLayout (v i .layout) L)) q (ap not (sym is ∙ other)))))

@@ -8,10 +8,11 @@ use native.Mathlib.Decide.{decLe}
 use lib.Dec.{eqb, ltb}
 use borrow.Author.Tests.{eqb-true, eqb-false, ltb-true, ltb-false}
 use Rattle.segment.specs.Choice.{pick, pick-true, pick-false}
-use Rattle.segment.specs.Layout.{Layout, versionLimit}
+use Rattle.segment.specs.LayoutLaws.{limit-high}
+use Rattle.segment.specs.Digest.{layoutIn}
 use Rattle.segment.specs.Entry.{Entry}
 use Rattle.segment.specs.EntryLaws.{found-below}
-use Rattle.model.specs.Log.{Placed, Scan, damaged, scanned, scan, itemsOf, segmentOf, viewsOf, logOf, versionShared}
+use Rattle.model.specs.Log.{Placed, Scan, damaged, scanned, itemsOf, segmentOf, viewsOf, logOf, versionShared}
 use Rattle.laws.specs.Members.{clash, In, first, entriesOf, entries-append, total, total-append}
 use Rattle.laws.specs.Scans.{scan-scans, scans-found}
 use Rattle.laws.specs.LogLaws.{log-in}
@@ -53,18 +54,18 @@ hits-append table a b = rw (entries-append a b) (total-append (hit table) (entri
 abbrev pub Below : List Placed → Type 0
 Below log = (x : Placed) → In x log → x .entry .version < vacant
 
-pub log-below : (L : Layout) → versionLimit L ≤ vacant → (area : List ℕ) (S : ℕ) (p : ℕ → Bool) (n : ℕ) → Below (logOf (viewsOf L area S) p n)
+pub log-below : (area : List ℕ) (S : ℕ) (p : ℕ → Bool) (n : ℕ) → Below (logOf (viewsOf area S) p n)
 unfolding itemsOf
-log-below L limit area S p n x m =
-    let w = log-in (viewsOf L area S) p n x m in
-    go (scan L (segmentOf area S (x .slot))) refl (w .item)
+log-below area S p n x m =
+    let w = log-in (viewsOf area S) p n x m in
+    go (viewsOf area S (x .slot) .scan) refl (w .item)
   where
-    go : (r : Scan) → scan L (segmentOf area S (x .slot)) ≡ r → In (record { offset = x .offset; entry = x .entry }) (itemsOf r) → x .entry .version < vacant
+    go : (r : Scan) → viewsOf area S (x .slot) .scan ≡ r → In (record { offset = x .offset; entry = x .entry }) (itemsOf r) → x .entry .version < vacant
     go damaged e i = absurd (List·Memᴰ·not-nil i)
     go (scanned is k) e i =
         let s : List ℕ = segmentOf area S (x .slot) in
-        let l = found-below L s (x .offset) (x .entry) (scans-found (scan-scans L s e) i) in
-        omega arith
+        let l = found-below (layoutIn s) s (x .offset) (x .entry) (scans-found (scan-scans (layoutIn s) s e) i) in
+        omega (arith, limit-high (layoutIn s))
 
 count-none : (log : List Placed) → Below log → (u : ℕ) → vacant ≤ u → count u log ≡ 0
 count-none log h u q = go (decLe 1 (count u log))

@@ -7,12 +7,12 @@ use segment::Next;
 use segment::Version;
 use segment::area::cut;
 use segment::entries::next;
-use segment::layout::DIGEST_SIZE;
+use segment::layout::digest_size;
+use segment::reader::edition_of;
 ghost use Prim.Native.Nat.{_+_, _*_, _≤_, max};
 ghost use mathlib.Core.Path.{_≡_};
 ghost use mathlib.Core.Bool.{true};
 ghost use lib.ListN.{length};
-ghost use Rattle.segment.specs.Layout.{edition1};
 ghost use Rattle.slot_map.specs.Bit.{named};
 ghost use Rattle.model.specs.Log.{viewsOf, logOf};
 ghost use Rattle.log.specs.Shape.{Shape};
@@ -46,15 +46,16 @@ fn survey_slot(
 ) -> Passed
     requires { ⌜ slot * s + s ≤ length (now area) ⌝ }
     requires { ⌜ named map slot ≡ true ⌝ }
-    requires { ⌜ Told (logOf (viewsOf edition1 (now area) s) (named map) slot) (before .highest .0) (before .apart) (now filter) ⌝ }
-    ensures { λ r. ⌜ SlotTold (viewsOf edition1 (now (area .entry)) s) (named map) slot (r .sound) (r .highest .0) (r .apart) (now (filter .exit)) ⌝ }
+    requires { ⌜ Told (logOf (viewsOf (now area) s) (named map) slot) (before .highest .0) (before .apart) (now filter) ⌝ }
+    ensures { λ r. ⌜ SlotTold (viewsOf (now (area .entry)) s) (named map) slot (r .sound) (r .highest .0) (r .apart) (now (filter .exit)) ⌝ }
 {
     let part = cut(s, area, slot);
-    let mut at = DIGEST_SIZE;
+    let edition = edition_of(part);
+    let mut at = digest_size(edition);
     let mut highest = before.highest;
     let mut apart = before.apart;
     loop {
-        match next(part, at) {
+        match next(edition, part, at) {
             Next::Entry(header) => {
                 let version = header.version;
                 let length = header.length;
@@ -84,7 +85,7 @@ fn survey_slot(
 // false though no version is shared, for the filter may take two versions for one.
 pub fn survey(n: usize, s: usize, area: &[u8], map: u32) -> Passed
     requires { ⌜ Shape n s (now area) ⌝ }
-    ensures { λ r. ⌜ Surveyed (viewsOf edition1 (now (area .entry)) s) (named map) n (r .sound) (r .highest .0) (r .apart) ⌝ }
+    ensures { λ r. ⌜ Surveyed (viewsOf (now (area .entry)) s) (named map) n (r .sound) (r .highest .0) (r .apart) ⌝ }
 {
     let mut filter = [0u32; 512];
     let mut passed = Passed {

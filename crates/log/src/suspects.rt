@@ -11,16 +11,17 @@ use crate::table::occupied;
 use crate::table::one;
 use crate::table::search;
 use crate::table::stands_at;
+use segment::Edition;
 use segment::Next;
 use segment::Version;
 use segment::area::cut;
 use segment::entries::next;
-use segment::layout::DIGEST_SIZE;
+use segment::layout::digest_size;
+use segment::reader::edition_of;
 ghost use Prim.Native.Nat.{_≤_};
 ghost use mathlib.Core.Path.{_≡_};
 ghost use mathlib.Core.Bool.{true};
 ghost use lib.Dec.{ltb};
-ghost use Rattle.segment.specs.Layout.{edition1};
 ghost use Rattle.slot_map.specs.Bit.{named};
 ghost use Rattle.model.specs.Log.{viewsOf, logOf};
 ghost use Rattle.laws.specs.Versions.{count};
@@ -31,20 +32,19 @@ ghost use Rattle.log.specs.Suspects.{hits, Suspects, Suspecting};
 ghost use Rattle.log.specs.Counts.{CountIn};
 
 // How many entries of a segment have a suspect's version; 0 where it is damaged.
-fn count_in(part: &[u8], marks: &[u32], table: &[u64]) -> usize
+fn count_in(edition: Edition, part: &[u8], marks: &[u32], table: &[u64]) -> usize
     requires { ⌜ Sorted (now table) ⌝ }
     requires { ⌜ Marked (now marks) (now table) ⌝ }
-    ensures { λ r. ⌜ CountIn edition1 (now (part .entry)) (now (table .entry)) r ⌝ }
+    ensures { λ r. ⌜ CountIn edition (now (part .entry)) (now (table .entry)) r ⌝ }
 {
-    let mut at = DIGEST_SIZE;
+    let mut at = digest_size(edition);
     let mut count = 0;
     loop {
-        match next(part, at) {
+        match next(edition, part, at) {
             Next::Entry(header) => {
                 let version = header.version;
-                let length = header.length;
+                at += header.length;
                 count += one(is_suspect(marks, table, version));
-                at += length;
             }
             Next::End => {
                 return count;
@@ -61,7 +61,7 @@ fn count(n: usize, s: usize, area: &[u8], map: u32, marks: &[u32], table: &[u64]
     requires { ⌜ Shape n s (now area) ⌝ }
     requires { ⌜ Sorted (now table) ⌝ }
     requires { ⌜ Marked (now marks) (now table) ⌝ }
-    ensures { λ r. ⌜ r ≡ hits (now (table .entry)) (logOf (viewsOf edition1 (now (area .entry)) s) (named map) n) ⌝ }
+    ensures { λ r. ⌜ r ≡ hits (now (table .entry)) (logOf (viewsOf (now (area .entry)) s) (named map) n) ⌝ }
 {
     let mut total = 0;
     let mut i = 0;
@@ -71,7 +71,8 @@ fn count(n: usize, s: usize, area: &[u8], map: u32, marks: &[u32], table: &[u64]
         if !is_named(map, slot) {
             continue;
         }
-        total += count_in(cut(s, area, slot), marks, table);
+        let part = cut(s, area, slot);
+        total += count_in(edition_of(part), part, marks, table);
     }
     total
 }
@@ -79,8 +80,8 @@ fn count(n: usize, s: usize, area: &[u8], map: u32, marks: &[u32], table: &[u64]
 // Whether more entries of the log than suspects have a suspect's version.
 pub fn suspect_shared(n: usize, s: usize, area: &[u8], map: u32, table: &[u64]) -> bool
     requires { ⌜ Shape n s (now area) ⌝ }
-    requires { ⌜ Suspects (logOf (viewsOf edition1 (now area) s) (named map) n) (now table) ⌝ }
-    ensures { λ r. ⌜ r ≡ ltb (occupied (now (table .entry))) (hits (now (table .entry)) (logOf (viewsOf edition1 (now (area .entry)) s) (named map) n)) ⌝ }
+    requires { ⌜ Suspects (logOf (viewsOf (now area) s) (named map) n) (now table) ⌝ }
+    ensures { λ r. ⌜ r ≡ ltb (occupied (now (table .entry))) (hits (now (table .entry)) (logOf (viewsOf (now (area .entry)) s) (named map) n)) ⌝ }
 {
     let suspects = occupied(table);
     if suspects == 0 {
@@ -102,9 +103,9 @@ pub fn suspect(
     version: Version,
 ) -> bool
     requires { ⌜ Shape n s (now area) ⌝ }
-    requires { ⌜ Suspects (logOf (viewsOf edition1 (now area) s) (named map) n) (now table) ⌝ }
-    requires { ⌜ 1 ≤ count (version .0) (logOf (viewsOf edition1 (now area) s) (named map) n) ⌝ }
-    ensures { λ r. ⌜ Suspecting (logOf (viewsOf edition1 (now (area .entry)) s) (named map) n) (now (table .entry)) (version .0) true r (now (table .exit)) ⌝ }
+    requires { ⌜ Suspects (logOf (viewsOf (now area) s) (named map) n) (now table) ⌝ }
+    requires { ⌜ 1 ≤ count (version .0) (logOf (viewsOf (now area) s) (named map) n) ⌝ }
+    ensures { λ r. ⌜ Suspecting (logOf (viewsOf (now (area .entry)) s) (named map) n) (now (table .entry)) (version .0) true r (now (table .exit)) ⌝ }
 {
     let at = search(table, version);
     if stands_at(table, version, at) {

@@ -11,12 +11,12 @@ use segment::Next;
 use segment::Version;
 use segment::area::cut;
 use segment::entries::next;
-use segment::layout::DIGEST_SIZE;
+use segment::layout::digest_size;
+use segment::reader::edition_of;
 ghost use Prim.Native.Nat.{_≤_};
 ghost use mathlib.Core.Path.{_≡_};
 ghost use mathlib.Core.Bool.{true, false};
 ghost use lib.ListN.{length};
-ghost use Rattle.segment.specs.Layout.{edition1};
 ghost use Rattle.slot_map.specs.Bit.{named};
 ghost use Rattle.model.specs.Log.{viewsOf, logOf, versionShared};
 ghost use Rattle.model.specs.Recovery.{logDamaged};
@@ -37,9 +37,9 @@ fn pass(
 ) -> bool
     requires { ⌜ Shape n s (now area) ⌝ }
     requires { ⌜ length (now filter) ≡ 512 ⌝ }
-    requires { ⌜ Suspects (logOf (viewsOf edition1 (now area) s) (named map) n) (now table) ⌝ }
-    requires { ⌜ 1 ≤ count (version .0) (logOf (viewsOf edition1 (now area) s) (named map) n) ⌝ }
-    ensures suspecting { λ r. ⌜ Suspecting (logOf (viewsOf edition1 (now (area .entry)) s) (named map) n) (now (table .entry)) (version .0) (isMarked (now (filter .entry)) (version .0)) r (now (table .exit)) ⌝ }
+    requires { ⌜ Suspects (logOf (viewsOf (now area) s) (named map) n) (now table) ⌝ }
+    requires { ⌜ 1 ≤ count (version .0) (logOf (viewsOf (now area) s) (named map) n) ⌝ }
+    ensures suspecting { λ r. ⌜ Suspecting (logOf (viewsOf (now (area .entry)) s) (named map) n) (now (table .entry)) (version .0) (isMarked (now (filter .entry)) (version .0)) r (now (table .exit)) ⌝ }
     ensures now { λ _. ⌜ now (filter .exit) ≡ markedWith (now (filter .entry)) (version .0) ⌝ }
 {
     if !mark(filter, version) {
@@ -60,13 +60,14 @@ fn filter_slot(
     table: &mut [u64],
 ) -> bool
     requires { ⌜ Shape n s (now area) ⌝ }
-    requires { ⌜ Entering (viewsOf edition1 (now area) s) (named map) slot n (now filter) (now table) ⌝ }
-    ensures { λ r. ⌜ SlotFiltered (viewsOf edition1 (now (area .entry)) s) (named map) slot n r (now (filter .exit)) (now (table .exit)) ⌝ }
+    requires { ⌜ Entering (viewsOf (now area) s) (named map) slot n (now filter) (now table) ⌝ }
+    ensures { λ r. ⌜ SlotFiltered (viewsOf (now (area .entry)) s) (named map) slot n r (now (filter .exit)) (now (table .exit)) ⌝ }
 {
     let part = cut(s, area, slot);
-    let mut at = DIGEST_SIZE;
+    let edition = edition_of(part);
+    let mut at = digest_size(edition);
     loop {
-        match next(part, at) {
+        match next(edition, part, at) {
             Next::Entry(header) => {
                 let version = header.version;
                 let length = header.length;
@@ -88,8 +89,8 @@ fn filter_slot(
 // Whether two entries of the log have one version, by a walk of their own.
 fn search_shared(n: usize, s: usize, area: &[u8], map: u32) -> bool
     requires { ⌜ Shape n s (now area) ⌝ }
-    requires { ⌜ logDamaged (viewsOf edition1 (now area) s) (named map) n ≡ false ⌝ }
-    ensures { λ r. ⌜ r ≡ versionShared (logOf (viewsOf edition1 (now (area .entry)) s) (named map) n) ⌝ }
+    requires { ⌜ logDamaged (viewsOf (now area) s) (named map) n ≡ false ⌝ }
+    ensures { λ r. ⌜ r ≡ versionShared (logOf (viewsOf (now (area .entry)) s) (named map) n) ⌝ }
 {
     let mut filter = [0u32; 512];
     let mut table = [VACANT; 192];
@@ -110,9 +111,9 @@ fn search_shared(n: usize, s: usize, area: &[u8], map: u32) -> bool
 // Whether two entries of the log have one version. Where a survey told all versions apart, none have.
 pub fn version_shared(n: usize, s: usize, area: &[u8], map: u32, apart: bool) -> bool
     requires { ⌜ Shape n s (now area) ⌝ }
-    requires { ⌜ logDamaged (viewsOf edition1 (now area) s) (named map) n ≡ false ⌝ }
-    requires { ⌜ (apart ≡ true → versionShared (logOf (viewsOf edition1 (now area) s) (named map) n) ≡ false) ⌝ }
-    ensures { λ r. ⌜ r ≡ versionShared (logOf (viewsOf edition1 (now (area .entry)) s) (named map) n) ⌝ }
+    requires { ⌜ logDamaged (viewsOf (now area) s) (named map) n ≡ false ⌝ }
+    requires { ⌜ (apart ≡ true → versionShared (logOf (viewsOf (now area) s) (named map) n) ≡ false) ⌝ }
+    ensures { λ r. ⌜ r ≡ versionShared (logOf (viewsOf (now (area .entry)) s) (named map) n) ⌝ }
 {
     if apart {
         return false;

@@ -3,6 +3,7 @@ use Prim.Native.Nat.{ℕ, zero, suc}
 use mathlib.Core.List.{List, [], _∷_, _++_}
 use lib.ListN.{replicate}
 use Rattle.segment.specs.Entry.{Entry}
+use Rattle.segment.specs.Layout.{edition1}
 use Rattle.segment.specs.declared.Key.{Key}
 use Rattle.record.specs.declared.Pending.{Pending}
 use Rattle.record.specs.declared.Pending.the-variants.{Idle}
@@ -94,6 +95,7 @@ recordOf n s m end number map next keys p =
       slots = n;
       size = s;
       cells = m;
+      edition = edition1;
       head = 0;
       end = end;
       digest = record { 0 = number };

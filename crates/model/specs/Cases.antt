@@ -44,7 +44,7 @@ cleaned = played deleted (clean 1)
 
 abbrev case1 : List Row
 case1 =
-    row 1 (first (formatCauses 4 256 1024) ∷ take 14 fresh) (0 ∷ freshDigest ++ 0x00 ∷ [])
+    row 1 (first (formatCauses 1 4 256 1024) ∷ take 14 fresh) (0 ∷ freshDigest ++ 0x00 ∷ [])
     ∷ row 1 (drop 14 fresh) (replicate 242 255 ++ 0 ∷ replicate 255 255 ++ 0 ∷ replicate 255 255 ++ 0 ∷ replicate 255 255)
     ∷ row 1 (recovers fresh) (gives (record { head = 0; end = 13; digest = 1; map = 1; next = 1; keys = 0; left = 0 }))
     ∷ []

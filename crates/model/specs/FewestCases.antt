@@ -20,6 +20,7 @@ counted map few p =
       slots = 4;
       size = 256;
       cells = 16;
+      edition = edition1;
       head = 1;
       end = 13;
       digest = record { 0 = 1 };

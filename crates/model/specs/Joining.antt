@@ -103,7 +103,7 @@ pub record JoinPromise (L : Layout) (r : Record) (area cells : List ℕ) (a : Jo
   pub early : (c : Refusal) → firstCause (joinEarly L r (readLengths area cells)) ≡ some c → a .answer ≡ JoinAnswer.Refused c
   pub exact :
       Genuine L area r cells → a .answer ≡
-      joinAnswer (firstCause (joinCauses L r (readLengths area cells) (joinPair L r (logNow L area r)))) (joinPair L r (logNow L area r))
+      joinAnswer (firstCause (joinCauses L r (readLengths area cells) (joinPair L r (logNow area r)))) (joinPair L r (logNow area r))
   pub says :
       Settled L area r cells (joinEarly L r (readLengths area cells)) → joinSaid (a .answer) ≡
-      pairSaidBy (firstCause (joinCauses L r (readLengths area cells) (joinPair L r (logNow L area r)))) (joinPair L r (logNow L area r))
+      pairSaidBy (firstCause (joinCauses L r (readLengths area cells) (joinPair L r (logNow area r)))) (joinPair L r (logNow area r))

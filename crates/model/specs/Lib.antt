@@ -23,4 +23,5 @@ pub mod Fewest
 pub mod FewestCases
 pub mod DigestCases
 pub mod ScanCases
+pub mod EditionCases
 pub mod Joining

@@ -10,7 +10,7 @@ use Rattle.segment.specs.Choice.{pick, both, either}
 use Rattle.segment.specs.Layout.{Layout, digestSize}
 use Rattle.segment.specs.Entry.{Entry, Found, entry, end, damage, entryAt, isTombstone, sizeOf, keyOf}
 pub use Rattle.segment.specs.Area.{segmentOf}
-use Rattle.segment.specs.Digest.{isDigest, digestOf}
+use Rattle.segment.specs.Digest.{layoutIn, isDigest, digestOf}
 use Rattle.segment.specs.declared.Digest.{Digest}
 use Rattle.segment.specs.declared.Key.{Key}
 
@@ -58,20 +58,21 @@ isDamaged (scanned is e) = false
 
 -- ---- one slot, and the slots of an area
 
--- What matters of a slot: its digest, if byte 0 is the digest's kind, and its entries.
+-- What matters of a slot: its edition, told by its byte 0 (02, R-11), its digest, if byte 0 is the kind of one, and its entries.
 pub record View : Type 0 where
+  pub layout : Layout
   pub digest : Option Digest
   pub scan : Scan
 
-unfoldable pub digestIn : Layout → List ℕ → Option Digest
-digestIn L s = pick (isDigest L s) (some (digestOf L s)) none
+unfoldable pub digestIn : List ℕ → Option Digest
+digestIn s = pick (isDigest s) (some (digestOf (layoutIn s) s)) none
 
-abbrev pub viewOf : Layout → List ℕ → View
-viewOf L s = record { digest = digestIn L s; scan = scan L s }
+abbrev pub viewOf : List ℕ → View
+viewOf s = record { layout = layoutIn s; digest = digestIn s; scan = scan (layoutIn s) s }
 
 -- the slots of an area of S bytes each
-abbrev pub viewsOf : Layout → List ℕ → ℕ → (ℕ → View)
-viewsOf L area S i = viewOf L (segmentOf area S i)
+abbrev pub viewsOf : List ℕ → ℕ → (ℕ → View)
+viewsOf area S i = viewOf (segmentOf area S i)
 
 -- ---- the head
 
@@ -86,7 +87,7 @@ newer h i none = h
 newer none i (some d) = some (record { slot = i; digest = d })
 newer (some h) i (some d) = pick (ltb (h .digest .number .0) (d .number .0)) (some (record { slot = i; digest = d })) (some h)
 
--- The head of the slots below n: the one whose digest number is highest, if any of them has a digest.
+-- The head of the slots below n: the one whose digest number is highest, if any of them has a digest, of either edition.
 unfoldable pub headOf : (ℕ → View) → ℕ → Option Head
 headOf v zero = none
 headOf v (suc n) = newer (headOf v n) n (v n .digest)

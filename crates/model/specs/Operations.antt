@@ -42,8 +42,8 @@ Typed (delete k) = TypedKey k
 Typed (clean victims) = victims < 256 ^ 4
 
 -- the log of the area under a record's map
-abbrev pub logNow : Layout → List ℕ → Record → List Placed
-logNow L area r = logOf (viewsOf L area (r .size)) (named (r .map)) (r .slots)
+abbrev pub logNow : List ℕ → Record → List Placed
+logNow area r = logOf (viewsOf area (r .size)) (named (r .map)) (r .slots)
 
 -- ---- what a start lays out
 
@@ -271,7 +271,7 @@ entryRecord L r log e = pick (fitsHead L r e) (appendedRecord L r log e) (headed
 -- The log that a cleaning leaves, but for the order of its slots: what stands outside the victims, and the entries kept.
 abbrev pub renewedLog : Layout → List ℕ → Record → ℕ → List Entry → List Placed
 renewedLog L area r victims es =
-    logOf (viewsOf L area (r .size)) (outsideSlots (r .map) victims) (r .slots) ++ placedFrom L (newSlot r) (digestSize L) es
+    logOf (viewsOf area (r .size)) (outsideSlots (r .map) victims) (r .slots) ++ placedFrom L (newSlot r) (digestSize L) es
 
 abbrev pub renewedRecord : Layout → List ℕ → Record → ℕ → List Entry → Version → Record
 renewedRecord L area r victims es next =
@@ -280,19 +280,19 @@ renewedRecord L area r victims es next =
 
 -- A cleaning keeps the next version; a delete that cleans has taken it.
 abbrev pub cleanedRecord : Layout → List ℕ → Record → ℕ → Record
-cleanedRecord L area r victims = renewedRecord L area r victims (kept victims (logNow L area r)) (r .next)
+cleanedRecord L area r victims = renewedRecord L area r victims (kept victims (logNow area r)) (r .next)
 
 abbrev pub forgottenRecord : Layout → List ℕ → Record → Key → Record
 forgottenRecord L area r k =
-    renewedRecord L area r (forgetVictim (logNow L area r) k) (forgetKept r (logNow L area r) k) (nextAfter r)
+    renewedRecord L area r (forgetVictim (logNow area r) k) (forgetKept r (logNow area r) k) (nextAfter r)
 
 abbrev pub deletedRecord : Layout → List ℕ → Record → Key → Record
 deletedRecord L area r k =
-    pick (noRoom r (entrySize L 0)) (forgottenRecord L area r k) (entryRecord L r (logNow L area r) (tombstoneEntry r k))
+    pick (noRoom r (entrySize L 0)) (forgottenRecord L area r k) (entryRecord L r (logNow area r) (tombstoneEntry r k))
 
 -- The record after the last step of an operation that was started on this area and record.
 unfoldable pub finishedRecord : Layout → List ℕ → Record → Operation → Record
-finishedRecord L area r (write k value) = entryRecord L r (logNow L area r) (writtenEntry r k value)
+finishedRecord L area r (write k value) = entryRecord L r (logNow area r) (writtenEntry r k value)
 finishedRecord L area r (delete k) = deletedRecord L area r k
 finishedRecord L area r (clean victims) = cleanedRecord L area r victims
 
@@ -309,3 +309,8 @@ firstDigest = record { number = record { 0 = 1 }; map = 1; next = record { 0 = 1
 
 abbrev pub formatted : Layout → ℕ → ℕ → List ℕ → List ℕ
 formatted L n S area = stored (cleared S n area) (storesFrom 0 (encodedDigest L firstDigest ++ 0 ∷ []))
+
+-- The edition is told by its number (02, R-11); where that names none, nothing is stored.
+unfoldable pub formattedAs : Option Layout → ℕ → ℕ → List ℕ → List ℕ
+formattedAs none n S area = area
+formattedAs (some L) n S area = formatted L n S area

@@ -50,9 +50,9 @@ pub record FormatSame (area′ area″ : List ℕ) (a b : FormatAnswer) : Type 0
   pub left : area′ ≡ area″
 
 pub format-fixed :
-    (L : Layout) (n s : ℕ) (area area′ area″ : List ℕ) (a b : FormatAnswer) → FormatPromise L n s area area′ a →
-    FormatPromise L n s area area″ b → FormatSame area′ area″ a b
-format-fixed L n s area area′ area″ a b x y =
+    (e n s : ℕ) (area area′ area″ : List ℕ) (a b : FormatAnswer) → FormatPromise e n s area area′ a →
+    FormatPromise e n s area area″ b → FormatSame area′ area″ a b
+format-fixed e n s area area′ area″ a b x y =
     record { answer = x .answers ∙ sym (y .answers); said = x .says ∙ sym (y .says); left = x .leaves ∙ sym (y .leaves) }
 
 -- Recovery: its answer and record, whatever the cells.

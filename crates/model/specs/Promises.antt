@@ -12,7 +12,7 @@ use lib.Seq.{sets}
 use denote.Ref.{RefT}
 use Rattle.word.specs.Number.{Bytes}
 use Rattle.segment.specs.Choice.{pick}
-use Rattle.segment.specs.Layout.{Layout, entrySize}
+use Rattle.segment.specs.Layout.{Layout, layoutNumbered, entrySize}
 use Rattle.segment.specs.Entry.{Entry, bytesIn, kindOf}
 use Rattle.segment.specs.declared.Key.{Key}
 use Rattle.record.specs.Answers.{Said, taken, takenWith, refusal, saidBy, formatSaid, recoverSaid, readSaid, startSaid, stepSaid, tellSaid, withPending, storesLeft}
@@ -37,7 +37,7 @@ use Rattle.model.specs.Log.{Placed, placeOf, present}
 use Rattle.model.specs.Causes.{Cause, firstCause}
 use Rattle.model.specs.Recovery.{recovered, recovery, recoverCauses}
 use Rattle.model.specs.Index.{IndexRule}
-use Rattle.model.specs.Operations.{Operation, Typed, logNow, laid, planFor, storesFor, startedRecord, stored, toldVersion, finishedRecord, formatted}
+use Rattle.model.specs.Operations.{Operation, Typed, logNow, laid, planFor, storesFor, startedRecord, stored, toldVersion, finishedRecord, formattedAs}
 use Rattle.model.specs.Refused.{Lengths, Terms, freely, formatCauses, reachCauses, readCauses, earlyCauses, startCauses, stepCauses, tellCauses}
 
 -- Each answer is fixed twice over, in two languages: as the value that the call returns, and (`says`) as the number and values
@@ -48,7 +48,7 @@ use Rattle.model.specs.Refused.{Lengths, Terms, freely, formatCauses, re
 -- The record, its pending operation aside, is what recovery of this area gives, and the index keeps its rule.
 pub record Genuine (L : Layout) (area : List ℕ) (r : Record) (cells : List ℕ) : Type 0 where
   pub recovers : recovered L (r .slots) (r .size) (r .cells) area ≡ some (withPending r Idle)
-  pub rule : IndexRule (r .size) (logNow L area r) cells
+  pub rule : IndexRule (r .size) (logNow area r) cells
 
 -- The pending operation is one that was started on this store, and steps alone were made since: `idle` was the record and `before` the
 -- area, `since` stores of the plan are done, and the work buffer still begins with the operation's bytes. What its call asked for
@@ -62,12 +62,12 @@ pub record Started (L : Layout) (area : List ℕ) (r : Record) (work : List ℕ)
   pub typed : Typed operation
   pub area-bytes : Bytes before
   pub recovers : recovered L (idle .slots) (idle .size) (idle .cells) before ≡ some idle
-  pub accepted : firstCause (startCauses L idle (logNow L before idle) lengths freely operation) ≡ none
-  pub some-left : since < storesFor L idle (logNow L before idle) operation
+  pub accepted : firstCause (startCauses L idle (logNow before idle) lengths freely operation) ≡ none
+  pub some-left : since < storesFor L idle (logNow before idle) operation
   pub record-now :
-      r ≡ withPending idle (laid L idle (logNow L before idle) operation .pending (storesFor L idle (logNow L before idle) operation - since))
-  pub area-now : area ≡ stored before (take since (planFor L idle (logNow L before idle) operation))
-  pub work-now : take (length (laid L idle (logNow L before idle) operation .bytes)) work ≡ laid L idle (logNow L before idle) operation .bytes
+      r ≡ withPending idle (laid L idle (logNow before idle) operation .pending (storesFor L idle (logNow before idle) operation - since))
+  pub area-now : area ≡ stored before (take since (planFor L idle (logNow before idle) operation))
+  pub work-now : take (length (laid L idle (logNow before idle) operation .bytes)) work ≡ laid L idle (logNow before idle) operation .bytes
 
 -- The whole answer of a call with a record is promised where one of its first causes holds, which need no look at the log (4 by range
 -- and lengths, and 22), and where record and index are genuine.
@@ -84,25 +84,25 @@ unfoldable pub areaUnless : Option Refusal → List ℕ → List ℕ → List �
 areaUnless none new old = new
 areaUnless (some c) new old = old
 
--- Accepted or its number; where refused, the area stays.
-pub record FormatPromise (L : Layout) (n s : ℕ) (area area′ : List ℕ) (a : FormatAnswer) : Type 0 where
-  pub answers : a ≡ formatAnswer (firstCause (formatCauses n s (length area)))
-  pub says : formatSaid a ≡ saidBy (firstCause (formatCauses n s (length area))) taken
-  pub leaves : area′ ≡ areaUnless (firstCause (formatCauses n s (length area))) (formatted L n s area) area
+-- Accepted or its number; where refused, the area stays. The edition is told by its number e.
+pub record FormatPromise (e n s : ℕ) (area area′ : List ℕ) (a : FormatAnswer) : Type 0 where
+  pub answers : a ≡ formatAnswer (firstCause (formatCauses e n s (length area)))
+  pub says : formatSaid a ≡ saidBy (firstCause (formatCauses e n s (length area))) taken
+  pub leaves : area′ ≡ areaUnless (firstCause (formatCauses e n s (length area))) (formattedAs (layoutNumbered e) n s area) area
 
 -- ---- recovery
 
 -- The index is untouched where recovery is refused, but all 0 at 20, and keeps the rule where it is accepted.
-unfoldable pub IndexAfter : Layout → List ℕ → List ℕ → List ℕ → Recovery → RecoverAnswer → Type 0
-IndexAfter L area cells cells′ r RecoverAnswer.Recovered = IndexRule (r .rec .size) (logNow L area (r .rec)) cells′
-IndexAfter L area cells cells′ r (RecoverAnswer.Refused c) = cells′ ≡ pick (eqb (numberOfRefusal c) 20) (replicate (length cells) 0) cells
+unfoldable pub IndexAfter : List ℕ → List ℕ → List ℕ → Recovery → RecoverAnswer → Type 0
+IndexAfter area cells cells′ r RecoverAnswer.Recovered = IndexRule (r .rec .size) (logNow area (r .rec)) cells′
+IndexAfter area cells cells′ r (RecoverAnswer.Refused c) = cells′ ≡ pick (eqb (numberOfRefusal c) 20) (replicate (length cells) 0) cells
 
 -- The record or the first cause, whatever the order of the slots.
 pub record RecoverPromise (L : Layout) (n s : ℕ) (order area cells cells′ : List ℕ) (r : Recovery) : Type 0 where
   pub answers : r ≡ recovery L n s (length cells) order area
   pub says : recoverSaid (r .answer) ≡ saidBy (firstCause (recoverCauses L n s (length cells) order area)) taken
   pub same-length : length cells′ ≡ length cells
-  pub index : IndexAfter L area cells cells′ r (r .answer)
+  pub index : IndexAfter area cells cells′ r (r .answer)
 
 -- ---- read
 
@@ -130,10 +130,10 @@ pub record ReadPromise (L : Layout) (r : Record) (area cells : List ℕ) (t : Ta
   pub early : (c : Refusal) → firstCause (reachCauses L r (readLengths area cells) t k) ≡ some c → a .answer ≡ ReadAnswer.Refused c
   pub exact :
       Genuine L area r cells → a .answer ≡
-      readAnswer L (firstCause (readCauses L r (logNow L area r) (readLengths area cells) t k)) (present (logNow L area r) k)
+      readAnswer L (firstCause (readCauses L r (logNow area r) (readLengths area cells) t k)) (present (logNow area r) k)
   pub says :
       Settled L area r cells (reachCauses L r (readLengths area cells) t k) → readSaid (a .answer) ≡
-      saidBy (firstCause (readCauses L r (logNow L area r) (readLengths area cells) t k)) (objectSaid L (present (logNow L area r) k))
+      saidBy (firstCause (readCauses L r (logNow area r) (readLengths area cells) t k)) (objectSaid L (present (logNow area r) k))
 
 -- A part of the area: the place at which it starts, and how many bytes it has.
 pub record Part : Type 0 where
@@ -160,7 +160,7 @@ valueAnswer L S (some c) x = nowhere
 
 abbrev pub promisedPart : Layout → Record → List ℕ → List ℕ → Tables → Key → Part
 promisedPart L r area cells t k =
-    valueAnswer L (r .size) (firstCause (readCauses L r (logNow L area r) (readLengths area cells) t k)) (present (logNow L area r) k)
+    valueAnswer L (r .size) (firstCause (readCauses L r (logNow area r) (readLengths area cells) t k)) (present (logNow area r) k)
 
 -- Which part of the area the value is.
 pub record ValuePromise (L : Layout) (r : Record) (area cells : List ℕ) (t : Tables) (k : Key) (p : Part) : Type 0 where
@@ -209,10 +209,10 @@ pub record StartPromise (L : Layout) (t : Terms) (o : Operation) (r : Record) (a
       record { start = a; work = work′ } ≡ begun L r [] o work (some c)
   pub exact :
       Genuine L area r cells → record { start = a; work = work′ } ≡
-      begun L r (logNow L area r) o work (firstCause (startCauses L r (logNow L area r) (lentLengths area cells work) t o))
+      begun L r (logNow area r) o work (firstCause (startCauses L r (logNow area r) (lentLengths area cells work) t o))
   pub says :
       Settled L area r cells (earlyCauses L r (lentLengths area cells work) t o) → startSaid (a .answer) ≡
-      saidBy (firstCause (startCauses L r (logNow L area r) (lentLengths area cells work) t o)) (takenWith (storesFor L r (logNow L area r) o))
+      saidBy (firstCause (startCauses L r (logNow area r) (lentLengths area cells work) t o)) (takenWith (storesFor L r (logNow area r) o))
 
 -- ---- step
 
@@ -234,7 +234,7 @@ stepped L before idle o zero =
 stepped L before idle o (suc k) =
     record {
       answer = StepAnswer.Left (suc k);
-      rec = withPending idle (laid L idle (logNow L before idle) o .pending (suc k));
+      rec = withPending idle (laid L idle (logNow before idle) o .pending (suc k));
     }
 
 -- what it says: the stores left, and at the last one the version
@@ -243,20 +243,20 @@ stepSays idle o zero = record { refused = 0; stores = 0; version = toldVersion i
 stepSays idle o (suc k) = takenWith (suc k)
 
 -- The index stays until the last step, and then keeps the rule for the new log.
-unfoldable pub IndexStepped : Layout → List ℕ → List ℕ → List ℕ → Record → ℕ → Type 0
-IndexStepped L area′ cells cells′ r zero = IndexRule (r .size) (logNow L area′ r) cells′
-IndexStepped L area′ cells cells′ r (suc k) = cells′ ≡ cells
+unfoldable pub IndexStepped : List ℕ → List ℕ → List ℕ → Record → ℕ → Type 0
+IndexStepped area′ cells cells′ r zero = IndexRule (r .size) (logNow area′ r) cells′
+IndexStepped area′ cells cells′ r (suc k) = cells′ ≡ cells
 
 abbrev pub leftAfter : (L : Layout) (area : List ℕ) (r : Record) (work : List ℕ) → Started L area r work → ℕ
-leftAfter L area r work s = storesFor L (s .idle) (logNow L (s .before) (s .idle)) (s .operation) - suc (s .since)
+leftAfter L area r work s = storesFor L (s .idle) (logNow (s .before) (s .idle)) (s .operation) - suc (s .since)
 
 -- A step of a started operation does the one store that comes next in the plan.
 pub record StepExact (L : Layout) (r : Record) (area area′ cells cells′ work : List ℕ) (a : Stepped) (s : Started L area r work) : Type 0 where
   pub stores :
-      area′ ≡ stored (s .before) (take (suc (s .since)) (planFor L (s .idle) (logNow L (s .before) (s .idle)) (s .operation)))
+      area′ ≡ stored (s .before) (take (suc (s .since)) (planFor L (s .idle) (logNow (s .before) (s .idle)) (s .operation)))
   pub answers : a ≡ stepped L (s .before) (s .idle) (s .operation) (leftAfter L area r work s)
   pub says : stepSaid (a .answer) ≡ stepSays (s .idle) (s .operation) (leftAfter L area r work s)
-  pub index : IndexStepped L area′ cells cells′ (a .rec) (leftAfter L area r work s)
+  pub index : IndexStepped area′ cells cells′ (a .rec) (leftAfter L area r work s)
 
 pub record StepPromise (L : Layout) (r : Record) (area area′ cells cells′ work : List ℕ) (a : Stepped) : Type 0 where
   pub one-byte : OneByte area area′
@@ -273,7 +273,7 @@ tellLengths area work = record { area = length area; index = 0; work = length wo
 
 -- the store of a started operation whose turn it is: the next element of its plan
 abbrev pub turnOf : (L : Layout) (area : List ℕ) (r : Record) (work : List ℕ) → Started L area r work → ℕ × ℕ
-turnOf L area r work s = getD (planFor L (s .idle) (logNow L (s .before) (s .idle)) (s .operation)) (s .since) (0, 0)
+turnOf L area r work s = getD (planFor L (s .idle) (logNow (s .before) (s .idle)) (s .operation)) (s .since) (0, 0)
 
 -- Record, area and work buffer are only read. Where a cause of the step holds that needs no index, the first of them is told; else, of a
 -- started operation, place and byte of the store that its next step makes. Whatever is told lies in the area.

@@ -1,5 +1,5 @@
 -- 01, "The log and its map" and "Refused calls": what recovery gives for an image, and the causes 1, 2 and 15 to 20, with 24 and 25
--- of 02, R-8.
+-- of 02, R-8, and 28 of R-11. The layout in these definitions is that of the store, which is its head's.
 use Prim.Native.Nat.{ℕ, zero, suc, _+_, _*_, _-_}
 use mathlib.Core.Bool.{Bool, true, false, not}
 use mathlib.Core.List.{List, [], _∷_, _++_}
@@ -7,13 +7,13 @@ use mathlib.Core.Option.{Option, none, some}
 use lib.Dec.{eqb, ltb}
 use lib.ListN.{length}
 use Rattle.segment.specs.Choice.{pick, both, either, isNone}
-use Rattle.segment.specs.Layout.{Layout}
+use Rattle.segment.specs.Layout.{Layout, sameLayout}
 use Rattle.segment.specs.declared.Digest.{Digest}
 use Rattle.slot_map.specs.Bit.{named}
 use Rattle.record.specs.Answers.{blank}
 use Rattle.record.specs.Range.{slotsGood, sizeGood, cellsGood, mapGood}
 use Rattle.record.specs.declared.Refusal.{Refusal}
-use Rattle.record.specs.declared.Refusal.the-variants.{Geometry, Cells, BadOrder, NoDigest, BadDigest, BadMap, MapNoDigest, DamagedLog, SharedVersion, TooManyKeys}
+use Rattle.record.specs.declared.Refusal.the-variants.{Geometry, Cells, BadOrder, NoDigest, BadDigest, BadMap, MapNoDigest, MixedEditions, DamagedLog, SharedVersion, TooManyKeys}
 use Rattle.record.specs.declared.Pending.the-variants.{Idle}
 use Rattle.record.specs.declared.Record.{Record}
 use Rattle.record.specs.declared.Recovery.{Recovery}
@@ -73,6 +73,16 @@ unfoldable pub namesNoDigest : (ℕ → View) → (ℕ → Bool) → ℕ → Boo
 namesNoDigest v p zero = false
 namesNoDigest v p (suc n) = either (namesNoDigest v p n) (both (p n) (isNone (v n .digest)))
 
+-- 28 (02, R-11): a slot of the log is not of the store's edition. The head is in its log, so there are log slots of both editions
+-- exactly if one is not of the head's.
+unfoldable pub otherEdition : Layout → (ℕ → View) → (ℕ → Bool) → ℕ → Bool
+otherEdition L v p zero = false
+otherEdition L v p (suc n) = either (otherEdition L v p n) (both (p n) (not (sameLayout (v n .layout) L)))
+
+-- the edition of the head's slot
+abbrev pub imageLayout : ℕ → ℕ → List ℕ → Layout
+imageLayout n s area = viewsOf area s (headElse (headOf (viewsOf area s) n) .slot) .layout
+
 -- 18: damage in a slot of the log
 unfoldable pub logDamaged : (ℕ → View) → (ℕ → Bool) → ℕ → Bool
 logDamaged v p zero = false
@@ -96,6 +106,7 @@ recordUnder L v n s m h =
       slots = n;
       size = s;
       cells = m;
+      edition = L;
       head = h .slot;
       end = endOf (v (h .slot) .scan);
       digest = h .digest .number;
@@ -111,12 +122,14 @@ abbrev pub digestCauses : (ℕ → View) → ℕ → Head → List Cause
 digestCauses v n h =
     when (digestBad v n h) BadDigest ∷ when (mapBad n h) BadMap ∷ when (namesNoDigest v (logSlots h) n) MapNoDigest ∷ []
 
--- 16, 17, 24, 25, 18 and 19, which look at the image alone
-abbrev pub imageCauses : (ℕ → View) → ℕ → Option Head → List Cause
-imageCauses v n h =
+-- 16, 17, 24, 25, 28, 18 and 19, which look at the image alone
+abbrev pub imageCauses : Layout → (ℕ → View) → ℕ → Option Head → List Cause
+imageCauses L v n h =
     when (isNone h) NoDigest
     ∷ (digestCauses v n (headElse h) ++
-    (when (logDamaged v (logSlots (headElse h)) n) DamagedLog ∷ when (versionShared (logUnder v n (headElse h))) SharedVersion ∷ []))
+    (when (otherEdition L v (logSlots (headElse h)) n) MixedEditions
+    ∷ when (logDamaged v (logSlots (headElse h)) n) DamagedLog
+    ∷ when (versionShared (logUnder v n (headElse h))) SharedVersion ∷ []))
 
 abbrev pub keyCauses : (ℕ → View) → ℕ → ℕ → Option Head → List Cause
 keyCauses v n m h = when (keysBad m (logUnder v n (headElse h))) TooManyKeys ∷ []
@@ -125,17 +138,17 @@ keyCauses v n m h = when (keysBad m (logUnder v n (headElse h))) TooManyKeys ∷
 abbrev pub lentCauses : ℕ → ℕ → ℕ → ℕ → List Cause
 lentCauses n s m areaLength = when (geometryBad n s areaLength) Geometry ∷ when (not (cellsGood m)) Cells ∷ []
 
--- Recovery: 1, 2, 15, 16, 17, 24, 25, 18, 19, 20.
+-- Recovery: 1, 2, 15, 16, 17, 24, 25, 28, 18, 19, 20.
 abbrev pub recoverCauses : Layout → ℕ → ℕ → ℕ → List ℕ → List ℕ → List Cause
 recoverCauses L n s m order area =
     lentCauses n s m (length area) ++ (when (orderBad n order) BadOrder ∷ []) ++
-    imageCauses (viewsOf L area s) n (headOf (viewsOf L area s) n) ++ keyCauses (viewsOf L area s) n m (headOf (viewsOf L area s) n)
+    imageCauses L (viewsOf area s) n (headOf (viewsOf area s) n) ++ keyCauses (viewsOf area s) n m (headOf (viewsOf area s) n)
 
 -- The same without an order list.
 abbrev pub areaCauses : Layout → ℕ → ℕ → ℕ → List ℕ → List Cause
 areaCauses L n s m area =
-    lentCauses n s m (length area) ++ imageCauses (viewsOf L area s) n (headOf (viewsOf L area s) n) ++
-    keyCauses (viewsOf L area s) n m (headOf (viewsOf L area s) n)
+    lentCauses n s m (length area) ++ imageCauses L (viewsOf area s) n (headOf (viewsOf area s) n) ++
+    keyCauses (viewsOf area s) n m (headOf (viewsOf area s) n)
 
 -- The record that recovery of an area gives, where it is accepted; the order of the slots is no part of it.
 unfoldable pub ifNone : Option Refusal → Record → Option Record
@@ -143,7 +156,7 @@ ifNone none r = some r
 ifNone (some c) r = none
 
 abbrev pub recordFrom : Layout → ℕ → ℕ → ℕ → List ℕ → Record
-recordFrom L n s m area = recordUnder L (viewsOf L area s) n s m (headElse (headOf (viewsOf L area s) n))
+recordFrom L n s m area = recordUnder L (viewsOf area s) n s m (headElse (headOf (viewsOf area s) n))
 
 unfoldable pub recovered : Layout → ℕ → ℕ → ℕ → List ℕ → Option Record
 recovered L n s m area = ifNone (firstCause (areaCauses L n s m area)) (recordFrom L n s m area)

@@ -7,7 +7,7 @@ use mathlib.Core.Option.{Option, none, some}
 use lib.Dec.{eqb, ltb, leb}
 use lib.ListN.{length}
 use Rattle.segment.specs.Choice.{both, either, isNone}
-use Rattle.segment.specs.Layout.{Layout, objectKind, entrySize, digestSize, versionLimit, numberLimit}
+use Rattle.segment.specs.Layout.{Layout, layoutNumbered, objectKind, entrySize, digestSize, versionLimit, numberLimit}
 use Rattle.segment.specs.declared.Key.{Key}
 use Rattle.slot_map.specs.Bit.{within}
 use Rattle.record.specs.Range.{fitsLent}
@@ -121,9 +121,9 @@ keptTooLong L r n = ltb (r .size) (digestSize L + n)
 
 -- ---- the list of each call: these are the only places where the order of its causes stands
 
--- Format: 1.
-abbrev pub formatCauses : ℕ → ℕ → ℕ → List Cause
-formatCauses n s areaLength = when (geometryBad n s areaLength) Geometry ∷ []
+-- Format: 1, which an edition that is none brings too (02, R-11).
+abbrev pub formatCauses : ℕ → ℕ → ℕ → ℕ → List Cause
+formatCauses e n s areaLength = when (either (geometryBad n s areaLength) (isNone (layoutNumbered e))) Geometry ∷ []
 
 -- Read: 4, 22, 8.
 abbrev pub readCauses : Layout → Record → List Placed → Lengths → Tables → Key → List Cause

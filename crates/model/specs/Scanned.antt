@@ -19,33 +19,33 @@ use Rattle.model.specs.Refused.{outsideTables, keyAbsent}
 use Rattle.model.specs.Promises.{readAnswer, objectSaid, Part, valueAnswer, RefersTo}
 
 -- the log of the head that the area's bytes say
-abbrev pub imageLog : Layout → ℕ → ℕ → List ℕ → List Placed
-imageLog L n s area = logUnder (viewsOf L area s) n (headElse (headOf (viewsOf L area s) n))
+abbrev pub imageLog : ℕ → ℕ → List ℕ → List Placed
+imageLog n s area = logUnder (viewsOf area s) n (headElse (headOf (viewsOf area s) n))
 
 -- 22 and 8, which ask for a key in a log
 abbrev pub soughtCauses : List Placed → Tables → Key → List Cause
 soughtCauses log t k = when (outsideTables t k) OutsideTables ∷ when (keyAbsent log k) Absent ∷ []
 
--- A read by scan: 1, 16, 17, 24, 25, 18, 19, 22, 8. The causes of the image are recovery's own.
+-- A read by scan: 1, 16, 17, 24, 25, 28, 18, 19, 22, 8. The causes of the image are recovery's own.
 abbrev pub scanCauses : Layout → ℕ → ℕ → List ℕ → Tables → Key → List Cause
 scanCauses L n s area t k =
     when (geometryBad n s (length area)) Geometry
-    ∷ (imageCauses (viewsOf L area s) n (headOf (viewsOf L area s) n) ++ soughtCauses (imageLog L n s area) t k)
+    ∷ (imageCauses L (viewsOf area s) n (headOf (viewsOf area s) n) ++ soughtCauses (imageLog n s area) t k)
 
 -- These are its numbers in order, whatever the area holds: an image of any number of keys is read.
 scan-order :
     (L : Layout) (n s : ℕ) (area : List ℕ) (t : Tables) (k : Key) →
-    map (λ c. numberOfRefusal (c .refusal)) (scanCauses L n s area t k) ≡ 1 ∷ 16 ∷ 17 ∷ 24 ∷ 25 ∷ 18 ∷ 19 ∷ 22 ∷ 8 ∷ []
+    map (λ c. numberOfRefusal (c .refusal)) (scanCauses L n s area t k) ≡ 1 ∷ 16 ∷ 17 ∷ 24 ∷ 25 ∷ 28 ∷ 18 ∷ 19 ∷ 22 ∷ 8 ∷ []
 scan-order L n s area t k = refl
 
 -- Version and kind of the key's object in that log, or the first cause. The answer says the same in 01's numbers.
 pub record ScanPromise (L : Layout) (n s : ℕ) (area : List ℕ) (t : Tables) (k : Key) (a : ReadAnswer) : Type 0 where
-  pub answers : a ≡ readAnswer L (firstCause (scanCauses L n s area t k)) (present (imageLog L n s area) k)
-  pub says : readSaid a ≡ saidBy (firstCause (scanCauses L n s area t k)) (objectSaid L (present (imageLog L n s area) k))
+  pub answers : a ≡ readAnswer L (firstCause (scanCauses L n s area t k)) (present (imageLog n s area) k)
+  pub says : readSaid a ≡ saidBy (firstCause (scanCauses L n s area t k)) (objectSaid L (present (imageLog n s area) k))
 
 -- the part of the area that is the value, the empty part at its start where the read is refused
 abbrev pub scannedPart : Layout → ℕ → ℕ → List ℕ → Tables → Key → Part
-scannedPart L n s area t k = valueAnswer L s (firstCause (scanCauses L n s area t k)) (present (imageLog L n s area) k)
+scannedPart L n s area t k = valueAnswer L s (firstCause (scanCauses L n s area t k)) (present (imageLog n s area) k)
 
 pub record ScanValue (L : Layout) (n s : ℕ) (area : List ℕ) (t : Tables) (k : Key) (p : Part) : Type 0 where
   pub exact : p ≡ scannedPart L n s area t k

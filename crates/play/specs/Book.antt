@@ -6,12 +6,11 @@ use mathlib.Core.List.{List, [], _∷_}
 use lib.Dec.{eqb}
 use lib.ListN.{set}
 use Rattle.segment.specs.Choice.{pick}
-use Rattle.segment.specs.Layout.{edition1}
 use Rattle.segment.specs.declared.Key.{Key}
 use Rattle.segment.specs.declared.Version.{Version}
 use Rattle.record.specs.declared.Record.{Record}
 use Rattle.record.specs.declared.Recovery.{Recovery}
-use Rattle.model.specs.Recovery.{recovery}
+use Rattle.model.specs.Recovery.{imageLayout, recovery}
 use Rattle.play.specs.declared.book.Book.{Book}
 use Rattle.play.specs.declared.book.Held.{Held}
 use Rattle.play.specs.declared.book.Value.{Value}
@@ -54,18 +53,19 @@ played r b = record { rec = r; book = b; fails = 0 }
 
 -- Record and book after the supply came back: the record is what recovery of the area gives.
 abbrev pub poweredOn : List ℕ → Book → Played
-poweredOn area b = played (recovery edition1 4 256 16 (0 ∷ 1 ∷ 2 ∷ 3 ∷ []) area .rec) b
+poweredOn area b = played (recovery (imageLayout 4 256 area) 4 256 16 (0 ∷ 1 ∷ 2 ∷ 3 ∷ []) area .rec) b
 
 -- ---- their laws
 
-pub following-limit : (v : Version) → 4294967295 ≤ v .0 → versioned 4294967295 ≡ following v
-following-limit v h = let same : 4294967295 ≡ min (v .0 + 1) 4294967295 = omega (arith, h) in ap versioned same
+module _ (v : Version) (limit : ℕ) (first : limit ≡ 4294967295) where
+  pub following-limit : limit ≤ v .0 → versioned limit ≡ following v
+  following-limit h = let same : limit ≡ min (v .0 + 1) 4294967295 = omega (arith, h, first) in ap versioned same
 
-pub following-next : (v : Version) → v .0 < 4294967295 → versioned (v .0 + 1) ≡ following v
-following-next v h = let same : v .0 + 1 ≡ min (v .0 + 1) 4294967295 = omega (arith, h) in ap versioned same
+  pub following-next : v .0 < limit → versioned (v .0 + 1) ≡ following v
+  following-next h = let same : v .0 + 1 ≡ min (v .0 + 1) 4294967295 = omega (arith, h, first) in ap versioned same
 
-pub powered : (area : List ℕ) (b : Book) (r : Recovery) (m : ℕ) → r ≡ recovery edition1 4 256 m (0 ∷ 1 ∷ 2 ∷ 3 ∷ []) area → m ≡ 16
+pub powered : (area : List ℕ) (b : Book) (r : Recovery) (m : ℕ) → r ≡ recovery (imageLayout 4 256 area) 4 256 m (0 ∷ 1 ∷ 2 ∷ 3 ∷ []) area → m ≡ 16
     → played (r .rec) b ≡ poweredOn area b
 powered area b r m e long =
     ap (λ (x : Recovery). played (x .rec) b)
-    (e ∙ ap (λ (k : ℕ). recovery edition1 4 256 k (0 ∷ 1 ∷ 2 ∷ 3 ∷ []) area) long)
+    (e ∙ ap (λ (k : ℕ). recovery (imageLayout 4 256 area) 4 256 k (0 ∷ 1 ∷ 2 ∷ 3 ∷ []) area) long)

@@ -1,7 +1,8 @@
 // The book of a history (01, "The book of a list"), for four keys: what recovery and reads have to answer.
+use segment::Edition;
 use segment::Key;
 use segment::Version;
-use segment::layout::VERSION_LIMIT;
+use segment::layout::version_limit;
 ghost use mathlib.Core.Path.{_≡_};
 ghost use lib.ListN.{set};
 ghost use Rattle.play.specs.Book.{keyOf, nothing, emptyBook, following, changed, written, deleted};
@@ -68,8 +69,9 @@ pub fn empty(next: Version) -> Book
 fn following(version: Version) -> Version
     ensures { λ r. ⌜ r ≡ following version ⌝ }
 {
-    if VERSION_LIMIT <= version.0 {
-        return Version(VERSION_LIMIT);
+    let limit = version_limit(Edition::First);
+    if limit <= version.0 {
+        return Version(limit);
     }
     Version(version.0 + 1)
 }

@@ -86,7 +86,7 @@ pub fn fresh(area: &mut [u8; 1024], index: &mut [u32; 16]) -> Played
     ensures { λ r. ⌜ r ≡ poweredOn (now (area .exit)) (emptyBook (record { 0 = 1 })) ⌝ }
 {
     fill(area, 0xaa);
-    format(SLOTS, SIZE, area);
+    format(SLOTS, SIZE, 1, area);
     lines::bytes(b"format:", area, 14);
     power_on(area, index, book::empty(Version(1)))
 }

@@ -8,6 +8,7 @@ use record::ReadAnswer;
 use record::Record;
 use record::RecoverAnswer;
 use record::Tables;
+use segment::Edition;
 use segment::layout::object_kind;
 use store::read;
 use store::read_value;
@@ -43,7 +44,7 @@ fn answer_is(answer: ReadAnswer, held: Held) -> bool
     let has = held.version;
     match answer {
         ReadAnswer::Present { version, kind } => {
-            version.0 == has.0 && kind == object_kind(value.length)
+            version.0 == has.0 && kind == object_kind(Edition::First, value.length)
         }
         ReadAnswer::Refused(cause) => has.0 == 0 && record::number(cause) == 8,
     }

@@ -3,6 +3,7 @@ use Prim.Native.Nat.{ℕ}
 use mathlib.Core.List.{List, [], _∷_}
 use mathlib.Core.Option.{Option, none, some}
 use lib.ListN.{replicate}
+use Rattle.segment.specs.Layout.{edition1}
 use Rattle.record.specs.Refusals.{numberOfRefusal}
 use Rattle.record.specs.declared.Refusal.{Refusal}
 use Rattle.record.specs.declared.Pending.{Pending}
@@ -98,6 +99,7 @@ withPending r p =
       slots = r .slots;
       size = r .size;
       cells = r .cells;
+      edition = r .edition;
       head = r .head;
       end = r .end;
       digest = r .digest;
@@ -115,6 +117,7 @@ bare r =
       slots = r .slots;
       size = r .size;
       cells = r .cells;
+      edition = r .edition;
       head = r .head;
       end = r .end;
       digest = r .digest;
@@ -132,6 +135,7 @@ blank =
       slots = 0;
       size = 0;
       cells = 0;
+      edition = edition1;
       head = 0;
       end = 0;
       digest = record { 0 = 0 };

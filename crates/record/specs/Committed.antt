@@ -12,6 +12,7 @@ committed r c keys counts =
       slots = r .slots;
       size = r .size;
       cells = r .cells;
+      edition = r .edition;
       head = c .head;
       end = c .end;
       digest = c .digest;

@@ -1,5 +1,6 @@
 // The store record, the pending operation, the refusals and the answers of the calls.
 use segment::DigestNumber;
+use segment::Edition;
 use segment::Version;
 ghost use mathlib.Core.Path.{_≡_};
 ghost use Rattle.record.specs.Answers.{blank, storesLeft, withPending};
@@ -40,13 +41,14 @@ pub enum Pending {
     },
 }
 
-// The store record of 01, "Memory the caller lends": geometry and index size, what the head's digest says with the end of its
-// entries, the next version, how many keys the log has entries of, and the pending operation; and for each slot the bytes of its
-// present objects (02, R-5). A value of it is named `rec`, since `record` is a word of the proofs' language.
+// The store record of 01, "Memory the caller lends": geometry, index size and edition (02, R-11), what the head's digest says with
+// the end of its entries, the next version, how many keys the log has entries of, and the pending operation; and for each slot the
+// bytes of its present objects (02, R-5). A value of it is named `rec`, since `record` is a word of the proofs' language.
 pub struct Record {
     pub slots: u32,
     pub size: u32,
     pub cells: u32,
+    pub edition: Edition,
     pub head: u32,
     pub end: u32,
     pub digest: DigestNumber,
@@ -95,6 +97,7 @@ pub enum Refusal {
     MapNoDigest,
     NotWhole,
     CountLost,
+    MixedEditions,
 }
 
 // The tables that a caller may reach (02, R-2), from the first to the last, both included; none where the first is above the
@@ -224,6 +227,7 @@ pub fn number(r: Refusal) -> u32
         Refusal::MapNoDigest => 25,
         Refusal::NotWhole => 26,
         Refusal::CountLost => 27,
+        Refusal::MixedEditions => 28,
     }
 }
 
@@ -258,6 +262,7 @@ pub fn stores_left(p: Pending) -> u32
 pub fn with_pending(rec: Record, p: Pending) -> Record
     ensures { λ r. ⌜ r ≡ withPending rec p ⌝ }
 {
+    let edition = rec.edition;
     let number = rec.digest;
     let next = rec.next;
     let counts = rec.counts;
@@ -265,6 +270,7 @@ pub fn with_pending(rec: Record, p: Pending) -> Record
         slots: rec.slots,
         size: rec.size,
         cells: rec.cells,
+        edition,
         head: rec.head,
         end: rec.end,
         digest: number,
@@ -280,12 +286,14 @@ pub fn with_pending(rec: Record, p: Pending) -> Record
 pub fn committed(rec: Record, done: Commit, keys: u32, counts: [u32; 32]) -> Record
     ensures { λ r. ⌜ r ≡ committed rec done keys counts ⌝ }
 {
+    let edition = rec.edition;
     let number = done.digest;
     let next = done.next;
     Record {
         slots: rec.slots,
         size: rec.size,
         cells: rec.cells,
+        edition,
         head: done.head,
         end: done.end,
         digest: number,
@@ -305,6 +313,7 @@ pub fn blank() -> Record
         slots: 0,
         size: 0,
         cells: 0,
+        edition: Edition::First,
         head: 0,
         end: 0,
         digest: DigestNumber(0),

@@ -2,16 +2,17 @@
 // without a look at the log.
 use crate::Pending;
 use crate::Record;
+use segment::Edition;
 use segment::Version;
-use segment::layout::DIGEST_SIZE;
-use segment::layout::VERSION_LIMIT;
+use segment::layout::digest_size;
+use segment::layout::version_limit;
 ghost use Prim.Native.Nat.{_-_, _≤_};
 ghost use mathlib.Core.Path.{_≡_};
 ghost use Rattle.record.specs.Range.{between, slotsGood, sizeGood, cellsGood, mapGood, leftGood, nextGood, countsGood, inRange, fitsLent, lengthsOwn};
 ghost use Rattle.record.specs.RangeLaws.{limitsGood, countersGood, numbersGood, frontGood};
 ghost use lib.Dec.{leb};
 ghost use Rattle.segment.specs.Choice.{both};
-ghost use Rattle.segment.specs.Layout.{edition1, digestSize};
+ghost use Rattle.segment.specs.Layout.{digestSize};
 
 // Whether x is from low to high.
 pub fn between(low: usize, high: usize, x: usize) -> bool
@@ -77,26 +78,27 @@ fn limits_good(rec: Record) -> bool
 }
 
 // Whether a next version is one.
-fn next_good(next: Version) -> bool
-    ensures { λ r. ⌜ r ≡ nextGood edition1 (next .0) ⌝ }
+fn next_good(edition: Edition, next: Version) -> bool
+    ensures { λ r. ⌜ r ≡ nextGood edition (next .0) ⌝ }
 {
-    1 <= next.0 && next.0 <= VERSION_LIMIT
+    1 <= next.0 && next.0 <= version_limit(edition)
 }
 
 // Whether the end of the head's entries, the digest number, the next version and the number of keys can be so.
 fn counters_good(rec: Record) -> bool
     requires { ⌜ 1 ≤ rec .cells ⌝ }
-    ensures { λ r. ⌜ r ≡ countersGood edition1 rec ⌝ }
+    ensures { λ r. ⌜ r ≡ countersGood (rec .edition) rec ⌝ }
 {
+    let edition = rec.edition;
     let number = rec.digest;
     let next = rec.next;
-    if !between(DIGEST_SIZE, rec.size as usize, rec.end as usize) {
+    if !between(digest_size(edition), rec.size as usize, rec.end as usize) {
         return false;
     }
     if number.0 == 0 {
         return false;
     }
-    next_good(next) && rec.keys <= rec.cells - 1
+    next_good(edition, next) && rec.keys <= rec.cells - 1
 }
 
 // Whether a number is not above the limit, where those before it were not.
@@ -123,15 +125,16 @@ pub fn counts_good(counts: &[u32], limit: u32) -> bool
 // Whether no slot has more present bytes than a segment has behind its digest.
 fn bytes_good(rec: Record) -> bool
     requires { ⌜ 256 ≤ rec .size ⌝ }
-    ensures { λ r. ⌜ r ≡ countsGood (rec .size - digestSize edition1) (rec .counts) ⌝ }
+    ensures { λ r. ⌜ r ≡ countsGood (rec .size - digestSize (rec .edition)) (rec .counts) ⌝ }
 {
+    let edition = rec.edition;
     let counts = rec.counts;
-    counts_good(&counts, rec.size - DIGEST_SIZE as u32)
+    counts_good(&counts, rec.size - digest_size(edition) as u32)
 }
 
 // Whether every number of the record is in range, those of present bytes and of the pending operation left aside.
 pub fn numbers_good(rec: Record) -> bool
-    ensures { λ r. ⌜ r ≡ numbersGood edition1 rec ⌝ }
+    ensures { λ r. ⌜ r ≡ numbersGood (rec .edition) rec ⌝ }
 {
     if !limits_good(rec) {
         return false;
@@ -141,7 +144,7 @@ pub fn numbers_good(rec: Record) -> bool
 
 // Whether every number of the record is in range, those of present bytes left aside.
 pub fn front_good(rec: Record) -> bool
-    ensures { λ r. ⌜ r ≡ frontGood edition1 rec ⌝ }
+    ensures { λ r. ⌜ r ≡ frontGood (rec .edition) rec ⌝ }
 {
     let pending = rec.pending;
     numbers_good(rec) && left_good(rec.size, pending)
@@ -149,7 +152,7 @@ pub fn front_good(rec: Record) -> bool
 
 // Whether every number of the record is in range.
 pub fn in_range(rec: Record) -> bool
-    ensures { λ r. ⌜ r ≡ inRange edition1 rec ⌝ }
+    ensures { λ r. ⌜ r ≡ inRange (rec .edition) rec ⌝ }
 {
     front_good(rec) && bytes_good(rec)
 }
@@ -164,7 +167,7 @@ pub fn lengths_own(rec: Record, area: usize, index: usize) -> bool
 
 // Whether the record is in range, and the area and the index that are lent are as long as it says.
 pub fn fits_lent(rec: Record, area: usize, index: usize) -> bool
-    ensures { λ r. ⌜ r ≡ fitsLent edition1 rec area index ⌝ }
+    ensures { λ r. ⌜ r ≡ fitsLent (rec .edition) rec area index ⌝ }
 {
     in_range(rec) && lengths_own(rec, area, index)
 }

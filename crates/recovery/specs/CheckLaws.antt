@@ -6,18 +6,20 @@ use mathlib.Core.List.{List, [], _∷_, _++_}
 use mathlib.Core.Option.{Option, none, some}
 use native.Mathlib.Omega.{arith}
 use lib.ListN.{length}
+use borrow.Author.Tests.{not-false}
 use Rattle.segment.specs.Choice.{either, isNone}
 use Rattle.segment.specs.Layout.{Layout}
 use Rattle.segment.specs.declared.Digest.{Digest}
 use Rattle.segment.specs.declared.Version.{Version}
 use Rattle.record.specs.Range.{cellsGood, mapGood}
+use Rattle.record.specs.RangeLaws.{map-in}
 use Rattle.record.specs.declared.Pending.the-variants.{Idle}
 use Rattle.record.specs.declared.Refusal.{Refusal}
-use Rattle.record.specs.declared.Refusal.the-variants.{Geometry, Cells, BadOrder, NoDigest, BadDigest, BadMap, MapNoDigest, DamagedLog, SharedVersion}
+use Rattle.record.specs.declared.Refusal.the-variants.{Geometry, Cells, BadOrder, NoDigest, BadDigest, BadMap, MapNoDigest, MixedEditions, DamagedLog, SharedVersion}
 use Rattle.model.specs.Log.{View, Head, Scan, damaged, scanned, scan, endOf, segmentOf, headOf, highest, versionShared}
 use Rattle.model.specs.Causes.{Cause, when, firstCause}
-use Rattle.model.specs.Recovery.{geometryBad, orderBad, headElse, mapBad, namesNoDigest, digestBad, logDamaged, logSlots, logUnder, digestCauses, imageCauses}
-use Rattle.laws.specs.CauseLaws.{cause-first, cause-skip, cause-none, first-some, first-none}
+use Rattle.model.specs.Recovery.{geometryBad, orderBad, headElse, mapBad, namesNoDigest, digestBad, otherEdition, logDamaged, logSlots, logUnder, digestCauses, imageCauses}
+use Rattle.laws.specs.CauseLaws.{NoCause, no-cause, cause-first, cause-skip, cause-none, first-some, first-none}
 use Rattle.laws.specs.Scans.{scan-scans, scans-high}
 use Rattle.laws.specs.Stores.{length-segment}
 use Rattle.recovery.specs.Recovering.{lentFirst, checkedAs, imageFor, imageOf, imageUnder, recordWith}
@@ -113,6 +115,12 @@ module _ (v : ℕ → View) (n : ℕ) (h : Head) {t : Bool} (e : t ≡ digestBad
       unfolding checkedAs firstCause
       digest-passed l = ap checkedAs (sym (third ∙ cause-none digests [] (sym k ∙ l) refl))
 
+-- a good digest's map names its slot, which is so one of the n
+pub head-below : (v : ℕ → View) (n : ℕ) (h : Head) → firstCause (digestCauses v n h) ≡ none → h .slot < n
+head-below v n h e =
+    let clear : NoCause (digestCauses v n h) = no-cause (digestCauses v n h) e in
+    map-in n (h .slot) (h .digest .map) (not-false _ (clear .1 .0)) .head-in
+
 -- ---- the image
 
 module _ (v : ℕ → View) (n : ℕ) where
@@ -124,45 +132,64 @@ module _ (v : ℕ → View) (n : ℕ) where
 
   pub head-some : (h : Head) → headOf v n ≡ some h → imageUnder v n h ≡ imageOf v n
   unfolding headElse
-  head-some h e = ap (λ (o : Option Head). imageFor v n (headElse o) (firstCause (imageCauses v n o))) (sym e)
+  head-some h e = ap (λ (o : Option Head). imageFor v n (headElse o) (firstCause (imageCauses (v (headElse o .slot) .layout) v n o))) (sym e)
 
   module _ (h : Head) where
+    -- the edition of the head's slot, which is the store's
+    abbrev its : Layout
+    its = v (h .slot) .layout
+
+    abbrev mixed : Cause
+    mixed = when (otherEdition its v (logSlots h) n) MixedEditions
+
     abbrev damage : Cause
     damage = when (logDamaged v (logSlots h) n) DamagedLog
 
     abbrev shared : Cause
     shared = when (versionShared (logUnder v n h)) SharedVersion
 
-    has-head : firstCause (imageCauses v n (some h)) ≡ firstCause (digestCauses v n h ++ (damage ∷ shared ∷ []))
+    has-head : firstCause (imageCauses its v n (some h)) ≡ firstCause (digestCauses v n h ++ (mixed ∷ damage ∷ shared ∷ []))
     unfolding isNone headElse
-    has-head = cause-skip (when false NoDigest) (digestCauses v n h ++ (damage ∷ shared ∷ [])) refl
+    has-head = cause-skip (when false NoDigest) (digestCauses v n h ++ (mixed ∷ damage ∷ shared ∷ [])) refl
 
     -- the digest's own causes come first
     pub head-digest : (c : Refusal) → firstCause (digestCauses v n h) ≡ some c → Image.Refused c ≡ imageUnder v n h
     unfolding imageFor
-    head-digest c e = ap (imageFor v n h) (sym (has-head ∙ first-some (digestCauses v n h) (damage ∷ shared ∷ []) c e))
+    head-digest c e = ap (imageFor v n h) (sym (has-head ∙ first-some (digestCauses v n h) (mixed ∷ damage ∷ shared ∷ []) c e))
 
-    module _ (d : firstCause (digestCauses v n h) ≡ none) where
-      behind : firstCause (imageCauses v n (some h)) ≡ firstCause (damage ∷ shared ∷ [])
-      behind = has-head ∙ first-none (digestCauses v n h) (damage ∷ shared ∷ []) d
+    -- L is what the code finds for the head's edition
+    module _ (d : firstCause (digestCauses v n h) ≡ none) (L : Layout) (of : L ≡ its) where
+      behind : firstCause (imageCauses its v n (some h)) ≡ firstCause (mixed ∷ damage ∷ shared ∷ [])
+      behind = has-head ∙ first-none (digestCauses v n h) (mixed ∷ damage ∷ shared ∷ []) d
 
-      pub head-damaged : logDamaged v (logSlots h) n ≡ true → Image.Refused DamagedLog ≡ imageUnder v n h
+      tested : otherEdition its v (logSlots h) n ≡ otherEdition L v (logSlots h) n
+      tested = ap (λ (K : Layout). otherEdition K v (logSlots h) n) (sym of)
+
+      pub head-mixed : otherEdition L v (logSlots h) n ≡ true → Image.Refused MixedEditions ≡ imageUnder v n h
       unfolding imageFor
-      head-damaged e = ap (imageFor v n h) (sym (behind ∙ cause-first damage (shared ∷ []) e))
+      head-mixed e = ap (imageFor v n h) (sym (behind ∙ cause-first mixed (damage ∷ shared ∷ []) (tested ∙ e)))
 
-      module _ (u : logDamaged v (logSlots h) n ≡ false) where
-        last : firstCause (imageCauses v n (some h)) ≡ firstCause (shared ∷ [])
-        last = behind ∙ cause-skip damage (shared ∷ []) u
+      module _ (o : otherEdition L v (logSlots h) n ≡ false) where
+        on-damage : firstCause (imageCauses its v n (some h)) ≡ firstCause (damage ∷ shared ∷ [])
+        on-damage = behind ∙ cause-skip mixed (damage ∷ shared ∷ []) (tested ∙ o)
 
-        pub head-shared : versionShared (logUnder v n h) ≡ true → Image.Refused SharedVersion ≡ imageUnder v n h
+        pub head-damaged : logDamaged v (logSlots h) n ≡ true → Image.Refused DamagedLog ≡ imageUnder v n h
         unfolding imageFor
-        head-shared e = ap (imageFor v n h) (sym (last ∙ cause-first shared [] e))
+        head-damaged e = ap (imageFor v n h) (sym (on-damage ∙ cause-first damage (shared ∷ []) e))
 
-        pub head-sound : (top : Version) → top ≡ record { 0 = highest (logUnder v n h) } → versionShared (logUnder v n h) ≡ false
-            → Image.Sound (h .slot) (h .digest) top ≡ imageUnder v n h
-        unfolding imageFor firstCause
-        head-sound top e f =
-            ap (Image.Sound (h .slot) (h .digest)) e ∙ ap (imageFor v n h) (sym (last ∙ cause-none shared [] f refl))
+        module _ (u : logDamaged v (logSlots h) n ≡ false) where
+          last : firstCause (imageCauses its v n (some h)) ≡ firstCause (shared ∷ [])
+          last = on-damage ∙ cause-skip damage (shared ∷ []) u
+
+          pub head-shared : versionShared (logUnder v n h) ≡ true → Image.Refused SharedVersion ≡ imageUnder v n h
+          unfolding imageFor
+          head-shared e = ap (imageFor v n h) (sym (last ∙ cause-first shared [] e))
+
+          pub head-sound : (top : Version) → top ≡ record { 0 = highest (logUnder v n h) } → versionShared (logUnder v n h) ≡ false
+              → Image.Sound L (h .slot) (h .digest) top ≡ imageUnder v n h
+          unfolding imageFor firstCause
+          head-sound top e f =
+              (λ i. Image.Sound (of i) (h .slot) (h .digest) (e i)) ∙ ap (imageFor v n h) (sym (last ∙ cause-none shared [] f refl))
 
 -- ---- the record
 
@@ -192,6 +219,7 @@ pub record-with : (L : Layout) (n s m : ℕ) (area : List ℕ) (slot : ℕ) (d :
       slots = n;
       size = s;
       cells = m;
+      edition = L;
       head = slot;
       end = e;
       digest = d .number;
@@ -207,6 +235,7 @@ record-with L n s m area slot d top keys e next counts p q =
       slots = n;
       size = s;
       cells = m;
+      edition = L;
       head = slot;
       end = p i;
       digest = d .number;

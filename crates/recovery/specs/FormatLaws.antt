@@ -1,17 +1,19 @@
 -- Format as its code does it: byte 0 of every slot in turn, the digest, and the 0 behind it.
 use Prim.Native.Nat.{ℕ, _+_, _*_, _≤_, _<_}
 use mathlib.Core.Path.{_≡_, refl, sym, _∙_, ap}
-use mathlib.Core.Bool.{true, false, not}
+use mathlib.Core.Bool.{Bool, true, false, not}
 use mathlib.Core.List.{List, [], _∷_, _++_}
+use mathlib.Core.Option.{none, some}
 use native.Mathlib.Numerals.{add-one}
 use native.Mathlib.Omega.{arith}
 use lib.Dec.{eqb}
 use lib.ListN.{length, set}
 use lib.Seq.{sets}
-use borrow.Author.Tests.{not-false, eqb-true}
+use borrow.Author.Tests.{not-false, eqb-true, ne-eqb}
 use Rattle.word.specs.Laws.{sets-append}
-use Rattle.segment.specs.Choice.{both, both-left, both-right}
-use Rattle.segment.specs.Layout.{Layout, digestSize}
+use Rattle.segment.specs.Choice.{pick, pick-false, both, both-left, both-right, either, isNone}
+use Rattle.segment.specs.Layout.{Layout, edition1, edition2, layoutNumbered, numberOfLayout, digestSize}
+use Rattle.segment.specs.LayoutLaws.{numbered-layout}
 use Rattle.segment.specs.Digest.{encodedDigest}
 use Rattle.segment.specs.DigestLaws.{length-encodedDigest}
 use Rattle.record.specs.Answers.{formatSaid}
@@ -19,7 +21,7 @@ use Rattle.record.specs.Range.{slotsGood, sizeGood}
 use Rattle.record.specs.RangeLaws.{between-low, between-high}
 use Rattle.record.specs.declared.FormatAnswer.{FormatAnswer}
 use Rattle.record.specs.declared.Refusal.the-variants.{Geometry}
-use Rattle.model.specs.Operations.{cleared, firstDigest, formatted}
+use Rattle.model.specs.Operations.{cleared, firstDigest, formatted, formattedAs}
 use Rattle.model.specs.Causes.{firstCause}
 use Rattle.model.specs.Recovery.{geometryBad}
 use Rattle.model.specs.Refused.{formatCauses}
@@ -82,25 +84,53 @@ cleared-turn S i area = rw (add-one i)
 pub slot-first : (n S i a : ℕ) → 0 < S → i < n → n * S ≤ a → i * S < a
 slot-first n S i a some-byte h fits = omega (arith, slots-apart S h)
 
-module _ (L : Layout) (n S : ℕ) (area : List ℕ) where
-  pub format-refused : geometryBad n S (length area) ≡ true → FormatPromise L n S area area (FormatAnswer.Refused Geometry)
+-- ---- the promise
+
+-- an edition that is none of the two
+pub none-numbered : (e : ℕ) → (e ≡ 1 → ⊥) → (e ≡ 2 → ⊥) → layoutNumbered e ≡ none
+unfolding layoutNumbered
+none-numbered e one two =
+    pick-false (eqb e 1) (some edition1) (pick (eqb e 2) (some edition2) none) (ne-eqb e 1 one)
+    ∙ pick-false (eqb e 2) (some edition2) none (ne-eqb e 2 two)
+
+module _ (e n S : ℕ) (area : List ℕ) where
+  refused-at : either (geometryBad n S (length area)) (isNone (layoutNumbered e)) ≡ true → FormatPromise e n S area area (FormatAnswer.Refused Geometry)
   unfolding formatAnswer areaUnless
-  format-refused bad =
-      let first = cause-first (record { holds = geometryBad n S (length area); refusal = Geometry }) [] bad in
+  refused-at bad =
+      let first = cause-first (record { holds = either (geometryBad n S (length area)) (isNone (layoutNumbered e)); refusal = Geometry }) [] bad in
       record { answers = rw first; says = ap formatSaid answered ∙ format-says _; leaves = rw first }
     where
-      answered : FormatAnswer.Refused Geometry ≡ formatAnswer (firstCause (formatCauses n S (length area)))
-      answered = rw (cause-first (record { holds = geometryBad n S (length area); refusal = Geometry }) [] bad)
+      answered : FormatAnswer.Refused Geometry ≡ formatAnswer (firstCause (formatCauses e n S (length area)))
+      answered = rw (cause-first (record { holds = either (geometryBad n S (length area)) (isNone (layoutNumbered e)); refusal = Geometry }) [] bad)
 
-  pub format-done : (a₁ a₂ a₃ : List ℕ) → geometryBad n S (length area) ≡ false → a₁ ≡ cleared S n area → a₂ ≡ sets a₁ 0 (encodedDigest L firstDigest)
-      → a₃ ≡ set a₂ (digestSize L) 0 → FormatPromise L n S area a₃ FormatAnswer.Formatted
-  unfolding formatAnswer areaUnless firstCause
-  format-done a₁ a₂ a₃ good e₁ e₂ e₃ =
-      let nothing = cause-none (record { holds = geometryBad n S (length area); refusal = Geometry }) [] good refl in
-      record { answers = rw nothing; says = ap formatSaid answered ∙ format-says _; leaves = rw nothing (whole) }
+  pub format-refused : geometryBad n S (length area) ≡ true → FormatPromise e n S area area (FormatAnswer.Refused Geometry)
+  unfolding either
+  format-refused bad = refused-at (rw bad)
+
+  pub format-unknown : (e ≡ 1 → ⊥) → (e ≡ 2 → ⊥) → FormatPromise e n S area area (FormatAnswer.Refused Geometry)
+  unfolding isNone either
+  format-unknown one two = refused-at (rw (none-numbered e one two) (either-last (geometryBad n S (length area))))
     where
-      answered : FormatAnswer.Formatted ≡ formatAnswer (firstCause (formatCauses n S (length area)))
-      answered = rw (cause-none (record { holds = geometryBad n S (length area); refusal = Geometry }) [] good refl)
+      either-last : (b : Bool) → either b true ≡ true
+      either-last true = refl
+      either-last false = refl
+
+module _ (L : Layout) (n S : ℕ) (area : List ℕ) where
+  pub format-done : (a₁ a₂ a₃ : List ℕ) → geometryBad n S (length area) ≡ false → a₁ ≡ cleared S n area → a₂ ≡ sets a₁ 0 (encodedDigest L firstDigest)
+      → a₃ ≡ set a₂ (digestSize L) 0 → FormatPromise (numberOfLayout L) n S area a₃ FormatAnswer.Formatted
+  unfolding formatAnswer areaUnless firstCause formattedAs either isNone
+  format-done a₁ a₂ a₃ good e₁ e₂ e₃ =
+      record { answers = rw nothing; says = ap formatSaid answered ∙ format-says _; leaves = rw (nothing, numbered-layout L) (whole) }
+    where
+      known : either (geometryBad n S (length area)) (isNone (layoutNumbered (numberOfLayout L))) ≡ false
+      known = rw (good, numbered-layout L)
+
+      nothing : firstCause (formatCauses (numberOfLayout L) n S (length area)) ≡ none
+      nothing =
+          cause-none (record { holds = either (geometryBad n S (length area)) (isNone (layoutNumbered (numberOfLayout L))); refusal = Geometry }) [] known refl
+
+      answered : FormatAnswer.Formatted ≡ formatAnswer (firstCause (formatCauses (numberOfLayout L) n S (length area)))
+      answered = rw nothing
 
       behind : digestSize L ≡ 0 + length (encodedDigest L firstDigest)
       behind = omega (arith, length-encodedDigest L firstDigest)

@@ -34,7 +34,7 @@ use Rattle.laws.specs.CauseLaws.{cause-first, cause-skip}
 use Rattle.laws.specs.SaidLaws.{read-settled}
 use Rattle.laws.specs.Members.{In}
 use Rattle.laws.specs.Latest.{latest-some}
-use Rattle.laws.specs.LogLaws.{AllScanned, log-in, scan-whole}
+use Rattle.laws.specs.LogLaws.{AllOf, AllScanned, log-in, scan-whole}
 use Rattle.laws.specs.Scans.{scan-scans, scans-found}
 use Rattle.laws.specs.RecoverLaws.{recovered-case, recovered-keys}
 use Rattle.model.specs.Index.{startCell}
@@ -126,22 +126,24 @@ module _ (L : Layout) (r : Record) (area cells : List ℕ) (t : Tables) (k : Key
       go true d true c (Hit.Free i) f = let q = looked-free L r area cells t k d c i f in let z : _≡_ {A = ℕ} 0 1 = cc in absurd (omega arith)
       go true d true c Hit.Full f = let q = looked-full L r area cells t k d c f in let z : _≡_ {A = ℕ} 0 1 = cc in absurd (omega arith)
 
--- ---- the entries of an undamaged log stand in their segments
+-- ---- the entries of an undamaged log of one layout stand in their segments
 
-pub log-stands : (L : Layout) (area : List ℕ) (S : ℕ) (p : ℕ → Bool) (n : ℕ) → AllScanned (viewsOf L area S) p n
-    → (x : Placed) → In x (logOf (viewsOf L area S) p n) → entryAt L (segmentOf area S (x .slot)) (x .offset) ≡ entry (x .entry)
-log-stands L area S p n scans x m =
-    let w = log-in (viewsOf L area S) p n x m in
+pub log-stands :
+    (L : Layout) (area : List ℕ) (S : ℕ) (p : ℕ → Bool) (n : ℕ) → AllOf L (viewsOf area S) p n → AllScanned (viewsOf area S) p n →
+    (x : Placed) → In x (logOf (viewsOf area S) p n) → entryAt L (segmentOf area S (x .slot)) (x .offset) ≡ entry (x .entry)
+log-stands L area S p n editions scans x m =
+    let w = log-in (viewsOf area S) p n x m in
     let s : List ℕ = segmentOf area S (x .slot) in
-    scans-found (scan-scans L s (scan-whole (scan L s) (scans (x .slot) (w .below) (w .picked)))) (w .item)
+    let own : scan L s ≡ viewsOf area S (x .slot) .scan = sym (ap (λ (K : Layout). scan K s) (editions (x .slot) (w .below) (w .picked))) in
+    scans-found (scan-scans L s (own ∙ scan-whole (viewsOf area S (x .slot) .scan) (scans (x .slot) (w .below) (w .picked)))) (w .item)
 
 -- so at its place in the area stands the entry
 pub stands-at :
-    (L : Layout) (area : List ℕ) (S : ℕ) (p : ℕ → Bool) (n : ℕ) → AllScanned (viewsOf L area S) p n → (x : Placed) →
-    In x (logOf (viewsOf L area S) p n) → standsAt L S area (placeOf S x) ≡ answer L (entry (x .entry))
-stands-at L area S p n scans x m =
+    (L : Layout) (area : List ℕ) (S : ℕ) (p : ℕ → Bool) (n : ℕ) → AllOf L (viewsOf area S) p n → AllScanned (viewsOf area S) p n →
+    (x : Placed) → In x (logOf (viewsOf area S) p n) → standsAt L S area (placeOf S x) ≡ answer L (entry (x .entry))
+stands-at L area S p n editions scans x m =
     let s : List ℕ = segmentOf area S (x .slot) in
-    let found = log-stands L area S p n scans x m in
+    let found = log-stands L area S p n editions scans x m in
     let inside : x .offset < S = omega (arith, found-fits L s (x .offset) (x .entry) found, length-take S (drop (x .slot * S) area)) in
     ap (answer L) (found-place L S area (x .slot) (x .offset) inside ∙ found)
 
@@ -171,11 +173,16 @@ module _ (L : Layout) (r : Record) (area cells : List ℕ) (t : Tables) (k : Key
   S = r .size
 
   abbrev log : List Placed
-  log = logNow L area r
+  log = logNow area r
 
-  pub scans : AllScanned (viewsOf L area S) (named (r .map)) (r .slots)
+  pub editions : AllOf L (viewsOf area S) (named (r .map)) (r .slots)
+  editions =
+      recovered-case L (r .slots) S (r .cells) area (λ (q : Record). AllOf L (viewsOf area S) (named (q .map)) (r .slots))
+      (λ h a f. f .editions) (withPending r Idle) (genuine .recovers)
+
+  pub scans : AllScanned (viewsOf area S) (named (r .map)) (r .slots)
   scans =
-      recovered-case L (r .slots) S (r .cells) area (λ (q : Record). AllScanned (viewsOf L area S) (named (q .map)) (r .slots))
+      recovered-case L (r .slots) S (r .cells) area (λ (q : Record). AllScanned (viewsOf area S) (named (q .map)) (r .slots))
       (λ h a f. f .scans) (withPending r Idle) (genuine .recovers)
 
   few : length (keysOf log) < length cells
@@ -184,14 +191,14 @@ module _ (L : Layout) (r : Record) (area cells : List ℕ) (t : Tables) (k : Key
       omega (arith, recovered-keys L (r .slots) S (r .cells) area (withPending r Idle) (genuine .recovers))
 
   pub at-place : (x : Placed) → In x log → standsAt L S area (placeOf S x) ≡ answer L (entry (x .entry))
-  at-place x m = stands-at L area S (named (r .map)) (r .slots) scans x m
+  at-place x m = stands-at L area S (named (r .map)) (r .slots) editions scans x m
 
   pub genuine-lookup : holdsTable t (k .table) ≡ true → lookedUp L r area cells t k ≡ lookupFor L S (present log k)
   unfolding present
   genuine-lookup held = go (latest log k) refl
     where
       picks : Picks (cellHas L area k) S log k
-      picks = area-picks L area S log k (log-in-area L area S (named (r .map)) (r .slots) scans)
+      picks = area-picks L area S log k (log-in-area L area S (named (r .map)) (r .slots) editions scans)
 
       within : searchFor L area cells k ≡ probe (cellHas L area k) cells (length cells) (startCell (length cells) k)
       within = let l = lent L r (length area) (length cells) fit in search-within L area cells k (omega (arith, l .index-own, l .cells-high))
@@ -246,10 +253,10 @@ module _ (L : Layout) (r : Record) (area cells : List ℕ) (t : Tables) (k : Key
   fits = fitsLent L r (length area) (length cells)
 
   abbrev object : Option Placed
-  object = present (logNow L area r) k
+  object = present (logNow area r) k
 
   abbrev cause : Option Refusal
-  cause = firstCause (readCauses L r (logNow L area r) (readLengths area cells) t k)
+  cause = firstCause (readCauses L r (logNow area r) (readLengths area cells) t k)
 
   abbrev early : Option Refusal
   early = firstCause (reachCauses L r (readLengths area cells) t k)
@@ -267,7 +274,7 @@ module _ (L : Layout) (r : Record) (area cells : List ℕ) (t : Tables) (k : Key
   out = when (outsideTables t k) Refusal.OutsideTables
 
   abbrev gone : Cause
-  gone = when (keyAbsent (logNow L area r) k) Refusal.Absent
+  gone = when (keyAbsent (logNow area r) k) Refusal.Absent
 
   no-more : firstCause [] ≡ none
   unfolding firstCause

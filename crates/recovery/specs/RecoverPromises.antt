@@ -1,5 +1,5 @@
 -- What recovery's parts give together is what it promises.
-use Prim.Native.Nat.{ℕ, _-_, _<_}
+use Prim.Native.Nat.{ℕ, _+_, _-_, _<_, max}
 use mathlib.Core.Path.{_≡_, refl, sym, _∙_, ap, subst}
 use mathlib.Core.Bool.{Bool, true, false}
 use mathlib.Core.List.{List, [], _∷_, _++_}
@@ -9,23 +9,25 @@ use lib.Dec.{eqb}
 use lib.ListN.{length, replicate, length-replicate}
 use borrow.Author.Tests.{not-false, ltb-false}
 use Rattle.segment.specs.Choice.{pick, pick-true, pick-false}
-use Rattle.segment.specs.Layout.{Layout, versionLimit}
-use Rattle.segment.specs.LayoutLaws.{version-below}
+use Rattle.segment.specs.Layout.{Layout, versionLimit, table}
+use Rattle.segment.specs.LayoutLaws.{version-below, limit-high}
 use Rattle.segment.specs.EntryLaws.{found-readable}
 use Rattle.segment.specs.declared.Digest.{Digest}
+use Rattle.segment.specs.declared.Edition.the-variants.{First, Second}
 use Rattle.segment.specs.declared.Version.{Version}
 use Rattle.slot_map.specs.Bit.{named}
 use Rattle.record.specs.Range.{mapGood, cellsGood}
 use Rattle.record.specs.RangeLaws.{map-in, between-low, between-high}
 use Rattle.record.specs.Refusals.{numberOfRefusal}
+use Rattle.record.specs.declared.Pending.the-variants.{Idle}
 use Rattle.record.specs.declared.Refusal.{Refusal}
 use Rattle.record.specs.declared.Refusal.the-variants.{BadOrder, TooManyKeys}
 use Rattle.record.specs.declared.Record.{Record}
 use Rattle.record.specs.declared.Recovery.{Recovery}
 use Rattle.record.specs.declared.RecoverAnswer.{RecoverAnswer}
-use Rattle.model.specs.Log.{View, Head, Placed, segmentOf, viewsOf, headOf, logOf, keysOf, highest, versionShared}
+use Rattle.model.specs.Log.{View, Head, Placed, segmentOf, scan, endOf, viewsOf, headOf, logOf, keysOf, highest, versionShared}
 use Rattle.model.specs.Causes.{Cause, when, firstCause}
-use Rattle.model.specs.Recovery.{orderBad, headElse, mapBad, logDamaged, logSlots, logUnder, keysBad, recordUnder, lentCauses, imageCauses, keyCauses, recoverCauses, recordFrom, recoveryFor, recovery}
+use Rattle.model.specs.Recovery.{imageLayout, orderBad, headElse, mapBad, otherEdition, logDamaged, logSlots, logUnder, keysBad, recordUnder, lentCauses, imageCauses, keyCauses, recoverCauses, recordFrom, recoveryFor, recovery}
 use Rattle.model.specs.Index.{IndexRule}
 use Rattle.model.specs.Operations.{logNow}
 use Rattle.model.specs.Counts.{countsOf}
@@ -34,7 +36,7 @@ use Rattle.laws.specs.CauseLaws.{cause-first, cause-none, first-some, first-non
 use Rattle.laws.specs.Passed.{LentPassed, lent-passed, ImagePassed, image-passed}
 use Rattle.laws.specs.SaidLaws.{recover-says}
 use Rattle.laws.specs.Versions.{highest-below}
-use Rattle.laws.specs.LogLaws.{AllScanned, undamaged-scans}
+use Rattle.laws.specs.LogLaws.{AllOf, AllScanned, editions-one, undamaged-scans}
 use Rattle.log.specs.Shape.{Shape}
 use Rattle.index.specs.Build.{Rebuilt, built}
 use Rattle.index.specs.BuildLaws.{Holds, built-rule, built-over}
@@ -65,39 +67,54 @@ first-keeps (x ∷ a) k c e = go (x .holds) e (λ q. first-keeps a (k .1) c q)
 
 -- ---- a sound image
 
--- The head's slot and digest, and that none of the image's causes holds.
-pub record SoundImage (v : ℕ → View) (n i : ℕ) (d : Digest) (top : Version) : Type 0 where
-  pub clear : firstCause (imageCauses v n (headOf v n)) ≡ none
+-- The head's slot, its edition and its digest, and that none of the image's causes holds.
+pub record SoundImage (L : Layout) (v : ℕ → View) (n i : ℕ) (d : Digest) (top : Version) : Type 0 where
+  pub clear : firstCause (imageCauses L v n (headOf v n)) ≡ none
   pub head : headElse (headOf v n) ≡ record { slot = i; digest = d }
+  pub edition : v (headElse (headOf v n) .slot) .layout ≡ L
   pub top-is : top ≡ record { 0 = highest (logOf v (named (d .map)) n) }
 
-pub sound-image : (v : ℕ → View) (n i : ℕ) (d : Digest) (top : Version) → imageOf v n ≡ Image.Sound i d top → SoundImage v n i d top
-unfolding imageFor
-sound-image v n i d top e = go (headElse (headOf v n)) refl (firstCause (imageCauses v n (headOf v n))) refl e
-  where
-    go : (h : Head) → headElse (headOf v n) ≡ h → (o : Option Refusal) → firstCause (imageCauses v n (headOf v n)) ≡ o
-        → imageFor v n h o ≡ Image.Sound i d top → SoundImage v n i d top
-    go h p none q f =
-        let slot : h .slot ≡ i = cc in
-        let digest : h .digest ≡ d = cc in
-        let high : record { 0 = highest (logUnder v n h) } ≡ top = cc in
-        record {
-          clear = q;
-          head = p ∙ (λ j. record { slot = slot j; digest = digest j });
-          top-is = sym high ∙ ap (λ (x : Digest). record { 0 = highest (logOf v (named (x .map)) n) }) digest;
-        }
-    go h p (some c) q f = let z : _≡_ {A = ℕ} 0 1 = cc in absurd (omega arith)
+module _ (L : Layout) (v : ℕ → View) (n i : ℕ) (d : Digest) (top : Version) where
+  abbrev found-head : Head
+  found-head = headElse (headOf v n)
 
-module _ (v : ℕ → View) (n i : ℕ) (d : Digest) (top : Version) (s : SoundImage v n i d top) where
+  abbrev found-edition : Layout
+  found-edition = v (found-head .slot) .layout
+
+  pub sound-image : imageOf v n ≡ Image.Sound L i d top → SoundImage L v n i d top
+  unfolding imageFor
+  sound-image e = go (firstCause (imageCauses found-edition v n (headOf v n))) refl e
+    where
+      go : (o : Option Refusal) → firstCause (imageCauses found-edition v n (headOf v n)) ≡ o → imageFor v n found-head o ≡ Image.Sound L i d top
+          → SoundImage L v n i d top
+      go none q f =
+          let of : found-edition ≡ L = cc in
+          let slot : found-head .slot ≡ i = cc in
+          let digest : found-head .digest ≡ d = cc in
+          let high : record { 0 = highest (logUnder v n found-head) } ≡ top = cc in
+          record {
+            clear = subst (λ (K : Layout). firstCause (imageCauses K v n (headOf v n)) ≡ none) of q;
+            head = λ j. record { slot = slot j; digest = digest j };
+            edition = of;
+            top-is = sym high ∙ ap (λ (x : Digest). record { 0 = highest (logOf v (named (x .map)) n) }) digest;
+          }
+      go (some c) q f = let z : _≡_ {A = ℕ} 0 1 = cc in absurd (omega arith)
+
+module _ (L : Layout) (v : ℕ → View) (n i : ℕ) (d : Digest) (top : Version) (s : SoundImage L v n i d top) where
   abbrev own : Head
   own = record { slot = i; digest = d }
 
-  passed : ImagePassed v n (headOf v n)
-  passed = image-passed v n (headOf v n) (s .clear)
+  passed : ImagePassed L v n (headOf v n)
+  passed = image-passed L v n (headOf v n) (s .clear)
 
   image-map : mapGood n i (d .map) ≡ true
   image-map =
       not-false _ (subst (λ (h : Head). mapBad n h ≡ false) (s .head) (passed .map-within))
+
+  -- every log slot is of the head's edition
+  pub image-editions : AllOf L v (named (d .map)) n
+  image-editions =
+      editions-one v (named (d .map)) n L (subst (λ (h : Head). otherEdition L v (logSlots h) n ≡ false) (s .head) (passed .one-edition))
 
   pub image-scans : AllScanned v (named (d .map)) n
   image-scans =
@@ -106,6 +123,40 @@ module _ (v : ℕ → View) (n i : ℕ) (d : Digest) (top : Version) (s : SoundI
   image-versions : versionShared (logOf v (named (d .map)) n) ≡ false
   image-versions = subst (λ (h : Head). versionShared (logUnder v n h) ≡ false) (s .head) (passed .versions-apart)
 
+limit-some : (L : Layout) → 0 < versionLimit L
+unfolding table
+limit-some First = omega arith
+limit-some Second = omega arith
+
+-- ---- what is lent
+
+module _ (n s : ℕ) (order area cells : List ℕ) (passed : lentFirst n s (length cells) (length area) order ≡ none) where
+  lent-tested : LentPassed n s (length cells) (length area) order
+  lent-tested = lent-passed n s (length cells) (length area) order passed
+
+  pub lent-fits : Fits n s (length area)
+  lent-fits = geometry-fits n s (length area) (lent-tested .geometry-good)
+
+  pub lent-shape : Shape n s area
+  lent-shape =
+      let f = lent-fits in
+      record {
+        slots-least = f .slots-low;
+        slots-most = f .slots-high;
+        size-least = f .size-low;
+        size-most = f .size-high;
+        whole = f .area-own;
+      }
+
+  cells-good : cellsGood (length cells) ≡ true
+  cells-good = not-false (cellsGood (length cells)) (lent-tested .cells-within)
+
+  pub cells-some : 0 < length cells
+  cells-some = omega (arith, between-low 16 4096 (length cells) cells-good)
+
+  pub cells-few : length cells < 4097
+  cells-few = omega (arith, between-high 16 4096 (length cells) cells-good)
+
 -- ---- the promise
 
 module _ (L : Layout) (n s : ℕ) (order area cells : List ℕ) where
@@ -113,7 +164,7 @@ module _ (L : Layout) (n s : ℕ) (order area cells : List ℕ) where
   m = length cells
 
   abbrev v : ℕ → View
-  v = viewsOf L area s
+  v = viewsOf area s
 
   abbrev cause : Option Refusal
   cause = firstCause (recoverCauses L n s m order area)
@@ -139,89 +190,60 @@ module _ (L : Layout) (n s : ℕ) (order area cells : List ℕ) where
 
   module _ (passed : lentFirst n s m (length area) order ≡ none) where
     abbrev rest : List Cause
-    rest = imageCauses v n (headOf v n) ++ keyCauses v n m (headOf v n)
+    rest = imageCauses L v n (headOf v n) ++ keyCauses v n m (headOf v n)
 
     on-image : cause ≡ firstCause rest
     on-image = first-none (lentCauses n s m (length area) ++ (when (orderBad n order) BadOrder ∷ [])) rest passed
 
-    lent-tested : LentPassed n s m (length area) order
-    lent-tested = lent-passed n s m (length area) order passed
-
-    pub lent-fits : Fits n s (length area)
-    lent-fits = geometry-fits n s (length area) (lent-tested .geometry-good)
-
-    pub lent-shape : Shape n s area
-    lent-shape =
-        let f = lent-fits in
-        record {
-          slots-least = f .slots-low;
-          slots-most = f .slots-high;
-          size-least = f .size-low;
-          size-most = f .size-high;
-          whole = f .area-own;
-        }
-
-    cells-good : cellsGood m ≡ true
-    cells-good = not-false (cellsGood m) (lent-tested .cells-within)
-
-    pub cells-some : 0 < m
-    cells-some = omega (arith, between-low 16 4096 m cells-good)
-
-    pub cells-few : m < 4097
-    cells-few = omega (arith, between-high 16 4096 m cells-good)
-
-    pub image-promise : (c : Refusal) (r : Recovery) → imageOf v n ≡ Image.Refused c → r ≡ refusedWith c
-        → RecoverPromise L n s order area cells cells r
-    unfolding imageFor
-    image-promise c r e its =
-        subst (RecoverPromise L n s order area cells cells) (sym its) (go (firstCause (imageCauses v n (headOf v n))) refl e)
-      where
-        go : (o : Option Refusal) → firstCause (imageCauses v n (headOf v n)) ≡ o → imageFor v n (headElse (headOf v n)) o ≡ Image.Refused c
-            → RecoverPromise L n s order area cells cells (refusedWith c)
-        go none p q = let z : _≡_ {A = ℕ} 0 1 = cc in absurd (omega arith)
-        go (some b) p q =
-            let same : b ≡ c = cc in
-            let f : firstCause (imageCauses v n (headOf v n)) ≡ some c = p ∙ ap some same in
-            refused-kept c (on-image ∙ first-some (imageCauses v n (headOf v n)) (keyCauses v n m (headOf v n)) c f)
-            (first-keeps (imageCauses v n (headOf v n)) (refl, (refl, (refl, (refl, (refl, (refl, tt)))))) c f)
-
-    module _ (i : ℕ) (d : Digest) (top : Version) (sound : imageOf v n ≡ Image.Sound i d top) where
+    module _ (i : ℕ) (d : Digest) (top : Version) (sound : imageOf v n ≡ Image.Sound L i d top) where
       abbrev log : List Placed
       log = logOf v (named (d .map)) n
 
-      image : SoundImage v n i d top
-      image = sound-image v n i d top sound
+      image : SoundImage L v n i d top
+      image = sound-image L v n i d top sound
 
       on-keys : cause ≡ firstCause (when (keysBad m log) TooManyKeys ∷ [])
       on-keys =
           on-image
-          ∙ first-none (imageCauses v n (headOf v n)) (keyCauses v n m (headOf v n)) (image .clear)
+          ∙ first-none (imageCauses L v n (headOf v n)) (keyCauses v n m (headOf v n)) (image .clear)
           ∙ ap (λ (h : Head). firstCause (when (keysBad m (logUnder v n h)) TooManyKeys ∷ [])) (image .head)
 
       pub head-inside : i < n
-      head-inside = map-in n i (d .map) (image-map v n i d top image) .head-in
+      head-inside = map-in n i (d .map) (image-map L v n i d top image) .head-in
+
+      -- the promise by the edition that the head's slot tells
+      by-head : {cells′ : List ℕ} {r : Recovery} → RecoverPromise L n s order area cells cells′ r
+          → RecoverPromise (imageLayout n s area) n s order area cells cells′ r
+      by-head {cells′} {r} p = subst (λ (K : Layout). RecoverPromise K n s order area cells cells′ r) (sym (image .edition)) p
+
+      -- the head is of the edition, so its entries are read by it
+      head-end : endOf (scan L (segmentOf area s i)) ≡ endOf (v i .scan)
+      head-end =
+          ap (λ (K : Layout). endOf (scan K (segmentOf area s i)))
+          (sym (image-editions L v n i d top image i head-inside (map-in n i (d .map) (image-map L v n i d top image) .head-named)))
 
       rebuilt : keysBad m log ≡ false → Holds s m log (built L area s (d .map) order m)
       rebuilt few =
-          built-rule L area s (d .map) n m order (lent-fits .area-own) (map-in n i (d .map) (image-map v n i d top image) .below)
-          (image-scans v n i d top image) (image-versions v n i d top image) (lent-tested .order-good) cells-some (omega (arith, cells-few)) few
+          built-rule L area s (d .map) n m order (lent-fits n s order area cells passed .area-own) (map-in n i (d .map) (image-map L v n i d top image) .below)
+          (image-editions L v n i d top image) (image-scans L v n i d top image) (image-versions L v n i d top image) (lent-tested n s order area cells passed .order-good) (cells-some n s order area cells passed) (omega (arith, cells-few n s order area cells passed)) few
 
       overfull : keysBad m log ≡ true → built L area s (d .map) order m ≡ record { answer = Built.TooMany; cells = replicate m 0 }
       overfull many =
-          built-over L area s (d .map) n m order (lent-fits .area-own) (map-in n i (d .map) (image-map v n i d top image) .below)
-          (image-scans v n i d top image) (image-versions v n i d top image) (lent-tested .order-good) cells-some (omega (arith, cells-few)) many
+          built-over L area s (d .map) n m order (lent-fits n s order area cells passed .area-own) (map-in n i (d .map) (image-map L v n i d top image) .below)
+          (image-editions L v n i d top image) (image-scans L v n i d top image) (image-versions L v n i d top image) (lent-tested n s order area cells passed .order-good) (cells-some n s order area cells passed) (omega (arith, cells-few n s order area cells passed)) many
 
       -- the highest version in the log, and so the next, fits
-      pub highest-fits : 0 < versionLimit L → top .0 < versionLimit L
-      highest-fits p =
+      pub highest-fits : top .0 < 18446744073709551615
+      highest-fits =
           omega (
             arith,
             ap (λ (x : Version). x .0) (image .top-is),
-            highest-below log (versionLimit L) p
+            highest-below log (versionLimit L) (limit-some L)
                 (λ x w.
                 version-below L (x .entry .version)
                 (found-readable L (segmentOf area s (x .slot)) (x .offset) (x .entry)
-                (log-stands L area s (named (d .map)) n (image-scans v n i d top image) x w) .good)),
+                (log-stands L area s (named (d .map)) n (image-editions L v n i d top image) (image-scans L v n i d top image) x w) .good)),
+            limit-high L,
           )
 
       -- what the rebuilding answers, and the cells that it leaves
@@ -229,9 +251,9 @@ module _ (L : Layout) (n s : ℕ) (order area cells : List ℕ) where
       Rebuilds a cells′ = _≡_ {A = Rebuilt} (record { answer = a; cells = cells′ }) (built L area s (d .map) order m)
 
       pub over-promise : (a : Built) (cells′ : List ℕ) (r : Recovery) → Rebuilds a cells′ → a ≡ Built.TooMany → r ≡ refusedWith TooManyKeys
-          → RecoverPromise L n s order area cells cells′ r
+          → RecoverPromise (imageLayout n s area) n s order area cells cells′ r
       unfolding recovery recoveryFor IndexAfter
-      over-promise a cells′ r e over its = subst (RecoverPromise L n s order area cells cells′) (sym its) (go (keysBad m log) refl)
+      over-promise a cells′ r e over its = by-head (subst (RecoverPromise L n s order area cells cells′) (sym its) (go (keysBad m log) refl))
         where
           go : (t : Bool) → keysBad m log ≡ t → RecoverPromise L n s order area cells cells′ (refusedWith TooManyKeys)
           go true q =
@@ -272,37 +294,81 @@ module _ (L : Layout) (n s : ℕ) (order area cells : List ℕ) where
       pub keys-few : (a : Built) (k : ℕ) (cells′ : List ℕ) → Rebuilds a cells′ → a ≡ Built.Keys k → k < 4097
       keys-few a k cells′ e counts =
           let t = told a k cells′ e counts in
-          omega (arith, ltb-false (m - 1) (length (keysOf log)) (t .few), cells-few)
+          omega (arith, ltb-false (m - 1) (length (keysOf log)) (t .few), cells-few n s order area cells passed)
 
       -- the cells are as many as before
       pub cells-kept : (a : Built) (k : ℕ) (cells′ : List ℕ) → Rebuilds a cells′ → a ≡ Built.Keys k → length cells′ < 4097
-      cells-kept a k cells′ e counts = omega (arith, told a k cells′ e counts .long, cells-few)
+      cells-kept a k cells′ e counts = omega (arith, told a k cells′ e counts .long, cells-few n s order area cells passed)
 
       -- the present bytes that are counted over the cells
       counts-told : (a : Built) (k : ℕ) (cells′ : List ℕ) → Rebuilds a cells′ → a ≡ Built.Keys k → countedIn L s area cells′ ≡ countsOf L log
       counts-told a k cells′ e counts =
-          counted-log L s area log cells′ (told a k cells′ e counts .rule) (image-versions v n i d top image)
-          (log-stands L area s (named (d .map)) n (image-scans v n i d top image))
+          counted-log L s area log cells′ (told a k cells′ e counts .rule) (image-versions L v n i d top image)
+          (log-stands L area s (named (d .map)) n (image-editions L v n i d top image) (image-scans L v n i d top image))
+
+      -- the record with each part that the code finds
+      abbrev recordAt : ℕ → ℕ → Version → ℕ → List ℕ → Record
+      recordAt cells end high keys counts =
+          record {
+            slots = n;
+            size = s;
+            cells = cells;
+            edition = L;
+            head = i;
+            end = end;
+            digest = d .number;
+            map = d .map;
+            next = record { 0 = max (d .next .0) (high .0 + 1) };
+            keys = keys;
+            counts = counts;
+            pending = Idle;
+          }
 
       pub keys-promise : (a : Built) (k : ℕ) (cells′ counts : List ℕ) (rec : Record) → Rebuilds a cells′ → a ≡ Built.Keys k
           → counts ≡ countedIn L s area cells′ → rec ≡ recordWith L n s (length cells′) area i d top k counts
-          → RecoverPromise L n s order area cells cells′ (record { answer = RecoverAnswer.Recovered; rec = rec })
+          → RecoverPromise (imageLayout n s area) n s order area cells cells′ (record { answer = RecoverAnswer.Recovered; rec = rec })
       unfolding recovery recoveryFor IndexAfter
       keys-promise a k cells′ bytes rec e counts number its =
           let t = told a k cells′ e counts in
           let present-bytes : bytes ≡ countsOf L log = number ∙ counts-told a k cells′ e counts in
           let nothing : cause ≡ none = on-keys ∙ cause-none (when (keysBad m log) TooManyKeys) [] (t .few) nil in
           let same : rec ≡ recordUnder L v n s m (record { slot = i; digest = d }) =
-          its ∙ (λ j. recordWith L n s (t .long j) area i d (image .top-is j) (t .keys j) (present-bytes j)) in
+          its ∙ (λ j. recordAt (t .long j) (head-end j) (image .top-is j) (t .keys j) (present-bytes j)) in
           let answered : record { answer = RecoverAnswer.Recovered; rec = rec } ≡ recovery L n s m order area =
           ap (λ (x : Record). record { answer = RecoverAnswer.Recovered; rec = x }) (same ∙ ap (recordUnder L v n s m) (sym (image .head)))
           ∙ ap (λ (o : Option Refusal). recoveryFor o (recordFrom L n s m area)) (sym nothing) in
-          record {
+          by-head
+          (record {
             answers = answered;
             says = recover-says L n s m order area _ answered;
             same-length = t .long;
-            index = subst (λ (x : Record). IndexRule (x .size) (logNow L area x) cells′) (sym its) (t .rule);
-          }
+            index = subst (λ (x : Record). IndexRule (x .size) (logNow area x) cells′) (sym its) (t .rule);
+          })
         where
           nil : firstCause [] ≡ none
           nil = unfold firstCause in refl
+
+-- a refused image, by the edition of its head
+module _ (n s : ℕ) (order area cells : List ℕ) (passed : lentFirst n s (length cells) (length area) order ≡ none) where
+  abbrev its : Layout
+  its = imageLayout n s area
+
+  abbrev found : List Cause
+  found = imageCauses its (viewsOf area s) n (headOf (viewsOf area s) n)
+
+  pub image-promise : (c : Refusal) (r : Recovery) → imageOf (viewsOf area s) n ≡ Image.Refused c → r ≡ refusedWith c
+      → RecoverPromise its n s order area cells cells r
+  unfolding imageFor
+  image-promise c r e same =
+      subst (RecoverPromise its n s order area cells cells) (sym same) (go (firstCause found) refl e)
+    where
+      go : (o : Option Refusal) → firstCause found ≡ o → imageFor (viewsOf area s) n (headElse (headOf (viewsOf area s) n)) o ≡ Image.Refused c
+          → RecoverPromise its n s order area cells cells (refusedWith c)
+      go none p q = let z : _≡_ {A = ℕ} 0 1 = cc in absurd (omega arith)
+      go (some b) p q =
+          let same : b ≡ c = cc in
+          let f : firstCause found ≡ some c = p ∙ ap some same in
+          refused-kept its n s order area cells c
+          (on-image its n s order area cells passed
+          ∙ first-some found (keyCauses (viewsOf area s) n (length cells) (headOf (viewsOf area s) n)) c f)
+          (first-keeps found (refl, (refl, (refl, (refl, (refl, (refl, (refl, tt))))))) c f)

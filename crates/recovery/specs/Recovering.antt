@@ -26,17 +26,17 @@ unfoldable pub checkedAs : Option Refusal → Checked
 checkedAs none = Checked.Passed
 checkedAs (some c) = Checked.Refused c
 
--- what refuses the image, or the head with the highest version in its log
+-- what refuses the image, or the head with its edition and the highest version in its log
 unfoldable pub imageFor : (ℕ → View) → ℕ → Head → Option Refusal → Image
-imageFor v n h none = Image.Sound (h .slot) (h .digest) (record { 0 = highest (logUnder v n h) })
+imageFor v n h none = Image.Sound (v (h .slot) .layout) (h .slot) (h .digest) (record { 0 = highest (logUnder v n h) })
 imageFor v n h (some c) = Image.Refused c
 
 abbrev pub imageOf : (ℕ → View) → ℕ → Image
-imageOf v n = imageFor v n (headElse (headOf v n)) (firstCause (imageCauses v n (headOf v n)))
+imageOf v n = imageFor v n (headElse (headOf v n)) (firstCause (imageCauses (v (headElse (headOf v n) .slot) .layout) v n (headOf v n)))
 
 -- the same under a head that was found
 abbrev pub imageUnder : (ℕ → View) → ℕ → Head → Image
-imageUnder v n h = imageFor v n h (firstCause (imageCauses v n (some h)))
+imageUnder v n h = imageFor v n h (firstCause (imageCauses (v (h .slot) .layout) v n (some h)))
 
 -- the record of a head, the highest version in its log, the number of its keys, and the present bytes of the slots
 abbrev pub recordWith : Layout → ℕ → ℕ → ℕ → List ℕ → ℕ → Digest → Version → ℕ → List ℕ → Record
@@ -45,6 +45,7 @@ recordWith L n s m area slot d top keys counts =
       slots = n;
       size = s;
       cells = m;
+      edition = L;
       head = slot;
       end = endOf (scan L (segmentOf area s slot));
       digest = d .number;

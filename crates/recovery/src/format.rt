@@ -5,13 +5,14 @@ use record::range::size_good;
 use record::range::slots_good;
 use segment::Digest;
 use segment::DigestNumber;
+use segment::Edition;
 use segment::Version;
-use segment::layout::DIGEST_SIZE;
+use segment::layout::digest_size;
 use segment::writer::write_digest;
 ghost use Prim.Native.Nat.{_*_, _≤_, _<_};
 ghost use mathlib.Core.Path.{_≡_};
 ghost use lib.ListN.{length};
-ghost use Rattle.segment.specs.Layout.{edition1};
+ghost use Rattle.segment.specs.Layout.{numberOfLayout};
 ghost use Rattle.model.specs.Recovery.{geometryBad};
 ghost use Rattle.model.specs.Operations.{cleared};
 ghost use Rattle.model.specs.Promises.{FormatPromise};
@@ -41,9 +42,9 @@ fn clear(n: usize, s: usize, area: &mut [u8])
     }
 }
 
-// Slot 0 becomes the head of an empty log, and no other slot has a digest.
-pub fn format(n: u32, s: u32, area: &mut [u8]) -> FormatAnswer
-    ensures { λ r. ⌜ FormatPromise edition1 n s (now (area .entry)) (now (area .exit)) r ⌝ }
+// Slot 0 becomes the head of an empty log of an edition, and no other slot has a digest.
+fn format_as(edition: Edition, n: u32, s: u32, area: &mut [u8]) -> FormatAnswer
+    ensures { λ r. ⌜ FormatPromise (numberOfLayout edition) n s (now (area .entry)) (now (area .exit)) r ⌝ }
 {
     if geometry_bad(n, s, area.len()) {
         return FormatAnswer::Refused(Refusal::Geometry);
@@ -54,7 +55,20 @@ pub fn format(n: u32, s: u32, area: &mut [u8]) -> FormatAnswer
         map: 1,
         next: Version(1),
     };
-    write_digest(area, 0, first);
-    area[DIGEST_SIZE] = 0;
+    write_digest(edition, area, 0, first);
+    area[digest_size(edition)] = 0;
     FormatAnswer::Formatted
+}
+
+// Format is told the edition by its number (02, R-11), and any but 1 and 2 is refused.
+pub fn format(n: u32, s: u32, edition: u32, area: &mut [u8]) -> FormatAnswer
+    ensures { λ r. ⌜ FormatPromise edition n s (now (area .entry)) (now (area .exit)) r ⌝ }
+{
+    if edition == 1 {
+        return format_as(Edition::First, n, s, area);
+    }
+    if edition == 2 {
+        return format_as(Edition::Second, n, s, area);
+    }
+    FormatAnswer::Refused(Refusal::Geometry)
 }

@@ -1,6 +1,7 @@
 // The calls that look at a store: format, recovery, and reads.
 use record::Refusal;
 use segment::Digest;
+use segment::Edition;
 use segment::Version;
 
 pub mod count;
@@ -29,10 +30,11 @@ pub enum Checked {
     Refused(Refusal),
 }
 
-// What recovery found in an area: the cause that refuses it, or the head with the highest version in its log.
+// What recovery found in an area: the cause that refuses it, or the head with its edition and the highest version in its log.
 pub enum Image {
     Refused(Refusal),
     Sound {
+        edition: Edition,
         slot: usize,
         digest: Digest,
         highest: Version,

@@ -8,6 +8,7 @@ use index::build::build;
 use log::HeadFound;
 use log::head::find_head;
 use log::head::names_no_digest;
+use log::head::names_other_edition;
 use log::head::shared_number;
 use log::scan::end_of;
 use log::survey::survey;
@@ -22,8 +23,10 @@ use record::range::cells_good;
 use record::range::map_good;
 use segment::Digest;
 use segment::DigestNumber;
+use segment::Edition;
 use segment::Version;
 use segment::area::cut;
+use segment::reader::edition_of;
 use slot_map::with_slot;
 ghost use Prim.Native.Nat.{_+_, _*_, _≤_, _<_, max};
 ghost use mathlib.Core.Path.{_≡_};
@@ -31,10 +34,9 @@ ghost use mathlib.Core.Option.{none};
 ghost use lib.Dec.{eqb, ltb};
 ghost use lib.ListN.{length};
 ghost use Rattle.segment.specs.Choice.{either};
-ghost use Rattle.segment.specs.Layout.{edition1};
 ghost use Rattle.model.specs.Log.{viewsOf};
 ghost use Rattle.model.specs.Causes.{firstCause};
-ghost use Rattle.model.specs.Recovery.{orderBad, sharing, digestBad, digestCauses};
+ghost use Rattle.model.specs.Recovery.{imageLayout, orderBad, sharing, digestBad, digestCauses};
 ghost use Rattle.model.specs.Promises.{RecoverPromise};
 ghost use Rattle.log.specs.Shape.{Shape};
 ghost use Rattle.recovery.specs.Order.{seeSlot, seenFrom};
@@ -97,7 +99,7 @@ fn check_lent(n: u32, s: u32, order: &[u8], area: usize, index: usize) -> Checke
 fn number_bad(n: usize, s: usize, area: &[u8], number: DigestNumber) -> bool
     requires { ⌜ Shape n s (now area) ⌝ }
     ensures { λ r.
-        ⌜ r ≡ either (eqb (number .0) 0) (ltb 1 (sharing (viewsOf edition1 (now (area .entry)) s) (number .0) n)) ⌝ }
+        ⌜ r ≡ either (eqb (number .0) 0) (ltb 1 (sharing (viewsOf (now (area .entry)) s) (number .0) n)) ⌝ }
 {
     if number.0 == 0 {
         return true;
@@ -109,7 +111,7 @@ fn number_bad(n: usize, s: usize, area: &[u8], number: DigestNumber) -> bool
 fn digest_bad(n: usize, s: usize, area: &[u8], slot: usize, digest: Digest) -> bool
     requires { ⌜ Shape n s (now area) × (slot < n) ⌝ }
     ensures { λ r.
-        ⌜ r ≡ digestBad (viewsOf edition1 (now (area .entry)) s) n (record { slot = slot; digest = digest }) ⌝ }
+        ⌜ r ≡ digestBad (viewsOf (now (area .entry)) s) n (record { slot = slot; digest = digest }) ⌝ }
 {
     let number = digest.number;
     let next = digest.next;
@@ -124,7 +126,7 @@ fn check_digest(n: usize, s: usize, area: &[u8], slot: usize, digest: Digest) ->
     requires { ⌜ Shape n s (now area) × (slot < n) ⌝ }
     ensures { λ r.
         ⌜ r ≡ checkedAs
-        (firstCause (digestCauses (viewsOf edition1 (now (area .entry)) s) n (record { slot = slot; digest = digest }))) ⌝ }
+        (firstCause (digestCauses (viewsOf (now (area .entry)) s) n (record { slot = slot; digest = digest }))) ⌝ }
 {
     if digest_bad(n, s, area, slot, digest) {
         return Checked::Refused(Refusal::BadDigest);
@@ -138,14 +140,18 @@ fn check_digest(n: usize, s: usize, area: &[u8], slot: usize, digest: Digest) ->
     Checked::Passed
 }
 
-// 18 and 19, under a head whose digest is good.
+// 28, 18 and 19, under a head whose digest is good. The edition is the head's (02, R-11).
 fn look_through(n: usize, s: usize, area: &[u8], slot: usize, digest: Digest) -> Image
     requires { ⌜ Shape n s (now area)
-        × (firstCause (digestCauses (viewsOf edition1 (now area) s) n (record { slot = slot; digest = digest })) ≡ none) ⌝ }
+        × (firstCause (digestCauses (viewsOf (now area) s) n (record { slot = slot; digest = digest })) ≡ none) ⌝ }
     ensures { λ r.
-        ⌜ r ≡ imageUnder (viewsOf edition1 (now (area .entry)) s) n (record { slot = slot; digest = digest }) ⌝ }
+        ⌜ r ≡ imageUnder (viewsOf (now (area .entry)) s) n (record { slot = slot; digest = digest }) ⌝ }
 {
     let map = digest.map;
+    let edition = edition_of(cut(s, area, slot));
+    if names_other_edition(edition, n, s, area, map) {
+        return Image::Refused(Refusal::MixedEditions);
+    }
     let passed = survey(n, s, area, map);
     if !passed.sound {
         return Image::Refused(Refusal::DamagedLog);
@@ -155,17 +161,18 @@ fn look_through(n: usize, s: usize, area: &[u8], slot: usize, digest: Digest) ->
     }
     let highest = passed.highest;
     Image::Sound {
+        edition,
         slot,
         digest,
         highest,
     }
 }
 
-// 17, 24, 25, 18 and 19, under a head that was found.
+// 17, 24, 25, 28, 18 and 19, under a head that was found.
 fn look_under(n: usize, s: usize, area: &[u8], slot: usize, digest: Digest) -> Image
     requires { ⌜ Shape n s (now area) × (slot < n) ⌝ }
     ensures { λ r.
-        ⌜ r ≡ imageUnder (viewsOf edition1 (now (area .entry)) s) n (record { slot = slot; digest = digest }) ⌝ }
+        ⌜ r ≡ imageUnder (viewsOf (now (area .entry)) s) n (record { slot = slot; digest = digest }) ⌝ }
 {
     match check_digest(n, s, area, slot, digest) {
         Checked::Refused(cause) => Image::Refused(cause),
@@ -173,10 +180,10 @@ fn look_under(n: usize, s: usize, area: &[u8], slot: usize, digest: Digest) -> I
     }
 }
 
-// 16, 17, 24, 25, 18 and 19, which look at the image alone.
+// 16, 17, 24, 25, 28, 18 and 19, which look at the image alone.
 pub fn look_at(n: usize, s: usize, area: &[u8]) -> Image
     requires { ⌜ Shape n s (now area) ⌝ }
-    ensures { λ r. ⌜ r ≡ imageOf (viewsOf edition1 (now (area .entry)) s) n ⌝ }
+    ensures { λ r. ⌜ r ≡ imageOf (viewsOf (now (area .entry)) s) n ⌝ }
 {
     match find_head(n, s, area) {
         HeadFound::Nothing => Image::Refused(Refusal::NoDigest),
@@ -186,7 +193,7 @@ pub fn look_at(n: usize, s: usize, area: &[u8]) -> Image
 
 // The next version: what the digest says, unless the log has a version that is as high.
 fn next_version(next: Version, highest: Version) -> Version
-    requires { ⌜ highest .0 < 4294967295 ⌝ }
+    requires { ⌜ highest .0 < 18446744073709551615 ⌝ }
     ensures { λ r. ⌜ r ≡ record { 0 = max (next .0) (highest .0 + 1) } ⌝ }
 {
     if next.0 < highest.0 + 1 {
@@ -197,6 +204,7 @@ fn next_version(next: Version, highest: Version) -> Version
 
 // The record of a head.
 fn record_of(
+    edition: Edition,
     n: u32,
     s: u32,
     m: u32,
@@ -207,16 +215,17 @@ fn record_of(
     keys: u32,
     counts: [u32; 32],
 ) -> Record
-    requires { ⌜ (slot * s + s ≤ length (now area)) × (highest .0 < 4294967295) × (s ≤ 2048) × (slot < 32) ⌝ }
-    ensures { λ r. ⌜ r ≡ recordWith edition1 n s m (now (area .entry)) slot digest highest keys counts ⌝ }
+    requires { ⌜ (slot * s + s ≤ length (now area)) × (highest .0 < 18446744073709551615) × (s ≤ 2048) × (slot < 32) ⌝ }
+    ensures { λ r. ⌜ r ≡ recordWith edition n s m (now (area .entry)) slot digest highest keys counts ⌝ }
 {
     let number = digest.number;
-    let end = end_of(cut(s as usize, area, slot));
+    let end = end_of(edition, cut(s as usize, area, slot));
     let next = next_version(digest.next, highest);
     Record {
         slots: n,
         size: s,
         cells: m,
+        edition,
         head: slot as u32,
         end: end as u32,
         digest: number,
@@ -242,21 +251,23 @@ fn refused(cause: Refusal) -> Recovery
 fn recover_image(n: u32, s: u32, order: &[u8], area: &[u8], index: &mut [u32]) -> Recovery
     requires { ⌜ lentFirst n s (length (now index)) (length (now area)) (now order) ≡ none ⌝ }
     ensures { λ r.
-        ⌜ RecoverPromise edition1 n s (now (order .entry)) (now (area .entry)) (now (index .entry)) (now (index .exit)) r ⌝ }
+        ⌜ RecoverPromise (imageLayout n s (now (area .entry))) n s (now (order .entry)) (now (area .entry)) (now (index .entry)) (now (index .exit)) r ⌝ }
 {
     match look_at(n as usize, s as usize, area) {
         Image::Refused(cause) => refused(cause),
         Image::Sound {
+            edition,
             slot,
             digest,
             highest,
         } => {
             let map = digest.map;
-            match build(area, index, order, s as usize, map) {
+            match build(edition, area, index, order, s as usize, map) {
                 Built::TooMany => refused(Refusal::TooManyKeys),
                 Built::Keys(keys) => Recovery {
                     answer: RecoverAnswer::Recovered,
                     rec: record_of(
+                        edition,
                         n,
                         s,
                         index.len() as u32,
@@ -265,7 +276,7 @@ fn recover_image(n: u32, s: u32, order: &[u8], area: &[u8], index: &mut [u32]) -
                         digest,
                         highest,
                         keys as u32,
-                        count(s, area, index),
+                        count(edition, s, area, index),
                     ),
                 },
             }
@@ -273,10 +284,10 @@ fn recover_image(n: u32, s: u32, order: &[u8], area: &[u8], index: &mut [u32]) -
     }
 }
 
-// Recovery: 1, 2, 15, 16, 17, 24, 25, 18, 19, 20.
+// Recovery: 1, 2, 15, 16, 17, 24, 25, 28, 18, 19, 20.
 pub fn recover(n: u32, s: u32, order: &[u8], area: &[u8], index: &mut [u32]) -> Recovery
     ensures { λ r.
-        ⌜ RecoverPromise edition1 n s (now (order .entry)) (now (area .entry)) (now (index .entry)) (now (index .exit)) r ⌝ }
+        ⌜ RecoverPromise (imageLayout n s (now (area .entry))) n s (now (order .entry)) (now (area .entry)) (now (index .entry)) (now (index .exit)) r ⌝ }
 {
     match check_lent(n, s, order, area.len(), index.len()) {
         Checked::Refused(cause) => refused(cause),

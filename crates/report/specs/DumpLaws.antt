@@ -10,7 +10,6 @@ use lib.Seq.{sets, sets-eq, take-all, take-at, drop-at}
 use borrow.Author.Tests.{lt-ltb, le-ltb}
 use Rattle.word.specs.Number.{numberOf}
 use Rattle.segment.specs.Choice.{pick-true, pick-false}
-use Rattle.segment.specs.Layout.{edition1}
 use Rattle.record.specs.declared.Refusal.{Refusal}
 use Rattle.report.specs.Report.{refusedLine, areaText, dumpText, textRoom, textWithin}
 use Rattle.report.specs.PutLaws.{PutWithin}
@@ -30,11 +29,11 @@ module _ (room : ℕ) (input : List ℕ) where
     text-short h = sym (pick-true (ltb (length input) 3) _ _ (lt-ltb (length input) 3 h)) ∙ text-all
 
     pub text-area : 3 ≤ length input → (s : ℕ) → s ≡ numberOf (take 2 (drop 1 input))
-        → areaText edition1 (getD input 0 0) s (take (length input - 3) (drop 3 input)) ≡ textWithin room (dumpText input)
+        → areaText (getD input 0 0) s (take (length input - 3) (drop 3 input)) ≡ textWithin room (dumpText input)
     unfolding dumpText
     text-area h s e =
-        ap (areaText edition1 (getD input 0 0) s) (take-all (length input - 3) (drop 3 input) (omega (arith, length-drop 3 input)))
-        ∙ ap (λ (k : ℕ). areaText edition1 (getD input 0 0) k (drop 3 input)) e
+        ap (areaText (getD input 0 0) s) (take-all (length input - 3) (drop 3 input) (omega (arith, length-drop 3 input)))
+        ∙ ap (λ (k : ℕ). areaText (getD input 0 0) k (drop 3 input)) e
         ∙ sym (pick-false (ltb (length input) 3) _ _ (le-ltb (length input) 3 h))
         ∙ text-all
 

@@ -1,10 +1,13 @@
--- Texts computed: 01's two lines after case 2, keys in order, and refusals.
+-- Texts computed: 01's two lines after case 2, keys in order, refusals, and the editions.
 use Prim.Native.Nat.{ℕ}
 use mathlib.Core.Path.{_≡_, refl}
 use mathlib.Core.List.{List, [], _∷_, _++_}
 use lib.ListN.{replicate}
-use Rattle.model.specs.Operations.{Operation, write, delete}
-use Rattle.model.specs.Play.{opened, freshOver, keyed, playedAll}
+use Rattle.segment.specs.Layout.{edition2}
+use Rattle.segment.specs.Entry.{Entry}
+use Rattle.segment.specs.Digest.{encodedDigest}
+use Rattle.model.specs.Operations.{Operation, write, delete, allEncoded}
+use Rattle.model.specs.Play.{opened, freshOver, keyed, object, slotWith, playedAll}
 use Rattle.model.specs.Areas.{seg, vacant}
 use Rattle.text.specs.Ascii.{ascii}
 use Rattle.text.specs.Digits.{digitsIn}
@@ -42,11 +45,11 @@ in-order :
 unfolding opened digitsIn before inOrder ascending presentOf lineOf linesOf textUnless areaText dumpText
 in-order = refl
 
--- Two bytes; an area that is a byte short; one without a digest.
 -- a head in slot 0 with this number, map and next version, and no other digest
 abbrev head : (number map next : ℕ) → List ℕ
 head number map next = seg number map next [] ++ vacant ++ vacant ++ vacant
 
+-- Two bytes; an area that is a byte short; one without a digest; a head whose map or next version is wrong.
 refusals :
     (dumpText (4 ∷ 0 ∷ []) ≡ ascii "refused 1\n")
     × (dumpText (input (replicate 1023 0)) ≡ ascii "refused 1\n")
@@ -56,3 +59,34 @@ refusals :
     × (dumpText (input (head 1 3 0)) ≡ ascii "refused 17\n")
 unfolding opened digitsIn before inOrder ascending presentOf lineOf linesOf textUnless areaText dumpText
 refusals = (refl, refl, refl, refl, refl, refl)
+
+-- ---- the editions (02, R-11)
+
+-- a slot of edition 2 with a digest and entries
+abbrev second : (number map next : ℕ) → List Entry → List ℕ
+second number map next es =
+    slotWith 255
+    (encodedDigest edition2 (record { number = record { 0 = number }; map = map; next = record { 0 = next } }) ++ allEncoded edition2 es)
+
+-- The kinds of edition 2 are printed as they stand, and a version of 20 digits.
+edition-2 :
+    dumpText
+    (input
+    (second 2 3 1
+    (object (keyed 7 1) 1 (replicate 8 1)
+    ∷ object (keyed 7 2) 2 (replicate 24 2)
+    ∷ object (keyed 7 4) 18446744073709551614 (replicate 120 4)
+    ∷ []) ++
+    second 1 1 1 (object (keyed 7 3) 3 (replicate 56 3) ∷ []) ++ vacant ++ vacant))
+    ≡ ascii "next 18446744073709551615 digest 2 keys 4\n7 1 1 9\n7 2 2 10\n7 3 3 11\n7 4 18446744073709551614 12\n"
+unfolding opened digitsIn before inOrder ascending presentOf lineOf linesOf textUnless areaText dumpText
+edition-2 = refl
+
+-- Both editions in one log, either of them the head's; a digest number in both; and a slot of the other edition outside the log.
+both-editions :
+    (dumpText (input (seg 2 3 1 [] ++ second 1 1 1 [] ++ vacant ++ vacant)) ≡ ascii "refused 28\n")
+    × (dumpText (input (second 2 3 1 [] ++ seg 1 1 1 [] ++ vacant ++ vacant)) ≡ ascii "refused 28\n")
+    × (dumpText (input (seg 2 3 1 [] ++ second 2 3 1 [] ++ vacant ++ vacant)) ≡ ascii "refused 17\n")
+    × (dumpText (input (seg 2 1 1 [] ++ second 1 1 1 [] ++ vacant ++ vacant)) ≡ ascii "next 1 digest 2 keys 0\n")
+unfolding opened digitsIn before inOrder ascending presentOf lineOf linesOf textUnless areaText dumpText
+both-editions = (refl, refl, refl, refl)

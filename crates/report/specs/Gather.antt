@@ -32,7 +32,7 @@ use Rattle.laws.specs.LogLaws.{log-in}
 use Rattle.laws.specs.Stores.{slot-inside}
 use Rattle.index.specs.Area.{place-back}
 use Rattle.index.specs.Finds.{held}
-use Rattle.recovery.specs.LookupLaws.{log-stands, scans, at-place}
+use Rattle.recovery.specs.LookupLaws.{log-stands, editions, scans, at-place}
 use Rattle.report.specs.Ascent.{gathered, Gives, GivesOnce, gathered-given, given-gathered, gathered-ascending, ascending-one}
 use Rattle.report.specs.Ordered.{rank, ranks, rank-one, AllTyped, HasObject, present-latest, present-typed, present-ranked}
 use Rattle.report.specs.Listing.{presentKeys}
@@ -78,15 +78,15 @@ pub record RecoveredArea (L : Layout) (area : List ℕ) (r : Record) (cells : Li
   pub bytes : Bytes area
 
 -- the ranks of the present keys of its log
-abbrev pub presentRanks : Layout → List ℕ → Record → List ℕ
-presentRanks L area r = ranks (presentKeys (logNow L area r))
+abbrev pub presentRanks : List ℕ → Record → List ℕ
+presentRanks area r = ranks (presentKeys (logNow area r))
 
 module _ (L : Layout) (area : List ℕ) (r : Record) (cells : List ℕ) (ready : RecoveredArea L area r cells) where
   abbrev S : ℕ
   S = r .size
 
   abbrev log : List Placed
-  log = logNow L area r
+  log = logNow area r
 
   limits : Lent L r (length area) (length cells)
   limits = lent L r (length area) (length cells) (ready .fit)
@@ -104,7 +104,9 @@ module _ (L : Layout) (area : List ℕ) (r : Record) (cells : List ℕ) (ready :
     s = segmentOf area S (x .slot)
 
     stands : entryAt L s (x .offset) ≡ entry (x .entry)
-    stands = log-stands L area S (named (r .map)) (r .slots) (scans L r area cells allTables (keyOf (x .entry)) (ready .genuine) (ready .fit)) x m
+    stands =
+        log-stands L area S (named (r .map)) (r .slots) (editions L r area cells allTables (keyOf (x .entry)) (ready .genuine) (ready .fit))
+        (scans L r area cells allTables (keyOf (x .entry)) (ready .genuine) (ready .fit)) x m
 
     typed-entry : TypedKey (keyOf (x .entry))
     typed-entry =
@@ -117,7 +119,7 @@ module _ (L : Layout) (area : List ℕ) (r : Record) (cells : List ℕ) (ready :
     slot-there : x .slot * S + S ≤ length area
     slot-there =
         slot-inside area (r .slots) S (x .slot) (limits .area-own)
-        (log-in (viewsOf L area S) (named (r .map)) (r .slots) x m .below)
+        (log-in (viewsOf area S) (named (r .map)) (r .slots) x m .below)
 
   -- ---- a key's latest entry
 
@@ -206,7 +208,7 @@ module _ (L : Layout) (area : List ℕ) (r : Record) (cells : List ℕ) (ready :
 
   -- ---- what the walk over the index gathers
 
-  pub index-gathers : gathered (cellRank L S area) cells ≡ presentRanks L area r
+  pub index-gathers : gathered (cellRank L S area) cells ≡ presentRanks area r
   index-gathers =
       let o = present-ranked log typed-object in
       ascending-one (gathered (cellRank L S area) cells) (ranks (presentKeys log))

@@ -34,9 +34,9 @@ lineFound k Lookup.Outside = []
 lineFound k Lookup.Bad = []
 
 pub line-found : (L : Layout) (area : List ℕ) (r : Record) (cells : List ℕ) (k : Key) (found : Lookup) → RecoveredArea L area r cells
-    → found ≡ lookedUp L r area cells (tableAlone (k .table)) k → lineFound k found ≡ lineOf L k (present (logNow L area r) k)
+    → found ≡ lookedUp L r area cells (tableAlone (k .table)) k → lineFound k found ≡ lineOf L k (present (logNow area r) k)
 line-found L area r cells k found ready e =
-    ap (lineFound k) (e ∙ genuine-lookup L r area cells (tableAlone (k .table)) k (ready .genuine) (ready .fit) (alone-holds (k .table))) ∙ go (present (logNow L area r) k)
+    ap (lineFound k) (e ∙ genuine-lookup L r area cells (tableAlone (k .table)) k (ready .genuine) (ready .fit) (alone-holds (k .table))) ∙ go (present (logNow area r) k)
   where
     go : (o : Option Placed) → lineFound k (lookupFor L (r .size) o) ≡ lineOf L k o
     go none = unfold lineFound lookupFor lineOf in refl
@@ -123,23 +123,23 @@ module _ (L : Layout) (log : List Placed) (ks : List Key) (xs : List ℕ) (same 
 -- ---- what is gathered from a recovered area
 
 -- The first n of the ranks are those of the present keys.
-pub record Listed (L : Layout) (area : List ℕ) (r : Record) (xs : List ℕ) (n : ℕ) : Type 0 where
+pub record Listed (area : List ℕ) (r : Record) (xs : List ℕ) (n : ℕ) : Type 0 where
   pub few : n ≤ 4096
   pub inside : n ≤ length xs
   pub long : length (take n xs) ≡ n
-  pub stands : take n xs ≡ presentRanks L area r
-  pub counts : n ≡ length (presentKeys (logNow L area r))
+  pub stands : take n xs ≡ presentRanks area r
+  pub counts : n ≡ length (presentKeys (logNow area r))
 
 pub gathered-listed : (L : Layout) (area : List ℕ) (r : Record) (cells xs : List ℕ) (n : ℕ) → RecoveredArea L area r cells → length xs ≡ 4096
-    → Gathered (cellRank L (r .size) area) cells xs 0 n → Listed L area r xs n
+    → Gathered (cellRank L (r .size) area) cells xs 0 n → Listed area r xs n
 gathered-listed L area r cells xs n ready long g =
     let few : n ≤ 4096 = omega (arith, cells-few L area r cells ready, g .few) in
     let cut : length (take n xs) ≡ n = length-take-le n xs (omega arith) in
-    let stands : take n xs ≡ presentRanks L area r = g .stands ∙ index-gathers L area r cells ready in
+    let stands : take n xs ≡ presentRanks area r = g .stands ∙ index-gathers L area r cells ready in
     record {
       few = few;
       inside = omega arith;
       long = cut;
       stands = stands;
-      counts = sym cut ∙ ap length stands ∙ length-ranks (presentKeys (logNow L area r));
+      counts = sym cut ∙ ap length stands ∙ length-ranks (presentKeys (logNow area r));
     }

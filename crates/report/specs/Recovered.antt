@@ -20,7 +20,7 @@ use Rattle.model.specs.Causes.{Cause, when, firstCause}
 use Rattle.model.specs.Index.{IndexRule}
 use Rattle.model.specs.Operations.{logNow}
 use Rattle.model.specs.Promises.{RecoverPromise, IndexAfter}
-use Rattle.model.specs.Recovery.{lists, listsBelow, orderBad, geometryBad, areaCauses, ifNone, recordFrom, recovered, recoveryFor, recovery}
+use Rattle.model.specs.Recovery.{imageLayout, lists, listsBelow, orderBad, geometryBad, areaCauses, ifNone, recordFrom, recovered, recoveryFor, recovery}
 use Rattle.laws.specs.CauseLaws.{cause-first}
 use Rattle.laws.specs.RecoverLaws.{order-free, recovered-fits}
 use Rattle.report.specs.Report.{refusedLine, listingText, cellsUsed, textUnless, areaText}
@@ -91,13 +91,17 @@ module _ (L : Layout) (n s m : ℕ) (area : List ℕ) where
           unfold recovery in
           ap (λ (o : Option Refusal). recoveryFor o rec) (first-cause _ (refused e) ∙ sym (first-cause _ (refused e)))
 
-module _ (L : Layout) (n s : ℕ) (area cells cells′ : List ℕ) (r : Recovery) (long : length cells ≡ cellsUsed)
-    (p : RecoverPromise L n s (slotsInOrder n) area cells cells′ r) where
+-- by the edition of the head
+module _ (n s : ℕ) (area cells cells′ : List ℕ) (r : Recovery) (long : length cells ≡ cellsUsed)
+    (p : RecoverPromise (imageLayout n s area) n s (slotsInOrder n) area cells cells′ r) where
+  abbrev L : Layout
+  L = imageLayout n s area
+
   answered : r ≡ recoveryFor (cause L n s cellsUsed area) (rec L n s cellsUsed area)
   answered =
       p .answers ∙ ap (λ (m : ℕ). recovery L n s m (slotsInOrder n) area) long ∙ ascending-recovery L n s cellsUsed area
 
-  pub text-refused : (c : Refusal) → r .answer ≡ RecoverAnswer.Refused c → refusedLine c ≡ areaText L n s area
+  pub text-refused : (c : Refusal) → r .answer ≡ RecoverAnswer.Refused c → refusedLine c ≡ areaText n s area
   unfolding areaText textUnless
   text-refused c e = go (cause L n s cellsUsed area) (ap (λ (x : Recovery). x .answer) (sym answered) ∙ e)
     where
@@ -118,22 +122,22 @@ module _ (L : Layout) (n s : ℕ) (area cells cells′ : List ℕ) (r : Recovery
             let z : _≡_ {A = ℕ} 0 1 = cc in
             absurd (omega arith))
 
-    pub text-recovered : listingText L area (r .rec) ≡ areaText L n s area
+    pub text-recovered : listingText (r .rec .edition) area (r .rec) ≡ areaText n s area
     unfolding areaText textUnless
     text-recovered =
-        ap (listingText L area) (accepted .1)
+        ap (λ (x : Record). listingText (x .edition) area x) (accepted .1)
         ∙ sym (ap (λ (o : Option Refusal). textUnless o (listingText L area (rec L n s cellsUsed area))) (accepted .0))
 
     recovers : recovered L n s cellsUsed area ≡ some (rec L n s cellsUsed area)
     unfolding recovered ifNone
     recovers = ap (λ (o : Option Refusal). ifNone o (rec L n s cellsUsed area)) (accepted .0)
 
-    rule : IndexRule (r .rec .size) (logNow L area (r .rec)) cells′
+    rule : IndexRule (r .rec .size) (logNow area (r .rec)) cells′
     unfolding IndexAfter
-    rule = subst (IndexAfter L area cells cells′ r) e (p .index)
+    rule = subst (IndexAfter area cells cells′ r) e (p .index)
 
-    pub recovered-ready : Bytes area → RecoveredArea L area (r .rec) cells′
-    recovered-ready bytes = subst (λ (x : Record). RecoveredArea L area x cells′) (sym (accepted .1)) its
+    pub recovered-ready : Bytes area → RecoveredArea (r .rec .edition) area (r .rec) cells′
+    recovered-ready bytes = subst (λ (x : Record). RecoveredArea (x .edition) area x cells′) (sym (accepted .1)) its
       where
         its : RecoveredArea L area (rec L n s cellsUsed area) cells′
         its =
@@ -141,7 +145,7 @@ module _ (L : Layout) (n s : ℕ) (area cells cells′ : List ℕ) (r : Recovery
               genuine =
                   record {
                     recovers = recovers;
-                    rule = subst (λ (x : Record). IndexRule (x .size) (logNow L area x) cells′) (accepted .1) rule;
+                    rule = subst (λ (x : Record). IndexRule (x .size) (logNow area x) cells′) (accepted .1) rule;
                   };
               fit =
                   subst (λ (k : ℕ). fitsLent L (rec L n s cellsUsed area) (length area) k ≡ true) (sym (p .same-length ∙ long))

@@ -7,7 +7,7 @@ use lib.Dec.{ltb}
 use lib.ListN.{length, getD, take, drop}
 use Rattle.word.specs.Number.{numberOf}
 use Rattle.segment.specs.Choice.{pick}
-use Rattle.segment.specs.Layout.{Layout, edition1}
+use Rattle.segment.specs.Layout.{Layout}
 use Rattle.segment.specs.declared.DigestNumber.{DigestNumber}
 use Rattle.segment.specs.declared.Key.{Key}
 use Rattle.segment.specs.declared.Version.{Version}
@@ -17,7 +17,7 @@ use Rattle.record.specs.declared.Refusal.{Refusal}
 use Rattle.record.specs.declared.Record.{Record}
 use Rattle.model.specs.Log.{Placed, present}
 use Rattle.model.specs.Causes.{firstCause}
-use Rattle.model.specs.Recovery.{areaCauses, recordFrom}
+use Rattle.model.specs.Recovery.{imageLayout, areaCauses, recordFrom}
 use Rattle.model.specs.Operations.{logNow}
 use Rattle.text.specs.Ascii.{ascii}
 use Rattle.text.specs.Digits.{digits}
@@ -50,12 +50,12 @@ linesOf L log [] = []
 linesOf L log (k ∷ ks) = lineOf L k (present log k) ++ linesOf L log ks
 
 abbrev pub presentLines : Layout → List ℕ → Record → List ℕ
-presentLines L area r = linesOf L (logNow L area r) (presentKeys (logNow L area r))
+presentLines L area r = linesOf L (logNow area r) (presentKeys (logNow area r))
 
 -- The listing of an area with this record: the head line, then a line for each present key of its log.
 abbrev pub listingText : Layout → List ℕ → Record → List ℕ
 listingText L area r =
-    headLine (r .next) (r .digest) (length (presentKeys (logNow L area r))) ++ presentLines L area r
+    headLine (r .next) (r .digest) (length (presentKeys (logNow area r))) ++ presentLines L area r
 
 -- M
 abbrev pub cellsUsed : ℕ
@@ -65,15 +65,17 @@ unfoldable pub textUnless : Option Refusal → List ℕ → List ℕ
 textUnless none text = text
 textUnless (some c) text = refusedLine c
 
--- The text for N, S and an area: the listing with the record that recovery gives, or its refusal.
-unfoldable pub areaText : Layout → ℕ → ℕ → List ℕ → List ℕ
-areaText L n s area = textUnless (firstCause (areaCauses L n s cellsUsed area)) (listingText L area (recordFrom L n s cellsUsed area))
+-- The text for N, S and an area: the listing with the record that recovery gives, or its refusal, by the edition of the head.
+unfoldable pub areaText : ℕ → ℕ → List ℕ → List ℕ
+areaText n s area =
+    textUnless (firstCause (areaCauses (imageLayout n s area) n s cellsUsed area))
+    (listingText (imageLayout n s area) area (recordFrom (imageLayout n s area) n s cellsUsed area))
 
 -- An input too short to hold N and S is of a wrong length, like one whose area is not N × S bytes long.
 unfoldable pub dumpText : List ℕ → List ℕ
 dumpText input =
     pick (ltb (length input) 3) (refusedLine Refusal.Geometry)
-    (areaText edition1 (getD input 0 0) (numberOf (take 2 (drop 1 input))) (drop 3 input))
+    (areaText (getD input 0 0) (numberOf (take 2 (drop 1 input))) (drop 3 input))
 
 -- ---- what is left in a caller's buffer
 

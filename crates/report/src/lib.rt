@@ -7,7 +7,6 @@ use record::Refusal;
 use word::number::read16;
 ghost use Prim.Native.Nat.{_≤_};
 ghost use lib.ListN.{length};
-ghost use Rattle.segment.specs.Layout.{edition1};
 ghost use Rattle.report.specs.Report.{areaText, dumpText, textRoom, textWithin};
 ghost use Rattle.report.specs.PutLaws.{PutWithin};
 
@@ -27,7 +26,7 @@ const CELLS: usize = 4096;
 fn put_area(n: u32, s: u32, area: &[u8], out: &mut [u8]) -> usize
     requires { ⌜ textRoom ≤ length (now out) ⌝ }
     ensures { λ r.
-        ⌜ PutWithin (now (out .entry)) (now (out .exit)) 0 r (areaText edition1 n s (now (area .entry))) textRoom ⌝ }
+        ⌜ PutWithin (now (out .entry)) (now (out .exit)) 0 r (areaText n s (now (area .entry))) textRoom ⌝ }
 {
     let mut index = [0; CELLS];
     let recovery = recover_area(n, s, area, &mut index);

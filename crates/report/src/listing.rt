@@ -12,7 +12,6 @@ use segment::Key;
 ghost use Prim.Native.Nat.{_+_, _*_, _≤_};
 ghost use mathlib.Core.Path.{_≡_};
 ghost use lib.ListN.{length};
-ghost use Rattle.segment.specs.Layout.{edition1};
 ghost use Rattle.model.specs.Log.{present};
 ghost use Rattle.model.specs.Operations.{logNow};
 ghost use Rattle.report.specs.Gather.{RecoveredArea, presentRanks};
@@ -21,10 +20,10 @@ ghost use Rattle.report.specs.Report.{lineOf, presentLines, listingText,
 
 // The line of a key; no line for a key that is not present.
 fn put_line(rec: Record, area: &[u8], index: &[u32], key: Key, out: &mut [u8], at: usize) -> usize
-    requires { ⌜ RecoveredArea edition1 (now area) rec (now index) × (at + 54 ≤ length (now out)) ⌝ }
+    requires { ⌜ RecoveredArea (rec .edition) (now area) rec (now index) × (at + 54 ≤ length (now out)) ⌝ }
     ensures { λ r.
         ⌜ PutWithin (now (out .entry)) (now (out .exit)) at r
-        (lineOf edition1 key (present (logNow edition1 (now (area .entry)) rec) key)) 54 ⌝ }
+        (lineOf (rec .edition) key (present (logNow (now (area .entry)) rec) key)) 54 ⌝ }
 {
     let table = key.table;
     let own = Tables {
@@ -53,11 +52,11 @@ fn put_lines(
     out: &mut [u8],
     at: usize,
 ) -> usize
-    requires { ⌜ RecoveredArea edition1 (now area) rec (now index)
-        × (now ranks ≡ presentRanks edition1 (now area) rec)
+    requires { ⌜ RecoveredArea (rec .edition) (now area) rec (now index)
+        × (now ranks ≡ presentRanks (now area) rec)
         × (at + 54 * length (now ranks) ≤ length (now out)) ⌝ }
     ensures { λ r.
-        ⌜ PutWithin (now (out .entry)) (now (out .exit)) at r (presentLines edition1 (now (area .entry)) rec)
+        ⌜ PutWithin (now (out .entry)) (now (out .exit)) at r (presentLines (rec .edition) (now (area .entry)) rec)
         (54 * length (now (ranks .entry))) ⌝ }
 {
     let mut end = at;
@@ -71,14 +70,15 @@ fn put_lines(
 
 // The listing of a recovered area: the head line and the lines of the present keys.
 pub fn put_listing(rec: Record, area: &[u8], index: &[u32], out: &mut [u8]) -> usize
-    requires { ⌜ RecoveredArea edition1 (now area) rec (now index) × (textRoom ≤ length (now out)) ⌝ }
+    requires { ⌜ RecoveredArea (rec .edition) (now area) rec (now index) × (textRoom ≤ length (now out)) ⌝ }
     ensures { λ r.
-        ⌜ PutWithin (now (out .entry)) (now (out .exit)) 0 r (listingText edition1 (now (area .entry)) rec) textRoom ⌝ }
+        ⌜ PutWithin (now (out .entry)) (now (out .exit)) 0 r (listingText (rec .edition) (now (area .entry)) rec) textRoom ⌝ }
 {
+    let edition = rec.edition;
     let digest = rec.digest;
     let next = rec.next;
     let mut ranks = [0; CELLS];
-    let keys = gather(rec.size as usize, area, index, &mut ranks);
+    let keys = gather(edition, rec.size as usize, area, index, &mut ranks);
     let at = put_head(out, next, digest, keys as u32);
     put_lines(rec, area, index, &ranks[..keys], out, at)
 }

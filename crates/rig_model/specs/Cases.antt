@@ -21,7 +21,7 @@ use Rattle.rig_model.specs.Verdict.{allAre, keyAs, nextOf, storeAs, wron
 -- an area after so many stores of a letter's operation
 abbrev cutAt : ℕ → Letter → ℕ → List ℕ → List ℕ
 cutAt k l place area =
-    stored area (take k (planFor edition1 (recordAt area) (logNow edition1 area (recordAt area)) (operationAt l place (recordAt area))))
+    stored area (take k (planFor (recordAt area .edition) (recordAt area) (logNow area (recordAt area)) (operationAt l place (recordAt area))))
 
 abbrev area0 : List ℕ
 area0 = formatted edition1 4 256 (replicate 1024 0)

@@ -12,7 +12,7 @@ use native.Mathlib.Numerals.{add-one}
 use borrow.Author.Tests.{eq-eqb, ne-eqb}
 use Rattle.word.specs.Number.{Bytes}
 use Rattle.segment.specs.Choice.{pick, both, either, both-false-left, isNone}
-use Rattle.segment.specs.Layout.{edition1}
+use Rattle.segment.specs.Layout.{Layout, versionLimit}
 use Rattle.segment.specs.Entry.{bytesIn}
 use Rattle.segment.specs.declared.Key.{Key}
 use Rattle.segment.specs.declared.Version.{Version}
@@ -29,13 +29,13 @@ use Rattle.record.specs.declared.Refusal.{Refusal}
 use Rattle.record.specs.declared.Refusal.the-variants.{Absent}
 use Rattle.model.specs.Log.{Placed, present, viewsOf, logOf, highest}
 use Rattle.model.specs.Causes.{firstCause}
-use Rattle.model.specs.Recovery.{recovered, recovery, recoveryFor, recordFrom, areaCauses, ifNone, orderBad, listsBelow, lists, logDamaged}
+use Rattle.model.specs.Recovery.{imageLayout, recovered, recovery, recoveryFor, recordFrom, areaCauses, ifNone, orderBad, listsBelow, lists, logDamaged}
 use Rattle.model.specs.Operations.{logNow}
 use Rattle.model.specs.Refused.{keyAbsent, readCauses}
 use Rattle.model.specs.Promises.{Genuine, RecoverPromise, IndexAfter, ReadPromise, readAnswer, presentAnswer, readLengths, Part, partOf, valuePart, valueAnswer, promisedPart, ValueReference}
 use denote.Ref.{RefT}
 use Rattle.laws.specs.LogLaws.{AllScanned, scans-undamaged}
-use Rattle.laws.specs.OperationsKept.{edition1-laws}
+use Rattle.laws.specs.OperationsKept.{edition-laws}
 use Rattle.laws.specs.RecoverLaws.{order-free, recovery-recovered, recovered-case}
 use Rattle.log.specs.Shape.{Shape}
 use Rattle.log.specs.Surveys.{Surveyed}
@@ -46,20 +46,23 @@ use Rattle.history.proofs.Invariant.{slots-of, size-of, own-geometry}
 use Rattle.histories.specs.declared.book.Book.{Book}
 use Rattle.histories.specs.declared.book.Held.{Held}
 use Rattle.rig_model.specs.Verdict.{allAre, eightAre, keyAs, nextOf, storeAs, wrongFor, wrongAt}
-use Rattle.rig_model.specs.RunLaws.{Ready, ready-genuine}
+use Rattle.rig_model.specs.RunLaws.{Ready, ready-genuine, at-record, at-image}
 
 -- ---- recovery
 
 module _ (order area cells cells′ : List ℕ) (r : Recovery) (good : orderBad 4 order ≡ false) (long : length cells ≡ 16)
-    (p : RecoverPromise edition1 4 256 order area cells cells′ r) where
-  answered : r ≡ recoveryFor (firstCause (areaCauses edition1 4 256 16 area)) (recordFrom edition1 4 256 16 area)
-  answered = p .answers ∙ ap (λ (m : ℕ). recovery edition1 4 256 m order area) long ∙ order-free edition1 4 256 16 area order good
+    (p : RecoverPromise (imageLayout 4 256 area) 4 256 order area cells cells′ r) where
+  abbrev L : Layout
+  L = imageLayout 4 256 area
 
-  pub recovered-none : (c : Refusal) → r .answer ≡ RecoverAnswer.Refused c → recovered edition1 4 256 16 area ≡ none
+  answered : r ≡ recoveryFor (firstCause (areaCauses L 4 256 16 area)) (recordFrom L 4 256 16 area)
+  answered = p .answers ∙ ap (λ (m : ℕ). recovery L 4 256 m order area) long ∙ order-free L 4 256 16 area order good
+
+  pub recovered-none : (c : Refusal) → r .answer ≡ RecoverAnswer.Refused c → recovered (imageLayout 4 256 area) 4 256 16 area ≡ none
   unfolding recovered ifNone recoveryFor
-  recovered-none c e = go (firstCause (areaCauses edition1 4 256 16 area)) (sym (ap (λ (x : Recovery). x .answer) answered) ∙ e)
+  recovered-none c e = go (firstCause (areaCauses L 4 256 16 area)) (sym (ap (λ (x : Recovery). x .answer) answered) ∙ e)
     where
-      go : (o : Option Refusal) → recoveryFor o (recordFrom edition1 4 256 16 area) .answer ≡ RecoverAnswer.Refused c → ifNone o (recordFrom edition1 4 256 16 area) ≡ none
+      go : (o : Option Refusal) → recoveryFor o (recordFrom L 4 256 16 area) .answer ≡ RecoverAnswer.Refused c → ifNone o (recordFrom L 4 256 16 area) ≡ none
       go none q = let z : _≡_ {A = ℕ} 0 1 = cc in absurd (omega arith)
       go (some d) q = refl
 
@@ -70,9 +73,10 @@ module _ (order area cells cells′ : List ℕ) (r : Recovery) (good : orderBad 
         bytes = bytes;
         long = p .same-length ∙ long;
         recovers =
-            recovery-recovered edition1 4 256 16 area order (r .rec)
-            (ap (λ (m : ℕ). recovery edition1 4 256 m order area) (sym long) ∙ sym (p .answers) ∙ (λ i. record { answer = e i; rec = r .rec }));
-        rule = subst (IndexAfter edition1 area cells cells′ r) e (p .index);
+            at-record L area (r .rec)
+            (recovery-recovered L 4 256 16 area order (r .rec)
+            (ap (λ (m : ℕ). recovery L 4 256 m order area) (sym long) ∙ sym (p .answers) ∙ (λ i. record { answer = e i; rec = r .rec })));
+        rule = subst (IndexAfter area cells cells′ r) e (p .index);
       }
 
 -- the orders in which the rig has slots read
@@ -88,36 +92,36 @@ order-up = refl
 
 module _ (area : List ℕ) (r : Record) (cells : List ℕ) (y : Ready area r cells) where
   abbrev log : List Placed
-  log = logNow edition1 area r
+  log = logNow area r
 
-  pub fits : fitsLent edition1 r (length area) (length cells) ≡ true
-  fits = subst (λ (x : ℕ). fitsLent edition1 r (length area) x ≡ true) (sym (y .long)) (edition1-laws .own-lengths 4 256 16 area r (y .bytes) (y .recovers))
+  pub fits : fitsLent (r .edition) r (length area) (length cells) ≡ true
+  fits = subst (λ (x : ℕ). fitsLent (r .edition) r (length area) x ≡ true) (sym (y .long)) (edition-laws (r .edition) .own-lengths 4 256 16 area r (y .bytes) (y .recovers))
 
-  pub recovered-area : RecoveredArea edition1 area r cells
+  pub recovered-area : RecoveredArea (r .edition) area r cells
   recovered-area = record { genuine = ready-genuine area r cells y; fit = fits; bytes = y .bytes }
 
   slots-four : r .slots ≡ 4
-  slots-four = slots-of edition1 4 256 16 area r (y .recovers)
+  slots-four = slots-of (r .edition) 4 256 16 area r (y .recovers)
 
   pub size-256 : r .size ≡ 256
-  size-256 = size-of edition1 4 256 16 area r (y .recovers)
+  size-256 = size-of (r .edition) 4 256 16 area r (y .recovers)
 
   -- ---- a key
 
   module _ (k : Key) (h : k .table < 65536) where
-    cause : firstCause (readCauses edition1 r log (readLengths area cells) allTables k) ≡ pick (keyAbsent log k) (some Absent) none
+    cause : firstCause (readCauses (r .edition) r log (readLengths area cells) allTables k) ≡ pick (keyAbsent log k) (some Absent) none
     unfolding firstCause pick
     cause = rw (fits, all-hold (k .table) h)
 
-    module _ (a : Reading) (p : ReadPromise edition1 r area cells allTables k a) (held : Held) where
-      told : a .answer ≡ readAnswer edition1 (pick (keyAbsent log k) (some Absent) none) (present log k)
-      told = p .exact (ready-genuine area r cells y) ∙ ap (λ (o : Option Refusal). readAnswer edition1 o (present log k)) cause
+    module _ (a : Reading) (p : ReadPromise (r .edition) r area cells allTables k a) (held : Held) where
+      told : a .answer ≡ readAnswer (r .edition) (pick (keyAbsent log k) (some Absent) none) (present log k)
+      told = p .exact (ready-genuine area r cells y) ∙ ap (λ (o : Option Refusal). readAnswer (r .edition) o (present log k)) cause
 
       pub absent-as : (c : Refusal) → a .answer ≡ ReadAnswer.Refused c → eqb (held .version) 0 ≡ keyAs (present log k) held
       unfolding keyAs isNone pick readAnswer presentAnswer
       absent-as c e = go (present log k) (sym told ∙ e)
         where
-          go : (x : Option Placed) → readAnswer edition1 (pick (isNone x) (some Absent) none) x ≡ ReadAnswer.Refused c → eqb (held .version) 0 ≡ keyAs x held
+          go : (x : Option Placed) → readAnswer (r .edition) (pick (isNone x) (some Absent) none) x ≡ ReadAnswer.Refused c → eqb (held .version) 0 ≡ keyAs x held
           go none q = refl
           go (some x) q = let z : _≡_ {A = ℕ} 0 1 = cc in absurd (omega arith)
 
@@ -131,7 +135,7 @@ module _ (area : List ℕ) (r : Record) (cells : List ℕ) (y : Ready area r cel
       unfolding isNone pick readAnswer presentAnswer
       present-object v kind e = go (present log k) refl (sym told ∙ e)
         where
-          go : (x : Option Placed) → present log k ≡ x → readAnswer edition1 (pick (isNone x) (some Absent) none) x ≡ ReadAnswer.Present v kind → Object (v .0)
+          go : (x : Option Placed) → present log k ≡ x → readAnswer (r .edition) (pick (isNone x) (some Absent) none) x ≡ ReadAnswer.Present v kind → Object (v .0)
           go none f q = let z : _≡_ {A = ℕ} 0 1 = cc in absurd (omega arith)
           go (some x) f q = record { object = x; is-present = f; its-version = ap versionOf q }
             where
@@ -147,21 +151,21 @@ module _ (area : List ℕ) (r : Record) (cells : List ℕ) (y : Ready area r cel
           ∙ both-false-left (eqb (o .object .entry .version) (held .version)) _ (ne-eqb (o .object .entry .version) (held .version) (λ q. n (sym (o .its-version) ∙ q))))
 
       pub value-as : (v : Version) (kind : ℕ) → a .answer ≡ ReadAnswer.Present v kind → v .0 ≡ held .version
-          → (whole value : RefT (List ℕ)) → whole .now ≡ area → ValueReference edition1 r whole cells allTables k value → (t : Bool) → t ≡ eightAre (value .now) (held .byte)
+          → (whole value : RefT (List ℕ)) → whole .now ≡ area → ValueReference (r .edition) r whole cells allTables k value → (t : Bool) → t ≡ eightAre (value .now) (held .byte)
           → t ≡ keyAs (present log k) held
       unfolding keyAs both isNone pick valueAnswer
       value-as v kind e same whole value w ref t its =
           let o = present-object v kind e in
           let x = o .object in
-          let part-is : ref .part ≡ valuePart edition1 (r .size) (some x) =
-          subst (λ (z : List ℕ). (Genuine edition1 z r cells → ref .part ≡ promisedPart edition1 r z cells allTables k)) w (ref .promised .exact) (ready-genuine area r cells y)
-          ∙ ap (λ (c : Option Refusal). valueAnswer edition1 (r .size) c (present log k)) cause
-          ∙ ap (λ (p : Option Placed). valueAnswer edition1 (r .size) (pick (isNone p) (some Absent) none) p) (o .is-present) in
+          let part-is : ref .part ≡ valuePart (r .edition) (r .size) (some x) =
+          subst (λ (z : List ℕ). (Genuine (r .edition) z r cells → ref .part ≡ promisedPart (r .edition) r z cells allTables k)) w (ref .promised .exact) (ready-genuine area r cells y)
+          ∙ ap (λ (c : Option Refusal). valueAnswer (r .edition) (r .size) c (present log k)) cause
+          ∙ ap (λ (p : Option Placed). valueAnswer (r .edition) (r .size) (pick (isNone p) (some Absent) none) p) (o .is-present) in
           let bytes : value .now ≡ bytesIn (x .entry .value) =
           ref .refers .holds
           ∙ ap (λ (p : Part). partOf (whole .now) p) part-is
-          ∙ ap (λ (z : List ℕ). partOf z (valuePart edition1 (r .size) (some x))) w
-          ∙ edition1-laws .value-part area r (y .bytes) (own-geometry edition1 4 256 16 area r (y .recovers)) k x (o .is-present) in
+          ∙ ap (λ (z : List ℕ). partOf z (valuePart (r .edition) (r .size) (some x))) w
+          ∙ edition-laws (r .edition) .value-part area r (y .bytes) (own-geometry (r .edition) 4 256 16 area r (y .recovers)) k x (o .is-present) in
           its
           ∙ ap (λ (z : List ℕ). eightAre z (held .byte)) bytes
           ∙ ap (λ (c : Bool). both c (eightAre (bytesIn (x .entry .value)) (held .byte))) (sym (eq-eqb (x .entry .version) (held .version) (o .its-version ∙ same)))
@@ -169,24 +173,24 @@ module _ (area : List ℕ) (r : Record) (cells : List ℕ) (y : Ready area r cel
 
 -- ---- the next version
 
-pub area-long : (area : List ℕ) (r : Record) → Bytes area → recovered edition1 4 256 16 area ≡ some r → length area ≡ 1024
+pub area-long : (area : List ℕ) (r : Record) → Bytes area → recovered (r .edition) 4 256 16 area ≡ some r → length area ≡ 1024
 area-long area r bytes e =
-    let l = lent edition1 r (length area) 16 (edition1-laws .own-lengths 4 256 16 area r bytes e) in
-    l .area-own ∙ (λ i. slots-of edition1 4 256 16 area r e i * size-of edition1 4 256 16 area r e i)
+    let l = lent (r .edition) r (length area) 16 (edition-laws (r .edition) .own-lengths 4 256 16 area r bytes e) in
+    l .area-own ∙ (λ i. slots-of (r .edition) 4 256 16 area r e i * size-of (r .edition) 4 256 16 area r e i)
 
 pub shape : (area : List ℕ) → length area ≡ 1024 → Shape 4 256 area
 shape area e = record { slots-least = omega arith; slots-most = omega arith; size-least = omega arith; size-most = omega arith; whole = e }
 
-module _ (area : List ℕ) (r : Record) (recovers : recovered edition1 4 256 16 area ≡ some r) where
-  pub next-record : r .next .0 ≡ nextOf false (logNow edition1 area r) r
+module _ (area : List ℕ) (r : Record) (recovers : recovered (r .edition) 4 256 16 area ≡ some r) where
+  pub next-record : r .next .0 ≡ nextOf false (logNow area r) r
   unfolding nextOf
   next-record = refl
 
-  module _ (sound : Bool) (top : ℕ) (apart : Bool) (u : Surveyed (viewsOf edition1 area 256) (named (r .map)) 4 sound top apart) where
-    undamaged : logDamaged (viewsOf edition1 area 256) (named (r .map)) 4 ≡ false
+  module _ (sound : Bool) (top : ℕ) (apart : Bool) (u : Surveyed (viewsOf area 256) (named (r .map)) 4 sound top apart) where
+    undamaged : logDamaged (viewsOf area 256) (named (r .map)) 4 ≡ false
     undamaged =
-        scans-undamaged (viewsOf edition1 area 256) (named (r .map)) 4
-        (recovered-case edition1 4 256 16 area (λ (q : Record). AllScanned (viewsOf edition1 area 256) (named (q .map)) 4) (λ h a f. f .scans) r recovers)
+        scans-undamaged (viewsOf area 256) (named (r .map)) 4
+        (recovered-case (r .edition) 4 256 16 area (λ (q : Record). AllScanned (viewsOf area 256) (named (q .map)) 4) (λ h a f. f .scans) r recovers)
 
     is-sound : sound ≡ true
     is-sound = go sound refl
@@ -195,14 +199,14 @@ module _ (area : List ℕ) (r : Record) (recovers : recovered edition1 4 256 16 
         go true e = e
         go false e = absurd (true≢false (sym (u .damage e) ∙ undamaged))
 
-    top-is : top ≡ highest (logNow edition1 area r)
+    top-is : top ≡ highest (logNow area r)
     top-is =
         u .highest-is is-sound
-        ∙ (λ i. highest (logOf (viewsOf edition1 area (sym (size-of edition1 4 256 16 area r recovers) i)) (named (r .map)) (sym (slots-of edition1 4 256 16 area r recovers) i)))
+        ∙ (λ i. highest (logOf (viewsOf area (sym (size-of (r .edition) 4 256 16 area r recovers) i)) (named (r .map)) (sym (slots-of (r .edition) 4 256 16 area r recovers) i)))
 
-    pub next-log : (n : ℕ) → n ≡ min (top + 1) 4294967295 → n ≡ nextOf true (logNow edition1 area r) r
+    pub next-log : (n : ℕ) → n ≡ min (top + 1) (versionLimit (r .edition)) → n ≡ nextOf true (logNow area r) r
     unfolding nextOf
-    next-log n e = e ∙ ap (λ (x : ℕ). min (x + 1) 4294967295) top-is
+    next-log n e = e ∙ ap (λ (x : ℕ). min (x + 1) (versionLimit (r .edition))) top-is
 
 -- ---- all of it
 
@@ -232,14 +236,14 @@ module _ (fromLog : Bool) (log : List Placed) (r : Record) (b : Book) (n : ℕ) 
       unfolding both
       second-decides e u u-is = u-is ∙ sym (keys ∙ rw e)
 
-pub wrong-refused : (fromLog : Bool) (area : List ℕ) (b : Book) → recovered edition1 4 256 16 area ≡ none → true ≡ wrongAt fromLog area b
+pub wrong-refused : (fromLog : Bool) (area : List ℕ) (b : Book) → recovered (imageLayout 4 256 area) 4 256 16 area ≡ none → true ≡ wrongAt fromLog area b
 unfolding wrongAt wrongFor
 wrong-refused fromLog area b e = sym (ap (wrongFor fromLog area b) e)
 
-pub wrong-store : (fromLog : Bool) (area : List ℕ) (b : Book) (r : Record) → recovered edition1 4 256 16 area ≡ some r → (t : Bool) → t ≡ storeAs fromLog (logNow edition1 area r) r b
+pub wrong-store : (fromLog : Bool) (area : List ℕ) (b : Book) (r : Record) → recovered (r .edition) 4 256 16 area ≡ some r → (t : Bool) → t ≡ storeAs fromLog (logNow area r) r b
     → not t ≡ wrongAt fromLog area b
 unfolding wrongAt wrongFor
-wrong-store fromLog area b r e t i = ap not i ∙ sym (ap (wrongFor fromLog area b) e)
+wrong-store fromLog area b r e t i = ap not i ∙ sym (ap (wrongFor fromLog area b) (at-image (r .edition) area r e))
 
 -- ---- the loop over eight bytes
 

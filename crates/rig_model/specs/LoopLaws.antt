@@ -6,7 +6,6 @@ use mathlib.Core.List.{List}
 use mathlib.Core.Option.{none}
 use lib.ListN.{length, length-set}
 use Rattle.segment.specs.Choice.{either}
-use Rattle.segment.specs.Layout.{edition1}
 use Rattle.record.specs.declared.Record.{Record}
 use Rattle.record.specs.declared.Refusal.{Refusal}
 use Rattle.record.specs.declared.Start.{Start}
@@ -31,7 +30,7 @@ abbrev pub operationOn : Letter → ℕ → List ℕ → Operation
 operationOn l place area = operationAt l place (recordAt area)
 
 abbrev pub storesOn : Letter → ℕ → List ℕ → ℕ
-storesOn l place area = length (planAt edition1 area (recordAt area) (operationOn l place area))
+storesOn l place area = length (planAt (recordAt area .edition) area (recordAt area) (operationOn l place area))
 
 pub record Playing (fromLog : Bool) (l : Letter) (place : ℕ) (b : Book) (before cells₀ work : List ℕ) (area cells : List ℕ) (r : Record) (left : ℕ) : Type 0 where
   pub ready : Ready before (recordAt before) cells₀
@@ -44,7 +43,7 @@ pub record Playing (fromLog : Bool) (l : Letter) (place : ℕ) (b : Book) (befor
   pub cells-same : length cells ≡ length cells₀
 
 module _ (fromLog : Bool) (l : Letter) (place : ℕ) (b : Book) (area : List ℕ) (r : Record) (cells work work′ : List ℕ) (a : Start)
-    (y : Ready area r cells) (small : place < 256) (wl : length work ≡ 256) (p : StartPromise edition1 freely (operationAt l place r) r area cells work work′ a) where
+    (y : Ready area r cells) (small : place < 256) (wl : length work ≡ 256) (p : StartPromise (r .edition) freely (operationAt l place r) r area cells work work′ a) where
   al : length area ≡ 1024
   al = area-long area r (y .bytes) (y .recovers)
 
@@ -57,8 +56,8 @@ module _ (fromLog : Bool) (l : Letter) (place : ℕ) (b : Book) (area : List ℕ
   y′ : Ready area (recordAt area) cells
   y′ = subst (λ (x : Record). Ready area x cells) own y
 
-  p′ : StartPromise edition1 freely (operationOn l place area) (recordAt area) area cells work work′ a
-  p′ = subst (λ (x : Record). StartPromise edition1 freely (operationAt l place x) x area cells work work′ a) own p
+  p′ : StartPromise (recordAt area .edition) freely (operationOn l place area) (recordAt area) area cells work work′ a
+  p′ = subst (λ (x : Record). StartPromise (x .edition) freely (operationAt l place x) x area cells work work′ a) own p
 
   pub play-starts : (stores : ℕ) → a .answer ≡ StartAnswer.Started stores → Playing fromLog l place b area cells work′ area cells (a .rec) stores
   play-starts stores e =
@@ -80,7 +79,7 @@ module _ (fromLog : Bool) (l : Letter) (place : ℕ) (b : Book) (before cells₀
         plays-wrong fromLog l place before b (recordAt before) cells₀ (i .ready) (i .accepted) area′ r′ cells′ b′
         (cut-wrong fromLog before (recordAt before) (operationOn l place before) b _ left some area r cells work (i .under) (i .cuts) t t-is e)
 
-    pub play-turn : t ≡ false → (area′ cells′ : List ℕ) (a : Stepped) → StepPromise edition1 r area area′ cells cells′ work a → (rec′ : Record) → rec′ ≡ a .rec
+    pub play-turn : t ≡ false → (area′ cells′ : List ℕ) (a : Stepped) → StepPromise (r .edition) r area area′ cells cells′ work a → (rec′ : Record) → rec′ ≡ a .rec
         → Playing fromLog l place b before cells₀ work area′ cells′ rec′ (left - 1)
     play-turn e area′ cells′ a p rec′ q =
         record {

@@ -8,8 +8,8 @@ use native.Mathlib.Omega.{arith}
 use lib.Dec.{lit<}
 use lib.ListN.{length, take, replicate}
 use Rattle.word.specs.Number.{Bytes}
-use Rattle.segment.specs.Choice.{pick, both, either}
-use Rattle.segment.specs.Layout.{edition1}
+use Rattle.segment.specs.Choice.{pick, both, either, isNone}
+use Rattle.segment.specs.Layout.{edition1, layoutNumbered}
 use Rattle.record.specs.RangeLaws.{lent}
 use Rattle.segment.specs.declared.Key.{Key}
 use Rattle.record.specs.Range.{between, cellsGood}
@@ -21,12 +21,12 @@ use Rattle.record.specs.declared.Tables.{Tables}
 use Rattle.record.specs.declared.Refusal.{Refusal}
 use Rattle.record.specs.declared.Start.{Start}
 use Rattle.record.specs.declared.StartAnswer.{StartAnswer}
-use Rattle.model.specs.Operations.{Operation, write, delete, clean, Typed, stored, formatted}
+use Rattle.model.specs.Operations.{Operation, write, delete, clean, Typed, stored, formatted, formattedAs}
 use Rattle.model.specs.Causes.{firstCause}
-use Rattle.model.specs.Recovery.{recovered, recovery, recordFrom, geometryBad}
+use Rattle.model.specs.Recovery.{imageLayout, recovered, recovery, recordFrom, geometryBad}
 use Rattle.model.specs.Refused.{Terms, freely, reaching}
 use Rattle.model.specs.Promises.{FormatPromise, areaUnless, RecoverPromise, StartPromise}
-use Rattle.laws.specs.OperationsKept.{edition1-laws}
+use Rattle.laws.specs.OperationsKept.{edition-laws}
 use Rattle.laws.specs.RecoverLaws.{recovered-recovery}
 use Rattle.laws.specs.Operated.{planAt}
 use Rattle.histories.specs.declared.Letter.{Letter}
@@ -37,7 +37,7 @@ use Rattle.histories.specs.List.{histories}
 use Rattle.histories.specs.Numbered.{word, Taken, taken}
 use Rattle.histories.specs.Book.{firstKey, secondKey, finished, freshBook}
 use Rattle.rig_model.specs.Verdict.{wrongAt, operationAt, causeAt, cutsWrong, refuses, recordAt, wordWrong, historyWrong, firstWrong}
-use Rattle.rig_model.specs.RunLaws.{Ready, Ended, Under, ready-record, start-refused, start-stores, start-under}
+use Rattle.rig_model.specs.RunLaws.{at-image, Ready, Ended, Under, ready-record, start-refused, start-stores, start-under}
 use Rattle.history.proofs.Invariant.{slots-of}
 use Rattle.rig_model.specs.CheckLaws.{fits, recovered-ready, order-up}
 
@@ -58,8 +58,8 @@ typed-at WriteB place area r cells h y = ((lit< tt, lit< tt), eight-bytes place 
 typed-at DeleteA place area r cells h y = (lit< tt, lit< tt)
 typed-at DeleteB place area r cells h y = (lit< tt, lit< tt)
 typed-at CleanAll place area r cells h y =
-    let below : r .map < 2 ^ r .slots = lent edition1 r (length area) (length cells) (fits area r cells y) .map-below in
-    let few : r .map < 16 = subst (λ (x : ℕ). r .map < 2 ^ x) (slots-of edition1 4 256 16 area r (y .recovers)) below in
+    let below : r .map < 2 ^ r .slots = lent (r .edition) r (length area) (length cells) (fits area r cells y) .map-below in
+    let few : r .map < 16 = subst (λ (x : ℕ). r .map < 2 ^ x) (slots-of (r .edition) 4 256 16 area r (y .recovers)) below in
     omega arith
 
 -- ---- a letter
@@ -74,23 +74,23 @@ module _ (fromLog : Bool) (l : Letter) (place : ℕ) (area : List ℕ) (b : Book
   o = operationAt l place r
 
   abbrev n : ℕ
-  n = length (planAt edition1 area r o)
+  n = length (planAt (r .edition) area r o)
 
   own-record : recordAt area ≡ r
   own-record = sym (ready-record area r cells y)
 
   from-letter : (w : Word) → wordWrong fromLog (l ∷ w) place area b
       ≡ pick (refuses (causeAt area r o)) (wordWrong fromLog w (place + 1) area b)
-      (either (cutsWrong fromLog area r o b 0 n) (wordWrong fromLog w (place + 1) (stored area (planAt edition1 area r o)) (finished b l place)))
+      (either (cutsWrong fromLog area r o b 0 n) (wordWrong fromLog w (place + 1) (stored area (planAt (r .edition) area r o)) (finished b l place)))
   unfolding wordWrong
   from-letter w =
       ap (λ (x : Record).
       pick (refuses (causeAt area x (operationAt l place x))) (wordWrong fromLog w (place + 1) area b)
-      (either (cutsWrong fromLog area x (operationAt l place x) b 0 (length (planAt edition1 area x (operationAt l place x))))
-      (wordWrong fromLog w (place + 1) (stored area (planAt edition1 area x (operationAt l place x))) (finished b l place))))
+      (either (cutsWrong fromLog area x (operationAt l place x) b 0 (length (planAt (x .edition) area x (operationAt l place x))))
+      (wordWrong fromLog w (place + 1) (stored area (planAt (x .edition) area x (operationAt l place x))) (finished b l place))))
       own-record
 
-  module _ (work work′ : List ℕ) (a : Start) (ty : Typed o) (al : length area ≡ 1024) (wl : length work ≡ 256) (p : StartPromise edition1 freely o r area cells work work′ a) where
+  module _ (work work′ : List ℕ) (a : Start) (ty : Typed o) (al : length area ≡ 1024) (wl : length work ≡ 256) (p : StartPromise (r .edition) freely o r area cells work work′ a) where
     -- refused
     pub plays-refused : (c : Refusal) → a .answer ≡ StartAnswer.Refused c → Plays fromLog l place area b area r cells b false
     plays-refused c e = go (causeAt area r o) refl
@@ -101,7 +101,7 @@ module _ (fromLog : Bool) (l : Letter) (place : ℕ) (area : List ℕ) (b : Book
             let z : _≡_ {A = ℕ} 0 1 = cc in absurd (omega arith)
         go (some d) f =
             record {
-              decides = λ w. from-letter w ∙ (unfold refuses pick either in ap (λ (x : Option Refusal). pick (refuses x) (wordWrong fromLog w (place + 1) area b) (either (cutsWrong fromLog area r o b 0 n) (wordWrong fromLog w (place + 1) (stored area (planAt edition1 area r o)) (finished b l place)))) f);
+              decides = λ w. from-letter w ∙ (unfold refuses pick either in ap (λ (x : Option Refusal). pick (refuses x) (wordWrong fromLog w (place + 1) area b) (either (cutsWrong fromLog area r o b 0 n) (wordWrong fromLog w (place + 1) (stored area (planAt (r .edition) area r o)) (finished b l place)))) f);
               ready = λ _. y;
             }
 
@@ -127,15 +127,15 @@ module _ (fromLog : Bool) (l : Letter) (place : ℕ) (area : List ℕ) (b : Book
 
   module _ (accepted : causeAt area r o ≡ none) where
     from-started : (w : Word) → wordWrong fromLog (l ∷ w) place area b
-        ≡ either (cutsWrong fromLog area r o b 0 n) (wordWrong fromLog w (place + 1) (stored area (planAt edition1 area r o)) (finished b l place))
+        ≡ either (cutsWrong fromLog area r o b 0 n) (wordWrong fromLog w (place + 1) (stored area (planAt (r .edition) area r o)) (finished b l place))
     from-started w =
         from-letter w
-        ∙ (unfold refuses pick in ap (λ (x : Option Refusal). pick (refuses x) (wordWrong fromLog w (place + 1) area b) (either (cutsWrong fromLog area r o b 0 n) (wordWrong fromLog w (place + 1) (stored area (planAt edition1 area r o)) (finished b l place)))) accepted)
+        ∙ (unfold refuses pick in ap (λ (x : Option Refusal). pick (refuses x) (wordWrong fromLog w (place + 1) area b) (either (cutsWrong fromLog area r o b 0 n) (wordWrong fromLog w (place + 1) (stored area (planAt (r .edition) area r o)) (finished b l place)))) accepted)
 
     pub plays-wrong : (area′ : List ℕ) (r′ : Record) (cells′ : List ℕ) (b′ : Book) → cutsWrong fromLog area r o b 0 n ≡ true → Plays fromLog l place area b area′ r′ cells′ b′ true
     plays-wrong area′ r′ cells′ b′ e =
         record {
-          decides = λ w. from-started w ∙ (unfold either in ap (λ (t : Bool). either t (wordWrong fromLog w (place + 1) (stored area (planAt edition1 area r o)) (finished b l place))) e);
+          decides = λ w. from-started w ∙ (unfold either in ap (λ (t : Bool). either t (wordWrong fromLog w (place + 1) (stored area (planAt (r .edition) area r o)) (finished b l place))) e);
           ready = λ q. absurd (omega (arith, never q));
         }
       where
@@ -148,7 +148,7 @@ module _ (fromLog : Bool) (l : Letter) (place : ℕ) (area : List ℕ) (b : Book
         record {
           decides = λ w.
               from-started w
-              ∙ ap (λ (t : Bool). either t (wordWrong fromLog w (place + 1) (stored area (planAt edition1 area r o)) (finished b l place))) e
+              ∙ ap (λ (t : Bool). either t (wordWrong fromLog w (place + 1) (stored area (planAt (r .edition) area r o)) (finished b l place))) e
               ∙ ap (λ (x : List ℕ). wordWrong fromLog w (place + 1) x (finished b l place)) (sym (d .stored-all));
           ready = λ _. d .ready;
         }
@@ -156,38 +156,38 @@ module _ (fromLog : Bool) (l : Letter) (place : ℕ) (area : List ℕ) (b : Book
 -- ---- the loop over the stores
 
 module _ (fromLog : Bool) (area : List ℕ) (r : Record) (o : Operation) (b : Book) (whole : Bool) (left : ℕ) (some : 0 < left) (areaNow : List ℕ) (rNow : Record) (cells work : List ℕ)
-    (u : Under area r o left areaNow rNow cells work) (w : whole ≡ cutsWrong fromLog area r o b (length (planAt edition1 area r o) - left) left)
+    (u : Under area r o left areaNow rNow cells work) (w : whole ≡ cutsWrong fromLog area r o b (length (planAt (r .edition) area r o) - left) left)
     (t : Bool) (t-is : t ≡ wrongAt fromLog areaNow b) where
-  from-cut : whole ≡ either t (cutsWrong fromLog area r o b (length (planAt edition1 area r o) - left + 1) (left - 1))
-  from-cut = w ∙ first left some ∙ ap (λ (x : Bool). either x (cutsWrong fromLog area r o b (length (planAt edition1 area r o) - left + 1) (left - 1))) (ap (λ (x : List ℕ). wrongAt fromLog x b) (sym (u .going some .area-now)) ∙ sym t-is)
+  from-cut : whole ≡ either t (cutsWrong fromLog area r o b (length (planAt (r .edition) area r o) - left + 1) (left - 1))
+  from-cut = w ∙ first left some ∙ ap (λ (x : Bool). either x (cutsWrong fromLog area r o b (length (planAt (r .edition) area r o) - left + 1) (left - 1))) (ap (λ (x : List ℕ). wrongAt fromLog x b) (sym (u .going some .area-now)) ∙ sym t-is)
     where
-      first : (m : ℕ) → 0 < m → cutsWrong fromLog area r o b (length (planAt edition1 area r o) - left) m
-          ≡ either (wrongAt fromLog (stored area (take (length (planAt edition1 area r o) - left) (planAt edition1 area r o))) b) (cutsWrong fromLog area r o b (length (planAt edition1 area r o) - left + 1) (m - 1))
+      first : (m : ℕ) → 0 < m → cutsWrong fromLog area r o b (length (planAt (r .edition) area r o) - left) m
+          ≡ either (wrongAt fromLog (stored area (take (length (planAt (r .edition) area r o) - left) (planAt (r .edition) area r o))) b) (cutsWrong fromLog area r o b (length (planAt (r .edition) area r o) - left + 1) (m - 1))
       first zero h = absurd (omega arith)
-      first (suc m) h = unfold cutsWrong in ap (λ (x : ℕ). either (wrongAt fromLog (stored area (take (length (planAt edition1 area r o) - left) (planAt edition1 area r o))) b) (cutsWrong fromLog area r o b (length (planAt edition1 area r o) - left + 1) x)) (before m)
+      first (suc m) h = unfold cutsWrong in ap (λ (x : ℕ). either (wrongAt fromLog (stored area (take (length (planAt (r .edition) area r o) - left) (planAt (r .edition) area r o))) b) (cutsWrong fromLog area r o b (length (planAt (r .edition) area r o) - left + 1) x)) (before m)
         where
           before : (m : ℕ) → m ≡ suc m - 1
           before m = omega arith
 
   pub cut-wrong : t ≡ true → whole ≡ true
   unfolding either
-  cut-wrong e = from-cut ∙ ap (λ (x : Bool). either x (cutsWrong fromLog area r o b (length (planAt edition1 area r o) - left + 1) (left - 1))) e
+  cut-wrong e = from-cut ∙ ap (λ (x : Bool). either x (cutsWrong fromLog area r o b (length (planAt (r .edition) area r o) - left + 1) (left - 1))) e
 
-  pub cut-right : t ≡ false → whole ≡ cutsWrong fromLog area r o b (length (planAt edition1 area r o) - (left - 1)) (left - 1)
+  pub cut-right : t ≡ false → whole ≡ cutsWrong fromLog area r o b (length (planAt (r .edition) area r o) - (left - 1)) (left - 1)
   unfolding either
   cut-right e =
       from-cut
-      ∙ ap (λ (x : Bool). either x (cutsWrong fromLog area r o b (length (planAt edition1 area r o) - left + 1) (left - 1))) e
-      ∙ ap (λ (x : ℕ). cutsWrong fromLog area r o b x (left - 1)) (one-less (length (planAt edition1 area r o)) (u .most))
+      ∙ ap (λ (x : Bool). either x (cutsWrong fromLog area r o b (length (planAt (r .edition) area r o) - left + 1) (left - 1))) e
+      ∙ ap (λ (x : ℕ). cutsWrong fromLog area r o b x (left - 1)) (one-less (length (planAt (r .edition) area r o)) (u .most))
     where
       one-less : (m : ℕ) → left ≤ m → m - left + 1 ≡ m - (left - 1)
       one-less m h = omega arith
 
-pub cuts-start : (fromLog : Bool) (area : List ℕ) (r : Record) (o : Operation) (b : Book) (stores : ℕ) → stores ≡ length (planAt edition1 area r o)
-    → cutsWrong fromLog area r o b 0 (length (planAt edition1 area r o)) ≡ cutsWrong fromLog area r o b (length (planAt edition1 area r o) - stores) stores
+pub cuts-start : (fromLog : Bool) (area : List ℕ) (r : Record) (o : Operation) (b : Book) (stores : ℕ) → stores ≡ length (planAt (r .edition) area r o)
+    → cutsWrong fromLog area r o b 0 (length (planAt (r .edition) area r o)) ≡ cutsWrong fromLog area r o b (length (planAt (r .edition) area r o) - stores) stores
 cuts-start fromLog area r o b stores e =
-    ap (λ (x : ℕ). cutsWrong fromLog area r o b x (length (planAt edition1 area r o))) (none-done (length (planAt edition1 area r o)) e)
-    ∙ ap (cutsWrong fromLog area r o b (length (planAt edition1 area r o) - stores)) (sym e)
+    ap (λ (x : ℕ). cutsWrong fromLog area r o b x (length (planAt (r .edition) area r o))) (none-done (length (planAt (r .edition) area r o)) e)
+    ∙ ap (cutsWrong fromLog area r o b (length (planAt (r .edition) area r o) - stores)) (sym e)
   where
     none-done : (m : ℕ) → stores ≡ m → 0 ≡ m - stores
     none-done m q = omega arith
@@ -245,7 +245,7 @@ first-found fromLog (v ∷ a) c w e = go (historyWrong fromLog v) e (first-found
 
 module _ (l : Letter) (place : ℕ) (r : Record) (area cells work work′ : List ℕ) (a : Start) (t : Tables) (all : t ≡ allTables) (k : Key) where
   abbrev Starts : Terms → Operation → Type 0
-  Starts q o = StartPromise edition1 q o r area cells work work′ a
+  Starts q o = StartPromise (r .edition) q o r area cells work work′ a
 
   as-letter : (m : Letter) → l ≡ m → Starts freely (operationAt m place r) → Starts freely (operationAt l place r)
   as-letter m e p = subst (λ (x : Letter). Starts freely (operationAt x place r)) (sym e) p
@@ -269,10 +269,10 @@ module _ (l : Letter) (place : ℕ) (r : Record) (area cells work work′ : List
   unfolding operationAt
   start-delete-b e f p = as-letter DeleteB e (freely-reaching _ (subst (λ (x : Key). Starts (reaching t) (delete x)) f p))
 
-pub start-clean : (l : Letter) (place : ℕ) (r : Record) (area cells work work′ : List ℕ) (a : Start) → l ≡ CleanAll → StartPromise edition1 freely (clean (r .map)) r area cells work work′ a
-    → StartPromise edition1 freely (operationAt l place r) r area cells work work′ a
+pub start-clean : (l : Letter) (place : ℕ) (r : Record) (area cells work work′ : List ℕ) (a : Start) → l ≡ CleanAll → StartPromise (r .edition) freely (clean (r .map)) r area cells work work′ a
+    → StartPromise (r .edition) freely (operationAt l place r) r area cells work work′ a
 unfolding operationAt
-start-clean l place r area cells work work′ a e p = subst (λ (x : Letter). StartPromise edition1 freely (operationAt x place r) r area cells work work′ a) (sym e) p
+start-clean l place r area cells work work′ a e p = subst (λ (x : Letter). StartPromise (r .edition) freely (operationAt x place r) r area cells work work′ a) (sym e) p
 
 -- ---- a fresh store
 
@@ -284,22 +284,28 @@ zero-bytes zero i = omega arith
 zero-bytes (suc n) zero = omega arith
 zero-bytes (suc n) (suc i) = zero-bytes n i
 
-pub format-fresh : (area′ : List ℕ) (a : FormatAnswer) → FormatPromise edition1 4 256 (replicate 1024 0) area′ a → area′ ≡ freshArea
-unfolding areaUnless firstCause pick between both
+pub format-fresh : (area′ : List ℕ) (a : FormatAnswer) → FormatPromise 1 4 256 (replicate 1024 0) area′ a → area′ ≡ freshArea
+unfolding areaUnless firstCause pick between both either isNone layoutNumbered formattedAs
 format-fresh area′ a p = p .leaves
 
-pub fresh-ready : (area cells cells′ : List ℕ) (r : Recovery) → area ≡ freshArea → length cells ≡ 16 → RecoverPromise edition1 4 256 (0 ∷ 1 ∷ 2 ∷ 3 ∷ []) area cells cells′ r
-    → Ready area (r .rec) cells′
+pub fresh-ready : (area cells cells′ : List ℕ) (r : Recovery) → area ≡ freshArea → length cells ≡ 16
+    → RecoverPromise (imageLayout 4 256 area) 4 256 (0 ∷ 1 ∷ 2 ∷ 3 ∷ []) area cells cells′ r → Ready area (r .rec) cells′
 fresh-ready area cells cells′ r e long p =
     recovered-ready (0 ∷ 1 ∷ 2 ∷ 3 ∷ []) area cells cells′ r order-up long p
-    (subst Bytes (sym e) (edition1-laws .format-bytes 4 256 (replicate 1024 0) (zero-bytes 1024)))
+    (subst Bytes (sym e) (edition-laws edition1 .format-bytes 4 256 (replicate 1024 0) (zero-bytes 1024)))
     (ap (λ (x : Recovery). x .answer)
     (p .answers
-    ∙ ap (λ (m : ℕ). recovery edition1 4 256 m (0 ∷ 1 ∷ 2 ∷ 3 ∷ []) area) long
-    ∙ recovered-recovery edition1 4 256 16 area (0 ∷ 1 ∷ 2 ∷ 3 ∷ []) (recordFrom edition1 4 256 16 area) order-up (subst (λ (x : List ℕ). recovered edition1 4 256 16 x ≡ some (recordFrom edition1 4 256 16 x)) (sym e) (edition1-laws .format-recovers 4 256 16 (replicate 1024 0) geometry cells-good))))
+    ∙ ap (λ (m : ℕ). recovery (imageLayout 4 256 area) 4 256 m (0 ∷ 1 ∷ 2 ∷ 3 ∷ []) area) long
+    ∙ recovered-recovery (imageLayout 4 256 area) 4 256 16 area (0 ∷ 1 ∷ 2 ∷ 3 ∷ []) (recordFrom edition1 4 256 16 area) order-up
+    (at-image edition1 area (recordFrom edition1 4 256 16 area) first)))
   where
     geometry : geometryBad 4 256 (length {A = ℕ} (replicate 1024 0)) ≡ false
     geometry = unfold between both in refl
 
     cells-good : cellsGood 16 ≡ true
     cells-good = unfold between both in refl
+
+    first : recovered edition1 4 256 16 area ≡ some (recordFrom edition1 4 256 16 area)
+    first =
+        subst (λ (x : List ℕ). recovered edition1 4 256 16 x ≡ some (recordFrom edition1 4 256 16 x)) (sym e)
+        (edition-laws edition1 .format-recovers 4 256 16 (replicate 1024 0) geometry cells-good)

@@ -7,13 +7,13 @@ use mathlib.Core.Option.{Option, none, some}
 use lib.Dec.{eqb, ltb}
 use lib.ListN.{length, getD, take, replicate}
 use Rattle.segment.specs.Choice.{pick, both, either}
-use Rattle.segment.specs.Layout.{edition1}
+use Rattle.segment.specs.Layout.{versionLimit, edition1}
 use Rattle.segment.specs.Entry.{bytesIn}
 use Rattle.record.specs.declared.Record.{Record}
 use Rattle.record.specs.declared.Refusal.{Refusal}
 use Rattle.model.specs.Log.{Placed, present, highest}
 use Rattle.model.specs.Causes.{firstCause}
-use Rattle.model.specs.Recovery.{recovered, recordFrom}
+use Rattle.model.specs.Recovery.{imageLayout, recovered, recordFrom}
 use Rattle.model.specs.Operations.{Operation, write, delete, clean, logNow, planFor, storesFor, stored, formatted}
 use Rattle.model.specs.Refused.{Lengths, freely, startCauses}
 use Rattle.text.specs.Ascii.{ascii}
@@ -44,7 +44,7 @@ keyAs (some x) h = both (eqb (x .entry .version) (h .version)) (eightAre (bytesI
 -- The next version that recovery gives; and that of the copy that goes by log entries alone.
 unfoldable pub nextOf : Bool → List Placed → Record → ℕ
 nextOf false log r = r .next .0
-nextOf true log r = min (highest log + 1) 4294967295
+nextOf true log r = min (highest log + 1) (versionLimit (r .edition))
 
 -- The keys of the book and no other, with its versions and values, and its next version.
 unfoldable pub storeAs : Bool → List Placed → Record → Book → Bool
@@ -54,11 +54,11 @@ storeAs fromLog log r b =
 
 unfoldable pub wrongFor : Bool → List ℕ → Book → Option Record → Bool
 wrongFor fromLog area b none = true
-wrongFor fromLog area b (some r) = not (storeAs fromLog (logNow edition1 area r) r b)
+wrongFor fromLog area b (some r) = not (storeAs fromLog (logNow area r) r b)
 
--- recovery is refused, or gives another store than the book's
+-- Recovery, which takes the edition from the area, is refused, or gives another store than the book's.
 unfoldable pub wrongAt : Bool → List ℕ → Book → Bool
-wrongAt fromLog area b = wrongFor fromLog area b (recovered edition1 4 256 16 area)
+wrongAt fromLog area b = wrongFor fromLog area b (recovered (imageLayout 4 256 area) 4 256 16 area)
 
 -- ---- a history with its cuts
 
@@ -75,16 +75,16 @@ abbrev pub lent : Lengths
 lent = record { area = 1024; index = 16; work = 256 }
 
 abbrev pub causeAt : List ℕ → Record → Operation → Option Refusal
-causeAt area r o = firstCause (startCauses edition1 r (logNow edition1 area r) lent freely o)
+causeAt area r o = firstCause (startCauses (r .edition) r (logNow area r) lent freely o)
 
 -- a cut after k stores of an operation and after each of the m - 1 that follow recovers wrongly
 unfoldable pub cutsWrong : Bool → List ℕ → Record → Operation → Book → ℕ → ℕ → Bool
 cutsWrong fromLog area r o b k zero = false
 cutsWrong fromLog area r o b k (suc m) =
-    either (wrongAt fromLog (stored area (take k (planFor edition1 r (logNow edition1 area r) o))) b) (cutsWrong fromLog area r o b (k + 1) m)
+    either (wrongAt fromLog (stored area (take k (planFor (r .edition) r (logNow area r) o))) b) (cutsWrong fromLog area r o b (k + 1) m)
 
 abbrev pub recordAt : List ℕ → Record
-recordAt area = recordFrom edition1 4 256 16 area
+recordAt area = recordFrom (imageLayout 4 256 area) 4 256 16 area
 
 unfoldable pub refuses : Option Refusal → Bool
 refuses none = false
@@ -97,10 +97,10 @@ wordWrong fromLog (l ∷ w) place area b =
     let r = recordAt area in
     let o = operationAt l place r in
     pick (refuses (causeAt area r o)) (wordWrong fromLog w (place + 1) area b)
-    (either (cutsWrong fromLog area r o b 0 (storesFor edition1 r (logNow edition1 area r) o))
-    (wordWrong fromLog w (place + 1) (stored area (planFor edition1 r (logNow edition1 area r) o)) (finished b l place)))
+    (either (cutsWrong fromLog area r o b 0 (storesFor (r .edition) r (logNow area r) o))
+    (wordWrong fromLog w (place + 1) (stored area (planFor (r .edition) r (logNow area r) o)) (finished b l place)))
 
--- on a fresh store
+-- on a fresh store, of edition 1
 unfoldable pub historyWrong : Bool → Word → Bool
 historyWrong fromLog w = wordWrong fromLog w 1 (formatted edition1 4 256 (replicate 1024 0)) freshBook
 

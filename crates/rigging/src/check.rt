@@ -9,6 +9,7 @@ use record::RecoverAnswer;
 use record::Tables;
 use report::gather::gather;
 use segment::Key;
+use segment::layout::version_limit;
 use store::read;
 use store::read_value;
 use store::recover;
@@ -16,7 +17,6 @@ ghost use Prim.Native.Nat.{_<_};
 ghost use mathlib.Core.Path.{_≡_};
 ghost use mathlib.Core.Option.{some};
 ghost use Rattle.word.specs.Number.{Bytes};
-ghost use Rattle.segment.specs.Layout.{edition1};
 ghost use Rattle.model.specs.Log.{present};
 ghost use Rattle.model.specs.Operations.{logNow};
 ghost use Rattle.model.specs.Recovery.{recovered};
@@ -43,7 +43,7 @@ fn all_are(bytes: &[u8], byte: u8) -> bool
 // Whether a key has the version and the value of the book, or is absent where the book has nothing of it.
 fn key_as(rec: Record, area: &[u8], index: &[u32], key: Key, held: Held) -> bool
     requires { ⌜ Ready (now area) rec (now index) × (key .table < 65536) ⌝ }
-    ensures { λ r. ⌜ r ≡ keyAs (present (logNow edition1 (now (area .entry)) rec) key) held ⌝ }
+    ensures { λ r. ⌜ r ≡ keyAs (present (logNow (now (area .entry)) rec) key) held ⌝ }
 {
     let tables = Tables {
         first: 0,
@@ -64,8 +64,8 @@ fn key_as(rec: Record, area: &[u8], index: &[u32], key: Key, held: Held) -> bool
 
 // The next version: the record's, or from log entries alone one more than their highest.
 fn next_of(rec: Record, area: &[u8], faulty: bool) -> u64
-    requires { ⌜ (recovered edition1 4 256 16 (now area) ≡ some rec) × Bytes (now area) ⌝ }
-    ensures { λ r. ⌜ r ≡ nextOf faulty (logNow edition1 (now (area .entry)) rec) rec ⌝ }
+    requires { ⌜ (recovered (rec .edition) 4 256 16 (now area) ≡ some rec) × Bytes (now area) ⌝ }
+    ensures { λ r. ⌜ r ≡ nextOf faulty (logNow (now (area .entry)) rec) rec ⌝ }
 {
     let next = rec.next;
     if !faulty {
@@ -73,8 +73,10 @@ fn next_of(rec: Record, area: &[u8], faulty: bool) -> u64
     }
     let passed = survey(4, 256, area, rec.map);
     let highest = passed.highest;
-    if 0xffff_ffff <= highest.0 {
-        return 0xffff_ffff;
+    let edition = rec.edition;
+    let limit = version_limit(edition);
+    if limit <= highest.0 {
+        return limit;
     }
     highest.0 + 1
 }
@@ -82,13 +84,14 @@ fn next_of(rec: Record, area: &[u8], faulty: bool) -> u64
 // Whether a recovered store is the book's.
 fn store_as(rec: Record, area: &[u8], index: &[u32], book: Book, faulty: bool) -> bool
     requires { ⌜ Ready (now area) rec (now index) ⌝ }
-    ensures { λ r. ⌜ r ≡ storeAs faulty (logNow edition1 (now (area .entry)) rec) rec book ⌝ }
+    ensures { λ r. ⌜ r ≡ storeAs faulty (logNow (now (area .entry)) rec) rec book ⌝ }
 {
     if next_of(rec, area, faulty) != book.next {
         return false;
     }
+    let edition = rec.edition;
     let mut ranks = [0; 4096];
-    if gather(rec.size as usize, area, index, &mut ranks) != book::count(book) {
+    if gather(edition, rec.size as usize, area, index, &mut ranks) != book::count(book) {
         return false;
     }
     let first = book.first;

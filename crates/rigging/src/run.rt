@@ -19,7 +19,6 @@ use store::write;
 ghost use Prim.Native.Nat.{_≤_};
 ghost use mathlib.Core.Path.{_≡_};
 ghost use lib.ListN.{length};
-ghost use Rattle.segment.specs.Layout.{edition1};
 ghost use Rattle.record.specs.Reach.{allTables};
 ghost use Rattle.model.specs.Promises.{StartPromise};
 ghost use Rattle.model.specs.Refused.{freely};
@@ -47,7 +46,7 @@ fn all_tables() -> Tables
 // The start of a letter's operation: eight bytes written, each the letter's place, a key deleted, or all slots of the log cleaned.
 fn start(l: Letter, place: u8, rec: Record, area: &[u8], index: &[u32], work: &mut [u8]) -> Start
     ensures { λ r.
-        ⌜ StartPromise edition1 freely (operationAt l place rec) rec (now (area .entry)) (now (index .entry)) (now (work .entry))
+        ⌜ StartPromise (rec .edition) freely (operationAt l place rec) rec (now (area .entry)) (now (index .entry)) (now (work .entry))
         (now (work .exit)) r ⌝ }
 {
     let value = [place; 8];
@@ -130,7 +129,7 @@ pub fn is_wrong(letters: u32, number: u32, faulty: bool) -> bool
     let mut area = [0; 1024];
     let mut index = [0; 16];
     let mut work = [0; 256];
-    format(4, 256, &mut area);
+    format(4, 256, 1, &mut area);
     let fresh = recover(4, 256, b"\x00\x01\x02\x03", &area, &mut index);
     let mut rec = fresh.rec;
     let mut book = book::fresh();

@@ -25,7 +25,7 @@ sharedAnd bytes =
     seg 2 3 1 (small (keyed 1 1) 1 ∷ small (keyed 1 2) 1 ∷ []) ++ slotWith 255 (segmentWith 1 0 0 [] ++ bytes) ++ vacant ++ vacant
 
 abbrev formats : ℕ × ℕ × ℕ → ℕ
-formats g = first (formatCauses (g .0) (g .1) (g .2))
+formats g = first (formatCauses 1 (g .0) (g .1) (g .2))
 
 abbrev recoveryRefusals : List Row
 recoveryRefusals =

@@ -16,16 +16,16 @@ use Rattle.model.specs.Scanned.{imageLog, soughtCauses, scanCauses}
 use Rattle.scanning.specs.declared.Sought.{Sought}
 
 -- what stands at a place
-unfoldable pub soughtRead : ℕ → Read → Sought
-soughtRead p (Read.Object k v kind n) = Sought.Object p v kind n
-soughtRead p (Read.Tombstone k v n) = Sought.Refused Refusal.Absent
-soughtRead p Read.End = Sought.Refused Refusal.Absent
-soughtRead p Read.Damage = Sought.Refused Refusal.Absent
+unfoldable pub soughtRead : Layout → ℕ → Read → Sought
+soughtRead L p (Read.Object k v kind n) = Sought.Object L p v kind n
+soughtRead L p (Read.Tombstone k v n) = Sought.Refused Refusal.Absent
+soughtRead L p Read.End = Sought.Refused Refusal.Absent
+soughtRead L p Read.Damage = Sought.Refused Refusal.Absent
 
 -- the object, or 8 where there is none
 unfoldable pub soughtObject : Layout → ℕ → Option Placed → Sought
 soughtObject L S none = Sought.Refused Refusal.Absent
-soughtObject L S (some x) = Sought.Object (placeOf S x) (record { 0 = x .entry .version }) (kindOf L (x .entry)) (sizeOf L (x .entry))
+soughtObject L S (some x) = Sought.Object L (placeOf S x) (record { 0 = x .entry .version }) (kindOf L (x .entry)) (sizeOf L (x .entry))
 
 unfoldable pub soughtAs : Layout → ℕ → Option Refusal → Option Placed → Sought
 soughtAs L S (some c) o = Sought.Refused c
@@ -36,13 +36,13 @@ abbrev pub soughtIn : Layout → ℕ → List Placed → Tables → Key → Soug
 soughtIn L S log t k = soughtAs L S (firstCause (soughtCauses log t k)) (present log k)
 
 abbrev pub sought : Layout → ℕ → ℕ → List ℕ → Tables → Key → Sought
-sought L n s area t k = soughtAs L s (firstCause (scanCauses L n s area t k)) (present (imageLog L n s area) k)
+sought L n s area t k = soughtAs L s (firstCause (scanCauses L n s area t k)) (present (imageLog n s area) k)
 
 -- the read's answer, and the value's part of the area
 unfoldable pub answerOf : Sought → ReadAnswer
 answerOf (Sought.Refused c) = ReadAnswer.Refused c
-answerOf (Sought.Object p v kind n) = ReadAnswer.Present v kind
+answerOf (Sought.Object L p v kind n) = ReadAnswer.Present v kind
 
-unfoldable pub partFor : Layout → Sought → Part
-partFor L (Sought.Refused c) = nowhere
-partFor L (Sought.Object p v kind n) = record { place = p + entrySize L 0; bytes = n - entrySize L 0 }
+unfoldable pub partFor : Sought → Part
+partFor (Sought.Refused c) = nowhere
+partFor (Sought.Object L p v kind n) = record { place = p + entrySize L 0; bytes = n - entrySize L 0 }

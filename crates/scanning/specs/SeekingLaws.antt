@@ -25,7 +25,7 @@ use Rattle.record.specs.declared.Refusal.{Refusal}
 use Rattle.record.specs.declared.Tables.{Tables}
 use Rattle.model.specs.Log.{View, Head, Placed, placeOf, segmentOf, viewsOf, headOf, logOf, latest, objectOnly, present}
 use Rattle.model.specs.Causes.{Cause, when, firstCause}
-use Rattle.model.specs.Recovery.{geometryBad, headElse, logUnder, logSlots, imageCauses}
+use Rattle.model.specs.Recovery.{imageLayout, geometryBad, headElse, logUnder, logSlots, imageCauses}
 use Rattle.model.specs.Refused.{outsideTables, keyAbsent}
 use Rattle.model.specs.Promises.{readAnswer, presentAnswer, nowhere, Part, valuePart, valueAnswer}
 use Rattle.model.specs.Scanned.{imageLog, soughtCauses, scanCauses, ScanPromise, scannedPart, ScanValue}
@@ -36,12 +36,12 @@ use Rattle.laws.specs.ScanLaws.{scan-passed}
 use Rattle.laws.specs.Members.{clash, In}
 use Rattle.laws.specs.Latest.{latest-some}
 use Rattle.laws.specs.Forgotten.{present-live}
-use Rattle.laws.specs.LogLaws.{AllScanned, undamaged-scans, log-in}
+use Rattle.laws.specs.LogLaws.{AllOf, AllScanned, editions-one, undamaged-scans, log-in}
 use Rattle.log.specs.Shape.{Shape}
 use Rattle.recovery.specs.FormatLaws.{geometry-fits}
 use Rattle.recovery.specs.LookupLaws.{log-stands, stands-at, ObjectInside}
 use Rattle.recovery.specs.Recovering.{imageFor, imageOf}
-use Rattle.recovery.specs.RecoverPromises.{sound-image, image-scans}
+use Rattle.recovery.specs.RecoverPromises.{SoundImage, sound-image, image-editions, image-scans}
 use Rattle.recovery.specs.declared.Image.{Image}
 use Rattle.scanning.specs.Seeing.{seenIn, seenOf}
 use Rattle.scanning.specs.Seeking.{soughtRead, soughtObject, soughtAs, soughtIn, sought, answerOf, partFor}
@@ -62,21 +62,22 @@ object-or-8 L S none = refl
 object-or-8 L S (some x) = refl
 
 -- the entry that stands at a place, as the code takes it
-entry-sought : (L : Layout) (S : ℕ) (x : Placed) → soughtRead (placeOf S x) (answer L (entry (x .entry))) ≡ soughtObject L S (objectOnly (some x))
+entry-sought : (L : Layout) (S : ℕ) (x : Placed) → soughtRead L (placeOf S x) (answer L (entry (x .entry))) ≡ soughtObject L S (objectOnly (some x))
 unfolding soughtRead answer soughtObject objectOnly pick
 entry-sought L S x = go (isTombstone (x .entry))
   where
     go : (t : Bool)
-        → soughtRead (placeOf S x)
+        → soughtRead L (placeOf S x)
         (pick t (Read.Tombstone (keyOf (x .entry)) (record { 0 = x .entry .version }) (sizeOf L (x .entry)))
         (Read.Object (keyOf (x .entry)) (record { 0 = x .entry .version }) (kindOf L (x .entry)) (sizeOf L (x .entry))))
         ≡ soughtObject L S (pick t none (some x))
     go true = refl
     go false = refl
 
-module _ (L : Layout) (area : List ℕ) (S : ℕ) (p : ℕ → Bool) (n : ℕ) (scans : AllScanned (viewsOf L area S) p n) (t : Tables) (k : Key) where
+module _ (L : Layout) (area : List ℕ) (S : ℕ) (p : ℕ → Bool) (n : ℕ) (editions : AllOf L (viewsOf area S) p n)
+    (scans : AllScanned (viewsOf area S) p n) (t : Tables) (k : Key) where
   abbrev log : List Placed
-  log = logOf (viewsOf L area S) p n
+  log = logOf (viewsOf area S) p n
 
   abbrev gone : Cause
   gone = when (keyAbsent log k) Refusal.Absent
@@ -90,7 +91,7 @@ module _ (L : Layout) (area : List ℕ) (S : ℕ) (p : ℕ → Bool) (n : ℕ) (
   versions-above : (x : Placed) → In x log → 0 < x .entry .version
   versions-above x m =
       version-positive L (x .entry .version)
-      (found-readable L (segmentOf area S (x .slot)) (x .offset) (x .entry) (log-stands L area S p n scans x m) .good)
+      (found-readable L (segmentOf area S (x .slot)) (x .offset) (x .entry) (log-stands L area S p n editions scans x m) .good)
 
   module _ (held : holdsTable t (k .table) ≡ true) where
     seek-object : soughtObject L S (present log k) ≡ soughtIn L S log t k
@@ -99,7 +100,7 @@ module _ (L : Layout) (area : List ℕ) (S : ℕ) (p : ℕ → Bool) (n : ℕ) (
         ap (λ (c : Option Refusal). soughtAs L S c (present log k))
         (sym (cause-skip (when (outsideTables t k) Refusal.OutsideTables) (gone ∷ []) (ap not held)))
 
-    module _ (now : Seen) (is : now ≡ seenBelow S k (viewsOf L area S) p n) where
+    module _ (now : Seen) (is : now ≡ seenBelow S k (viewsOf area S) p n) where
       newest-is : now ≡ seenOf S (latest log k)
       newest-is = is ∙ seen-newest S k log versions-above
 
@@ -116,10 +117,10 @@ module _ (L : Layout) (area : List ℕ) (S : ℕ) (p : ℕ → Bool) (n : ℕ) (
 
       -- one was seen, and the entry stands at its place
       pub seek-found :
-          (now .version .0 ≡ 0 → ⊥) → (r : Sought) → r ≡ soughtRead (now .place) (standsAt L S area (now .place)) → r ≡ soughtIn L S log t k
+          (now .version .0 ≡ 0 → ⊥) → (r : Sought) → r ≡ soughtRead L (now .place) (standsAt L S area (now .place)) → r ≡ soughtIn L S log t k
       seek-found some-seen r given = given ∙ go (latest log k) refl ∙ seek-object
         where
-          go : (o : Option Placed) → latest log k ≡ o → soughtRead (now .place) (standsAt L S area (now .place)) ≡ soughtObject L S (present log k)
+          go : (o : Option Placed) → latest log k ≡ o → soughtRead L (now .place) (standsAt L S area (now .place)) ≡ soughtObject L S (present log k)
           go none q =
               absurd
               (some-seen
@@ -127,8 +128,8 @@ module _ (L : Layout) (area : List ℕ) (S : ℕ) (p : ℕ → Bool) (n : ℕ) (
           go (some x) q =
               let place : now .place ≡ placeOf S x =
               ap (λ (a : Seen). a .place) newest-is ∙ ap (λ (o : Option Placed). seenOf S o .place) q ∙ (unfold seenOf in refl) in
-              ap (λ (j : ℕ). soughtRead j (standsAt L S area j)) place ∙
-              ap (soughtRead (placeOf S x)) (stands-at L area S p n scans x (latest-some log k x q .member)) ∙ entry-sought L S x ∙
+              ap (λ (j : ℕ). soughtRead L j (standsAt L S area j)) place ∙
+              ap (soughtRead L (placeOf S x)) (stands-at L area S p n editions scans x (latest-some log k x q .member)) ∙ entry-sought L S x ∙
               (unfold present in ap (λ (o : Option Placed). soughtObject L S (objectOnly o)) (sym q))
 
   -- ---- where an entry of the log lies
@@ -136,11 +137,11 @@ module _ (L : Layout) (area : List ℕ) (S : ℕ) (p : ℕ → Bool) (n : ℕ) (
   entry-inside : (x : Placed) → In x log → placeOf S x + sizeOf L (x .entry) ≤ length area
   entry-inside x m =
       let s : List ℕ = segmentOf area S (x .slot) in
-      let found = log-stands L area S p n scans x m in
+      let found = log-stands L area S p n editions scans x m in
       let inside : x .offset < S = omega (arith, found-fits L s (x .offset) (x .entry) found, length-take S (drop (x .slot * S) area)) in
       found-within L S area (placeOf S x) (x .entry) (found-place L S area (x .slot) (x .offset) inside ∙ found) .in-area
 
-  pub place-low : length area ≤ 65536 → (now : Seen) → now ≡ seenBelow S k (viewsOf L area S) p n → now .place < 4294967296
+  pub place-low : length area ≤ 65536 → (now : Seen) → now ≡ seenBelow S k (viewsOf area S) p n → now .place < 4294967296
   place-low short now is = go (latest log k) refl
     where
       same : now .place ≡ seenOf S (latest log k) .place
@@ -159,15 +160,56 @@ module _ (L : Layout) (area : List ℕ) (S : ℕ) (p : ℕ → Bool) (n : ℕ) (
 
 -- ---- over an area
 
+pub seek-shape : (n s : ℕ) (area : List ℕ) → geometryBad n s (length area) ≡ false → Shape n s area
+seek-shape n s area g =
+    let f = geometry-fits n s (length area) g in
+    record { slots-least = f .slots-low; slots-most = f .slots-high; size-least = f .size-low; size-most = f .size-high; whole = f .area-own }
+
+-- by the edition that the head's slot tells
+module _ (n s : ℕ) (area : List ℕ) (t : Tables) (k : Key) (g : geometryBad n s (length area) ≡ false) where
+  abbrev its : Layout
+  its = imageLayout n s area
+
+  abbrev found : List Cause
+  found = imageCauses its (viewsOf area s) n (headOf (viewsOf area s) n)
+
+  abbrev here : Option Placed
+  here = present (imageLog n s area) k
+
+  pub seek-refused : (c : Refusal) → imageOf (viewsOf area s) n ≡ Image.Refused c → Sought.Refused c ≡ sought its n s area t k
+  unfolding soughtAs imageFor
+  seek-refused c e = ap (λ (x : Option Refusal). soughtAs its s x here) (sym (go (firstCause found) refl e))
+    where
+      go : (o : Option Refusal) → firstCause found ≡ o → imageFor (viewsOf area s) n (headElse (headOf (viewsOf area s) n)) o ≡ Image.Refused c
+          → firstCause (scanCauses its n s area t k) ≡ some c
+      go none p q = let z : _≡_ {A = ℕ} 0 1 = cc in absurd (omega arith)
+      go (some b) p q =
+          let same : b ≡ c = cc in
+          cause-skip (when (geometryBad n s (length area)) Refusal.Geometry) (found ++ soughtCauses (imageLog n s area) t k) g ∙
+          first-some found (soughtCauses (imageLog n s area) t k) c (p ∙ ap some same)
+
+  module _ (L : Layout) (i : ℕ) (d : Digest) (top : Version) (sound : imageOf (viewsOf area s) n ≡ Image.Sound L i d top) where
+    one : SoundImage L (viewsOf area s) n i d top
+    one = sound-image L (viewsOf area s) n i d top sound
+
+    pub seek-editions : AllOf L (viewsOf area s) (named (d .map)) n
+    seek-editions = image-editions L (viewsOf area s) n i d top one
+
+    pub seek-scans : AllScanned (viewsOf area s) (named (d .map)) n
+    seek-scans = image-scans L (viewsOf area s) n i d top one
+
+    pub seek-sound : (r : Sought) → r ≡ soughtIn L s (logOf (viewsOf area s) (named (d .map)) n) t k → r ≡ sought its n s area t k
+    seek-sound r given =
+        given ∙ ap (λ (h : Head). soughtIn L s (logUnder (viewsOf area s) n h) t k) (sym (one .head)) ∙
+        ap (λ (c : Option Refusal). soughtAs L s c here) (sym (scan-passed L n s area t k g (one .clear))) ∙
+        ap (λ (K : Layout). sought K n s area t k) (sym (one .edition))
+
 module _ (L : Layout) (n s : ℕ) (area : List ℕ) (t : Tables) (k : Key) where
   abbrev v : ℕ → View
-  v = viewsOf L area s
+  v = viewsOf area s
 
   abbrev object : Option Placed
-  object = present (imageLog L n s area) k
-
-  abbrev image : List Cause
-  image = imageCauses v n (headOf v n)
+  object = present (imageLog n s area) k
 
   abbrev cause : Option Refusal
   cause = firstCause (scanCauses L n s area t k)
@@ -176,38 +218,11 @@ module _ (L : Layout) (n s : ℕ) (area : List ℕ) (t : Tables) (k : Key) where
   unfolding soughtAs
   seek-geometry e = ap (λ (c : Option Refusal). soughtAs L s c object) (sym (cause-first (when (geometryBad n s (length area)) Refusal.Geometry) _ e))
 
-  module _ (g : geometryBad n s (length area) ≡ false) where
-    pub seek-shape : Shape n s area
-    seek-shape =
-        let f = geometry-fits n s (length area) g in
-        record { slots-least = f .slots-low; slots-most = f .slots-high; size-least = f .size-low; size-most = f .size-high; whole = f .area-own }
-
-    pub seek-refused : (c : Refusal) → imageOf v n ≡ Image.Refused c → Sought.Refused c ≡ sought L n s area t k
-    unfolding soughtAs imageFor
-    seek-refused c e = ap (λ (x : Option Refusal). soughtAs L s x object) (sym (go (firstCause image) refl e))
-      where
-        go : (o : Option Refusal) → firstCause image ≡ o → imageFor v n (headElse (headOf v n)) o ≡ Image.Refused c → cause ≡ some c
-        go none p q = let z : _≡_ {A = ℕ} 0 1 = cc in absurd (omega arith)
-        go (some b) p q =
-            let same : b ≡ c = cc in
-            cause-skip (when (geometryBad n s (length area)) Refusal.Geometry) (image ++ soughtCauses (imageLog L n s area) t k) g ∙
-            first-some image (soughtCauses (imageLog L n s area) t k) c (p ∙ ap some same)
-
-    module _ (i : ℕ) (d : Digest) (top : Version) (sound : imageOf v n ≡ Image.Sound i d top) where
-      pub seek-scans : AllScanned v (named (d .map)) n
-      seek-scans = image-scans v n i d top (sound-image v n i d top sound)
-
-      pub seek-sound : (r : Sought) → r ≡ soughtIn L s (logOf v (named (d .map)) n) t k → r ≡ sought L n s area t k
-      seek-sound r given =
-          let one = sound-image v n i d top sound in
-          given ∙ ap (λ (h : Head). soughtIn L s (logUnder v n h) t k) (sym (one .head)) ∙
-          ap (λ (c : Option Refusal). soughtAs L s c object) (sym (scan-passed L n s area t k g (one .clear)))
-
   -- ---- the promises
 
   -- where no cause holds there is an object
   object-there : cause ≡ none → isNone object ≡ false
-  object-there e = no-cause (scanCauses L n s area t k) e .1 .1 .1 .1 .1 .1 .1 .1 .0
+  object-there e = no-cause (scanCauses L n s area t k) e .1 .1 .1 .1 .1 .1 .1 .1 .1 .0
 
   pub scan-promise : (x : Sought) → x ≡ sought L n s area t k → ScanPromise L n s area t k (answerOf x)
   scan-promise x e = record { answers = answered; says = ap readSaid answered ∙ read-says L cause object }
@@ -223,13 +238,13 @@ module _ (L : Layout) (n s : ℕ) (area : List ℕ) (t : Tables) (k : Key) where
       answered : answerOf x ≡ readAnswer L cause object
       answered = ap answerOf e ∙ go cause object object-there
 
-  pub scan-value : (x : Sought) → x ≡ sought L n s area t k → ScanValue L n s area t k (partFor L x)
-  scan-value x e = record { exact = ap (partFor L) e ∙ go cause object object-there }
+  pub scan-value : (x : Sought) → x ≡ sought L n s area t k → ScanValue L n s area t k (partFor x)
+  scan-value x e = record { exact = ap partFor e ∙ go cause object object-there }
     where
       long : (m : ℕ) → entrySize L m - entrySize L 0 ≡ m
       long m = omega arith
 
-      go : (c : Option Refusal) (o : Option Placed) → (c ≡ none → isNone o ≡ false) → partFor L (soughtAs L s c o) ≡ valueAnswer L s c o
+      go : (c : Option Refusal) (o : Option Placed) → (c ≡ none → isNone o ≡ false) → partFor (soughtAs L s c o) ≡ valueAnswer L s c o
       go (some c) o there = unfold partFor soughtAs valueAnswer in refl
       go none none there = unfold partFor soughtAs soughtObject valueAnswer valuePart in refl
       go none (some y) there =
@@ -237,36 +252,41 @@ module _ (L : Layout) (n s : ℕ) (area : List ℕ) (t : Tables) (k : Key) where
           ap (λ (m : ℕ). record { place = placeOf s y + entrySize L 0; bytes = m }) (long (length (bytesIn (y .entry .value))))
 
   -- where an object is found no cause holds
-  found-clear : (p : ℕ) (w : Version) (kind m : ℕ) → Sought.Object p w kind m ≡ sought L n s area t k → cause ≡ none
-  found-clear p w kind m e = go cause refl e
+  found-clear : (E : Layout) (p : ℕ) (w : Version) (kind m : ℕ) → Sought.Object E p w kind m ≡ sought L n s area t k → cause ≡ none
+  found-clear E p w kind m e = go cause refl e
     where
-      go : (c : Option Refusal) → cause ≡ c → Sought.Object p w kind m ≡ soughtAs L s c object → cause ≡ none
+      go : (c : Option Refusal) → cause ≡ c → Sought.Object E p w kind m ≡ soughtAs L s c object → cause ≡ none
       go none q f = q
       go (some c) q f =
-          let g : Sought.Object p w kind m ≡ Sought.Refused c = unfold soughtAs in f in let z : _≡_ {A = ℕ} 0 1 = cc in absurd (omega arith)
+          let g : Sought.Object E p w kind m ≡ Sought.Refused c = unfold soughtAs in f in let z : _≡_ {A = ℕ} 0 1 = cc in absurd (omega arith)
 
   -- and the area is none of the geometry's refusals
-  pub found-short : (p : ℕ) (w : Version) (kind m : ℕ) → Sought.Object p w kind m ≡ sought L n s area t k → length area ≤ 65536
-  found-short p w kind m e =
-      area-short {s = s} {area = area} (seek-shape (no-cause (scanCauses L n s area t k) (found-clear p w kind m e) .0))
+  pub found-short : (E : Layout) (p : ℕ) (w : Version) (kind m : ℕ) → Sought.Object E p w kind m ≡ sought L n s area t k → length area ≤ 65536
+  found-short E p w kind m e =
+      area-short {s = s} {area = area} (seek-shape n s area (no-cause (scanCauses L n s area t k) (found-clear E p w kind m e) .0))
 
   -- an object that is found lies in the area
-  pub sought-inside : (p : ℕ) (w : Version) (kind m : ℕ) → Sought.Object p w kind m ≡ sought L n s area t k → ObjectInside L area p m
-  sought-inside p w kind m e = go cause refl object refl e
+  pub sought-inside : (E : Layout) (p : ℕ) (w : Version) (kind m : ℕ) → Sought.Object E p w kind m ≡ sought L n s area t k → ObjectInside E area p m
+  sought-inside E p w kind m e = go cause refl object refl e
     where
+      editions : cause ≡ none → AllOf L v (logSlots (headElse (headOf v n))) n
+      editions q =
+          editions-one v (logSlots (headElse (headOf v n))) n L (no-cause (scanCauses L n s area t k) q .1 .1 .1 .1 .1 .0)
+
       scanned : cause ≡ none → AllScanned v (logSlots (headElse (headOf v n))) n
       scanned q =
-          undamaged-scans v (logSlots (headElse (headOf v n))) n (no-cause (scanCauses L n s area t k) q .1 .1 .1 .1 .1 .0)
+          undamaged-scans v (logSlots (headElse (headOf v n))) n (no-cause (scanCauses L n s area t k) q .1 .1 .1 .1 .1 .1 .0)
 
-      go : (c : Option Refusal) → cause ≡ c → (o : Option Placed) → object ≡ o → Sought.Object p w kind m ≡ soughtAs L s c o → ObjectInside L area p m
-      go (some c) q o r f = let g : Sought.Object p w kind m ≡ Sought.Refused c = unfold soughtAs in f in let z : _≡_ {A = ℕ} 0 1 = cc in absurd (omega arith)
+      go : (c : Option Refusal) → cause ≡ c → (o : Option Placed) → object ≡ o → Sought.Object E p w kind m ≡ soughtAs L s c o → ObjectInside E area p m
+      go (some c) q o r f = let g : Sought.Object E p w kind m ≡ Sought.Refused c = unfold soughtAs in f in let z : _≡_ {A = ℕ} 0 1 = cc in absurd (omega arith)
       go none q none r f =
-          let g : Sought.Object p w kind m ≡ Sought.Refused Refusal.Absent = unfold soughtAs soughtObject in f in let z : _≡_ {A = ℕ} 0 1 = cc in absurd (omega arith)
+          let g : Sought.Object E p w kind m ≡ Sought.Refused Refusal.Absent = unfold soughtAs soughtObject in f in let z : _≡_ {A = ℕ} 0 1 = cc in absurd (omega arith)
       go none q (some y) r f =
-          let g : Sought.Object p w kind m ≡ Sought.Object (placeOf s y) (record { 0 = y .entry .version }) (kindOf L (y .entry)) (sizeOf L (y .entry)) =
+          let g : Sought.Object E p w kind m ≡ Sought.Object L (placeOf s y) (record { 0 = y .entry .version }) (kindOf L (y .entry)) (sizeOf L (y .entry)) =
           unfold soughtAs soughtObject in f in
+          let edition : E ≡ L = cc in
           let place : p ≡ placeOf s y = cc in
           let whole : m ≡ sizeOf L (y .entry) = cc in
-          let inside = entry-inside L area s (logSlots (headElse (headOf v n))) n (scanned q) t k y
-          (latest-some (imageLog L n s area) k y (present-live (imageLog L n s area) k y r .latest-of) .member) in
-          record { head = omega arith; whole = omega arith }
+          let inside = entry-inside L area s (logSlots (headElse (headOf v n))) n (editions q) (scanned q) t k y
+          (latest-some (imageLog n s area) k y (present-live (imageLog n s area) k y r .latest-of) .member) in
+          subst (λ (K : Layout). ObjectInside K area p m) (sym edition) (record { head = omega arith; whole = omega arith })

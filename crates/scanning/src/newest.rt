@@ -1,14 +1,16 @@
 // The walk over the log that keeps the newest entry of one key.
 use crate::Seen;
 use log::slots::is_named;
+use segment::Edition;
 use segment::Header;
 use segment::Key;
 use segment::Next;
 use segment::Version;
 use segment::area::cut;
 use segment::entries::next;
-use segment::layout::DIGEST_SIZE;
+use segment::layout::digest_size;
 use segment::layout::kind_size;
+use segment::reader::edition_of;
 use word::number::read32;
 ghost use Prim.Native.Nat.{_+_, _*_, _≤_};
 ghost use mathlib.Core.Path.{_≡_};
@@ -16,11 +18,10 @@ ghost use mathlib.Core.Bool.{false};
 ghost use mathlib.Core.Option.{none};
 ghost use lib.Dec.{ltb};
 ghost use lib.ListN.{length};
-ghost use Rattle.segment.specs.Layout.{edition1};
 ghost use Rattle.segment.specs.Entry.{entryAt};
 ghost use Rattle.segment.specs.Entries.{nextOf};
 ghost use Rattle.slot_map.specs.Bit.{named};
-ghost use Rattle.model.specs.Log.{segmentOf, viewsOf, scan, itemsOf, isDamaged, placedIn, logOf, sameKeys};
+ghost use Rattle.model.specs.Log.{viewsOf, itemsOf, isDamaged, placedIn, logOf, sameKeys};
 ghost use Rattle.laws.specs.LogLaws.{AllScanned};
 ghost use Rattle.log.specs.Shape.{Shape};
 ghost use Rattle.scanning.specs.Seeing.{seenWith, seenNext, seenIn, seenOf};
@@ -55,15 +56,15 @@ fn see(seen: Seen, key: Key, header: Header, place: usize) -> Seen
 }
 
 // What is seen after the entry at an offset of a segment. No more is read of one that has another key's last four bytes.
-fn see_at(part: &[u8], at: usize, key: Key, place: usize, seen: Seen) -> Seen
+fn see_at(edition: Edition, part: &[u8], at: usize, key: Key, place: usize, seen: Seen) -> Seen
     requires { ⌜ at + 7 ≤ length (now part) ⌝ }
     ensures { λ r.
-        ⌜ r ≡ seenNext key seen (nextOf edition1 (entryAt edition1 (now (part .entry)) at)) place ⌝ }
+        ⌜ r ≡ seenNext key seen (nextOf edition (entryAt edition (now (part .entry)) at)) place ⌝ }
 {
     if read32(part, at + 3) != key.key {
         return seen;
     }
-    match next(part, at) {
+    match next(edition, part, at) {
         Next::Entry(header) => see(seen, key, header, place),
         Next::End => seen,
         Next::Damage => seen,
@@ -73,24 +74,25 @@ fn see_at(part: &[u8], at: usize, key: Key, place: usize, seen: Seen) -> Seen
 // What is seen after the entries of an undamaged slot, in which an entry's kind tells its length.
 fn see_slot(s: usize, area: &[u8], slot: usize, key: Key, before: Seen) -> Seen
     requires { ⌜ slot * s + s ≤ length (now area) ⌝ }
-    requires { ⌜ isDamaged (scan edition1 (segmentOf (now area) s slot)) ≡ false ⌝ }
+    requires { ⌜ isDamaged (viewsOf (now area) s slot .scan) ≡ false ⌝ }
     ensures { λ r.
-        ⌜ r ≡ seenIn s key before (placedIn slot (itemsOf (scan edition1 (segmentOf (now (area .entry)) s slot)))) ⌝ }
+        ⌜ r ≡ seenIn s key before (placedIn slot (itemsOf (viewsOf (now (area .entry)) s slot .scan))) ⌝ }
 {
     let part = cut(s, area, slot);
     let start = slot * s;
-    let mut at = DIGEST_SIZE;
+    let edition = edition_of(part);
+    let mut at = digest_size(edition);
     let mut seen = before;
     while at < part.len() {
         let kind = part[at];
         if kind == 0 {
             return seen;
         }
-        let length = kind_size(kind);
+        let length = kind_size(edition, kind);
         if length == 0 {
             return before;
         }
-        seen = see_at(part, at, key, start + at, seen);
+        seen = see_at(edition, part, at, key, start + at, seen);
         at += length;
     }
     seen
@@ -99,9 +101,9 @@ fn see_slot(s: usize, area: &[u8], slot: usize, key: Key, before: Seen) -> Seen
 // The newest entry of a key in the undamaged log of a map.
 pub fn newest(n: usize, s: usize, area: &[u8], map: u32, key: Key) -> Seen
     requires { ⌜ Shape n s (now area) ⌝ }
-    requires { ⌜ AllScanned (viewsOf edition1 (now area) s) (named map) n ⌝ }
+    requires { ⌜ AllScanned (viewsOf (now area) s) (named map) n ⌝ }
     ensures { λ r.
-        ⌜ r ≡ seenIn s key (seenOf s none) (logOf (viewsOf edition1 (now (area .entry)) s) (named map) n) ⌝ }
+        ⌜ r ≡ seenIn s key (seenOf s none) (logOf (viewsOf (now (area .entry)) s) (named map) n) ⌝ }
 {
     let mut seen = Seen {
         version: Version(0),

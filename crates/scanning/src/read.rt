@@ -1,4 +1,4 @@
-// The read by scan and the read of the value (02, R-9): 1, 16, 17, 24, 25, 18, 19, 22, 8.
+// The read by scan and the read of the value (02, R-9): 1, 16, 17, 24, 25, 28, 18, 19, 22, 8.
 use crate::Sought;
 use crate::newest::newest;
 use record::ReadAnswer;
@@ -8,33 +8,35 @@ use record::reach::holds_table;
 use recovery::Image;
 use recovery::format::geometry_bad;
 use recovery::recover::look_at;
+use segment::Edition;
 use segment::Key;
 use segment::Read;
 use segment::area::entry_at;
-use segment::layout::HEAD_SIZE;
+use segment::layout::head_size;
 ghost use Prim.Native.Nat.{_≤_, _<_};
 ghost use mathlib.Core.Path.{_≡_};
-ghost use Rattle.segment.specs.Layout.{edition1};
 ghost use Rattle.segment.specs.Area.{standsAt};
 ghost use Rattle.slot_map.specs.Bit.{named};
 ghost use Rattle.model.specs.Log.{viewsOf, logOf};
+ghost use Rattle.model.specs.Recovery.{imageLayout};
 ghost use Rattle.model.specs.Scanned.{ScanPromise, ScanReference};
-ghost use Rattle.laws.specs.LogLaws.{AllScanned};
+ghost use Rattle.laws.specs.LogLaws.{AllOf, AllScanned};
 ghost use Rattle.log.specs.Shape.{Shape};
 ghost use Rattle.scanning.specs.Seeking.{soughtRead, soughtIn, sought};
 
 // The object that stands at a place of the area; a tombstone is none.
-fn found_at(s: usize, area: &[u8], place: usize) -> Sought
+fn found_at(edition: Edition, s: usize, area: &[u8], place: usize) -> Sought
     requires { ⌜ (0 < s) × (s ≤ 2048) × (place < 4294967296) ⌝ }
-    ensures { λ r. ⌜ r ≡ soughtRead place (standsAt edition1 s (now (area .entry)) place) ⌝ }
+    ensures { λ r. ⌜ r ≡ soughtRead edition place (standsAt edition s (now (area .entry)) place) ⌝ }
 {
-    match entry_at(s, area, place) {
+    match entry_at(edition, s, area, place) {
         Read::Object {
             key: _,
             version,
             kind,
             length,
         } => Sought::Object {
+            edition,
             place,
             version,
             kind,
@@ -50,11 +52,20 @@ fn found_at(s: usize, area: &[u8], place: usize) -> Sought
     }
 }
 
-// 22 and 8, in the undamaged log of a map.
-fn seek_in(n: usize, s: usize, area: &[u8], map: u32, tables: Tables, key: Key) -> Sought
-    requires { ⌜ Shape n s (now area) × AllScanned (viewsOf edition1 (now area) s) (named map) n ⌝ }
+// 22 and 8, in the undamaged log of a map, all of one edition.
+fn seek_in(
+    edition: Edition,
+    n: usize,
+    s: usize,
+    area: &[u8],
+    map: u32,
+    tables: Tables,
+    key: Key,
+) -> Sought
+    requires { ⌜ Shape n s (now area) × AllScanned (viewsOf (now area) s) (named map) n ⌝ }
+    requires { ⌜ AllOf edition (viewsOf (now area) s) (named map) n ⌝ }
     ensures { λ r.
-        ⌜ r ≡ soughtIn edition1 s (logOf (viewsOf edition1 (now (area .entry)) s) (named map) n) tables key ⌝ }
+        ⌜ r ≡ soughtIn edition s (logOf (viewsOf (now (area .entry)) s) (named map) n) tables key ⌝ }
 {
     if !holds_table(tables, key.table) {
         return Sought::Refused(Refusal::OutsideTables);
@@ -64,12 +75,12 @@ fn seek_in(n: usize, s: usize, area: &[u8], map: u32, tables: Tables, key: Key) 
     if version.0 == 0 {
         return Sought::Refused(Refusal::Absent);
     }
-    found_at(s, area, seen.place)
+    found_at(edition, s, area, seen.place)
 }
 
 // What the log of the area's head holds of a key, if the image passes.
 pub fn seek(n: u32, s: u32, area: &[u8], tables: Tables, key: Key) -> Sought
-    ensures { λ r. ⌜ r ≡ sought edition1 n s (now (area .entry)) tables key ⌝ }
+    ensures { λ r. ⌜ r ≡ sought (imageLayout n s (now (area .entry))) n s (now (area .entry)) tables key ⌝ }
 {
     if geometry_bad(n, s, area.len()) {
         return Sought::Refused(Refusal::Geometry);
@@ -77,20 +88,30 @@ pub fn seek(n: u32, s: u32, area: &[u8], tables: Tables, key: Key) -> Sought
     match look_at(n as usize, s as usize, area) {
         Image::Refused(cause) => Sought::Refused(cause),
         Image::Sound {
+            edition,
             slot: _,
             digest,
             highest: _,
-        } => seek_in(n as usize, s as usize, area, digest.map, tables, key),
+        } => seek_in(
+            edition,
+            n as usize,
+            s as usize,
+            area,
+            digest.map,
+            tables,
+            key,
+        ),
     }
 }
 
 // The version and kind of a key's object.
 pub fn scan_read(n: u32, s: u32, area: &[u8], tables: Tables, key: Key) -> ReadAnswer
-    ensures { λ r. ⌜ ScanPromise edition1 n s (now (area .entry)) tables key r ⌝ }
+    ensures { λ r. ⌜ ScanPromise (imageLayout n s (now (area .entry))) n s (now (area .entry)) tables key r ⌝ }
 {
     match seek(n, s, area, tables, key) {
         Sought::Refused(cause) => ReadAnswer::Refused(cause),
         Sought::Object {
+            edition: _,
             place: _,
             version,
             kind,
@@ -101,15 +122,16 @@ pub fn scan_read(n: u32, s: u32, area: &[u8], tables: Tables, key: Key) -> ReadA
 
 // The value of a key's object, as a part of the area; the empty part at its start where `scan_read` refuses.
 pub fn scan_read_value<'a>(n: u32, s: u32, area: &'a [u8], tables: Tables, key: Key) -> &'a [u8]
-    ensures { λ r. ⌜ ScanReference edition1 n s (area .entry) tables key r ⌝ }
+    ensures { λ r. ⌜ ScanReference (imageLayout n s (now (area .entry))) n s (area .entry) tables key r ⌝ }
 {
     match seek(n, s, area, tables, key) {
         Sought::Refused(_) => &area[0..0],
         Sought::Object {
+            edition,
             place,
             version: _,
             kind: _,
             length,
-        } => &area[place + HEAD_SIZE..place + length],
+        } => &area[place + head_size(edition)..place + length],
     }
 }

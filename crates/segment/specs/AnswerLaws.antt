@@ -4,7 +4,7 @@ use mathlib.Core.Path.{_≡_, refl, sym, _∙_}
 use mathlib.Core.Bool.{Bool, true, false}
 use native.Mathlib.Omega.{arith}
 use Rattle.segment.specs.Choice.{pick-true, pick-false}
-use Rattle.segment.specs.Layout.{Layout}
+use Rattle.segment.specs.Layout.{Layout, table}
 use Rattle.segment.specs.ValueLaws.{tombstone-kind}
 use Rattle.segment.specs.Entry.{Entry, isTombstone, kindOf, sizeOf, keyOf, Found, entry, end, damage, answer}
 use Rattle.segment.specs.declared.Key.{Key}
@@ -57,10 +57,10 @@ module _ (L : Layout) where
   tells-object end k v kind length p = let z : _≡_ {A = ℕ} 0 1 = cc (answer-end L) in absurd (omega arith)
   tells-object damage k v kind length p = let z : _≡_ {A = ℕ} 0 1 = cc (answer-damage L) in absurd (omega arith)
 
-  pub tells-tombstone : (f : Found) (k : Key) (v : Version) (length : ℕ) → answer L f ≡ Tombstone k v length → Tells L f true k v (L .tombstoneKind) length
+  pub tells-tombstone : (f : Found) (k : Key) (v : Version) (length : ℕ) → answer L f ≡ Tombstone k v length → Tells L f true k v (table L .tombstoneKind) length
   tells-tombstone (entry e) k v length p = go (isTombstone e) refl
     where
-      go : (t : Bool) → isTombstone e ≡ t → Tells L (entry e) true k v (L .tombstoneKind) length
+      go : (t : Bool) → isTombstone e ≡ t → Tells L (entry e) true k v (table L .tombstoneKind) length
       go true q =
           let same : Tombstone (keyOf e) (record { 0 = e .version }) (sizeOf L e) ≡ Tombstone k v length = sym (answer-tombstone L e q) ∙ p in
           record {

@@ -8,7 +8,7 @@ use lib.Dec.{eqb, ltb, leb}
 use lib.ListN.{length, getD, take, drop}
 use Rattle.word.specs.Number.{numberOf, bytesOf, Bytes}
 use Rattle.segment.specs.Choice.{pick, isNone, orZero}
-use Rattle.segment.specs.Layout.{Layout, valueLength, objectKind, isTombstoneKind, entrySize, goodVersion}
+use Rattle.segment.specs.Layout.{Layout, valueLength, objectKind, isTombstoneKind, entrySize, goodVersion, table}
 use Rattle.segment.specs.declared.Key.{Key}
 use Rattle.segment.specs.declared.Read.{Read}
 use Rattle.segment.specs.declared.Read.the-variants.{Object, Tombstone, End, Damage}
@@ -35,7 +35,7 @@ bytesIn (some v) = v
 -- the kind of an entry with this value: the tombstone's, or that of the objects whose values are as long; 0, which is no
 -- entry's, where no object's value is
 unfoldable pub kindFor : Layout → Option (List ℕ) → ℕ
-kindFor L none = L .tombstoneKind
+kindFor L none = table L .tombstoneKind
 kindFor L (some v) = orZero (objectKind L (length v))
 
 abbrev pub kindOf : Layout → Entry → ℕ
@@ -47,7 +47,7 @@ valueFor L k v = pick (isTombstoneKind L k) none (some v)
 
 -- the bytes of an entry: kind, table, key, version, value
 abbrev pub encoded : Layout → Entry → List ℕ
-encoded L e = kindOf L e ∷ bytesOf 2 (e .table) ++ bytesOf 4 (e .key) ++ bytesOf (L .width) (e .version) ++ bytesIn (e .value)
+encoded L e = kindOf L e ∷ bytesOf 2 (e .table) ++ bytesOf 4 (e .key) ++ bytesOf (table L .width) (e .version) ++ bytesIn (e .value)
 
 abbrev pub sizeOf : Layout → Entry → ℕ
 sizeOf L e = entrySize L (length (bytesIn (e .value)))
@@ -58,8 +58,8 @@ decodedEntry L b =
     record {
       table = numberOf (take 2 (drop 1 b));
       key = numberOf (take 4 (drop 3 b));
-      version = numberOf (take (L .width) (drop 7 b));
-      value = valueFor L (getD b 0 0) (drop (7 + L .width) b);
+      version = numberOf (take (table L .width) (drop 7 b));
+      value = valueFor L (getD b 0 0) (drop (7 + table L .width) b);
     }
 
 -- What the reader of an entry gives: an entry, the end, or damage.

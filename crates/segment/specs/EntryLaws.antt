@@ -12,7 +12,7 @@ use borrow.Author.Tests.{lt-ltb, le-ltb, le-leb, lt-leb, eq-eqb, ne-eqb, ltb-tru
 use Rattle.word.specs.Number.{numberOf, Bytes}
 use Rattle.word.specs.Laws.{bytes-take, bytes-drop, number-at-lt}
 use Rattle.segment.specs.Choice.{pick-true, pick-false}
-use Rattle.segment.specs.Layout.{Layout, valueLength, isTombstoneKind, entrySize, versionLimit, goodVersion}
+use Rattle.segment.specs.Layout.{Layout, valueLength, isTombstoneKind, entrySize, versionLimit, goodVersion, table}
 use Rattle.segment.specs.LayoutLaws.{entry-not-end, entry-kind-byte, version-positive, version-below, version-fits}
 use Rattle.segment.specs.Packed.{packed, length-packed, bytes-packed, packed-rest, first-number, second-number, third-number, packed-read, field-at, first-at, length-part}
 use Rattle.segment.specs.ValueLaws.{value-known, value-back, length-of-kind, no-value, kind-back, bytes-back}
@@ -21,11 +21,11 @@ use Rattle.segment.specs.Entry.{Entry, isTombstone, bytesIn, kindOf, kin
 -- ---- an entry and its bytes
 
 module _ (L : Layout) (e : Entry) where
-  pub entry-packed : encoded L e ≡ packed (kindOf L e) 2 4 (L .width) (e .table) (e .key) (e .version) (bytesIn (e .value))
+  pub entry-packed : encoded L e ≡ packed (kindOf L e) 2 4 (table L .width) (e .table) (e .key) (e .version) (bytesIn (e .value))
   entry-packed = simp append-assoc
 
   pub length-encoded : length (encoded L e) ≡ sizeOf L e
-  length-encoded = ap length entry-packed ∙ length-packed (kindOf L e) 2 4 (L .width) (e .table) (e .key) (e .version) (bytesIn (e .value))
+  length-encoded = ap length entry-packed ∙ length-packed (kindOf L e) 2 4 (table L .width) (e .table) (e .key) (e .version) (bytesIn (e .value))
 
   pub encoded-first : getD (encoded L e) 0 0 ≡ kindOf L e
   encoded-first = refl
@@ -39,7 +39,7 @@ module _ (L : Layout) (e : Entry) where
   pub bytes-encoded : WellFormed L e → Bytes (encoded L e)
   bytes-encoded f =
       subst Bytes (sym entry-packed)
-      (bytes-packed (kindOf L e) 2 4 (L .width) (e .table) (e .key) (e .version) (bytesIn (e .value))
+      (bytes-packed (kindOf L e) 2 4 (table L .width) (e .table) (e .key) (e .version) (bytesIn (e .value))
       (entry-kind-byte L (kindOf L e) (length (bytesIn (e .value))) (formed-known f)) (f .value-bytes))
 
   -- what is written is read back
@@ -48,28 +48,28 @@ module _ (L : Layout) (e : Entry) where
       ap (decodedEntry L) entry-packed
       ∙ λ i.
       record {
-        table = first-number (kindOf L e) 2 4 (L .width) (e .table) (e .key) (e .version) (bytesIn (e .value)) (f .table-fits) i;
-        key = second-number (kindOf L e) 2 4 (L .width) (e .table) (e .key) (e .version) (bytesIn (e .value)) (f .key-fits) i;
+        table = first-number (kindOf L e) 2 4 (table L .width) (e .table) (e .key) (e .version) (bytesIn (e .value)) (f .table-fits) i;
+        key = second-number (kindOf L e) 2 4 (table L .width) (e .table) (e .key) (e .version) (bytesIn (e .value)) (f .key-fits) i;
         version =
-            third-number (kindOf L e) 2 4 (L .width) (e .table) (e .key) (e .version) (bytesIn (e .value))
+            third-number (kindOf L e) 2 4 (table L .width) (e .table) (e .key) (e .version) (bytesIn (e .value))
             (version-fits L (e .version) (f .version-good)) i;
         value = value i;
       }
     where
-      value : valueFor L (kindOf L e) (drop (7 + L .width) (packed (kindOf L e) 2 4 (L .width) (e .table) (e .key) (e .version) (bytesIn (e .value)))) ≡ e .value
+      value : valueFor L (kindOf L e) (drop (7 + table L .width) (packed (kindOf L e) 2 4 (table L .width) (e .table) (e .key) (e .version) (bytesIn (e .value)))) ≡ e .value
       value =
-          ap (valueFor L (kindOf L e)) (packed-rest (kindOf L e) 2 4 (L .width) (e .table) (e .key) (e .version) (bytesIn (e .value)))
+          ap (valueFor L (kindOf L e)) (packed-rest (kindOf L e) 2 4 (table L .width) (e .table) (e .key) (e .version) (bytesIn (e .value)))
           ∙ value-back L (e .value) (f .length-known)
 
 -- bytes whose first is the kind of entries with as many bytes of value
-pub encoded-decoded : (L : Layout) (b : List ℕ) → Bytes b → 7 + L .width ≤ length b
-    → valueLength L (getD b 0 0) ≡ some (length (drop (7 + L .width) b)) → encoded L (decodedEntry L b) ≡ b
+pub encoded-decoded : (L : Layout) (b : List ℕ) → Bytes b → 7 + table L .width ≤ length b
+    → valueLength L (getD b 0 0) ≡ some (length (drop (7 + table L .width) b)) → encoded L (decodedEntry L b) ≡ b
 encoded-decoded L b h fits known =
     entry-packed L (decodedEntry L b)
     ∙ (λ i.
-    packed (kind-back L (getD b 0 0) (drop (7 + L .width) b) known i) 2 4 (L .width) (decodedEntry L b .table) (decodedEntry L b .key) (decodedEntry L b .version)
-    (bytes-back L (getD b 0 0) (drop (7 + L .width) b) known i))
-    ∙ packed-read 2 4 (L .width) b h fits
+    packed (kind-back L (getD b 0 0) (drop (7 + table L .width) b) known i) 2 4 (table L .width) (decodedEntry L b .table) (decodedEntry L b .key) (decodedEntry L b .version)
+    (bytes-back L (getD b 0 0) (drop (7 + table L .width) b) known i))
+    ∙ packed-read 2 4 (table L .width) b h fits
 
 -- the entry that stands at an offset, its fields read in the whole segment
 abbrev pub decodedAt : Layout → List ℕ → ℕ → ℕ → Entry
@@ -77,8 +77,8 @@ decodedAt L s at n =
     record {
       table = numberOf (take 2 (drop (at + 1) s));
       key = numberOf (take 4 (drop (at + 3) s));
-      version = numberOf (take (L .width) (drop (at + 7) s));
-      value = valueFor L (getD s at 0) (take n (drop (at + (7 + L .width)) s));
+      version = numberOf (take (table L .width) (drop (at + 7) s));
+      value = valueFor L (getD s at 0) (take n (drop (at + (7 + table L .width)) s));
     }
 
 pub decoded-at : (L : Layout) (s : List ℕ) (at n : ℕ) → decodedEntry L (take (entrySize L n) (drop at s)) ≡ decodedAt L s at n
@@ -87,14 +87,14 @@ decoded-at L s at n =
     record {
       table = numberOf (field-at 2 1 (entrySize L n) at s (omega arith) i);
       key = numberOf (field-at 4 3 (entrySize L n) at s (omega arith) i);
-      version = numberOf (field-at (L .width) 7 (entrySize L n) at s (omega arith) i);
+      version = numberOf (field-at (table L .width) 7 (entrySize L n) at s (omega arith) i);
       value = valueFor L (first-at (entrySize L n) at s (omega arith) i) (value i);
     }
   where
-    value : drop (7 + L .width) (take (entrySize L n) (drop at s)) ≡ take n (drop (at + (7 + L .width)) s)
+    value : drop (7 + table L .width) (take (entrySize L n) (drop at s)) ≡ take n (drop (at + (7 + table L .width)) s)
     value =
-        sym (take-all n (drop (7 + L .width) (take (entrySize L n) (drop at s))) (simp (length-drop, length-take) (omega arith)))
-        ∙ field-at n (7 + L .width) (entrySize L n) at s (omega arith)
+        sym (take-all n (drop (7 + table L .width) (take (entrySize L n) (drop at s))) (simp (length-drop, length-take) (omega arith)))
+        ∙ field-at n (7 + table L .width) (entrySize L n) at s (omega arith)
 
 -- ---- the answer of entryAt at each test
 
@@ -170,11 +170,11 @@ module _ (L : Layout) (s : List ℕ) (at : ℕ) where
       → Reading L s at (entryAt L s at)
   reading-whole n h e p = go (goodVersion L (decodedAt L s at n .version)) refl
     where
-      part : length (take n (drop (at + (7 + L .width)) s)) ≡ n
-      part = length-part n (at + (7 + L .width)) s (omega arith)
+      part : length (take n (drop (at + (7 + table L .width)) s)) ≡ n
+      part = length-part n (at + (7 + table L .width)) s (omega arith)
 
       sized : length (bytesIn (decodedAt L s at n .value)) ≡ n
-      sized = ap length (bytes-back L (getD s at 0) (take n (drop (at + (7 + L .width)) s)) (e ∙ ap some (sym part))) ∙ part
+      sized = ap length (bytes-back L (getD s at 0) (take n (drop (at + (7 + table L .width)) s)) (e ∙ ap some (sym part))) ∙ part
 
       go : (t : Bool) → goodVersion L (decodedAt L s at n .version) ≡ t → Reading L s at (entryAt L s at)
       go true g =
@@ -264,7 +264,7 @@ module _ (L : Layout) (s : List ℕ) (at : ℕ) where
     own-first : getD own 0 0 ≡ getD s at 0
     own-first = first-at (sizeOf L e) at s (omega arith)
 
-    own-known : valueLength L (getD own 0 0) ≡ some (length (drop (7 + L .width) own))
+    own-known : valueLength L (getD own 0 0) ≡ some (length (drop (7 + table L .width) own))
     own-known =
         ap (valueLength L) own-first
         ∙ found-readable e p .known
@@ -273,19 +273,19 @@ module _ (L : Layout) (s : List ℕ) (at : ℕ) where
     pub found-kind : kindOf L e ≡ getD s at 0
     found-kind =
         ap (kindOf L) (sym (found-readable e p .same))
-        ∙ kind-back L (getD own 0 0) (drop (7 + L .width) own) own-known
+        ∙ kind-back L (getD own 0 0) (drop (7 + table L .width) own) own-known
         ∙ own-first
 
     pub found-tombstone : isTombstone e ≡ isTombstoneKind L (getD s at 0)
     found-tombstone =
         ap isTombstone (sym (found-readable e p .same))
-        ∙ no-value L (getD own 0 0) (drop (7 + L .width) own)
+        ∙ no-value L (getD own 0 0) (drop (7 + table L .width) own)
         ∙ ap (isTombstoneKind L) own-first
 
     -- the bytes behind its version are those of its value
-    pub found-bytes : drop (7 + L .width) own ≡ bytesIn (e .value)
+    pub found-bytes : drop (7 + table L .width) own ≡ bytesIn (e .value)
     found-bytes =
-        sym (bytes-back L (getD own 0 0) (drop (7 + L .width) own) own-known)
+        sym (bytes-back L (getD own 0 0) (drop (7 + table L .width) own) own-known)
         ∙ ap (λ (x : Entry). bytesIn (x .value)) (found-readable e p .same)
 
     pub found-known : valueLength L (kindOf L e) ≡ some (length (bytesIn (e .value)))
@@ -313,7 +313,7 @@ module _ (L : Layout) (s : List ℕ) (at : ℕ) where
                 table-fits = subst (λ (x : Entry). x .table < 256 ^ 2) same (number-at-lt 2 1 own part-bytes);
                 key-fits = subst (λ (x : Entry). x .key < 256 ^ 4) same (number-at-lt 4 3 own part-bytes);
                 version-good = found-good;
-                value-bytes = subst Bytes found-bytes (bytes-drop (7 + L .width) own part-bytes);
+                value-bytes = subst Bytes found-bytes (bytes-drop (7 + table L .width) own part-bytes);
               };
           fits = found-fits;
           same = sym (ap (encoded L) (sym same) ∙ encoded-decoded L own part-bytes (omega (arith, length-part (sizeOf L e) at s found-fits)) own-known);

@@ -4,7 +4,7 @@ use mathlib.Core.Path.{_≡_, refl, sym, _∙_, ap}
 use mathlib.Core.Option.{Option, none, some}
 use native.Mathlib.Omega.{arith}
 use Rattle.segment.specs.Choice.{orZero}
-use Rattle.segment.specs.Layout.{Layout, valueLength, objectKind, entrySize}
+use Rattle.segment.specs.Layout.{Layout, valueLength, objectKind, entrySize, table}
 use Rattle.segment.specs.LayoutLaws.{entry-not-end, object-kind}
 
 unfoldable pub sizeOrZero : Layout → Option ℕ → ℕ
@@ -38,7 +38,7 @@ module _ (L : Layout) (k : ℕ) where
       go (some n) p = (n, record { known = p; size = ap (sizeOrZero L) p })
 
   -- an entry has at least the bytes before its value
-  pub size-least : (kindSize L k ≡ 0 → ⊥) → 7 + L .width ≤ kindSize L k
+  pub size-least : (kindSize L k ≡ 0 → ⊥) → 7 + table L .width ≤ kindSize L k
   size-least h = let (n, kind) = has-size h in omega (arith, kind .size)
 
 module _ (L : Layout) (n : ℕ) where

@@ -7,9 +7,12 @@ use mathlib.Core.List.{List, [], _∷_, List·Memᴰ, List·Memᴰ·head, List·
 use mathlib.Core.Option.{Option, none, some}
 use native.Mathlib.Omega.{arith}
 use lib.Dec.{eqb, ltb}
+use lib.ListN.{getD}
 use borrow.Author.Tests.{eq-eqb, ne-eqb, eqb-true, eqb-false, ltb-true, lt-ltb, le-ltb, not-true}
-use Rattle.segment.specs.Choice.{pick-true, pick-false, both, both-left, both-right, both-true, both-false-left, both-false-right}
-use Rattle.segment.specs.Layout.{Layout, lookup, lookBack, isSome, soundObjects, valueLength, objectKind, isTombstoneKind, versionLimit, goodVersion, tombstone-not-end, tombstone-byte}
+use Rattle.segment.specs.Digest.{layoutIn}
+use Rattle.segment.specs.declared.Edition.the-variants.{First, Second}
+use Rattle.segment.specs.Choice.{pick, pick-true, pick-false, both, both-left, both-right, both-true, both-false-left, both-false-right}
+use Rattle.segment.specs.Layout.{Layout, lookup, lookBack, isSome, soundObjects, valueLength, objectKind, isTombstoneKind, versionLimit, goodVersion, tombstone-not-end, tombstone-byte, edition1, edition2, sameLayout, layoutNumbered, numberOfLayout, table}
 
 -- ---- the table of objects
 
@@ -74,21 +77,21 @@ lookBack-member n k (p ∷ ps) e = go (eqb n (p .1)) refl (λ r. lookBack-member
 
 module _ (L : Layout) where
   -- an entry of kind k is the tombstone, with no value, or stands in the table of objects
-  entry-cases : (k n : ℕ) → valueLength L k ≡ some n → ((k ≡ L .tombstoneKind) × (n ≡ 0)) ⊎ Sound (L .tombstoneKind) (L .objects) k n
+  entry-cases : (k n : ℕ) → valueLength L k ≡ some n → ((k ≡ table L .tombstoneKind) × (n ≡ 0)) ⊎ Sound (table L .tombstoneKind) (table L .objects) k n
   unfolding valueLength
-  entry-cases k n e = go (eqb k (L .tombstoneKind)) refl
+  entry-cases k n e = go (eqb k (table L .tombstoneKind)) refl
     where
-      go : (t : Bool) → eqb k (L .tombstoneKind) ≡ t → ((k ≡ L .tombstoneKind) × (n ≡ 0)) ⊎ Sound (L .tombstoneKind) (L .objects) k n
-      go true q = inl (eqb-true k (L .tombstoneKind) q, cc (pick-true (eqb k (L .tombstoneKind)) (some 0) (lookup k (L .objects)) q, e))
+      go : (t : Bool) → eqb k (table L .tombstoneKind) ≡ t → ((k ≡ table L .tombstoneKind) × (n ≡ 0)) ⊎ Sound (table L .tombstoneKind) (table L .objects) k n
+      go true q = inl (eqb-true k (table L .tombstoneKind) q, cc (pick-true (eqb k (table L .tombstoneKind)) (some 0) (lookup k (table L .objects)) q, e))
       go false q =
           inr
-          (sound-member (L .tombstoneKind) (L .objects) k n
-          (lookup-member k n (L .objects) (sym (pick-false (eqb k (L .tombstoneKind)) (some 0) (lookup k (L .objects)) q) ∙ e)) (L .sound-objects))
+          (sound-member (table L .tombstoneKind) (table L .objects) k n
+          (lookup-member k n (table L .objects) (sym (pick-false (eqb k (table L .tombstoneKind)) (some 0) (lookup k (table L .objects)) q) ∙ e)) (table L .sound-objects))
 
   pub entry-not-end : (k n : ℕ) → valueLength L k ≡ some n → k ≡ 0 → ⊥
   entry-not-end k n e z = go (entry-cases k n e)
     where
-      go : ((k ≡ L .tombstoneKind) × (n ≡ 0)) ⊎ Sound (L .tombstoneKind) (L .objects) k n → ⊥
+      go : ((k ≡ table L .tombstoneKind) × (n ≡ 0)) ⊎ Sound (table L .tombstoneKind) (table L .objects) k n → ⊥
       go (inl t) = tombstone-not-end L (cc)
       go (inr s) = s .not-end z
 
@@ -102,38 +105,38 @@ module _ (L : Layout) where
   pub entry-kind-byte : (k n : ℕ) → valueLength L k ≡ some n → k < 256
   entry-kind-byte k n e = go (entry-cases k n e)
     where
-      go : ((k ≡ L .tombstoneKind) × (n ≡ 0)) ⊎ Sound (L .tombstoneKind) (L .objects) k n → k < 256
+      go : ((k ≡ table L .tombstoneKind) × (n ≡ 0)) ⊎ Sound (table L .tombstoneKind) (table L .objects) k n → k < 256
       go (inl t) = omega (arith, tombstone-byte L)
       go (inr s) = s .byte
 
-  pub tombstone-length : valueLength L (L .tombstoneKind) ≡ some 0
+  pub tombstone-length : valueLength L (table L .tombstoneKind) ≡ some 0
   unfolding valueLength
   tombstone-length =
-      pick-true (eqb (L .tombstoneKind) (L .tombstoneKind)) (some 0) (lookup (L .tombstoneKind) (L .objects))
-      (eq-eqb (L .tombstoneKind) (L .tombstoneKind) refl)
+      pick-true (eqb (table L .tombstoneKind) (table L .tombstoneKind)) (some 0) (lookup (table L .tombstoneKind) (table L .objects))
+      (eq-eqb (table L .tombstoneKind) (table L .tombstoneKind) refl)
 
-  sound-object : (n k : ℕ) → objectKind L n ≡ some k → Sound (L .tombstoneKind) (L .objects) k n
-  sound-object n k e = sound-member (L .tombstoneKind) (L .objects) k n (lookBack-member n k (L .objects) e) (L .sound-objects)
+  sound-object : (n k : ℕ) → objectKind L n ≡ some k → Sound (table L .tombstoneKind) (table L .objects) k n
+  sound-object n k e = sound-member (table L .tombstoneKind) (table L .objects) k n (lookBack-member n k (table L .objects) e) (table L .sound-objects)
 
   pub object-no-tombstone : (n k : ℕ) → objectKind L n ≡ some k → isTombstoneKind L k ≡ false
-  object-no-tombstone n k e = ne-eqb k (L .tombstoneKind) (sound-object n k e .not-tombstone)
+  object-no-tombstone n k e = ne-eqb k (table L .tombstoneKind) (sound-object n k e .not-tombstone)
 
   pub object-kind : (n k : ℕ) → objectKind L n ≡ some k → valueLength L k ≡ some n
   unfolding valueLength
   object-kind n k e =
-      pick-false (eqb k (L .tombstoneKind)) (some 0) (lookup k (L .objects)) (object-no-tombstone n k e) ∙ sound-object n k e .found
+      pick-false (eqb k (table L .tombstoneKind)) (some 0) (lookup k (table L .objects)) (object-no-tombstone n k e) ∙ sound-object n k e .found
 
   -- kind and length of an object determine each other
   pub kind-of-length : (k n : ℕ) → valueLength L k ≡ some n → isTombstoneKind L k ≡ false → objectKind L n ≡ some k
   kind-of-length k n e t = go (entry-cases k n e)
     where
-      go : ((k ≡ L .tombstoneKind) × (n ≡ 0)) ⊎ Sound (L .tombstoneKind) (L .objects) k n → objectKind L n ≡ some k
-      go (inl z) = absurd (eqb-false k (L .tombstoneKind) t (z .0))
+      go : ((k ≡ table L .tombstoneKind) × (n ≡ 0)) ⊎ Sound (table L .tombstoneKind) (table L .objects) k n → objectKind L n ≡ some k
+      go (inl z) = absurd (eqb-false k (table L .tombstoneKind) t (z .0))
       go (inr s) = s .found-back
 
   -- the value of a tombstone is empty
   pub tombstone-empty : (k n : ℕ) → isTombstoneKind L k ≡ true → valueLength L k ≡ some n → n ≡ 0
-  tombstone-empty k n t e = cc (eqb-true k (L .tombstoneKind) t, tombstone-length, e)
+  tombstone-empty k n t e = cc (eqb-true k (table L .tombstoneKind) t, tombstone-length, e)
 
 -- ---- versions
 
@@ -150,7 +153,7 @@ module _ (L : Layout) (v : ℕ) where
   unfolding goodVersion
   version-below g = ltb-true v (versionLimit L) (both-right (ltb 0 v) (ltb v (versionLimit L)) g)
 
-  pub version-fits : goodVersion L v ≡ true → v < 256 ^ L .width
+  pub version-fits : goodVersion L v ≡ true → v < 256 ^ table L .width
   version-fits g = omega (arith, version-below g)
 
   pub version-zero : v ≡ 0 → goodVersion L v ≡ false
@@ -160,3 +163,62 @@ module _ (L : Layout) (v : ℕ) where
   pub version-past : versionLimit L ≤ v → goodVersion L v ≡ false
   unfolding goodVersion
   version-past h = both-false-right (ltb 0 v) (ltb v (versionLimit L)) (le-ltb v (versionLimit L) h)
+
+-- ---- the editions
+
+-- a version has 4 bytes or 8
+pub width-low : (L : Layout) → 4 ≤ table L .width
+unfolding table
+width-low First = omega arith
+width-low Second = omega arith
+
+pub width-high : (L : Layout) → table L .width ≤ 8
+unfolding table
+width-high First = omega arith
+width-high Second = omega arith
+
+pub first-width : (L : Layout) → L ≡ edition1 → table L .width ≡ 4
+unfolding table
+first-width L e = ap (λ (x : Layout). table x .width) e
+
+pub second-width : (L : Layout) → L ≡ edition2 → table L .width ≡ 8
+unfolding table
+second-width L e = ap (λ (x : Layout). table x .width) e
+
+-- no next version is above what 8 bytes hold
+pub limit-high : (L : Layout) → versionLimit L ≤ 18446744073709551615
+unfolding table
+limit-high First = omega arith
+limit-high Second = omega arith
+
+-- the test of one layout against another
+pub same-layout : (L K : Layout) → sameLayout L K ≡ true → L ≡ K
+unfolding sameLayout
+same-layout First First e = refl
+same-layout First Second e = let z : _≡_ {A = ℕ} 0 1 = cc in absurd (omega arith)
+same-layout Second First e = let z : _≡_ {A = ℕ} 0 1 = cc in absurd (omega arith)
+same-layout Second Second e = refl
+
+pub layout-same : (L : Layout) → sameLayout L L ≡ true
+unfolding sameLayout
+layout-same First = refl
+layout-same Second = refl
+
+-- the number of a layout names it
+pub numbered-layout : (L : Layout) → layoutNumbered (numberOfLayout L) ≡ some L
+unfolding layoutNumbered numberOfLayout pick
+numbered-layout First = refl
+numbered-layout Second = refl
+
+-- ---- a segment's edition
+
+-- a segment that begins with an edition's digest is of that edition
+pub layout-in : (L : Layout) (s : List ℕ) → getD s 0 0 ≡ table L .digestKind → layoutIn s ≡ L
+unfolding layoutIn table
+layout-in First s e = pick-false (eqb (getD s 0 0) 8) edition2 edition1 (ne-eqb (getD s 0 0) 8 (λ q. omega (arith, e, q)))
+layout-in Second s e = pick-true (eqb (getD s 0 0) 8) edition2 edition1 (eq-eqb (getD s 0 0) 8 e)
+
+-- byte 0 alone tells the edition
+pub layout-byte : (s t : List ℕ) → getD s 0 0 ≡ getD t 0 0 → layoutIn s ≡ layoutIn t
+unfolding layoutIn
+layout-byte s t e = ap (λ (k : ℕ). pick (eqb k (table edition2 .digestKind)) edition2 edition1) e

@@ -9,7 +9,7 @@ use lib.ListN.{length, getD, take, drop}
 use borrow.Author.Tests.{eq-eqb, ne-eqb}
 use Rattle.word.specs.Number.{numberOf}
 use Rattle.segment.specs.Choice.{isNone}
-use Rattle.segment.specs.Layout.{Layout, isTombstoneKind, entrySize, goodVersion}
+use Rattle.segment.specs.Layout.{Layout, isTombstoneKind, entrySize, goodVersion, table}
 use Rattle.segment.specs.Packed.{length-part}
 use Rattle.segment.specs.ValueLaws.{no-value, kind-back, bytes-back}
 use Rattle.segment.specs.Entry.{Entry, bytesIn, kindFor, valueFor, sizeOf, entry, entryAt, answer}
@@ -43,7 +43,7 @@ module _ (L : Layout) (s : List ℕ) (at : ℕ) where
         go (n, k) = sym (ap (answer L) (entry-long L s at n h (k .known) (omega (arith, k .size))) ∙ answer-damage L)
 
     -- the whole entry is there; v is its version and g the test of it
-    module _ (nz : z ≡ 0 → ⊥) (fits : z ≤ length s - at) (v : ℕ) (vs : v ≡ numberOf (take (L .width) (drop (at + 7) s)))
+    module _ (nz : z ≡ 0 → ⊥) (fits : z ≤ length s - at) (v : ℕ) (vs : v ≡ numberOf (take (table L .width) (drop (at + 7) s)))
         (g : Bool) (gs : g ≡ goodVersion L v) where
       pub reads-bad-version : g ≡ false → Damage ≡ answer L (entryAt L s at)
       reads-bad-version bad = go (sized nz)
@@ -72,8 +72,8 @@ module _ (L : Layout) (s : List ℕ) (at : ℕ) where
             go : (n : ℕ) × Kind L (getD s at 0) n → (x : Option (List ℕ)) × Reads x
             go (n, kind) =
                 let size : z ≡ entrySize L n = is ∙ kind .size in
-                let bytes = take n (drop (at + (7 + L .width)) s) in
-                let long : length bytes ≡ n = length-part n (at + (7 + L .width)) s (omega arith) in
+                let bytes = take n (drop (at + (7 + table L .width)) s) in
+                let long : length bytes ≡ n = length-part n (at + (7 + table L .width)) s (omega arith) in
                 let known = kind .known ∙ ap some (sym long) in (
                   valueFor L (getD s at 0) bytes,
                   record {
@@ -86,18 +86,18 @@ module _ (L : Layout) (s : List ℕ) (at : ℕ) where
                   },
                 )
 
-        pub reads-tombstone : getD s at 0 ≡ L .tombstoneKind → Tombstone (record { table = t; key = k }) (record { 0 = v }) z ≡ answer L (entryAt L s at)
+        pub reads-tombstone : getD s at 0 ≡ table L .tombstoneKind → Tombstone (record { table = t; key = k }) (record { 0 = v }) z ≡ answer L (entryAt L s at)
         reads-tombstone tomb =
             let (x, r) = reads-entry in
             sym
             (ap (answer L) (r .is-entry)
-            ∙ answer-tombstone L (with-value x) (r .tombstone ∙ eq-eqb (getD s at 0) (L .tombstoneKind) tomb)
+            ∙ answer-tombstone L (with-value x) (r .tombstone ∙ eq-eqb (getD s at 0) (table L .tombstoneKind) tomb)
             ∙ ap (Tombstone (record { table = t; key = k }) (record { 0 = v })) (r .size))
 
-        pub reads-object : (getD s at 0 ≡ L .tombstoneKind → ⊥) → Object (record { table = t; key = k }) (record { 0 = v }) (getD s at 0) z ≡ answer L (entryAt L s at)
+        pub reads-object : (getD s at 0 ≡ table L .tombstoneKind → ⊥) → Object (record { table = t; key = k }) (record { 0 = v }) (getD s at 0) z ≡ answer L (entryAt L s at)
         reads-object no-tomb =
             let (x, r) = reads-entry in
             sym
             (ap (answer L) (r .is-entry)
-            ∙ answer-object L (with-value x) (r .tombstone ∙ ne-eqb (getD s at 0) (L .tombstoneKind) no-tomb)
+            ∙ answer-object L (with-value x) (r .tombstone ∙ ne-eqb (getD s at 0) (table L .tombstoneKind) no-tomb)
             ∙ λ i. Object (record { table = t; key = k }) (record { 0 = v }) (r .kind i) (r .size i))

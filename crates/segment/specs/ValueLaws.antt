@@ -8,7 +8,7 @@ use native.Mathlib.Omega.{arith}
 use lib.ListN.{length}
 use borrow.Author.Tests.{eq-eqb, eqb-true, not-true}
 use Rattle.segment.specs.Choice.{pick-true, pick-false, isNone, orZero, not-none}
-use Rattle.segment.specs.Layout.{Layout, valueLength, objectKind, isTombstoneKind, tombstone-not-end}
+use Rattle.segment.specs.Layout.{Layout, valueLength, objectKind, isTombstoneKind, tombstone-not-end, table}
 use Rattle.segment.specs.LayoutLaws.{tombstone-length, tombstone-empty, object-kind, object-no-tombstone, kind-of-length}
 use Rattle.segment.specs.Entry.{bytesIn, kindFor, valueFor, lengthKnown}
 
@@ -33,11 +33,11 @@ module _ (L : Layout) where
   pub value-back : (v : Option (List ℕ)) → lengthKnown L v ≡ true → valueFor L (kindFor L v) (bytesIn v) ≡ v
   unfolding bytesIn valueFor
   value-back none g =
-      unfold kindFor in pick-true (isTombstoneKind L (L .tombstoneKind)) none (some []) (eq-eqb (L .tombstoneKind) (L .tombstoneKind) refl)
+      unfold kindFor in pick-true (isTombstoneKind L (table L .tombstoneKind)) none (some []) (eq-eqb (table L .tombstoneKind) (table L .tombstoneKind) refl)
   value-back (some v) g =
       pick-false (isTombstoneKind L (kindFor L (some v))) none (some v) (object-no-tombstone L (length v) (kindFor L (some v)) (object-known v g))
 
-  pub tombstone-kind : (v : Option (List ℕ)) → isNone v ≡ true → kindFor L v ≡ L .tombstoneKind
+  pub tombstone-kind : (v : Option (List ℕ)) → isNone v ≡ true → kindFor L v ≡ table L .tombstoneKind
   unfolding isNone kindFor
   tombstone-kind none t = refl
   tombstone-kind (some v) t = cc
@@ -77,7 +77,7 @@ module _ (L : Layout) where
     kind-back = go (isTombstoneKind L k) refl
       where
         go : (t : Bool) → isTombstoneKind L k ≡ t → kindFor L (valueFor L k v) ≡ k
-        go true t = ap (kindFor L) (value-tombstone k v t) ∙ sym (eqb-true k (L .tombstoneKind) t)
+        go true t = ap (kindFor L) (value-tombstone k v t) ∙ sym (eqb-true k (table L .tombstoneKind) t)
         go false t = ap (kindFor L) (value-object k v t) ∙ ap orZero (kind-of-length L k (length v) known t)
 
     pub bytes-back : bytesIn (valueFor L k v) ≡ v

@@ -10,7 +10,7 @@ use lib.ListN.{length, getD, set, drop, length-append, drop-of-length-le}
 use lib.Seq.{sets, drop-cons}
 use Rattle.word.specs.Number.{bytesOf}
 use Rattle.word.specs.Laws.{length-bytesOf, sets-append}
-use Rattle.segment.specs.Layout.{Layout, valueLength, entrySize}
+use Rattle.segment.specs.Layout.{Layout, valueLength, entrySize, table}
 use Rattle.segment.specs.Entry.{Entry, bytesIn, kindFor, valueFor, encoded, sizeOf}
 use Rattle.segment.specs.ValueLaws.{kind-back, bytes-back}
 use Rattle.segment.specs.declared.Key.{Key}
@@ -18,7 +18,7 @@ use Rattle.segment.specs.declared.Version.{Version}
 
 -- the bytes of an entry before its value
 abbrev pub encodedHead : Layout → ℕ → Key → Version → List ℕ
-encodedHead L kind key version = kind ∷ bytesOf 2 (key .table) ++ bytesOf 4 (key .key) ++ bytesOf (L .width) (version .0)
+encodedHead L kind key version = kind ∷ bytesOf 2 (key .table) ++ bytesOf 4 (key .key) ++ bytesOf (table L .width) (version .0)
 
 -- the bytes of an entry of any kind and any bytes of value
 abbrev pub encodedAs : Layout → ℕ → Key → Version → List ℕ → List ℕ

@@ -1,11 +1,11 @@
 // The segments of an area: each is handed on as its own part, and an entry is read in the segment in which its place lies.
+use crate::Edition;
 use crate::Read;
 use crate::reader::read;
 use word::remainder::remainder32;
 ghost use Prim.Native.Nat.{_+_, _*_, _≤_, _<_};
 ghost use mathlib.Core.Path.{_≡_};
 ghost use lib.ListN.{length, take, drop};
-ghost use Rattle.segment.specs.Layout.{edition1};
 ghost use Rattle.segment.specs.Area.{segmentOf, standsAt};
 
 // At most `size` bytes from a place on: those that the area has.
@@ -31,10 +31,10 @@ pub fn cut(size: usize, area: &[u8], slot: usize) -> &[u8]
 }
 
 // What stands at a place of the area.
-pub fn entry_at(size: usize, area: &[u8], place: usize) -> Read
+pub fn entry_at(edition: Edition, size: usize, area: &[u8], place: usize) -> Read
     requires { ⌜ (0 < size) × (size < 4294967296) × (place < 4294967296) ⌝ }
-    ensures { λ r. ⌜ r ≡ standsAt edition1 size (now (area .entry)) place ⌝ }
+    ensures { λ r. ⌜ r ≡ standsAt edition size (now (area .entry)) place ⌝ }
 {
     let offset = remainder32(place as u32, size as u32) as usize;
-    read(part(size, area, place - offset), offset)
+    read(edition, part(size, area, place - offset), offset)
 }

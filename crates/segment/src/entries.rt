@@ -1,18 +1,18 @@
 // The reader for walks over a segment: what an entry has before its value, an object and a tombstone alike.
+use crate::Edition;
 use crate::Header;
 use crate::Next;
 use crate::Read;
 use crate::reader::read;
 ghost use mathlib.Core.Path.{_≡_};
-ghost use Rattle.segment.specs.Layout.{edition1};
 ghost use Rattle.segment.specs.Entry.{entryAt};
 ghost use Rattle.segment.specs.Entries.{nextOf};
 
 // The entry at an offset of a segment, or how the segment goes no further.
-pub fn next(s: &[u8], at: usize) -> Next
-    ensures { λ r. ⌜ r ≡ nextOf edition1 (entryAt edition1 (now (s .entry)) at) ⌝ }
+pub fn next(edition: Edition, s: &[u8], at: usize) -> Next
+    ensures { λ r. ⌜ r ≡ nextOf edition (entryAt edition (now (s .entry)) at) ⌝ }
 {
-    match read(s, at) {
+    match read(edition, s, at) {
         Read::Object {
             key,
             version,

@@ -11,6 +11,12 @@ pub struct Version(pub u64);
 // The number of a digest.
 pub struct DigestNumber(pub u32);
 
+// The editions of the format (02, R-11). What each fixes is a table of `layout`.
+pub enum Edition {
+    First,
+    Second,
+}
+
 // A key is table and key together (01, "The log and its map").
 pub struct Key {
     pub table: u16,

@@ -17,15 +17,15 @@ use Rattle.record.specs.Committed.{committed}
 use Rattle.record.specs.declared.Commit.{Commit}
 use Rattle.record.specs.declared.StepAnswer.{StepAnswer}
 use Rattle.record.specs.declared.Record.{Record}
-use Rattle.model.specs.Log.{Placed, placeOf, segmentOf, scan, viewsOf, logOf, latest, objectOnly, present, keysOf}
+use Rattle.model.specs.Log.{Placed, placeOf, segmentOf, viewsOf, logOf, latest, objectOnly, present, keysOf}
 use Rattle.model.specs.Counts.{moreBytes, objectSize, withoutLive, entryCounts}
 use Rattle.model.specs.Index.{IndexRule}
 use Rattle.model.specs.Recovery.{recovered}
 use Rattle.laws.specs.Members.{In, same-sym, Added, added-same}
-use Rattle.laws.specs.LogLaws.{AllScanned, log-in, scan-whole}
+use Rattle.laws.specs.LogLaws.{log-in}
 use Rattle.laws.specs.Scans.{scan-scans, scans-found}
 use Rattle.laws.specs.Latest.{Apart, apart-same, latest-some}
-use Rattle.laws.specs.RecoverLaws.{recovered-case}
+use Rattle.laws.specs.RecoverLaws.{recovered-case, log-whole}
 use Rattle.index.specs.Area.{AllIn}
 use Rattle.index.specs.Search.{mostCells}
 use Rattle.index.specs.Insert.{Insertion, inserted, counted, over, tallied}
@@ -72,16 +72,12 @@ AllFound L area S log = (x : Placed) → In x log → entryAt L (segmentOf area 
 
 pub recovered-found :
     (L : Layout) (n s m : ℕ) (area : List ℕ) (r : Record) → recovered L n s m area ≡ some r →
-    AllFound L area s (logOf (viewsOf L area s) (named (r .map)) n)
+    AllFound L area s (logOf (viewsOf area s) (named (r .map)) n)
 recovered-found L n s m area r e =
-    recovered-case L n s m area (λ (k : Record). AllFound L area s (logOf (viewsOf L area s) (named (k .map)) n))
-    (λ h l f. all (named (h .digest .map)) (f .scans)) r e
-  where
-    all : (p : ℕ → Bool) → AllScanned (viewsOf L area s) p n → AllFound L area s (logOf (viewsOf L area s) p n)
-    all p scans x m =
-        let w = log-in (viewsOf L area s) p n x m in
-        let seg : List ℕ = segmentOf area s (x .slot) in
-        scans-found (scan-scans L seg (scan-whole (scan L seg) (scans (x .slot) (w .below) (w .picked)))) (w .item)
+    recovered-case L n s m area (λ (k : Record). AllFound L area s (logOf (viewsOf area s) (named (k .map)) n))
+    (λ h l f x i.
+    let w = log-in (viewsOf area s) (named (h .digest .map)) n x i in
+    scans-found (scan-scans L (segmentOf area s (x .slot)) (log-whole L n s m area h f (x .slot) (w .below) (w .picked))) (w .item)) r e
 
 -- What the last step gives where the entry goes in: the version, the record with k keys and these present bytes, and cells that keep
 -- the rule.

@@ -57,13 +57,13 @@ keys-own r done fin k e f = ap (λ (n : ℕ). committed r done n (fin .counts)) 
 -- What the last step is to give: this version, this record, and cells that keep the rule.
 pub record Ends (L : Layout) (area : List ℕ) (fin : Record) (version : ℕ) (a : After) : Type 0 where
   pub answers : a .stepped ≡ record { answer = StepAnswer.Done (record { 0 = version }); rec = fin }
-  pub rule : IndexRule (fin .size) (logNow L area fin) (a .cells)
+  pub rule : IndexRule (fin .size) (logNow area fin) (a .cells)
 
 module _ (L : Layout) (roomy : Roomy L) (before cells : List ℕ) (idle : Record) (recovers : recovered L (idle .slots) (idle .size) (idle .cells) before ≡ some idle)
     (bytes : Bytes before) (facts : Lent L idle (length before) (idle .cells)) (long : length cells ≡ idle .cells)
-    (rule : IndexRule (idle .size) (logNow L before idle) cells)
+    (rule : IndexRule (idle .size) (logNow before idle) cells)
   where
-    indexed : Indexed (idle .size) (idle .cells) (logNow L before idle) cells (idle .keys)
+    indexed : Indexed (idle .size) (idle .cells) (logNow before idle) cells (idle .keys)
     indexed =
         record {
           rule = rule;
@@ -87,17 +87,17 @@ module _ (L : Layout) (roomy : Roomy L) (before cells : List ℕ) (idle : Record
       few-keys after fin a b c q =
           omega (arith, recovered-holds L (idle .slots) (idle .size) (idle .cells) after fin q)
 
-      append-ends : fitsHead L idle e ≡ true → EntryEnds (laidAppend L e) (appendedRecord L idle (logNow L before idle) e)
+      append-ends : fitsHead L idle e ≡ true → EntryEnds (laidAppend L e) (appendedRecord L idle (logNow before idle) e)
       unfolding planOf finishWith finishAppend
       append-ends t q =
           let r : Record = withPending idle (Append (sizeOf L e) k) in
           let after : List ℕ = stored before (commit (idle .size) (idle .head) (idle .end) (encoded L e)) in
-          let fin : Record = appendedRecord L idle (logNow L before idle) e in
+          let fin : Record = appendedRecord L idle (logNow before idle) e in
           let x : Placed = record { slot = idle .head; offset = idle .end; entry = e } in
           let keys = recovered-keys L (idle .slots) (idle .size) (idle .cells) after fin q in
           let few = few-keys after fin refl refl refl q in
           let done : Commit = appendCommit r (sizeOf L e) in
-          let w = entry-finished L r done (logNow L before idle) (logNow L after fin) after cells x
+          let w = entry-finished L r done (logNow before idle) (logNow after fin) after cells x
           (appended-added L roomy before idle e recovers bytes f (leb-true (idle .end + sizeOf L e) (idle .size) t))
           (recovered-apart L (idle .slots) (idle .size) (idle .cells) after fin q)
           (recovered-found L (idle .slots) (idle .size) (idle .cells) after fin q) (f .takes .version) indexed (omega arith) (facts .cells-high)
@@ -105,7 +105,7 @@ module _ (L : Layout) (roomy : Roomy L) (before cells : List ℕ) (idle : Record
           record {
             answers =
                 w .answers ∙ ap (λ (s : Record). record { answer = StepAnswer.Done (record { 0 = idle .next .0 }); rec = s })
-                (keys-own r done fin (length (keysOf (logNow L after fin))) keys refl);
+                (keys-own r done fin (length (keysOf (logNow after fin))) keys refl);
             rule = w .rule;
           }
 
@@ -115,19 +115,19 @@ module _ (L : Layout) (roomy : Roomy L) (before cells : List ℕ) (idle : Record
           q ∙ with-clear (idle .map) (newSlot idle) (next-clear (idle .slots) (idle .map) (idle .head) (facts .head-below) (facts .some-free))
           ∙ ap (λ (j : ℕ). j + 2 ^ newSlot idle) (sym (sub-zero (idle .map)))
 
-      head-ends : fitsHead L idle e ≡ false → EntryEnds (laidHead L idle e) (headedRecord L idle (logNow L before idle) e)
+      head-ends : fitsHead L idle e ≡ false → EntryEnds (laidHead L idle e) (headedRecord L idle (logNow before idle) e)
       unfolding planOf finishWith finishHead
       head-ends t q =
           let r : Record = withPending idle (NewHead (newSlot idle) (digestSize L + sizeOf L e) k) in
           let after : List ℕ =
           stored before
           ((newSlot idle * idle .size, 0) ∷ commit (idle .size) (newSlot idle) 0 (encodedDigest L (newDigest idle 0) ++ encoded L e)) in
-          let fin : Record = headedRecord L idle (logNow L before idle) e in
+          let fin : Record = headedRecord L idle (logNow before idle) e in
           let x : Placed = record { slot = newSlot idle; offset = digestSize L; entry = e } in
           let done : ℕ → Commit = λ m. headCommit r (newSlot idle) (digestSize L + sizeOf L e) m (record { 0 = idle .next .0 + 1 }) in
           let keys = recovered-keys L (idle .slots) (idle .size) (idle .cells) after fin q in
           let few = few-keys after fin refl refl refl q in
-          let w = entry-finished L r (done (withBit (idle .map) (newSlot idle))) (logNow L before idle) (logNow L after fin) after cells x
+          let w = entry-finished L r (done (withBit (idle .map) (newSlot idle))) (logNow before idle) (logNow after fin) after cells x
           (headed-added L roomy before idle e recovers bytes f t)
           (recovered-apart L (idle .slots) (idle .size) (idle .cells) after fin q)
           (recovered-found L (idle .slots) (idle .size) (idle .cells) after fin q) (f .takes .version) indexed (omega arith) (facts .cells-high)
@@ -135,18 +135,18 @@ module _ (L : Layout) (roomy : Roomy L) (before cells : List ℕ) (idle : Record
           record {
             answers =
                 w .answers ∙ ap (λ (s : Record). record { answer = StepAnswer.Done (record { 0 = idle .next .0 }); rec = s })
-                (keys-own r (done (withBit (idle .map) (newSlot idle))) fin (length (keysOf (logNow L after fin))) keys
+                (keys-own r (done (withBit (idle .map) (newSlot idle))) fin (length (keysOf (logNow after fin))) keys
                 (ap (λ (m : ℕ). committed r (done m) (fin .keys) (fin .counts)) (slot-clear (withBit (idle .map) (newSlot idle)) refl)));
             rule = w .rule;
           }
 
-      pub entry-ends : EntryEnds (laidEntry L idle e) (entryRecord L idle (logNow L before idle) e)
+      pub entry-ends : EntryEnds (laidEntry L idle e) (entryRecord L idle (logNow before idle) e)
       unfolding pick
       entry-ends = go (fitsHead L idle e) refl
         where
           go : (t : Bool) → fitsHead L idle e ≡ t
               → EntryEnds (pick t (laidAppend L e) (laidHead L idle e))
-              (pick t (appendedRecord L idle (logNow L before idle) e) (headedRecord L idle (logNow L before idle) e))
+              (pick t (appendedRecord L idle (logNow before idle) e) (headedRecord L idle (logNow before idle) e))
           go true p = append-ends p
           go false p = head-ends p
 
@@ -178,24 +178,24 @@ module _ (L : Layout) (roomy : Roomy L) (before cells : List ℕ) (idle : Record
           (record {
             answers =
                 ap (answeredWith r (done (newDigest idle victims .map)) version (renewedAt L (idle .size) after (newSlot idle) victims (idle .counts))) (holds .answers)
-                ∙ ap (λ (n : ℕ). answeredWith r (done (newDigest idle victims .map)) version (set (withoutVictims victims 0 (idle .counts)) (newSlot idle) n) (Built.Keys (length (keysOf (logNow L after fin))))) held
-                ∙ told-known r (done (newDigest idle victims .map)) version (length (keysOf (logNow L after fin))) (fin .counts) (omega (arith, few, keys))
+                ∙ ap (λ (n : ℕ). answeredWith r (done (newDigest idle victims .map)) version (set (withoutVictims victims 0 (idle .counts)) (newSlot idle) n) (Built.Keys (length (keysOf (logNow after fin))))) held
+                ∙ told-known r (done (newDigest idle victims .map)) version (length (keysOf (logNow after fin))) (fin .counts) (omega (arith, few, keys))
                 ∙ ap (λ (s : Record). record { answer = StepAnswer.Done (record { 0 = version }); rec = s })
-                (keys-own r (done (newDigest idle victims .map)) fin (length (keysOf (logNow L after fin))) keys refl);
+                (keys-own r (done (newDigest idle victims .map)) fin (length (keysOf (logNow after fin))) keys refl);
             rule = holds .rule;
           })
         where
-          keys : fin .keys ≡ length (keysOf (logNow L after fin))
+          keys : fin .keys ≡ length (keysOf (logNow after fin))
           keys = recovered-keys L (idle .slots) (idle .size) (idle .cells) after fin q
 
           few : fin .keys < idle .cells
           few = omega (arith, recovered-holds L (idle .slots) (idle .size) (idle .cells) after fin q)
 
-          holds : Holds (idle .size) (length cells) (logNow L after fin) (rebuilt L r after cells (newDigest idle victims .map))
+          holds : Holds (idle .size) (length cells) (logNow after fin) (rebuilt L r after cells (newDigest idle victims .map))
           holds =
               subst
               (λ (m : ℕ).
-              Holds (idle .size) m (logNow L after fin) (built L after (idle .size) (newDigest idle victims .map) (ascending (idle .slots)) m))
+              Holds (idle .size) m (logNow after fin) (built L after (idle .size) (newDigest idle victims .map) (ascending (idle .slots)) m))
               (sym long)
               (recovered-built L (idle .slots) (idle .size) (idle .cells) after (ascending (idle .slots)) fin q
               (ascending-good (idle .slots) (facts .slots-high)) (omega (arith, facts .cells-low)))
@@ -210,16 +210,16 @@ module _ (L : Layout) (roomy : Roomy L) (before cells : List ℕ) (idle : Record
       (finishWith L (withPending idle (l .pending k)) (stored before (planOf idle (l .pending 0) (l .bytes))) cells (l .pending k))
 
   delete-ends :
-      (key : Key) (a : Accepted L before idle (delete key)) → length cells ≡ idle .cells → IndexRule (idle .size) (logNow L before idle) cells → (k : ℕ) →
-      LaidEnds (laidDelete L idle (logNow L before idle) key) (deletedRecord L before idle key) (idle .next .0) k
+      (key : Key) (a : Accepted L before idle (delete key)) → length cells ≡ idle .cells → IndexRule (idle .size) (logNow before idle) cells → (k : ℕ) →
+      LaidEnds (laidDelete L idle (logNow before idle) key) (deletedRecord L before idle key) (idle .next .0) k
   unfolding pick laid finishedRecord finishWith finishForget planOf
   delete-ends key a long rule k = go (noRoom idle (entrySize L 0)) refl (finishes L roomy before idle (delete key) a .0)
     where
       way : Bool → Laid
-      way t = pick t (laidForget L idle (logNow L before idle) key) (laidEntry L idle (tombstoneEntry idle key))
+      way t = pick t (laidForget L idle (logNow before idle) key) (laidEntry L idle (tombstoneEntry idle key))
 
       end : Bool → Record
-      end t = pick t (forgottenRecord L before idle key) (entryRecord L idle (logNow L before idle) (tombstoneEntry idle key))
+      end t = pick t (forgottenRecord L before idle key) (entryRecord L idle (logNow before idle) (tombstoneEntry idle key))
 
       go : (t : Bool) → noRoom idle (entrySize L 0) ≡ t →
           recovered L (idle .slots) (idle .size) (idle .cells) (stored before (planOf idle (way t .pending 0) (way t .bytes))) ≡ some (end t) →
@@ -233,10 +233,10 @@ module _ (L : Layout) (roomy : Roomy L) (before cells : List ℕ) (idle : Record
           (tombstoneEntry idle key) (delete-enters L before idle key a room) k q
 
   pub operation-ends :
-      (o : Operation) (a : Accepted L before idle o) → length cells ≡ idle .cells → IndexRule (idle .size) (logNow L before idle) cells → (k : ℕ) →
+      (o : Operation) (a : Accepted L before idle o) → length cells ≡ idle .cells → IndexRule (idle .size) (logNow before idle) cells → (k : ℕ) →
       Ends L (stored before (planAt L before idle o)) (finishedRecord L before idle o) (toldVersion idle o)
-      (finishWith L (withPending idle (laid L idle (logNow L before idle) o .pending k)) (stored before (planAt L before idle o)) cells
-      (laid L idle (logNow L before idle) o .pending k))
+      (finishWith L (withPending idle (laid L idle (logNow before idle) o .pending k)) (stored before (planAt L before idle o)) cells
+      (laid L idle (logNow before idle) o .pending k))
   unfolding laid finishedRecord toldVersion finishWith finishClean planOf
   operation-ends (write key value) a long rule k =
       entry-ends L roomy before cells idle (a .recovers) (a .area-bytes) (idle-lent L before idle (write key value) a) long rule

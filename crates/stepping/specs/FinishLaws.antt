@@ -194,13 +194,13 @@ module _ (L : Layout) (r : Record) (area cells : List ℕ) (n : ℕ) where
   append-goes ed e = e ∙ ap (λ (c : Commit). finishEntry L r c area cells (r .head) (r .end)) ed
 
   pub head-goes :
-      (slot : ℕ) {m : ℕ} → m ≡ withBit (r .map) slot → {d : Commit} → d ≡ headCommit r slot n m (nextAfter r) → {a : After} →
-      a ≡ finishEntry L r d area cells slot (digestSize L) → a ≡ finishHead L r area cells slot n
+      (slot : ℕ) {m : ℕ} → m ≡ withBit (r .map) slot → {d : Commit} → d ≡ headCommit r slot n m (nextAfter r) → {b : ℕ} → b ≡ digestSize L →
+      {a : After} → a ≡ finishEntry L r d area cells slot b → a ≡ finishHead L r area cells slot n
   unfolding finishHead
-  head-goes slot em ed e =
+  head-goes slot em ed eb e =
       e
-      ∙ ap (λ (c : Commit). finishEntry L r c area cells slot (digestSize L))
-      (ed ∙ ap (λ (j : ℕ). headCommit r slot n j (nextAfter r)) em)
+      ∙ ap₂ (λ (c : Commit) (k : ℕ). finishEntry L r c area cells slot k)
+      (ed ∙ ap (λ (j : ℕ). headCommit r slot n j (nextAfter r)) em) eb
 
 -- ---- a cleaning, and a delete that cleans
 

@@ -237,10 +237,10 @@ module _ (L : Layout) (roomy : Roomy L) (r : Record) (area cells work : List ℕ
     idle = s .idle
 
     abbrev log : List Placed
-    log = logNow L (s .before) (s .idle)
+    log = logNow (s .before) (s .idle)
 
     abbrev plan : List (ℕ × ℕ)
-    plan = planFor L (s .idle) (logNow L (s .before) (s .idle)) (s .operation)
+    plan = planFor L (s .idle) (logNow (s .before) (s .idle)) (s .operation)
 
     acc : Accepted L (s .before) (s .idle) (s .operation)
     acc = accepted L (operation-laws L roomy) area r work s
@@ -266,9 +266,9 @@ module _ (L : Layout) (roomy : Roomy L) (r : Record) (area cells work : List ℕ
         rule-idle : IndexRule (s .idle .size) log cells
         rule-idle =
             subst (λ (l : List Placed). IndexRule (s .idle .size) l cells)
-            (ap (λ (x : List ℕ). logNow L x idle) (s .area-now)
+            (ap (λ (x : List ℕ). logNow x idle) (s .area-now)
             ∙ operation-laws L roomy .prefix-log before idle (s .operation) acc (s .since) (s .some-left))
-            (subst (λ (x : Record). IndexRule (x .size) (logNow L area x) cells) (s .record-now) (g .rule))
+            (subst (λ (x : Record). IndexRule (x .size) (logNow area x) cells) (s .record-now) (g .rule))
 
         cells-idle : length cells ≡ s .idle .cells
         cells-idle = step-fits .index-own ∙ ap (λ (x : Record). x .cells) (s .record-now)
@@ -284,7 +284,7 @@ module _ (L : Layout) (roomy : Roomy L) (r : Record) (area cells work : List ℕ
 
         -- what a step is to give that leaves so many stores
         abbrev Gives : After → ℕ → Type 0
-        Gives a k = (a .stepped ≡ stepped L before idle (s .operation) k) × IndexStepped L (set area p b) cells (a .cells) (a .stepped .rec) k
+        Gives a k = (a .stepped ≡ stepped L before idle (s .operation) k) × IndexStepped (set area p b) cells (a .cells) (a .stepped .rec) k
 
         goes-on : (k : ℕ) → length plan - s .since ≡ suc (suc k) → Gives (advanced L r (set area p b) cells) (suc k)
         unfolding advanced stepped IndexStepped
@@ -333,7 +333,7 @@ module _ (L : Layout) (roomy : Roomy L) (r : Record) (area cells work : List ℕ
             gives : {a : After} → Ends L (set area p b) (finishedRecord L before idle (s .operation)) (toldVersion idle (s .operation)) a → Gives a zero
             gives {a} w = (
               w .answers,
-              subst (λ (x : Record). IndexRule (x .size) (logNow L (set area p b) x) (a .cells)) (ap (λ (y : Stepped). y .rec) (sym (w .answers)))
+              subst (λ (x : Record). IndexRule (x .size) (logNow (set area p b) x) (a .cells)) (ap (λ (y : Stepped). y .rec) (sym (w .answers)))
                   (w .rule),
             )
 

@@ -16,11 +16,12 @@ use record::committed;
 use record::stores_left;
 use record::with_pending;
 use segment::DigestNumber;
+use segment::Edition;
 use segment::Key;
 use segment::Read;
 use segment::Version;
 use segment::area::cut;
-use segment::layout::DIGEST_SIZE;
+use segment::layout::digest_size;
 use segment::reader::read;
 use slot_map::with_slot;
 use slot_map::without_slots;
@@ -31,7 +32,7 @@ ghost use lib.ListN.{length, take};
 ghost use Rattle.index.specs.Build.{Rebuilt, built};
 ghost use Rattle.segment.specs.Area.{segmentOf};
 ghost use Rattle.segment.specs.Entry.{entryAt, answer};
-ghost use Rattle.segment.specs.Layout.{edition1, digestSize};
+ghost use Rattle.segment.specs.Layout.{digestSize};
 ghost use Rattle.counting.specs.Counting.{renewedAt};
 ghost use Rattle.model.specs.Operations.{appendCommit, headCommit};
 ghost use Rattle.stepping.specs.Finish.{refusedStep, keysAfter, lostBy, countsAfter, answeredWith, entryIn, finishEntry, finishAppend, finishHead, finishRebuilt, finishClean, finishForget, oneLess, finishWith, advanced};
@@ -52,7 +53,7 @@ pub fn refused(rec: Record, cause: Refusal) -> Stepped
 
 // `count` more bytes in the head, and the next version taken.
 fn append_commit(rec: Record, count: u32) -> Commit
-    requires { ⌜ (rec .end + count < 4294967296) × (rec .next .0 < 4294967295) ⌝ }
+    requires { ⌜ (rec .end + count < 4294967296) × (rec .next .0 < 18446744073709551615) ⌝ }
     ensures { λ r. ⌜ r ≡ appendCommit rec count ⌝ }
 {
     let number = rec.digest;
@@ -94,13 +95,13 @@ fn keys_after(answer: Inserted, keys: u32) -> Built
 }
 
 // Where an older entry of the key was indexed, the object there counts no longer.
-fn lost_by(counts: &mut [u32], size: usize, area: &[u8], answer: Inserted)
+fn lost_by(edition: Edition, counts: &mut [u32], size: usize, area: &[u8], answer: Inserted)
     requires { ⌜ (0 < size) × (size ≤ 2048) ⌝ }
-    ensures { λ _. ⌜ now (counts .exit) ≡ lostBy edition1 size (now (area .entry)) answer (now (counts .entry)) ⌝ }
+    ensures { λ _. ⌜ now (counts .exit) ≡ lostBy edition size (now (area .entry)) answer (now (counts .entry)) ⌝ }
 {
     match answer {
         Inserted::New => {}
-        Inserted::Newer(old) => lost_at(counts, size, area, old as usize),
+        Inserted::Newer(old) => lost_at(edition, counts, size, area, old as usize),
         Inserted::Older => {}
         Inserted::Full => {}
     }
@@ -112,12 +113,13 @@ fn entry_counts(rec: Record, area: &[u8], answer: Inserted, slot: u32, bytes: us
         (0 < rec .size)
         × (rec .size ≤ 2048)
         × (bytes ≤ 2048)
-        × (countsGood (rec .size - digestSize edition1) (rec .counts) ≡ true)
+        × (countsGood (rec .size - digestSize (rec .edition)) (rec .counts) ≡ true)
         ⌝ }
-    ensures { λ r. ⌜ r ≡ countsAfter edition1 rec (now (area .entry)) answer slot bytes ⌝ }
+    ensures { λ r. ⌜ r ≡ countsAfter (rec .edition) rec (now (area .entry)) answer slot bytes ⌝ }
 {
+    let edition = rec.edition;
     let mut counts = rec.counts;
-    lost_by(&mut counts, rec.size as usize, area, answer);
+    lost_by(edition, &mut counts, rec.size as usize, area, answer);
     more(&mut counts, slot as usize, bytes);
     counts
 }
@@ -155,28 +157,29 @@ fn put_entry(
         (0 < rec .size)
         × (rec .size ≤ 2048)
         × (bytes ≤ 2048)
-        × (countsGood (rec .size - digestSize edition1) (rec .counts) ≡ true)
+        × (countsGood (rec .size - digestSize (rec .edition)) (rec .counts) ≡ true)
         × (place < 4294967295)
         ⌝ }
     ensures { λ r.
         ⌜
         record { stepped = r; cells = now (index .exit) }
-        ≡ entryIn edition1 rec done (now (area .entry)) (now (index .entry)) slot bytes place key
+        ≡ entryIn (rec .edition) rec done (now (area .entry)) (now (index .entry)) slot bytes place key
         ⌝ }
 {
+    let edition = rec.edition;
     let version = rec.next;
-    let answer = insert(area, index, place, key, version);
+    let answer = insert(edition, area, index, place, key, version);
     let keys = keys_after(answer, rec.keys);
     let counts = entry_counts(rec, area, answer, slot, bytes);
     answered(rec, done, version, counts, keys)
 }
 
 // What stands at an offset of a slot's segment.
-fn stands_in(size: usize, area: &[u8], slot: usize, offset: usize) -> Read
+fn stands_in(edition: Edition, size: usize, area: &[u8], slot: usize, offset: usize) -> Read
     requires { ⌜ slot * size + size ≤ length (now area) ⌝ }
-    ensures { λ r. ⌜ r ≡ answer edition1 (entryAt edition1 (segmentOf (now (area .entry)) size slot) offset) ⌝ }
+    ensures { λ r. ⌜ r ≡ answer edition (entryAt edition (segmentOf (now (area .entry)) size slot) offset) ⌝ }
 {
-    read(cut(size, area, slot), offset)
+    read(edition, cut(size, area, slot), offset)
 }
 
 // The entry at an offset of a slot goes into the index. The reader gets the slot's segment, which is cut from the area at
@@ -195,13 +198,14 @@ fn finish_entry(
         × (rec .size ≤ 2048)
         × (offset ≤ 2048)
         × (slot * rec .size + rec .size ≤ length (now area))
-        × (countsGood (rec .size - digestSize edition1) (rec .counts) ≡ true)
+        × (countsGood (rec .size - digestSize (rec .edition)) (rec .counts) ≡ true)
         ⌝ }
-    ensures { λ r. ⌜ record { stepped = r; cells = now (index .exit) } ≡ finishEntry edition1 rec done (now (area .entry)) (now (index .entry)) slot offset ⌝ }
+    ensures { λ r. ⌜ record { stepped = r; cells = now (index .exit) } ≡ finishEntry (rec .edition) rec done (now (area .entry)) (now (index .entry)) slot offset ⌝ }
 {
+    let edition = rec.edition;
     let size = rec.size as usize;
     let place = slot as usize * size + offset;
-    match stands_in(size, area, slot as usize, offset) {
+    match stands_in(edition, size, area, slot as usize, offset) {
         Read::Object {
             key,
             version: _,
@@ -226,11 +230,11 @@ fn finish_append(rec: Record, area: &[u8], index: &mut [u32], count: u32) -> Ste
         × (length (now area) ≡ rec .slots * rec .size)
         × (rec .head < rec .slots)
         × (rec .end + count ≤ rec .size)
-        × (rec .next .0 < 4294967295)
+        × (rec .next .0 < 18446744073709551615)
         × (0 < rec .size)
-        × (countsGood (rec .size - digestSize edition1) (rec .counts) ≡ true)
+        × (countsGood (rec .size - digestSize (rec .edition)) (rec .counts) ≡ true)
         ⌝ }
-    ensures { λ r. ⌜ record { stepped = r; cells = now (index .exit) } ≡ finishAppend edition1 rec (now (area .entry)) (now (index .entry)) count ⌝ }
+    ensures { λ r. ⌜ record { stepped = r; cells = now (index .exit) } ≡ finishAppend (rec .edition) rec (now (area .entry)) (now (index .entry)) count ⌝ }
 {
     let done = append_commit(rec, count);
     finish_entry(rec, done, area, index, rec.head, rec.end as usize)
@@ -243,17 +247,18 @@ fn finish_head(rec: Record, area: &[u8], index: &mut [u32], slot: u32, count: u3
         × (rec .size ≤ 2048)
         × (length (now area) ≡ rec .slots * rec .size)
         × (slot < rec .slots)
-        × (rec .next .0 < 4294967295)
+        × (rec .next .0 < 18446744073709551615)
         × (rec .digest .0 < 4294967295)
         × (0 < rec .size)
-        × (countsGood (rec .size - digestSize edition1) (rec .counts) ≡ true)
+        × (countsGood (rec .size - digestSize (rec .edition)) (rec .counts) ≡ true)
         ⌝ }
-    ensures { λ r. ⌜ record { stepped = r; cells = now (index .exit) } ≡ finishHead edition1 rec (now (area .entry)) (now (index .entry)) slot count ⌝ }
+    ensures { λ r. ⌜ record { stepped = r; cells = now (index .exit) } ≡ finishHead (rec .edition) rec (now (area .entry)) (now (index .entry)) slot count ⌝ }
 {
+    let edition = rec.edition;
     let next = rec.next;
     let map = with_slot(rec.map, slot);
     let done = head_commit(rec, slot, count, map, Version(next.0 + 1));
-    finish_entry(rec, done, area, index, slot, DIGEST_SIZE)
+    finish_entry(rec, done, area, index, slot, digest_size(edition))
 }
 
 // The slots, ascending.
@@ -298,20 +303,36 @@ fn rebuild(rec: Record, area: &[u8], index: &mut [u32], order: &[u8], map: u32) 
     ensures { λ r.
         ⌜
         _≡_ {A = Rebuilt} (record { answer = r; cells = now (index .exit) })
-        (built edition1 (now (area .entry)) (rec .size) map (take (rec .slots) (now (order .entry))) (length (now (index .entry))))
+        (built (rec .edition) (now (area .entry)) (rec .size) map (take (rec .slots) (now (order .entry))) (length (now (index .entry))))
         ⌝ }
 {
+    let edition = rec.edition;
     let slots = rec.slots as usize;
-    build(area, index, &order[0..slots], rec.size as usize, map)
+    build(
+        edition,
+        area,
+        index,
+        &order[0..slots],
+        rec.size as usize,
+        map,
+    )
 }
 
 // The present bytes once a new head in a slot has taken over what the victims held.
 fn renewed_counts(rec: Record, area: &[u8], slot: u32, victims: u32) -> [u32; 32]
     requires { ⌜ (slot < 32) × (rec .size ≤ 2048) × (slot * rec .size + rec .size ≤ length (now area)) ⌝ }
-    ensures { λ r. ⌜ r ≡ renewedAt edition1 (rec .size) (now (area .entry)) slot victims (rec .counts) ⌝ }
+    ensures { λ r. ⌜ r ≡ renewedAt (rec .edition) (rec .size) (now (area .entry)) slot victims (rec .counts) ⌝ }
 {
+    let edition = rec.edition;
     let mut counts = rec.counts;
-    renew(&mut counts, rec.size as usize, area, slot as usize, victims);
+    renew(
+        edition,
+        &mut counts,
+        rec.size as usize,
+        area,
+        slot as usize,
+        victims,
+    );
     counts
 }
 
@@ -334,7 +355,7 @@ fn finish_rebuilt(
     ensures { λ r.
         ⌜
         record { stepped = r; cells = now (index .exit) }
-        ≡ finishRebuilt edition1 rec (now (area .entry)) (now (index .entry)) slot victims done (version .0)
+        ≡ finishRebuilt (rec .edition) rec (now (area .entry)) (now (index .entry)) slot victims done (version .0)
         ⌝ }
 {
     let keys = rebuild(rec, area, index, &SLOTS, done.map);
@@ -358,7 +379,7 @@ fn finish_clean(
         × (slot < rec .slots)
         × (rec .digest .0 < 4294967295)
         ⌝ }
-    ensures { λ r. ⌜ record { stepped = r; cells = now (index .exit) } ≡ finishClean edition1 rec (now (area .entry)) (now (index .entry)) slot victims count ⌝ }
+    ensures { λ r. ⌜ record { stepped = r; cells = now (index .exit) } ≡ finishClean (rec .edition) rec (now (area .entry)) (now (index .entry)) slot victims count ⌝ }
 {
     let next = rec.next;
     let map = with_slot(without_slots(rec.map, victims), slot);
@@ -380,10 +401,10 @@ fn finish_forget(
         × (rec .size ≤ 2048)
         × (length (now area) ≡ rec .slots * rec .size)
         × (slot < rec .slots)
-        × (rec .next .0 < 4294967295)
+        × (rec .next .0 < 18446744073709551615)
         × (rec .digest .0 < 4294967295)
         ⌝ }
-    ensures { λ r. ⌜ record { stepped = r; cells = now (index .exit) } ≡ finishForget edition1 rec (now (area .entry)) (now (index .entry)) slot victims count ⌝ }
+    ensures { λ r. ⌜ record { stepped = r; cells = now (index .exit) } ≡ finishForget (rec .edition) rec (now (area .entry)) (now (index .entry)) slot victims count ⌝ }
 {
     let next = rec.next;
     let map = with_slot(without_slots(rec.map, victims), slot);
@@ -439,11 +460,11 @@ fn finish(rec: Record, area: &[u8], index: &mut [u32]) -> Stepped
         × (rec .size ≤ 2048)
         × (length (now area) ≡ rec .slots * rec .size)
         × PendingIn rec (rec .pending)
-        × (agreesWith edition1 rec (rec .pending) ≡ true)
+        × (agreesWith (rec .edition) rec (rec .pending) ≡ true)
         × (0 < rec .size)
-        × (countsGood (rec .size - digestSize edition1) (rec .counts) ≡ true)
+        × (countsGood (rec .size - digestSize (rec .edition)) (rec .counts) ≡ true)
         ⌝ }
-    ensures { λ r. ⌜ record { stepped = r; cells = now (index .exit) } ≡ finishWith edition1 rec (now (area .entry)) (now (index .entry)) (rec .pending) ⌝ }
+    ensures { λ r. ⌜ record { stepped = r; cells = now (index .exit) } ≡ finishWith (rec .edition) rec (now (area .entry)) (now (index .entry)) (rec .pending) ⌝ }
 {
     let pending = rec.pending;
     match pending {
@@ -477,11 +498,11 @@ pub fn advance(rec: Record, area: &[u8], index: &mut [u32]) -> Stepped
         × (rec .size ≤ 2048)
         × (length (now area) ≡ rec .slots * rec .size)
         × PendingIn rec (rec .pending)
-        × (agreesWith edition1 rec (rec .pending) ≡ true)
+        × (agreesWith (rec .edition) rec (rec .pending) ≡ true)
         × (0 < rec .size)
-        × (countsGood (rec .size - digestSize edition1) (rec .counts) ≡ true)
+        × (countsGood (rec .size - digestSize (rec .edition)) (rec .counts) ≡ true)
         ⌝ }
-    ensures { λ r. ⌜ record { stepped = r; cells = now (index .exit) } ≡ advanced edition1 rec (now (area .entry)) (now (index .entry)) ⌝ }
+    ensures { λ r. ⌜ record { stepped = r; cells = now (index .exit) } ≡ advanced (rec .edition) rec (now (area .entry)) (now (index .entry)) ⌝ }
 {
     let pending = rec.pending;
     let left = stores_left(pending);

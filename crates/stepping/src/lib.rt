@@ -7,7 +7,6 @@ use record::Stepped;
 use record::TellAnswer;
 use record::range::fits_lent;
 use telling::tell::store_of;
-ghost use Rattle.segment.specs.Layout.{edition1};
 ghost use Rattle.model.specs.Promises.{StepPromise};
 ghost use Rattle.stepping.specs.Tested.{StepTested};
 
@@ -21,8 +20,8 @@ pub mod finish;
 pub fn step(rec: Record, area: &mut [u8], index: &mut [u32], work: &[u8]) -> Stepped
     ensures { λ a.
         ⌜
-        StepPromise edition1 rec (now (area .entry)) (now (area .exit)) (now (index .entry)) (now (index .exit)) (now (work .entry)) a
-        × StepTested edition1 rec (now (area .entry)) (now (area .exit)) (now (index .entry)) (now (index .exit)) (now (work .entry)) a
+        StepPromise (rec .edition) rec (now (area .entry)) (now (area .exit)) (now (index .entry)) (now (index .exit)) (now (work .entry)) a
+        × StepTested (rec .edition) rec (now (area .entry)) (now (area .exit)) (now (index .entry)) (now (index .exit)) (now (work .entry)) a
         ⌝ }
 {
     if !fits_lent(rec, area.len(), index.len()) {

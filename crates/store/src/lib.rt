@@ -1,11 +1,12 @@
 // The store: its calls, and the value of a read. This is what a user looks at; the promise of each call is its contract,
 // a relation of the crate model that holds for every input.
 
-// Makes an area of N slots of S bytes a fresh store. Outside the promise about cuts. Refused with 1, it changes nothing.
+// Makes an area of N slots of S bytes a fresh store of edition 1 or 2. Outside the promise about cuts. Refused with 1, it changes
+// nothing.
 pub use recovery::format::format;
 
 // Gives the record of the store in an area, whatever the order in which the slots are read, and builds the index. Refused with
-// 1, 2, 15, 16, 17, 24, 25, 18, 19 or 20; the index stays, but at 20 it is all 0.
+// 1, 2, 15, 16, 17, 24, 25, 28, 18, 19 or 20; the index stays, but at 20 it is all 0.
 pub use recovery::recover::recover;
 
 // The version and kind of a key within the caller's tables, by its highest version in the log. Refused with 4, 22 or 8. Allowed
@@ -16,7 +17,7 @@ pub use recovery::read::read;
 pub use recovery::read::read_value;
 
 // The same read and the same value without record and index: the log is scanned, with N and S alone (02, R-9). Refused with 1, 16, 17,
-// 24, 25, 18, 19, 22 or 8. Allowed at any moment, also before the first recovery.
+// 24, 25, 28, 18, 19, 22 or 8. Allowed at any moment, also before the first recovery.
 pub use scanning::read::scan_read;
 pub use scanning::read::scan_read_value;
 

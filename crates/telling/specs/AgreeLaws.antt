@@ -243,36 +243,36 @@ module _ (L : Layout) (before : List ℕ) (idle : Record) where
       both-true _ _ (le-leb (digestSize L) (digestSize L + length (allEncoded L (kept victims stand))) (omega arith))
       (both-true _ _ (lt-ltb 0 victims (c .some-victim)) (c .sub))
 
-  clean-laid : (victims : ℕ) → Accepted L before idle (clean victims) → Agrees (laidClean L idle (logNow L before idle) victims)
+  clean-laid : (victims : ℕ) → Accepted L before idle (clean victims) → Agrees (laidClean L idle (logNow before idle) victims)
   unfolding agreesWith
   clean-laid victims a k =
       let c = clean-cleans L before idle victims a in
       both-true _ _
-      (new-slot-agrees (laidClean L idle (logNow L before idle) victims .pending k) (idle-lent L before idle (clean victims) a)
+      (new-slot-agrees (laidClean L idle (logNow before idle) victims .pending k) (idle-lent L before idle (clean victims) a)
       (omega (arith, c .number-left)))
-      (victims-laid (laidClean L idle (logNow L before idle) victims .pending k) victims (idle .next) (logNow L before idle) c)
+      (victims-laid (laidClean L idle (logNow before idle) victims .pending k) victims (idle .next) (logNow before idle) c)
 
-  forget-laid : (key : Key) → Accepted L before idle (delete key) → noRoom idle (entrySize L 0) ≡ true → Agrees (laidForget L idle (logNow L before idle) key)
+  forget-laid : (key : Key) → Accepted L before idle (delete key) → noRoom idle (entrySize L 0) ≡ true → Agrees (laidForget L idle (logNow before idle) key)
   unfolding agreesWith forgetAgrees
   forget-laid key a full k =
       let c = forget-cleans L before idle key a full in
       both-true _ _
-      (new-slot-agrees (laidForget L idle (logNow L before idle) key .pending k) (idle-lent L before idle (delete key) a)
+      (new-slot-agrees (laidForget L idle (logNow before idle) key .pending k) (idle-lent L before idle (delete key) a)
       (omega (arith, c .number-left)))
       (both-true _ _ (lt-ltb (idle .next .0) (versionLimit L) (delete-next L before idle key a))
-      (victims-laid (laidForget L idle (logNow L before idle) key .pending k) _ _ _ c))
+      (victims-laid (laidForget L idle (logNow before idle) key .pending k) _ _ _ c))
 
-  delete-laid : (key : Key) → Accepted L before idle (delete key) → Agrees (laidDelete L idle (logNow L before idle) key)
+  delete-laid : (key : Key) → Accepted L before idle (delete key) → Agrees (laidDelete L idle (logNow before idle) key)
   unfolding pick
   delete-laid key a = go (noRoom idle (entrySize L 0)) refl
     where
       go : (t : Bool) → noRoom idle (entrySize L 0) ≡ t →
-          Agrees (pick t (laidForget L idle (logNow L before idle) key) (laidEntry L idle (tombstoneEntry idle key)))
+          Agrees (pick t (laidForget L idle (logNow before idle) key) (laidEntry L idle (tombstoneEntry idle key)))
       go true full = forget-laid key a full
       go false room =
           entry-agrees (idle-lent L before idle (delete key) a) (tombstoneEntry idle key) (delete-enters L before idle key a room)
 
-  pub laid-agrees : (o : Operation) → Accepted L before idle o → Agrees (laid L idle (logNow L before idle) o)
+  pub laid-agrees : (o : Operation) → Accepted L before idle o → Agrees (laid L idle (logNow before idle) o)
   unfolding laid
   laid-agrees (write key value) a =
       entry-agrees (idle-lent L before idle (write key value) a) (writtenEntry idle key value) (write-enters L before idle key value a)

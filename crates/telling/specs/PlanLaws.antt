@@ -151,7 +151,7 @@ module _ (a : ℕ) (work : List ℕ) (r : Record) (n : ℕ) (bytes : List ℕ) (
 
 module _ (L : Layout) (laws : OperationLaws L) (area : List ℕ) (r : Record) (work : List ℕ) (s : Started L area r work) where
   abbrev log : List Placed
-  log = logNow L (s .before) (s .idle)
+  log = logNow (s .before) (s .idle)
 
   pub accepted : Accepted L (s .before) (s .idle) (s .operation)
   accepted =

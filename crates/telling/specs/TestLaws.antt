@@ -85,7 +85,7 @@ module _ (L : Layout) (r : Record) (l : Lengths) {t : Bool} (found : t ≡ fitsL
 
 module _ (L : Layout) (laws : OperationLaws L) (r : Record) (area work : List ℕ) (long : r .size ≤ length work) (s : Started L area r work) where
   abbrev plan : List (ℕ × ℕ)
-  plan = planFor L (s .idle) (logNow L (s .before) (s .idle)) (s .operation)
+  plan = planFor L (s .idle) (logNow (s .before) (s .idle)) (s .operation)
 
   started-agrees : agreesWith L r (r .pending) ≡ true
   started-agrees =

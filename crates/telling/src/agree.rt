@@ -5,37 +5,39 @@ use crate::Target;
 use crate::next::head_target;
 use record::Pending;
 use record::Record;
-use segment::layout::DIGEST_SIZE;
-use segment::layout::HEAD_SIZE;
 use segment::layout::NUMBER_LIMIT;
-use segment::layout::VERSION_LIMIT;
+use segment::layout::digest_size;
+use segment::layout::head_size;
+use segment::layout::version_limit;
 use slot_map::has_slot;
 use slot_map::is_within;
 ghost use Prim.Native.Nat.{_≤_};
 ghost use mathlib.Core.Path.{_≡_};
 ghost use lib.Dec.{ltb};
 ghost use Rattle.segment.specs.Choice.{both};
-ghost use Rattle.segment.specs.Layout.{edition1, digestSize, versionLimit};
+ghost use Rattle.segment.specs.Layout.{digestSize, versionLimit};
 ghost use Rattle.telling.specs.Agree.{entryAgrees, slotAgrees, victimsAgree, forgetAgrees, agreesWith};
 ghost use Rattle.telling.specs.Next.{targetOf};
 
 // Whether there is a version left.
 fn version_left(rec: Record) -> bool
-    ensures { λ r. ⌜ r ≡ ltb (rec .next .0) (versionLimit edition1) ⌝ }
+    ensures { λ r. ⌜ r ≡ ltb (rec .next .0) (versionLimit (rec .edition)) ⌝ }
 {
+    let edition = rec.edition;
     let next = rec.next;
-    next.0 < VERSION_LIMIT
+    next.0 < version_limit(edition)
 }
 
 // Whether there is a version left, and an entry in `count` bytes behind the first `before`.
 fn entry_agrees(rec: Record, before: usize, count: usize) -> bool
     requires { ⌜ before ≤ 2048 ⌝ }
-    ensures { λ r. ⌜ r ≡ entryAgrees edition1 rec before count ⌝ }
+    ensures { λ r. ⌜ r ≡ entryAgrees (rec .edition) rec before count ⌝ }
 {
+    let edition = rec.edition;
     if !version_left(rec) {
         return false;
     }
-    before + HEAD_SIZE <= count
+    before + head_size(edition) <= count
 }
 
 // Whether a new head's slot is one of the store's that is not in use, and there is a digest number left.
@@ -55,9 +57,10 @@ fn slot_agrees(rec: Record, slot: u32) -> bool
 
 // Whether the victims are some of the map's slots, and `count` bytes hold a digest.
 fn victims_agree(rec: Record, victims: u32, count: usize) -> bool
-    ensures { λ r. ⌜ r ≡ victimsAgree edition1 rec victims count ⌝ }
+    ensures { λ r. ⌜ r ≡ victimsAgree (rec .edition) rec victims count ⌝ }
 {
-    if count < DIGEST_SIZE {
+    let edition = rec.edition;
+    if count < digest_size(edition) {
         return false;
     }
     if victims == 0 {
@@ -68,7 +71,7 @@ fn victims_agree(rec: Record, victims: u32, count: usize) -> bool
 
 // The same for a delete that cleans, for which there must be a version left too.
 fn forget_agrees(rec: Record, victims: u32, count: usize) -> bool
-    ensures { λ r. ⌜ r ≡ forgetAgrees edition1 rec victims count ⌝ }
+    ensures { λ r. ⌜ r ≡ forgetAgrees (rec .edition) rec victims count ⌝ }
 {
     if !version_left(rec) {
         return false;
@@ -79,15 +82,16 @@ fn forget_agrees(rec: Record, victims: u32, count: usize) -> bool
 // Whether a new head with one entry agrees.
 fn head_agrees(rec: Record, slot: u32, count: u32) -> bool
     requires { ⌜ rec .slots ≤ 32 ⌝ }
-    ensures { λ r. ⌜ r ≡ both (slotAgrees rec slot) (entryAgrees edition1 rec (digestSize edition1) count) ⌝ }
+    ensures { λ r. ⌜ r ≡ both (slotAgrees rec slot) (entryAgrees (rec .edition) rec (digestSize (rec .edition)) count) ⌝ }
 {
-    slot_agrees(rec, slot) && entry_agrees(rec, DIGEST_SIZE, count as usize)
+    let edition = rec.edition;
+    slot_agrees(rec, slot) && entry_agrees(rec, digest_size(edition), count as usize)
 }
 
 // Whether a cleaning agrees.
 fn clean_agrees(rec: Record, slot: u32, victims: u32, count: u32) -> bool
     requires { ⌜ rec .slots ≤ 32 ⌝ }
-    ensures { λ r. ⌜ r ≡ both (slotAgrees rec slot) (victimsAgree edition1 rec victims count) ⌝ }
+    ensures { λ r. ⌜ r ≡ both (slotAgrees rec slot) (victimsAgree (rec .edition) rec victims count) ⌝ }
 {
     slot_agrees(rec, slot) && victims_agree(rec, victims, count as usize)
 }
@@ -95,7 +99,7 @@ fn clean_agrees(rec: Record, slot: u32, victims: u32, count: u32) -> bool
 // Whether a delete that cleans agrees.
 fn delete_agrees(rec: Record, slot: u32, victims: u32, count: u32) -> bool
     requires { ⌜ rec .slots ≤ 32 ⌝ }
-    ensures { λ r. ⌜ r ≡ both (slotAgrees rec slot) (forgetAgrees edition1 rec victims count) ⌝ }
+    ensures { λ r. ⌜ r ≡ both (slotAgrees rec slot) (forgetAgrees (rec .edition) rec victims count) ⌝ }
 {
     slot_agrees(rec, slot) && forget_agrees(rec, victims, count as usize)
 }
@@ -105,7 +109,7 @@ fn delete_agrees(rec: Record, slot: u32, victims: u32, count: u32) -> bool
 pub fn aim_of(rec: Record) -> Aim
     requires { ⌜ rec .slots ≤ 32 ⌝ }
     ensures { λ r.
-        ⌜ r ≡ record { agreed = agreesWith edition1 rec (rec .pending); to = targetOf (rec .pending) (rec .head) (rec .end) } ⌝ }
+        ⌜ r ≡ record { agreed = agreesWith (rec .edition) rec (rec .pending); to = targetOf (rec .pending) (rec .head) (rec .end) } ⌝ }
 {
     let pending = rec.pending;
     match pending {

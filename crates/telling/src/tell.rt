@@ -12,7 +12,6 @@ ghost use Prim.Native.Nat.{_<_};
 ghost use mathlib.Core.Path.{_≡_};
 ghost use mathlib.Core.Bool.{true};
 ghost use lib.ListN.{length};
-ghost use Rattle.segment.specs.Layout.{edition1};
 ghost use Rattle.record.specs.Range.{fitsLent};
 ghost use Rattle.model.specs.Promises.{TellPromise};
 ghost use Rattle.telling.specs.Told.{toldBy};
@@ -22,8 +21,8 @@ ghost use Rattle.telling.specs.Places.{byteFrom, PlaceTold};
 // refused with 3 or 6, and with 4 where the pending operation does not agree with the record. Its aim is found before 3 is tested, so
 // that the compiler joins it with what takes the operation out of its words.
 pub fn place_of(rec: Record, area: &[u8], work: usize) -> PlaceAnswer
-    requires { ⌜ fitsLent edition1 rec (length (now area)) (rec .cells) ≡ true ⌝ }
-    ensures { λ r. ⌜ PlaceTold edition1 rec (now (area .entry)) work r ⌝ }
+    requires { ⌜ fitsLent (rec .edition) rec (length (now area)) (rec .cells) ≡ true ⌝ }
+    ensures { λ r. ⌜ PlaceTold (rec .edition) rec (now (area .entry)) work r ⌝ }
 {
     let aim = aim_of(rec);
     let to = aim.to;
@@ -63,8 +62,8 @@ pub fn byte_from(work: &[u8], from: u32, copied: bool) -> u8
 
 // The store that the next step makes, with its byte.
 pub fn store_of(rec: Record, area: &[u8], work: &[u8]) -> TellAnswer
-    requires { ⌜ fitsLent edition1 rec (length (now area)) (rec .cells) ≡ true ⌝ }
-    ensures { λ r. ⌜ r ≡ toldBy edition1 rec (now (area .entry)) (now (work .entry)) .answer ⌝ }
+    requires { ⌜ fitsLent (rec .edition) rec (length (now area)) (rec .cells) ≡ true ⌝ }
+    ensures { λ r. ⌜ r ≡ toldBy (rec .edition) rec (now (area .entry)) (now (work .entry)) .answer ⌝ }
 {
     match place_of(rec, area, work.len()) {
         PlaceAnswer::Refused(cause) => TellAnswer::Refused(cause),
@@ -84,8 +83,8 @@ pub fn store_of(rec: Record, area: &[u8], work: &[u8]) -> TellAnswer
 pub fn tell(rec: Record, area: &[u8], work: &[u8]) -> Foretold
     ensures { λ a.
         ⌜
-        (a ≡ toldBy edition1 rec (now (area .entry)) (now (work .entry)))
-        × TellPromise edition1 rec (now (area .entry)) (now (work .entry)) a
+        (a ≡ toldBy (rec .edition) rec (now (area .entry)) (now (work .entry)))
+        × TellPromise (rec .edition) rec (now (area .entry)) (now (work .entry)) a
         ⌝ }
 {
     if !fits_lent(rec, area.len(), rec.cells as usize) {

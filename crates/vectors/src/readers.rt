@@ -1,9 +1,10 @@
-// The readers of a segment over the worked bytes of 01, "Values to hold it to", and over bytes that are no entry.
+// The readers of a segment of edition 1 over the worked bytes of 01, "Values to hold it to", and over bytes that are no entry.
 use segment::Digest;
+use segment::Edition;
 use segment::Key;
 use segment::Read;
 use segment::Version;
-use segment::layout::DIGEST_SIZE;
+use segment::layout::digest_size;
 use segment::reader::digest;
 use segment::reader::read;
 
@@ -23,10 +24,10 @@ fn fields_line(d: Digest) {
 }
 
 fn digest_line(s: &[u8]) {
-    if s.len() < DIGEST_SIZE {
+    if s.len() < digest_size(Edition::First) {
         return;
     }
-    fields_line(digest(s));
+    fields_line(digest(Edition::First, s));
 }
 
 fn entry_line(name: &[u8], key: Key, version: Version, length: usize) {
@@ -40,7 +41,7 @@ fn entry_line(name: &[u8], key: Key, version: Version, length: usize) {
 // What stands at an offset of a segment, to the end of the line.
 fn found(s: &[u8], at: usize) {
     io::write_all(1, b": ");
-    match read(s, at) {
+    match read(Edition::First, s, at) {
         Read::Object {
             key,
             version,

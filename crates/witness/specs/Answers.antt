@@ -46,36 +46,36 @@ use Rattle.stepping.specs.CleanLaws.{recovered-built}
 abbrev pub readBy : Layout → Record → List ℕ → List ℕ → Tables → Key → Reading
 readBy L r area cells t k =
     record {
-      answer = readAnswer L (firstCause (readCauses L r (logNow L area r) (readLengths area cells) t k)) (present (logNow L area r) k);
+      answer = readAnswer L (firstCause (readCauses L r (logNow area r) (readLengths area cells) t k)) (present (logNow area r) k);
       rec = r;
     }
 
 abbrev pub partBy : Layout → Record → List ℕ → List ℕ → Tables → Key → Part
 partBy L r area cells t k =
-    valueAnswer L (r .size) (firstCause (readCauses L r (logNow L area r) (readLengths area cells) t k)) (present (logNow L area r) k)
+    valueAnswer L (r .size) (firstCause (readCauses L r (logNow area r) (readLengths area cells) t k)) (present (logNow area r) k)
 
 module _ (L : Layout) (r : Record) (area cells : List ℕ) (t : Tables) (k : Key) where
   its-cause : (c : Refusal) → firstCause (reachCauses L r (readLengths area cells) t k) ≡ some c →
-      firstCause (readCauses L r (logNow L area r) (readLengths area cells) t k) ≡ some c
-  its-cause c e = read-early L r (logNow L area r) (readLengths area cells) t k c e
+      firstCause (readCauses L r (logNow area r) (readLengths area cells) t k) ≡ some c
+  its-cause c e = read-early L r (logNow area r) (readLengths area cells) t k c e
 
   pub read-made : ReadPromise L r area cells t k (readBy L r area cells t k)
   unfolding readAnswer
   read-made =
       record {
         hands-back = refl;
-        early = λ c e. ap (λ (x : Option Refusal). readAnswer L x (present (logNow L area r) k)) (its-cause c e);
+        early = λ c e. ap (λ (x : Option Refusal). readAnswer L x (present (logNow area r) k)) (its-cause c e);
         exact = λ g. refl;
         says =
             read-settled L r area cells t k _
-            (λ c e. ap (λ (x : Option Refusal). readAnswer L x (present (logNow L area r) k)) (its-cause c e)) (λ g. refl);
+            (λ c e. ap (λ (x : Option Refusal). readAnswer L x (present (logNow area r) k)) (its-cause c e)) (λ g. refl);
       }
 
   pub value-made : ValuePromise L r area cells t k (partBy L r area cells t k)
   unfolding valueAnswer
   value-made =
       record {
-        early = λ c e. ap (λ (x : Option Refusal). valueAnswer L (r .size) x (present (logNow L area r) k)) (its-cause c e);
+        early = λ c e. ap (λ (x : Option Refusal). valueAnswer L (r .size) x (present (logNow area r) k)) (its-cause c e);
         exact = λ g. refl;
       }
 
@@ -100,12 +100,12 @@ fewest-made L r =
 -- ---- read by scan
 
 abbrev pub scanBy : Layout → ℕ → ℕ → List ℕ → Tables → Key → ReadAnswer
-scanBy L n s area t k = readAnswer L (firstCause (scanCauses L n s area t k)) (present (imageLog L n s area) k)
+scanBy L n s area t k = readAnswer L (firstCause (scanCauses L n s area t k)) (present (imageLog n s area) k)
 
 module _ (L : Layout) (n s : ℕ) (area : List ℕ) (t : Tables) (k : Key) where
   pub scan-made : ScanPromise L n s area t k (scanBy L n s area t k)
   scan-made =
-      record { answers = refl; says = read-says L (firstCause (scanCauses L n s area t k)) (present (imageLog L n s area) k) }
+      record { answers = refl; says = read-says L (firstCause (scanCauses L n s area t k)) (present (imageLog n s area) k) }
 
   pub scan-value-made : ScanValue L n s area t k (scannedPart L n s area t k)
   scan-value-made = record { exact = refl }
@@ -116,13 +116,13 @@ abbrev pub joinedBy : Layout → Record → List ℕ → List ℕ → Joined
 joinedBy L r area cells =
     record {
       answer =
-          joinAnswer (firstCause (joinCauses L r (readLengths area cells) (joinPair L r (logNow L area r)))) (joinPair L r (logNow L area r));
+          joinAnswer (firstCause (joinCauses L r (readLengths area cells) (joinPair L r (logNow area r)))) (joinPair L r (logNow area r));
       rec = r;
     }
 
 module _ (L : Layout) (r : Record) (area cells : List ℕ) where
   abbrev pair : Option SlotPair
-  pair = joinPair L r (logNow L area r)
+  pair = joinPair L r (logNow area r)
 
   pair-cause : (c : Refusal) → firstCause (joinEarly L r (readLengths area cells)) ≡ some c → firstCause (joinCauses L r (readLengths area cells) pair) ≡ some c
   pair-cause c e = first-some (joinEarly L r (readLengths area cells)) (when (isNone pair) NoPair ∷ []) c e
@@ -147,7 +147,7 @@ module _ (L : Layout) (r : Record) (area cells : List ℕ) where
 
 abbrev pub startedBy : Layout → Terms → Operation → Record → List ℕ → List ℕ → List ℕ → Begun
 startedBy L t o r area cells work =
-    begun L r (logNow L area r) o work (firstCause (startCauses L r (logNow L area r) (lentLengths area cells work) t o))
+    begun L r (logNow area r) o work (firstCause (startCauses L r (logNow area r) (lentLengths area cells work) t o))
 
 module _ (L : Layout) (t : Terms) (o : Operation) (r : Record) (area cells work : List ℕ) where
   abbrev its : Begun
@@ -158,12 +158,12 @@ module _ (L : Layout) (t : Terms) (o : Operation) (r : Record) (area cells work 
   start-made =
       record {
         same-length =
-            begun-length L r (logNow L area r) o work (firstCause (startCauses L r (logNow L area r) (lentLengths area cells work) t o));
-        early = λ c e. ap (begun L r (logNow L area r) o work) (start-early L r (logNow L area r) (lentLengths area cells work) t o c e);
+            begun-length L r (logNow area r) o work (firstCause (startCauses L r (logNow area r) (lentLengths area cells work) t o));
+        early = λ c e. ap (begun L r (logNow area r) o work) (start-early L r (logNow area r) (lentLengths area cells work) t o c e);
         exact = λ g. refl;
         says =
             start-settled L t o r area cells work (its .work) (its .start)
-            (λ c e. ap (begun L r (logNow L area r) o work) (start-early L r (logNow L area r) (lentLengths area cells work) t o c e)) (λ g. refl);
+            (λ c e. ap (begun L r (logNow area r) o work) (start-early L r (logNow area r) (lentLengths area cells work) t o c e)) (λ g. refl);
       }
 
 -- ---- recovery
@@ -189,7 +189,7 @@ module _ (L : Layout) (n s : ℕ) (order area cells : List ℕ) where
   Keeps r = RecoverPromise L n s order area cells (recoveredCells L s order area cells r) r
 
   rebuilt : recovery L n s m order area ≡ record { answer = RecoverAnswer.Recovered; rec = rec } →
-      Holds s m (logNow L area rec) (built L area s (rec .map) order m)
+      Holds s m (logNow area rec) (built L area s (rec .map) order m)
   rebuilt e =
       let recovers = recovery-recovered L n s m area order rec e in
       recovered-built L n s m area order rec recovers (recovery-order L n s m area order rec e)

@@ -8,7 +8,7 @@ use mathlib.Core.Option.{Option, none, some}
 use native.Mathlib.Omega.{arith}
 use lib.ListN.{length, replicate}
 use Rattle.segment.specs.Choice.{both, pick-true, pick}
-use Rattle.segment.specs.Layout.{edition1}
+use Rattle.segment.specs.Layout.{edition1, numberOfLayout}
 use Rattle.segment.specs.declared.Key.{Key}
 use Rattle.record.specs.Answers.{Said, readSaid, refusal, saidBy}
 use Rattle.record.specs.declared.FormatAnswer.{FormatAnswer}
@@ -18,10 +18,10 @@ use Rattle.record.specs.declared.Recovery.{Recovery}
 use Rattle.record.specs.declared.RecoverAnswer.{RecoverAnswer}
 use Rattle.record.specs.declared.Refusal.{Refusal}
 use Rattle.model.specs.Counts.{countsOf}
-use Rattle.model.specs.Operations.{logNow, write}
+use Rattle.model.specs.Operations.{logNow, write, formattedAs}
 use Rattle.model.specs.Play.{opened}
 use Rattle.record.specs.Reach.{holdsTable, allTables}
-use Rattle.model.specs.Recovery.{orderBad, recovery}
+use Rattle.model.specs.Recovery.{orderBad, recovery, imageLayout}
 use Rattle.model.specs.Promises.{formatAnswer, areaUnless, FormatPromise, RecoverPromise, ReadPromise, Part, partOf, ValuePromise}
 use Rattle.record.specs.declared.TellAnswer.{TellAnswer}
 use Rattle.history.specs.Book.{reads, starts, asks, Answer, saying, telling, Event, called, cut, accepted, bookVersion, Book, freshBook, versionFor, feed, bookOf, highestTold, versionTold, scansValue, giving}
@@ -36,13 +36,13 @@ use Rattle.history.proofs.Expecting.{expected-found, replaces-expected}
 use Rattle.witness.specs.Answers.{recoveredCells, recover-made}
 use Rattle.witness.specs.Example.{computing, booking, bytes-of, nine, nine-typed, ten, ten-typed, ones, twos, threes, expecting, told, lent, startedOn, started, stepped, recovered, readEvent, valueEvent, readsAs, leaving, begins, writes, idles, half, meanwhile, fails, others, deletes, cleans, ends, before, area₀, events, all, run, two, cleaned, foretold, scanEvent, scansAs}
 
-pub formats : FormatPromise edition1 4 256 before area₀ FormatAnswer.Formatted
-unfolding opened formatAnswer areaUnless saidBy
+pub formats : FormatPromise (numberOfLayout edition1) 4 256 before area₀ FormatAnswer.Formatted
+unfolding opened numberOfLayout formattedAs formatAnswer areaUnless saidBy
 formats = record { answers = refl; says = refl; leaves = refl }
 
 -- Demand 3 for these events.
 pub demanded : Demand3Of edition1 4 256 (all .world) events
-demanded = demand-3 4 256 before area₀ (bytes-of 1024 0xaa (omega arith)) formats events (all .world) run
+demanded = demand-3 edition1 4 256 before area₀ (bytes-of 1024 0xaa (omega arith)) formats events (all .world) run
 
 -- ---- what recovery gives
 
@@ -59,11 +59,11 @@ pub record Left (cells′ : List ℕ) (r : Recovery) : Type 0 where
   pub above-steps : 3 < r .rec .next .0
   pub above-reads : 2 < r .rec .next .0
   pub absent :
-      (a : Reading) → ReadPromise edition1 (r .rec) (all .world .area) cells′ allTables nine a → a .answer ≡ ReadAnswer.Refused Refusal.Absent
-  pub no-value : (p : Part) → ValuePromise edition1 (r .rec) (all .world .area) cells′ allTables nine p → partOf (all .world .area) p ≡ []
+      (a : Reading) → ReadPromise (r .rec .edition) (r .rec) (all .world .area) cells′ allTables nine a → a .answer ≡ ReadAnswer.Refused Refusal.Absent
+  pub no-value : (p : Part) → ValuePromise (r .rec .edition) (r .rec) (all .world .area) cells′ allTables nine p → partOf (all .world .area) p ≡ []
   pub present :
-      (a : Reading) → ReadPromise edition1 (r .rec) (all .world .area) cells′ allTables ten a → a .answer ≡ ReadAnswer.Present (record { 0 = 2 }) 2
-  pub value : (p : Part) → ValuePromise edition1 (r .rec) (all .world .area) cells′ allTables ten p → partOf (all .world .area) p ≡ threes
+      (a : Reading) → ReadPromise (r .rec .edition) (r .rec) (all .world .area) cells′ allTables ten a → a .answer ≡ ReadAnswer.Present (record { 0 = 2 }) 2
+  pub value : (p : Part) → ValuePromise (r .rec .edition) (r .rec) (all .world .area) cells′ allTables ten p → partOf (all .world .area) p ≡ threes
 
 -- what the book says of the other key
 ten-answer : bookAnswer edition1 two ≡ ReadAnswer.Present (record { 0 = 2 }) 2
@@ -76,7 +76,7 @@ highest = refl
 
 pub left :
     (order cells cells′ : List ℕ) (r : Recovery) → orderBad 4 order ≡ false → LargeEnough (some 16) (length cells) →
-    RecoverPromise edition1 4 256 order (all .world .area) cells cells′ r → Left cells′ r
+    RecoverPromise (imageLayout 4 256 (all .world .area)) 4 256 order (all .world .area) cells cells′ r → Left cells′ r
 unfolding bookAnswer bookValue holdsTable both
 left order cells cells′ r good large p =
     record {
@@ -84,7 +84,7 @@ left order cells cells′ r good large p =
       next-version = given .next-version ∙ cleaned .next-version;
       above-steps = omega (arith, highest, demanded .above-told, given .next-version);
       above-reads =
-          told-below-next 4 256 before area₀ (bytes-of 1024 0xaa (omega arith)) formats
+          told-below-next edition1 4 256 before area₀ (bytes-of 1024 0xaa (omega arith)) formats
           (begins ++ (writes ++ (idles ++ (half ++ (meanwhile ++ (fails ++ (others ++ (deletes ++ (cleans ++ (cut ∷ recovered ∷ readsAs nine (refusal 8) []))))))))))
           (valueEvent ten threes ∷ []) (asks (reads allTables ten)) (lent 0) (saying (told 0 2 2)) (all .world) run order cells cells′ r good enough p;
       absent = λ a q. given .answers allTables nine nine-typed refl a q ∙ ap (bookAnswer edition1) (cleaned .first-key);
@@ -102,9 +102,10 @@ left order cells cells′ r good large p =
 -- and there is such a recovery, for every order and every index that is large enough
 pub left-by :
     (order cells : List ℕ) → orderBad 4 order ≡ false → LargeEnough (some 16) (length cells) →
-    let r = recovery edition1 4 256 (length cells) order (all .world .area) in
-    Left (recoveredCells edition1 256 order (all .world .area) cells r) r
-left-by order cells good large = left order cells _ _ good large (recover-made edition1 4 256 order (all .world .area) cells)
+    let L = imageLayout 4 256 (all .world .area) in
+    let r = recovery L 4 256 (length cells) order (all .world .area) in
+    Left (recoveredCells L 256 order (all .world .area) cells r) r
+left-by order cells good large = left order cells _ _ good large (recover-made (imageLayout 4 256 (all .world .area)) 4 256 order (all .world .area) cells)
 
 -- ---- what steps answered
 
@@ -120,14 +121,14 @@ rest = idles ++ (half ++ (meanwhile ++ (fails ++ (others ++ (deletes ++ (cleans 
 pub last-step : (told 0 1 0 .stores ≡ 1 - 1) × (told 0 1 0 .version ≡ versionFor atLast (write nine ones))
 unfolding EventAgrees StepAgrees booking
 last-step =
-    let h = agree-at freshBook (begins ++ started (write nine ones) 20 ∷ leaving 19 1) (stepped (told 0 1 0)) rest (demanded .agrees) refl in
+    let h = agree-at edition1 freshBook (begins ++ started (write nine ones) 20 ∷ leaving 19 1) (stepped (told 0 1 0)) rest (demanded .agrees) refl in
     (h .0, h .1 refl)
 
 -- the one after it cannot have been accepted, since nothing is pending
 pub no-step : accepted (saying (refusal 6)) ≡ true → ⊥
 unfolding EventAgrees StepAgrees booking
 no-step =
-    agree-at freshBook (begins ++ writes) (stepped (refusal 6))
+    agree-at edition1 freshBook (begins ++ writes) (stepped (refusal 6))
     (readsAs nine (told 0 1 1) ones ++ (foretold (saying (refusal 6)) ∷ half ++ (meanwhile ++ (fails ++ (others ++ (deletes ++ (cleans ++ ends)))))))
     (demanded .agrees)
 
@@ -145,12 +146,12 @@ unfolding EventAgrees QuestionAgrees EventsAgree
 read-agreed prior k a value after inside h =
     record {
       said =
-          ap (λ (x : Answer). x .said) (agree-at freshBook prior (readEvent k a) (valueEvent k value ∷ after) h) ∙
+          ap (λ (x : Answer). x .said) (agree-at edition1 freshBook prior (readEvent k a) (valueEvent k value ∷ after) h) ∙
           pick-true (holdsTable allTables (k .table)) (readSaid (bookAnswer edition1 (bookOf prior .keys k))) (refusal 22) inside;
       gave =
           ap (λ (x : Answer). x .value)
           (subst (λ (b : Book). EventAgrees edition1 b (valueEvent k value)) (feed-asks (bookOf prior) (reads allTables k) (lent 0) (saying a))
-          (agree-behind freshBook prior (readEvent k a) (valueEvent k value ∷ after) h .0)) ∙
+          (agree-behind edition1 freshBook prior (readEvent k a) (valueEvent k value ∷ after) h .0)) ∙
           pick-true (holdsTable allTables (k .table)) (bookValue (bookOf prior .keys k)) [] inside;
     }
 
@@ -172,7 +173,7 @@ pub scan-unheld :
 unfolding EventAgrees QuestionAgrees pick holdsTable both
 scan-unheld =
     ap (λ (x : Answer). x .said)
-    (agree-at freshBook (begins ++ (writes ++ (idles ++ (half ++ (meanwhile ++ (scansAs nine (told 0 1 1) ones ++ cut ∷ []))))))
+    (agree-at edition1 freshBook (begins ++ (writes ++ (idles ++ (half ++ (meanwhile ++ (scansAs nine (told 0 1 1) ones ++ cut ∷ []))))))
     (scanEvent nine (told 0 1 1))
     (called (asks (scansValue 4 256 allTables nine)) (record { area = 1024; index = 0; work = 0 }) (giving ones)
     ∷ recovered
@@ -184,7 +185,7 @@ scan-unheld =
 -- the second write found version 1, and the write of the other key no version
 pub found-first : 1 ≡ bookVersion (bookOf (begins ++ (writes ++ (idles ++ called (starts (expecting 0) (write nine twos)) (lent 256) (saying (refusal 21)) ∷ []))) .keys nine)
 found-first =
-    expected-found 4 256 before area₀ (bytes-of 1024 0xaa (omega arith)) formats
+    expected-found edition1 4 256 before area₀ (bytes-of 1024 0xaa (omega arith)) formats
     (begins ++ (writes ++ (idles ++ called (starts (expecting 0) (write nine twos)) (lent 256) (saying (refusal 21)) ∷ [])))
     (foretold (telling (TellAnswer.At 33 7)) ∷ leaving 7 13 ++ (meanwhile ++ (fails ++ (others ++ (deletes ++ (cleans ++ ends)))))) (expecting 1) (record { 0 = 1 }) nine twos (lent 256)
     (saying (told 20 0 0)) (all .world) run refl refl
@@ -195,7 +196,7 @@ pub replaced-none :
     (bookVersion (b .keys ten) ≡ 0) × (feed b (stepped (told 0 2 0)) .keys ten ≡ two)
 unfolding allGoOn goesOn booking bookVersion
 replaced-none =
-    replaces-expected 4 256 before area₀ (bytes-of 1024 0xaa (omega arith)) formats (begins ++ (writes ++ (idles ++ (half ++ (meanwhile ++ fails)))))
+    replaces-expected edition1 4 256 before area₀ (bytes-of 1024 0xaa (omega arith)) formats (begins ++ (writes ++ (idles ++ (half ++ (meanwhile ++ fails)))))
     (leaving 35 1) (deletes ++ (cleans ++ ends)) (expecting 0) (record { 0 = 0 }) ten threes (lent 256) (lent 256) (saying (told 36 0 0))
     (saying (told 0 2 0)) (all .world) run refl refl refl
     (record { awaited = record { operation = write ten threes; left = 1 }; pending = refl; one-left = refl; is-accepted = refl })
@@ -216,6 +217,6 @@ unfolding computing
 computed-counts = refl
 
 -- That is what a scan of the log counts.
-pub scanned-counts : (h : Held) → all .world .held ≡ some h → countsOf edition1 (logNow edition1 (all .world .area) (h .rec)) ≡ left-counts
+pub scanned-counts : (h : Held) → all .world .held ≡ some h → countsOf edition1 (logNow (all .world .area) (h .rec)) ≡ left-counts
 scanned-counts h e =
-    sym (counts-kept 4 256 before area₀ (bytes-of 1024 0xaa (omega arith)) formats events (all .world) run h e) ∙ ap heldCounts (sym e) ∙ computed-counts
+    sym (counts-kept edition1 4 256 before area₀ (bytes-of 1024 0xaa (omega arith)) formats events (all .world) run h e) ∙ ap heldCounts (sym e) ∙ computed-counts

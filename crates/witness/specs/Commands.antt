@@ -5,7 +5,6 @@ use mathlib.Core.Path.{refl}
 use mathlib.Core.List.{List, [], _∷_, _++_}
 use mathlib.Core.Option.{Option, none, some}
 use lib.ListN.{length}
-use Rattle.segment.specs.Layout.{Layout, edition1}
 use Rattle.record.specs.Answers.{recoverSaid, readSaid, startSaid, stepSaid}
 use Rattle.segment.specs.declared.Key.{Key}
 use Rattle.record.specs.Pairs.{joinSaid}
@@ -13,9 +12,9 @@ use Rattle.record.specs.declared.Recovery.{Recovery}
 use Rattle.record.specs.declared.Tables.{Tables}
 use Rattle.model.specs.Operations.{Operation, Typed, TypedKey}
 use Rattle.model.specs.Refused.{Lengths, Terms}
-use Rattle.model.specs.Recovery.{recovery}
+use Rattle.model.specs.Recovery.{recovery, imageLayout}
 use Rattle.model.specs.Promises.{readLengths, partOf, Begun, lentLengths, tellLengths}
-use Rattle.laws.specs.OperationsKept.{edition1-laws}
+use Rattle.laws.specs.OperationsKept.{edition-laws}
 use Rattle.model.specs.Fewest.{noLengths}
 use Rattle.model.specs.Scanned.{scannedPart}
 use Rattle.telling.specs.Told.{toldBy}
@@ -71,15 +70,15 @@ steppedWorld w h x =
           };
     }
 
--- what a question answers
-unfoldable pub answerBy : Layout → Held → List ℕ → Question → Answer
-answerBy L h area (reads t k) = saying (readSaid (readBy L (h .rec) area (h .cells) t k .answer))
-answerBy L h area (readsValue t k) = giving (partOf area (partBy L (h .rec) area (h .cells) t k))
-answerBy L h area tells = telling (toldBy L (h .rec) area (h .work) .answer)
-answerBy L h area fewest = naming (fewestBy L (h .rec) .answer)
-answerBy L h area joins = pairing (joinSaid (joinedBy L (h .rec) area (h .cells) .answer))
-answerBy L h area (scans n s t k) = saying (readSaid (scanBy L n s area t k))
-answerBy L h area (scansValue n s t k) = giving (partOf area (scannedPart L n s area t k))
+-- what a question answers, by the edition of the record, or of the area's head where there is no record
+unfoldable pub answerBy : Held → List ℕ → Question → Answer
+answerBy h area (reads t k) = saying (readSaid (readBy (h .rec .edition) (h .rec) area (h .cells) t k .answer))
+answerBy h area (readsValue t k) = giving (partOf area (partBy (h .rec .edition) (h .rec) area (h .cells) t k))
+answerBy h area tells = telling (toldBy (h .rec .edition) (h .rec) area (h .work) .answer)
+answerBy h area fewest = naming (fewestBy (h .rec .edition) (h .rec) .answer)
+answerBy h area joins = pairing (joinSaid (joinedBy (h .rec .edition) (h .rec) area (h .cells) .answer))
+answerBy h area (scans n s t k) = saying (readSaid (scanBy (imageLayout n s area) n s area t k))
+answerBy h area (scansValue n s t k) = giving (partOf area (scannedPart (imageLayout n s area) n s area t k))
 
 -- the lengths of what is lent with it: a read gets the index, and what the next step will store is asked with the step's work buffer
 unfoldable pub lentBy : Held → List ℕ → Question → Lengths
@@ -91,106 +90,106 @@ lentBy h area joins = readLengths area (h .cells)
 lentBy h area (scans n s t k) = readLengths area []
 lentBy h area (scansValue n s t k) = readLengths area []
 
-abbrev pub askedWorld : Layout → World → Held → Question → Played
-askedWorld L w h q =
-    record { events = called (asks q) (lentBy h (w .area) q) (answerBy L h (w .area) q) ∷ []; world = w }
+abbrev pub askedWorld : World → Held → Question → Played
+askedWorld w h q =
+    record { events = called (asks q) (lentBy h (w .area) q) (answerBy h (w .area) q) ∷ []; world = w }
 
 -- a read by scan, and one of the value
-abbrev pub glanced : Layout → ℕ → ℕ → World → Tables → Key → Played
-glanced L n s w t k =
+abbrev pub glanced : ℕ → ℕ → World → Tables → Key → Played
+glanced n s w t k =
     record {
-      events = called (asks (scans n s t k)) (readLengths (w .area) []) (saying (readSaid (scanBy L n s (w .area) t k))) ∷ [];
+      events = called (asks (scans n s t k)) (readLengths (w .area) []) (saying (readSaid (scanBy (imageLayout n s (w .area)) n s (w .area) t k))) ∷ [];
       world = w;
     }
 
-abbrev pub glancedValue : Layout → ℕ → ℕ → World → Tables → Key → Played
-glancedValue L n s w t k =
+abbrev pub glancedValue : ℕ → ℕ → World → Tables → Key → Played
+glancedValue n s w t k =
     record {
-      events = called (asks (scansValue n s t k)) (readLengths (w .area) []) (giving (partOf (w .area) (scannedPart L n s (w .area) t k))) ∷ [];
+      events = called (asks (scansValue n s t k)) (readLengths (w .area) []) (giving (partOf (w .area) (scannedPart (imageLayout n s (w .area)) n s (w .area) t k))) ∷ [];
       world = w;
     }
 
-abbrev pub restarted : Layout → ℕ → ℕ → World → List ℕ → List ℕ → Recovery → Played
-restarted L n s w order cells r =
+abbrev pub restarted : ℕ → ℕ → World → List ℕ → List ℕ → Recovery → Played
+restarted n s w order cells r =
     record {
       events = called (recovers n s order) (readLengths (w .area) cells) (saying (recoverSaid (r .answer))) ∷ [];
-      world = recoveredWorld w (recoveredCells L s order (w .area) cells r) r;
+      world = recoveredWorld w (recoveredCells (imageLayout n s (w .area)) s order (w .area) cells r) r;
     }
 
 -- Without a record only a recovery, a read by scan and a cut can happen: any other command does nothing. A step gets the work buffer of the start.
-unfoldable pub played : Layout → ℕ → ℕ → World → Option Held → Command → Played
-played L n s w (some h) (operate q o t work) = startedWorld w h q o work (startedBy L q o (h .rec) (w .area) (h .cells) work)
-played L n s w (some h) advance = steppedWorld w h (steppedBy L (h .rec) (w .area) (h .cells) (h .work))
-played L n s w (some h) (question q t) = askedWorld L w h q
-played L n s w none (operate q o t work) = record { events = []; world = w }
-played L n s w none advance = record { events = []; world = w }
-played L n s w none (question q t) = record { events = []; world = w }
-played L n s w held (glance t k ty) = glanced L n s w t k
-played L n s w held (glanceValue t k ty) = glancedValue L n s w t k
-played L n s w held (restart order cells) = restarted L n s w order cells (recovery L n s (length cells) order (w .area))
-played L n s w held powerCut = record { events = cut ∷ []; world = record { area = w .area; held = none; cells = w .cells } }
+unfoldable pub played : ℕ → ℕ → World → Option Held → Command → Played
+played n s w (some h) (operate q o t work) = startedWorld w h q o work (startedBy (h .rec .edition) q o (h .rec) (w .area) (h .cells) work)
+played n s w (some h) advance = steppedWorld w h (steppedBy (h .rec .edition) (h .rec) (w .area) (h .cells) (h .work))
+played n s w (some h) (question q t) = askedWorld w h q
+played n s w none (operate q o t work) = record { events = []; world = w }
+played n s w none advance = record { events = []; world = w }
+played n s w none (question q t) = record { events = []; world = w }
+played n s w held (glance t k ty) = glanced n s w t k
+played n s w held (glanceValue t k ty) = glancedValue n s w t k
+played n s w held (restart order cells) = restarted n s w order cells (recovery (imageLayout n s (w .area)) n s (length cells) order (w .area))
+played n s w held powerCut = record { events = cut ∷ []; world = record { area = w .area; held = none; cells = w .cells } }
 
 -- ---- a list of them
 
 abbrev pub then : Played → Played → Played
 then p q = record { events = p .events ++ q .events; world = q .world }
 
-unfoldable pub playOn : Layout → ℕ → ℕ → Played → List Command → Played
-playOn L n s p [] = p
-playOn L n s p (c ∷ cs) = playOn L n s (then p (played L n s (p .world) (p .world .held) c)) cs
+unfoldable pub playOn : ℕ → ℕ → Played → List Command → Played
+playOn n s p [] = p
+playOn n s p (c ∷ cs) = playOn n s (then p (played n s (p .world) (p .world .held) c)) cs
 
-abbrev pub playAll : Layout → ℕ → ℕ → World → List Command → Played
-playAll L n s w cs = playOn L n s (record { events = []; world = w }) cs
+abbrev pub playAll : ℕ → ℕ → World → List Command → Played
+playAll n s w cs = playOn n s (record { events = []; world = w }) cs
 
 -- ---- the run
 
 module _ (n s : ℕ) where
-  one : {w x : World} {e : Event} → Moves edition1 n s w e x → Run edition1 n s w (e ∷ []) x
+  one : {w x : World} {e : Event} → Moves n s w e x → Run n s w (e ∷ []) x
   one m = go m stop
 
-  run-append : {w x y : World} {es fs : List Event} → Run edition1 n s w es x → Run edition1 n s x fs y → Run edition1 n s w (es ++ fs) y
+  run-append : {w x y : World} {es fs : List Event} → Run n s w es x → Run n s x fs y → Run n s w (es ++ fs) y
   run-append stop q = q
   run-append (go m p) q = go m (run-append p q)
 
   abbrev From : World → Played → Type 0
-  From w p = Run edition1 n s w (p .events) (p .world)
+  From w p = Run n s w (p .events) (p .world)
 
   asked : (area : List ℕ) (m : Option ℕ) (h : Held) (q : Question) → TypedQuestion q →
-      Asked edition1 (record { area = area; held = some h; cells = m }) q (lentBy h area q) (answerBy edition1 h area q)
+      Asked (record { area = area; held = some h; cells = m }) q (lentBy h area q) (answerBy h area q)
   unfolding answerBy lentBy
-  asked area m h (reads u k) t = read t (read-made edition1 (h .rec) area (h .cells) u k)
-  asked area m h (readsValue u k) t = readValue t (value-made edition1 (h .rec) area (h .cells) u k)
-  asked area m h tells t = tell (λ e. refl) (told-promise edition1 edition1-laws (h .rec) area (h .work) refl)
-  asked area m h fewest t = least (fewest-made edition1 (h .rec))
+  asked area m h (reads u k) t = read t (read-made (h .rec .edition) (h .rec) area (h .cells) u k)
+  asked area m h (readsValue u k) t = readValue t (value-made (h .rec .edition) (h .rec) area (h .cells) u k)
+  asked area m h tells t = tell (λ e. refl) (told-promise (h .rec .edition) (edition-laws (h .rec .edition)) (h .rec) area (h .work) refl)
+  asked area m h fewest t = least (fewest-made (h .rec .edition) (h .rec))
   asked area m h (scans k j u i) t = absurd t
   asked area m h (scansValue k j u i) t = absurd t
-  asked area m h joins t = join (join-made edition1 (h .rec) area (h .cells))
+  asked area m h joins t = join (join-made (h .rec .edition) (h .rec) area (h .cells))
 
   played-run : (area : List ℕ) (m : Option ℕ) (held : Option Held) (c : Command) →
-      let w : World = record { area = area; held = held; cells = m } in From w (played edition1 n s w held c)
+      let w : World = record { area = area; held = held; cells = m } in From w (played n s w held c)
   unfolding played
-  played-run area m (some h) (operate q o t work) = one (start t (start-made edition1 q o (h .rec) area (h .cells) work))
-  played-run area m (some h) advance = one (step (λ e. refl) (step-made (h .rec) area (h .cells) (h .work)))
+  played-run area m (some h) (operate q o t work) = one (start t (start-made (h .rec .edition) q o (h .rec) area (h .cells) work))
+  played-run area m (some h) advance = one (step (λ e. refl) (step-made (h .rec .edition) (h .rec) area (h .cells) (h .work)))
   played-run area m (some h) (question q t) = one (ask (asked area m h q t))
   played-run area m none (operate q o t work) = stop
   played-run area m none advance = stop
   played-run area m none (question q t) = stop
-  played-run area m (some h) (glance u k t) = one (look (scan t (scan-made edition1 n s area u k)))
-  played-run area m none (glance u k t) = one (look (scan t (scan-made edition1 n s area u k)))
-  played-run area m (some h) (glanceValue u k t) = one (look (scanValue t (scan-value-made edition1 n s area u k)))
-  played-run area m none (glanceValue u k t) = one (look (scanValue t (scan-value-made edition1 n s area u k)))
-  played-run area m (some h) (restart order cells) = one (recover (recover-made edition1 n s order area cells))
-  played-run area m none (restart order cells) = one (recover (recover-made edition1 n s order area cells))
+  played-run area m (some h) (glance u k t) = one (look (scan t (scan-made (imageLayout n s area) n s area u k)))
+  played-run area m none (glance u k t) = one (look (scan t (scan-made (imageLayout n s area) n s area u k)))
+  played-run area m (some h) (glanceValue u k t) = one (look (scanValue t (scan-value-made (imageLayout n s area) n s area u k)))
+  played-run area m none (glanceValue u k t) = one (look (scanValue t (scan-value-made (imageLayout n s area) n s area u k)))
+  played-run area m (some h) (restart order cells) = one (recover (recover-made (imageLayout n s area) n s order area cells))
+  played-run area m none (restart order cells) = one (recover (recover-made (imageLayout n s area) n s order area cells))
   played-run area m (some h) powerCut = one cuts
   played-run area m none powerCut = one cuts
 
-  on-run : (w : World) (p : Played) (cs : List Command) → From w p → From w (playOn edition1 n s p cs)
+  on-run : (w : World) (p : Played) (cs : List Command) → From w p → From w (playOn n s p cs)
   unfolding playOn
   on-run w p [] r = r
   on-run w p (c ∷ cs) r =
-      on-run w (then p (played edition1 n s (p .world) (p .world .held) c)) cs
+      on-run w (then p (played n s (p .world) (p .world .held) c)) cs
       (run-append r (played-run (p .world .area) (p .world .cells) (p .world .held) c))
 
   -- Whatever the world and the commands, the contracts allow what the total functions answer.
-  pub commands-run : (w : World) (cs : List Command) → From w (playAll edition1 n s w cs)
+  pub commands-run : (w : World) (cs : List Command) → From w (playAll n s w cs)
   commands-run w cs = on-run w (record { events = []; world = w }) cs stop

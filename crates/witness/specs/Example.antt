@@ -225,7 +225,7 @@ abbrev pub area₀ : List ℕ
 area₀ = formatted edition1 4 256 before
 
 abbrev pub all : Played
-all = playAll edition1 4 256 (freshWorld area₀) commands
+all = playAll 4 256 (freshWorld area₀) commands
 
 -- What the run computes with, opened by one name.
 unfoldable pub computing : Unit {0}
@@ -239,9 +239,9 @@ computed : failing (compared (all .events) events) ≡ []
 unfolding computing
 computed = refl
 
-pub run : Run edition1 4 256 (freshWorld area₀) events (all .world)
+pub run : Run 4 256 (freshWorld area₀) events (all .world)
 run =
-    subst (λ (es : List Event). Run edition1 4 256 (freshWorld area₀) es (all .world)) (events-equal (all .events) events computed)
+    subst (λ (es : List Event). Run 4 256 (freshWorld area₀) es (all .world)) (events-equal (all .events) events computed)
     (commands-run 4 256 (freshWorld area₀) commands)
 
 -- ---- its book

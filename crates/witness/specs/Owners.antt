@@ -116,7 +116,7 @@ owners =
 -- ---- the runs
 
 abbrev pub all : (b : ℕ) → b < 256 → Played
-all b h = playAll edition1 4 256 (freshWorld area₀) (commands b h)
+all b h = playAll 4 256 (freshWorld area₀) (commands b h)
 
 computed-ones : failing (compared (all 1 (omega arith) .events) (events 1)) ≡ []
 unfolding computing
@@ -127,9 +127,9 @@ unfolding computing
 computed-twos = refl
 
 made :
-    (b : ℕ) (h : b < 256) → failing (compared (all b h .events) (events b)) ≡ [] → Run edition1 4 256 (freshWorld area₀) (events b) (all b h .world)
+    (b : ℕ) (h : b < 256) → failing (compared (all b h .events) (events b)) ≡ [] → Run 4 256 (freshWorld area₀) (events b) (all b h .world)
 made b h e =
-    subst (λ (es : List Event). Run edition1 4 256 (freshWorld area₀) es (all b h .world)) (events-equal (all b h .events) (events b) e)
+    subst (λ (es : List Event). Run 4 256 (freshWorld area₀) es (all b h .world)) (events-equal (all b h .events) (events b) e)
     (commands-run 4 256 (freshWorld area₀) (commands b h))
 
 -- The images that they leave are not the same.
@@ -179,5 +179,5 @@ apart = ranges-apart 0 7 8 65535 owners (events 1) (omega arith) refl refl
 -- Isolation for these two runs.
 pub isolated : SameAnswers owners (events 1) (events 2)
 isolated =
-    isolation 4 256 before area₀ (bytes-of 1024 0xaa (omega arith)) formats owners (events 1) (events 2) (all 1 (omega arith) .world)
+    isolation edition1 4 256 before area₀ (bytes-of 1024 0xaa (omega arith)) formats owners (events 1) (events 2) (all 1 (omega arith) .world)
     (all 2 (omega arith) .world) (made 1 (omega arith) computed-ones) (made 2 (omega arith) computed-twos) same apart

@@ -7,7 +7,7 @@ use mathlib.Core.Option.{Option, none, some}
 use lib.Dec.{ltb}
 use lib.ListN.{length, getD, set, replicate, length-set, length-replicate}
 use Rattle.segment.specs.Choice.{pick}
-use Rattle.segment.specs.Layout.{Layout, edition1}
+use Rattle.segment.specs.Layout.{Layout}
 use Rattle.segment.specs.Entry.{Found as Entered, entry, end, damage, entryAt, keyOf}
 use Rattle.record.specs.Answers.{storesLeft}
 use Rattle.record.specs.declared.Commit.{Commit}
@@ -19,7 +19,7 @@ use Rattle.model.specs.Log.{Placed, placeOf, segmentOf}
 use Rattle.model.specs.Causes.{firstCause}
 use Rattle.model.specs.Refused.{stepCauses}
 use Rattle.model.specs.Promises.{lentLengths, StepPromise}
-use Rattle.laws.specs.OperationsKept.{edition1-roomy}
+use Rattle.laws.specs.OperationsKept.{edition-roomy}
 use Rattle.index.specs.Insert.{Insertion, insertedAt, inserted, Tally, counted, over, tallied, insertNext, insertAll}
 use Rattle.index.specs.Search.{versionAt, searchFor}
 use Rattle.index.specs.Build.{finished, built}
@@ -136,23 +136,23 @@ module _ (L : Layout) (r : Record) (area cells : List ℕ) where
 
 -- ---- the promise
 
-module _ (r : Record) (area cells work : List ℕ) where
+module _ (L : Layout) (r : Record) (area cells work : List ℕ) where
   abbrev Keeps : Moved → Type 0
-  Keeps x = StepPromise edition1 r area (x .area) cells (x .after .cells) work (x .after .stepped)
+  Keeps x = StepPromise L r area (x .area) cells (x .after .cells) work (x .after .stepped)
 
   abbrev cause : Option Refusal
-  cause = firstCause (stepCauses edition1 r (lentLengths area cells work))
+  cause = firstCause (stepCauses L r (lentLengths area cells work))
 
-  stored-made : cause ≡ none → (x : NextStore) → testedStore edition1 (length area) work r ≡ x → Keeps (storedBy edition1 r area cells x)
+  stored-made : cause ≡ none → (x : NextStore) → testedStore L (length area) work r ≡ x → Keeps (storedBy L r area cells x)
   unfolding storedBy
   stored-made first (At p b) e =
-      stored-promise edition1 edition1-roomy r area cells work first p b e refl (advanced-long edition1 r (set area p b) cells)
-  stored-made first Bad e = bad-promise edition1 edition1-roomy r area cells work first e
+      stored-promise L (edition-roomy L) r area cells work first p b e refl (advanced-long L r (set area p b) cells)
+  stored-made first Bad e = bad-promise L (edition-roomy L) r area cells work first e
 
-  unless-made : (c : Option Refusal) → cause ≡ c → Keeps (steppedUnless edition1 r area cells work c)
+  unless-made : (c : Option Refusal) → cause ≡ c → Keeps (steppedUnless L r area cells work c)
   unfolding steppedUnless
-  unless-made none e = stored-made e (testedStore edition1 (length area) work r) refl
-  unless-made (some c) e = refused-promise edition1 r area cells work c e refl
+  unless-made none e = stored-made e (testedStore L (length area) work r) refl
+  unless-made (some c) e = refused-promise L r area cells work c e refl
 
-  pub step-made : Keeps (steppedBy edition1 r area cells work)
+  pub step-made : Keeps (steppedBy L r area cells work)
   step-made = unless-made cause refl

@@ -3,13 +3,15 @@ use Prim.Native.Nat.{ℕ, zero, suc, _+_, _-_, _*_, _/_, _%_, _≤_, _<_}
 use mathlib.Core.Path.{_≡_, refl, sym, ap, _∙_}
 use mathlib.Core.Bool.{Bool, true, false, not}
 use mathlib.Core.List.{List, [], _∷_, _++_, append-nil}
+use mathlib.Core.Option.{Option, Option·elim, Option·getD}
 use native.Mathlib.Omega.{arith}
 use lib.Dec.{eqb, leb}
 use lib.ListN.{length, getD, set, replicate, take, drop, take-append-drop, length-drop, length-append}
 use lib.Seq.{sets, sets-eq, length-sets, drop-cons, length-take-le, take-add, take-at, drop-set-lt}
 use borrow.Author.Tests.{leb-true, le-leb, lt-leb, eqb-true, eqb-false, eq-eqb, ne-eqb}
-use Rattle.segment.specs.Choice.{pick, pick-true, pick-false, both, both-left, both-right, both-false-left, both-true, either}
-use Rattle.segment.specs.Layout.{Layout, digestSize}
+use Rattle.segment.specs.Choice.{pick, pick-true, pick-false, both, both-left, both-right, both-false-left, both-false-right, both-true, either, isNone}
+use Rattle.segment.specs.Layout.{Layout, edition1, edition2, layoutNumbered, numberOfLayout, digestSize}
+use Rattle.segment.specs.LayoutLaws.{numbered-layout}
 use Rattle.segment.specs.declared.Version.{Version}
 use Rattle.record.specs.Answers.{blank, bare, withPending}
 use Rattle.record.specs.Range.{between, leftGood, countsGood, lengthsOwn, fitsLent}
@@ -17,7 +19,7 @@ use Rattle.record.specs.RangeLaws.{numbersGood, frontGood, front-numbers, fits-
 use Rattle.record.specs.declared.Pending.{Pending}
 use Rattle.record.specs.declared.Pending.the-variants.{Idle, Append, NewHead, Clean, Forget}
 use Rattle.record.specs.declared.Record.{Record}
-use Rattle.words.specs.Words.{recordWords, numberWords, pendingWords, wordsOf, word, zeros, pendingFits, pendingOf, countsIn, recordIn, isRecord, decoded}
+use Rattle.words.specs.Words.{recordWords, numberWords, pendingWords, wordsOf, word, zeros, editionFits, editionOf, pendingFits, pendingOf, countsIn, recordIn, isRecord, decoded}
 use Rattle.words.specs.declared.Decoded.{Decoded}
 
 -- ---- what the code does, in its steps
@@ -45,20 +47,21 @@ copied-counts w cs h e =
     let l : length (countsIn w) ≡ 32 = length-take-le 32 (drop 17 w) (omega (arith, length-drop 17 w)) in
     e ∙ sets-eq (countsIn w) (replicate 32 0) 0 (omega arith) ∙ rw l (append-nil (countsIn w))
 
--- the front of the record, with a next version and an operation that were found
-abbrev pub frontWith : List ℕ → Version → Pending → Record
-frontWith w v p =
+-- the record of words, with an edition, a next version, counts and an operation that were found
+abbrev pub recordWith : List ℕ → Layout → Version → List ℕ → Pending → Record
+recordWith w L v cs p =
     record {
       slots = word w 0;
       size = word w 1;
       cells = word w 2;
+      edition = L;
       head = word w 3;
       end = word w 4;
       digest = record { 0 = word w 5 };
       map = word w 6;
       next = v;
       keys = word w 9;
-      counts = replicate 32 0;
+      counts = cs;
       pending = p;
     }
 
@@ -73,6 +76,53 @@ zeros-on a b e = rw (eq-eqb a 0 e)
 pub zeros-off : (a b : ℕ) → (a ≡ 0 → ⊥) → eqb a 0 ≡ zeros a b
 unfolding zeros both
 zeros-off a b e = rw (ne-eqb a 0 e)
+
+-- ---- the edition and its number
+
+-- the numbers of editions are 1 and 2
+pub edition-between : (e : ℕ) → editionFits e ≡ both (leb 1 e) (leb e 2)
+unfolding editionFits layoutNumbered isNone pick both
+edition-between zero = refl
+edition-between (suc zero) = refl
+edition-between (suc (suc zero)) = refl
+edition-between (suc (suc (suc e))) =
+    let n = suc (suc (suc e)) in
+    rw (ne-eqb n 1 (λ q. omega arith), ne-eqb n 2 (λ q. omega arith), lt-leb n 2 (omega arith), le-leb 1 n (omega arith))
+
+edition-none : (e : ℕ) → (e ≡ 1 → ⊥) → (e ≡ 2 → ⊥) → editionFits e ≡ false
+unfolding editionFits layoutNumbered isNone pick
+edition-none e a b = rw (ne-eqb e 1 a, ne-eqb e 2 b)
+
+pub second-of : (e : ℕ) → e ≡ 2 → editionOf e ≡ edition2
+unfolding editionOf layoutNumbered pick Option·elim
+second-of e q = rw q
+
+pub first-of : (e : ℕ) → (e ≡ 2 → ⊥) → editionOf e ≡ edition1
+unfolding editionOf layoutNumbered pick Option·elim
+first-of zero q = refl
+first-of (suc zero) q = refl
+first-of (suc (suc e)) q = rw (ne-eqb (suc (suc e)) 1 (λ p. omega arith), ne-eqb (suc (suc e)) 2 q)
+
+-- the number of an edition is had back from the edition, and the edition from its number
+edition-number : (e : ℕ) → editionFits e ≡ true → numberOfLayout (editionOf e) ≡ e
+unfolding editionOf layoutNumbered numberOfLayout pick Option·elim
+edition-number zero f =
+    let low : 1 ≤ 0 = leb-true 1 0 (both-left (leb 1 0) (leb 0 2) (sym (edition-between 0) ∙ f)) in
+    absurd (omega arith)
+edition-number (suc zero) f = refl
+edition-number (suc (suc zero)) f = refl
+edition-number (suc (suc (suc e))) f =
+    let n = suc (suc (suc e)) in
+    let high : n ≤ 2 = leb-true n 2 (both-right (leb 1 n) (leb n 2) (sym (edition-between n) ∙ f)) in
+    absurd (omega arith)
+
+number-edition : (L : Layout) → editionOf (numberOfLayout L) ≡ L
+unfolding editionOf Option·elim
+number-edition L = ap (λ (o : Option Layout). Option·getD o edition1) (numbered-layout L)
+
+number-fits : (L : Layout) → editionFits (numberOfLayout L) ≡ true
+unfolding editionFits isNone
+number-fits L = ap (λ (o : Option Layout). not (isNone o)) (numbered-layout L)
 
 -- ---- the tests and the operation, tag by tag
 
@@ -163,8 +213,13 @@ pub too-short : (w : List ℕ) → length w < recordWords → isRecord w ≡ fal
 unfolding isRecord
 too-short w h = both-false-left _ _ (lt-leb recordWords (length w) h)
 
+-- 02, R-11: words whose edition is neither 1 nor 2 are no record's
+pub no-edition : (w : List ℕ) → (word w 10 ≡ 1 → ⊥) → (word w 10 ≡ 2 → ⊥) → isRecord w ≡ false
+unfolding isRecord
+no-edition w a b = both-false-right _ _ (both-false-left _ _ (edition-none (word w 10) a b))
+
 pub long-enough : (w : List ℕ) → recordWords ≤ length w
-    → isRecord w ≡ both (zeros (word w 10) (word w 11)) (pendingFits (word w 12) (word w 13) (word w 14) (word w 15) (word w 16))
+    → isRecord w ≡ both (editionFits (word w 10)) (both (eqb (word w 11) 0) (pendingFits (word w 12) (word w 13) (word w 14) (word w 15) (word w 16)))
 unfolding isRecord both
 long-enough w h = rw (le-leb recordWords (length w) h)
 
@@ -186,7 +241,7 @@ module _ (L : Layout) (w : List ℕ) (a i : ℕ) where
   pub front-tagged : isRecord w ≡ true → {f : Record} → f ≡ bare (recordIn w) → {t : Bool}
       → t ≡ both (numbersGood L f) (leftFits (f .size) (word w 12) (word w 16)) → t ≡ frontGood L f
   front-tagged are {f} front e =
-      let fit = both-right _ _ (sym (long-enough w (record-long w are)) ∙ are) in
+      let fit = both-right _ _ (both-right _ _ (sym (long-enough w (record-long w are)) ∙ are)) in
       e
       ∙ ap (λ (r : Record). both (numbersGood L r) (leftFits (r .size) (word w 12) (word w 16))) front
       ∙ ap (both (numbersGood L (bare (recordIn w)))) (sym (left-tag (word w 1) (word w 12) (word w 13) (word w 14) (word w 15) (word w 16) fit))
@@ -226,6 +281,13 @@ module _ (L : Layout) (w : List ℕ) (a i : ℕ) where
   pub fits-decoded : tested (decoded w) ≡ true → decoded w ≡ record { ok = true; rec = recordIn w }
   fits-decoded e = decoded-record w (fits-record e)
 
+-- the test by the front's edition is that by the record's own
+pub own-edition : (w : List ℕ) (a i : ℕ) → isRecord w ≡ true → {f : Record} → f ≡ bare (recordIn w)
+    → fitsLent (f .edition) (decoded w .rec) a i ≡ fitsLent (decoded w .rec .edition) (decoded w .rec) a i
+own-edition w a i are front =
+    ap (λ (L : Layout). fitsLent L (decoded w .rec) a i)
+    (ap (λ (r : Record). r .edition) front ∙ sym (ap (λ (d : Decoded). d .rec .edition) (decoded-record w are)))
+
 -- ---- a record's words decode to the record
 
 pending-five : (p : Pending) → length (pendingWords p) ≡ 5
@@ -238,9 +300,9 @@ pending-five (Forget s v n k) = refl
 all-words : (r : Record) → length (r .counts) ≡ 32 → length (wordsOf r) ≡ recordWords
 all-words r l = omega (arith, length-append (pendingWords (r .pending)) (r .counts), pending-five (r .pending))
 
--- a record whose numbers are those of r, but for the next version and the counts
-abbrev likewise : Record → ℕ → List ℕ → Pending → Decoded
-likewise r n c p =
+-- a record whose numbers are those of r, but for the edition, the next version and the counts
+abbrev likewise : Record → Layout → ℕ → List ℕ → Pending → Decoded
+likewise r L n c p =
     record {
       ok = true;
       rec =
@@ -248,6 +310,7 @@ likewise r n c p =
             slots = r .slots;
             size = r .size;
             cells = r .cells;
+            edition = L;
             head = r .head;
             end = r .end;
             digest = r .digest;
@@ -270,27 +333,27 @@ module _ (r : Record) (rest : List ℕ) (l : length (r .counts) ≡ 32) where
   halves : r .next .0 % 4294967296 + 4294967296 * (r .next .0 / 4294967296) ≡ r .next .0
   halves = omega arith
 
-  likewise-same : (p : Pending) → likewise r (r .next .0 % 4294967296 + 4294967296 * (r .next .0 / 4294967296)) (take 32 (r .counts ++ rest)) p
+  likewise-same : (p : Pending) → likewise r (editionOf (numberOfLayout (r .edition))) (r .next .0 % 4294967296 + 4294967296 * (r .next .0 / 4294967296)) (take 32 (r .counts ++ rest)) p
       ≡ record { ok = true; rec = withPending r p }
-  likewise-same p = λ i. likewise r (halves i) (front i) p
+  likewise-same p = λ i. likewise r (number-edition (r .edition) i) (halves i) (front i) p
 
   says : (p : Pending) → decoded (numberWords r ++ pendingWords p ++ r .counts ++ rest) ≡ record { ok = true; rec = withPending r p }
   unfolding pendingFits pendingOf zeros pick both either
   says Idle =
       let w = numberWords r ++ pendingWords Idle ++ r .counts ++ rest in
-      decoded-record w (long-enough w (omega (arith, enough))) ∙ likewise-same Idle
+      decoded-record w (long-enough w (omega (arith, enough)) ∙ both-true _ _ (number-fits (r .edition)) refl) ∙ likewise-same Idle
   says (Append n k) =
       let w = numberWords r ++ pendingWords (Append n k) ++ r .counts ++ rest in
-      decoded-record w (long-enough w (omega (arith, enough))) ∙ likewise-same (Append n k)
+      decoded-record w (long-enough w (omega (arith, enough)) ∙ both-true _ _ (number-fits (r .edition)) refl) ∙ likewise-same (Append n k)
   says (NewHead s n k) =
       let w = numberWords r ++ pendingWords (NewHead s n k) ++ r .counts ++ rest in
-      decoded-record w (long-enough w (omega (arith, enough))) ∙ likewise-same (NewHead s n k)
+      decoded-record w (long-enough w (omega (arith, enough)) ∙ both-true _ _ (number-fits (r .edition)) refl) ∙ likewise-same (NewHead s n k)
   says (Clean s v n k) =
       let w = numberWords r ++ pendingWords (Clean s v n k) ++ r .counts ++ rest in
-      decoded-record w (long-enough w (omega (arith, enough))) ∙ likewise-same (Clean s v n k)
+      decoded-record w (long-enough w (omega (arith, enough)) ∙ both-true _ _ (number-fits (r .edition)) refl) ∙ likewise-same (Clean s v n k)
   says (Forget s v n k) =
       let w = numberWords r ++ pendingWords (Forget s v n k) ++ r .counts ++ rest in
-      decoded-record w (long-enough w (omega (arith, enough))) ∙ likewise-same (Forget s v n k)
+      decoded-record w (long-enough w (omega (arith, enough)) ∙ both-true _ _ (number-fits (r .edition)) refl) ∙ likewise-same (Forget s v n k)
 
 pub decode-encode : (r : Record) (w : List ℕ) → length (r .counts) ≡ 32 → recordWords ≤ length w
     → decoded (sets w 0 (wordsOf r)) ≡ record { ok = true; rec = r }
@@ -354,11 +417,11 @@ behind-sets [] w i n h = refl
 behind-sets (x ∷ vs) w i n h = behind-sets vs (set w i x) (suc i) n (omega arith) ∙ drop-set-lt n w i x (omega arith)
 
 module _ (w : List ℕ) (e : isRecord w ≡ true) where
-  tests : both (zeros (word w 10) (word w 11)) (pendingFits (word w 12) (word w 13) (word w 14) (word w 15) (word w 16)) ≡ true
+  tests : both (editionFits (word w 10)) (both (eqb (word w 11) 0) (pendingFits (word w 12) (word w 13) (word w 14) (word w 15) (word w 16))) ≡ true
   tests = sym (long-enough w (record-long w e)) ∙ e
 
   pub pending-words : pendingWords (recordIn w .pending) ≡ word w 12 ∷ word w 13 ∷ word w 14 ∷ word w 15 ∷ word w 16 ∷ []
-  pending-words = pending-back (word w 12) (word w 13) (word w 14) (word w 15) (word w 16) (both-right _ _ tests)
+  pending-words = pending-back (word w 12) (word w 13) (word w 14) (word w 15) (word w 16) (both-right _ _ (both-right _ _ tests))
 
   pending-same : sets w 12 (pendingWords (recordIn w .pending)) ≡ w
   unfolding wordsFrom
@@ -379,11 +442,10 @@ module _ (w : List ℕ) (e : isRecord w ≡ true) where
     numbers-same : sets w 0 (numberWords (recordIn w)) ≡ w
     unfolding wordsFrom
     numbers-same =
-        let reserve = both-left _ _ tests in
         let low : (word w 7 + 4294967296 * word w 8) % 4294967296 ≡ word w 7 = omega (arith, half) in
         let high : (word w 7 + 4294967296 * word w 8) / 4294967296 ≡ word w 8 = omega (arith, half) in
-        let edition : word w 10 ≡ 0 = zeros-left (word w 10) (word w 11) reserve in
-        let switch : word w 11 ≡ 0 = zeros-right (word w 10) (word w 11) reserve in
+        let edition : numberOfLayout (editionOf (word w 10)) ≡ word w 10 = edition-number (word w 10) (both-left _ _ tests) in
+        let reserve : word w 11 ≡ 0 = eqb-true (word w 11) 0 (both-left _ _ (both-right _ _ tests)) in
         let same : numberWords (recordIn w) ≡ take 12 w = sym (from-words w 0 12 (omega (arith, record-long w e)) ∙ cc) in
         ap (λ (l : List ℕ). sets w 0 l) same ∙ part-same w 0 12 (omega (arith, record-long w e))
 

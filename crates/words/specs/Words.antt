@@ -1,12 +1,15 @@
--- The store record as 49 words of 32 bits: its nine numbers in the order of its fields, the next version in two words, and two words in reserve behind them; then the pending operation: a tag, the new head's
--- slot, the victims, the length of what the work buffer holds, and the stores left; then the present bytes of the 32 slots. A word in reserve is 0, and so is one that an operation has no
--- use for. The reserve is for an edition and a switch.
+-- The store record as 49 words of 32 bits: its nine numbers in the order of its fields, the next version in two words; behind them the
+-- number of its edition (02, R-11) and a word in reserve; then the pending operation: a tag, the new head's slot, the victims, the
+-- length of what the work buffer holds, and the stores left; then the present bytes of the 32 slots. The word in reserve is 0, and so is
+-- one that an operation has no use for. The reserve is for a switch.
 use Prim.Native.Nat.{ℕ, _+_, _*_, _/_, _%_}
-use mathlib.Core.Bool.{Bool, true, false}
+use mathlib.Core.Bool.{Bool, true, false, not}
 use mathlib.Core.List.{List, [], _∷_, _++_}
+use mathlib.Core.Option.{Option·getD}
 use lib.Dec.{eqb, leb}
 use lib.ListN.{length, getD, take, drop}
-use Rattle.segment.specs.Choice.{pick, both, either}
+use Rattle.segment.specs.Choice.{pick, both, either, isNone}
+use Rattle.segment.specs.Layout.{Layout, edition1, layoutNumbered, numberOfLayout}
 use Rattle.record.specs.Answers.{blank}
 use Rattle.record.specs.declared.Pending.{Pending}
 use Rattle.record.specs.declared.Pending.the-variants.{Idle, Append, NewHead, Clean, Forget}
@@ -27,7 +30,7 @@ pendingWords (Clean s v n k) = 3 ∷ s ∷ v ∷ n ∷ k ∷ []
 pendingWords (Forget s v n k) = 4 ∷ s ∷ v ∷ n ∷ k ∷ []
 
 abbrev pub numberWords : Record → List ℕ
-numberWords r = r .slots ∷ r .size ∷ r .cells ∷ r .head ∷ r .end ∷ r .digest .0 ∷ r .map ∷ r .next .0 % 4294967296 ∷ r .next .0 / 4294967296 ∷ r .keys ∷ 0 ∷ 0 ∷ []
+numberWords r = r .slots ∷ r .size ∷ r .cells ∷ r .head ∷ r .end ∷ r .digest .0 ∷ r .map ∷ r .next .0 % 4294967296 ∷ r .next .0 / 4294967296 ∷ r .keys ∷ numberOfLayout (r .edition) ∷ 0 ∷ []
 
 abbrev pub wordsOf : Record → List ℕ
 wordsOf r = numberWords r ++ pendingWords (r .pending) ++ r .counts
@@ -36,6 +39,14 @@ wordsOf r = numberWords r ++ pendingWords (r .pending) ++ r .counts
 
 unfoldable pub zeros : ℕ → ℕ → Bool
 zeros a b = both (eqb a 0) (eqb b 0)
+
+-- whether a word is the number of an edition
+unfoldable pub editionFits : ℕ → Bool
+editionFits e = not (isNone (layoutNumbered e))
+
+-- the edition of that number; where there is none the words are no record's, and the first stands for it
+unfoldable pub editionOf : ℕ → Layout
+editionOf e = Option·getD (layoutNumbered e) edition1
 
 -- whether five words are those of a pending operation
 unfoldable pub pendingFits : ℕ → ℕ → ℕ → ℕ → ℕ → Bool
@@ -58,6 +69,7 @@ recordIn w =
       slots = word w 0;
       size = word w 1;
       cells = word w 2;
+      edition = editionOf (word w 10);
       head = word w 3;
       end = word w 4;
       digest = record { 0 = word w 5 };
@@ -72,7 +84,7 @@ recordIn w =
 unfoldable pub isRecord : List ℕ → Bool
 isRecord w =
     both (leb recordWords (length w))
-    (both (zeros (word w 10) (word w 11)) (pendingFits (word w 12) (word w 13) (word w 14) (word w 15) (word w 16)))
+    (both (editionFits (word w 10)) (both (eqb (word w 11) 0) (pendingFits (word w 12) (word w 13) (word w 14) (word w 15) (word w 16))))
 
 -- the record, or the blank one where the words are no record's
 unfoldable pub decoded : List ℕ → Decoded

@@ -7,8 +7,9 @@ use record::range::counts_good;
 use record::range::lengths_own;
 use record::range::numbers_good;
 use segment::DigestNumber;
+use segment::Edition;
 use segment::Version;
-use segment::layout::DIGEST_SIZE;
+use segment::layout::digest_size;
 ghost use Prim.Native.Nat.{_+_, _*_, _≤_};
 ghost use mathlib.Core.Path.{_≡_};
 ghost use mathlib.Core.Bool.{true};
@@ -16,20 +17,22 @@ ghost use mathlib.Core.List.{[], _∷_};
 ghost use lib.ListN.{length};
 ghost use lib.Seq.{sets};
 ghost use Rattle.segment.specs.Choice.{both};
-ghost use Rattle.segment.specs.Layout.{edition1};
+ghost use Rattle.segment.specs.Layout.{numberOfLayout};
 ghost use Rattle.record.specs.Answers.{bare};
 ghost use Rattle.record.specs.Range.{fitsLent};
 ghost use Rattle.record.specs.RangeLaws.{numbersGood};
-ghost use Rattle.words.specs.Words.{recordWords, numberWords, pendingWords, zeros, pendingFits, pendingOf, wordsOf, countsIn, recordIn, isRecord, decoded};
+ghost use Rattle.words.specs.Words.{recordWords, numberWords, pendingWords, zeros, editionFits, editionOf, pendingFits, pendingOf, wordsOf, countsIn, recordIn, isRecord, decoded};
 ghost use Rattle.words.specs.WordLaws.{leftFits};
 
 // How many words a record takes.
 pub const WORDS: usize = 49;
 
-// The words of S, of M and of the stores left.
+// The words of S, of M, of the edition and of the stores left.
 pub const SIZE: usize = 1;
 
 pub const CELLS: usize = 2;
+
+pub const EDITION: usize = 10;
 
 pub const LEFT: usize = 16;
 
@@ -78,13 +81,24 @@ pub fn encode_pending(p: Pending, words: &mut [u32])
     }
 }
 
-// The numbers of a record before its pending operation, and the words in reserve behind them.
+// The number of an edition.
+fn edition_number(edition: Edition) -> u32
+    ensures { λ r. ⌜ r ≡ numberOfLayout edition ⌝ }
+{
+    match edition {
+        Edition::First => 1,
+        Edition::Second => 2,
+    }
+}
+
+// The numbers of a record before its pending operation, that of its edition behind them, and the word in reserve.
 fn put_numbers(rec: Record, words: &mut [u32])
     requires { ⌜ recordWords ≤ length (now words) ⌝ }
     ensures { λ _. ⌜ now (words .exit) ≡ sets (now (words .entry)) 0 (numberWords rec) ⌝ }
 {
     let number = rec.digest;
     let next = rec.next;
+    let edition = rec.edition;
     words[0] = rec.slots;
     words[1] = rec.size;
     words[2] = rec.cells;
@@ -95,7 +109,7 @@ fn put_numbers(rec: Record, words: &mut [u32])
     words[7] = (next.0 % 4294967296) as u32;
     words[8] = (next.0 / 4294967296) as u32;
     words[9] = rec.keys;
-    words[10] = 0;
+    words[EDITION] = edition_number(edition);
     words[11] = 0;
 }
 
@@ -130,6 +144,23 @@ fn zeros(a: u32, b: u32) -> bool
     ensures { λ r. ⌜ r ≡ zeros a b ⌝ }
 {
     a == 0 && b == 0
+}
+
+// Whether a word is the number of an edition.
+pub fn edition_fits(number: u32) -> bool
+    ensures { λ r. ⌜ r ≡ editionFits number ⌝ }
+{
+    1 <= number && number <= 2
+}
+
+// The edition of that number; the first where there is none.
+pub fn edition_of(number: u32) -> Edition
+    ensures { λ r. ⌜ r ≡ editionOf number ⌝ }
+{
+    match number {
+        2 => Edition::Second,
+        _ => Edition::First,
+    }
 }
 
 // Whether five words are those of a pending operation: words that it has no use for are 0.
@@ -190,12 +221,14 @@ fn record_in(words: &[u32]) -> Record
     requires { ⌜ recordWords ≤ length (now words) ⌝ }
     ensures { λ r. ⌜ r ≡ recordIn (now (words .entry)) ⌝ }
 {
+    let edition = edition_of(words[EDITION]);
     let pending = pending_of(words[12], words[13], words[14], words[15], words[16]);
     let counts = counts_in(words);
     Record {
         slots: words[0],
         size: words[1],
         cells: words[2],
+        edition,
         head: words[3],
         end: words[4],
         digest: DigestNumber(words[5]),
@@ -214,8 +247,10 @@ fn is_record(words: &[u32]) -> bool
     if words.len() < WORDS {
         return false;
     }
-    zeros(words[10], words[11])
-        && pending_fits(words[12], words[13], words[14], words[15], words[16])
+    if !edition_fits(words[EDITION]) {
+        return false;
+    }
+    words[11] == 0 && pending_fits(words[12], words[13], words[14], words[15], words[16])
 }
 
 pub fn decode(words: &[u32]) -> Decoded
@@ -235,11 +270,13 @@ pub fn front_in(words: &[u32]) -> Record
     requires { ⌜ recordWords ≤ length (now words) ⌝ }
     ensures { λ r. ⌜ r ≡ bare (recordIn (now (words .entry))) ⌝ }
 {
+    let edition = edition_of(words[EDITION]);
     let pending = pending_of(words[12], words[13], words[14], words[15], words[16]);
     Record {
         slots: words[0],
         size: words[1],
         cells: words[2],
+        edition,
         head: words[3],
         end: words[4],
         digest: DigestNumber(words[5]),
@@ -264,14 +301,14 @@ fn left_fits(size: u32, tag: u32, left: u32) -> bool
 
 // Whether all numbers before the present bytes are in range. The operation is not taken out of its words for that.
 fn front_fits(front: Record, tag: u32, left: u32) -> bool
-    ensures { λ r. ⌜ r ≡ both (numbersGood edition1 front) (leftFits (front .size) tag left) ⌝ }
+    ensures { λ r. ⌜ r ≡ both (numbersGood (front .edition) front) (leftFits (front .size) tag left) ⌝ }
 {
     numbers_good(front) && left_fits(front.size, tag, left)
 }
 
 // The test of 4 that needs no look at the log, on a record where it stands: the 32 numbers are looked at among the words.
 pub fn fits(words: &[u32], area: usize, index: usize) -> bool
-    ensures { λ r. ⌜ r ≡ fitsLent edition1 (decoded (now (words .entry)) .rec) area index ⌝ }
+    ensures { λ r. ⌜ r ≡ fitsLent (decoded (now (words .entry)) .rec .edition) (decoded (now (words .entry)) .rec) area index ⌝ }
 {
     if !is_record(words) {
         return false;
@@ -283,5 +320,9 @@ pub fn fits(words: &[u32], area: usize, index: usize) -> bool
     if !lengths_own(front, area, index) {
         return false;
     }
-    counts_good(&words[COUNTS..WORDS], front.size - DIGEST_SIZE as u32)
+    let edition = front.edition;
+    counts_good(
+        &words[COUNTS..WORDS],
+        front.size - digest_size(edition) as u32,
+    )
 }

@@ -1,6 +1,6 @@
 -- 01, "Operations, store by store": what a start of a write or a delete lays down, as the code computes it.
 use Prim.Native.Nat.{ℕ, _+_, _*_, _≤_}
-use mathlib.Core.Path.{_≡_, sym, _∙_, ap}
+use mathlib.Core.Path.{_≡_, sym, _∙_, ap, ap₂}
 use mathlib.Core.Bool.{Bool, true, false}
 use mathlib.Core.List.{List}
 use mathlib.Core.Option.{some}
@@ -98,38 +98,40 @@ module _ (L : Layout) (r : Record) (e : Entry) (work : List ℕ) (t : Bool) (f :
   new-laid : {b : Begun} → t ≡ false → b ≡ laidBegun r (laidHead L r e) work → b ≡ laidBegun r (laidEntry L r e) work
   new-laid h g = g ∙ ap (λ (x : Laid). laidBegun r x work) (sym (pick-false (fitsHead L r e) (laidAppend L e) (laidHead L r e) (sym f ∙ h)))
 
--- ---- the entry that the code's arguments say
+-- ---- the entry that the code's arguments say, and its length m as the code has it
 
-module _ (L : Layout) (r : Record) (kind : ℕ) (key : Key) (value : List ℕ) (known : valueLength L kind ≡ some (length value)) where
+module _ (L : Layout) (r : Record) (kind : ℕ) (key : Key) (value : List ℕ) (known : valueLength L kind ≡ some (length value)) (m : ℕ)
+    (long : m ≡ entrySize L (length value)) where
   abbrev saidEntry : Entry
   saidEntry = entryOf L kind key (r .next) value
 
-  size : entrySize L (length value) ≡ sizeOf L saidEntry
-  size = sym (size-said L kind key (r .next) value known)
+  size : m ≡ sizeOf L saidEntry
+  size = long ∙ sym (size-said L kind key (r .next) value known)
 
   module _ (work work′ : List ℕ) where
     pub append-said :
-        (start : Start) (left : ℕ) → start ≡ startedWith r (Append (entrySize L (length value)) left) left →
-        left ≡ commitStores (r .size) (r .end) (entrySize L (length value)) → work′ ≡ sets work 0 (encodedAs L kind key (r .next) value) →
+        (start : Start) (left : ℕ) → start ≡ startedWith r (Append m left) left →
+        left ≡ commitStores (r .size) (r .end) m → work′ ≡ sets work 0 (encodedAs L kind key (r .next) value) →
         record { start = start; work = work′ } ≡ laidBegun r (laidAppend L saidEntry) work
     append-said start left s p q =
         append-laid L r saidEntry work work′ start left (s ∙ ap (λ (n : ℕ). startedWith r (Append n left) left) size)
         (p ∙ ap (commitStores (r .size) (r .end)) size) (q ∙ ap (sets work 0) (encoded-said L kind key (r .next) value known))
 
     pub head-said :
-        (start : Start) (slot left : ℕ) (d : Digest) (work₁ : List ℕ) →
-        start ≡ startedWith r (NewHead slot (digestSize L + entrySize L (length value)) left) left → slot ≡ newSlot r → d ≡ newDigest r 0 →
-        work₁ ≡ sets work 0 (encodedDigest L d) → work′ ≡ sets work₁ (digestSize L) (encodedAs L kind key (r .next) value) →
-        left ≡ headStores (r .size) (digestSize L + entrySize L (length value)) →
+        (b : ℕ) → b ≡ digestSize L → (start : Start) (slot left : ℕ) (d : Digest) (work₁ : List ℕ) →
+        start ≡ startedWith r (NewHead slot (b + m) left) left → slot ≡ newSlot r → d ≡ newDigest r 0 →
+        work₁ ≡ sets work 0 (encodedDigest L d) → work′ ≡ sets work₁ b (encodedAs L kind key (r .next) value) →
+        left ≡ headStores (r .size) (b + m) →
         record { start = start; work = work′ } ≡ laidBegun r (laidHead L r saidEntry) work
-    head-said start slot left d work₁ s at dd p q n =
+    head-said b behind start slot left d work₁ s at dd p q n =
+        let whole : b + m ≡ digestSize L + sizeOf L saidEntry = ap₂ (λ (x y : ℕ). x + y) behind size in
         head-laid L r saidEntry work work′ start slot left d work₁
-        (s ∙ ap (λ (m : ℕ). startedWith r (NewHead slot (digestSize L + m) left) left) size) at dd p
-        (q ∙ ap (sets work₁ (digestSize L)) (encoded-said L kind key (r .next) value known))
-        (n ∙ ap (λ (m : ℕ). headStores (r .size) (digestSize L + m)) size)
+        (s ∙ ap (λ (x : ℕ). startedWith r (NewHead slot x left) left) whole) at dd p
+        (q ∙ ap₂ (λ (x : ℕ) (l : List ℕ). sets work₁ x l) behind (encoded-said L kind key (r .next) value known))
+        (n ∙ ap (headStores (r .size)) whole)
 
   -- t is what the code finds for the fit of that length
-  module _ (work : List ℕ) (t : Bool) (f : t ≡ leb (r .end + entrySize L (length value)) (r .size)) where
+  module _ (work : List ℕ) (t : Bool) (f : t ≡ leb (r .end + m) (r .size)) where
     fit : t ≡ fitsHead L r saidEntry
     fit = f ∙ ap (λ (n : ℕ). leb (r .end + n) (r .size)) size
 

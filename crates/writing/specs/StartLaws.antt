@@ -10,7 +10,7 @@ use lib.ListN.{length}
 use lib.Seq.{length-sets}
 use borrow.Author.Tests.{eq-eqb, eqb-false, ltb-false, not-false}
 use Rattle.segment.specs.Choice.{pick-false, both, orZero, not-none}
-use Rattle.segment.specs.Layout.{Layout, valueLength, objectKind, entrySize, digestSize, numberLimit}
+use Rattle.segment.specs.Layout.{Layout, valueLength, objectKind, entrySize, digestSize, numberLimit, table}
 use Rattle.segment.specs.LayoutLaws.{object-kind, object-no-tombstone, tombstone-length}
 use Rattle.segment.specs.Entry.{Entry}
 use Rattle.segment.specs.ValueLaws.{value-object, value-tombstone}
@@ -55,16 +55,16 @@ module _ (L : Layout) (q : Terms) (o : Operation) (r : Record) (area cells work 
     pub early : (x : Refusal) → firstCause (earlyCauses L r lengths q o) ≡ some x → firstCause tests ≡ some x
     pub agrees :
         Genuine L area r cells → Lent L r (length area) (length cells) →
-        firstCause tests ≡ firstCause (startCauses L r (logNow L area r) lengths q o)
+        firstCause tests ≡ firstCause (startCauses L r (logNow area r) lengths q o)
 
   module _ (c : Causes) where
-    same : Genuine L area r cells → firstCause tests ≡ firstCause (startCauses L r (logNow L area r) lengths q o)
+    same : Genuine L area r cells → firstCause tests ≡ firstCause (startCauses L r (logNow area r) lengths q o)
     same g = go (recordBad L r lengths) refl
       where
-        go : (t : Bool) → recordBad L r lengths ≡ t → firstCause tests ≡ firstCause (startCauses L r (logNow L area r) lengths q o)
+        go : (t : Bool) → recordBad L r lengths ≡ t → firstCause tests ≡ firstCause (startCauses L r (logNow area r) lengths q o)
         go true e =
             let bad = early-bad L r lengths q o e in
-            c .early BadRecord bad ∙ sym (start-early L r (logNow L area r) lengths q o BadRecord bad)
+            c .early BadRecord bad ∙ sym (start-early L r (logNow area r) lengths q o BadRecord bad)
         go false e = c .agrees g (lent L r (length area) (length cells) (not-false (fitsLent L r (length area) (length cells)) e))
 
     -- refused: nothing changes
@@ -85,13 +85,13 @@ module _ (L : Layout) (q : Terms) (o : Operation) (r : Record) (area cells work 
 
         exact :
             Genuine L area r cells → record { start = a; work = work } ≡
-            begun L r (logNow L area r) o work (firstCause (startCauses L r (logNow L area r) lengths q o))
-        exact g = told (logNow L area r) ∙ ap (begun L r (logNow L area r) o work) (same g)
+            begun L r (logNow area r) o work (firstCause (startCauses L r (logNow area r) lengths q o))
+        exact g = told (logNow area r) ∙ ap (begun L r (logNow area r) o work) (same g)
 
     -- accepted: the operation is laid down, by the log of a genuine store
     pub start-laid :
         Check.Passed ≡ checked (firstCause tests) → (work′ : List ℕ) (a : Start) → length work′ ≡ length work →
-        (Genuine L area r cells → record { start = a; work = work′ } ≡ laidBegun r (laid L r (logNow L area r) o) work) →
+        (Genuine L area r cells → record { start = a; work = work′ } ≡ laidBegun r (laid L r (logNow area r) o) work) →
         StartPromise L q o r area cells work work′ a
     unfolding begun laidBegun
     start-laid passed work′ a long h =
@@ -109,8 +109,8 @@ module _ (L : Layout) (q : Terms) (o : Operation) (r : Record) (area cells work 
 
         exact :
             Genuine L area r cells → record { start = a; work = work′ } ≡
-            begun L r (logNow L area r) o work (firstCause (startCauses L r (logNow L area r) lengths q o))
-        exact g = h g ∙ ap (begun L r (logNow L area r) o work) (sym no-cause ∙ same g)
+            begun L r (logNow area r) o work (firstCause (startCauses L r (logNow area r) lengths q o))
+        exact g = h g ∙ ap (begun L r (logNow area r) o work) (sym no-cause ∙ same g)
 
 -- the work buffer keeps its length
 laid-long : (r : Record) (l : Laid) (work work′ : List ℕ) (a : Start) → record { start = a; work = work′ } ≡ laidBegun r l work → length work′ ≡ length work
@@ -226,20 +226,20 @@ module _ (L : Layout) (t : Tables) (r : Record) (area cells work : List ℕ) (k 
 
     pub delete-ready : Roomy L → EntryReady L r 0 (length work)
     delete-ready roomy =
-        entry-ready L r area cells work 0 (deleted .record-good) (deleted .work-long) (roomy .room (L .tombstoneKind) 0 (tombstone-length L))
+        entry-ready L r area cells work 0 (deleted .record-good) (deleted .work-long) (roomy .room (table L .tombstoneKind) 0 (tombstone-length L))
 
     pub delete-number : leb (r .end + entrySize L 0) (r .size) ≡ false → NumberLeft r
     delete-number f = some-number L r area cells work 0 (deleted .number-left) f
 
-    pub delete-said : entryOf L (L .tombstoneKind) k (r .next) [] ≡ tombstoneEntry r k
+    pub delete-said : entryOf L (table L .tombstoneKind) k (r .next) [] ≡ tombstoneEntry r k
     delete-said =
         ap (λ (v : Option (List ℕ)). record { table = k .table; key = k .key; version = r .next .0; value = v })
-        (value-tombstone L (L .tombstoneKind) [] (eq-eqb (L .tombstoneKind) (L .tombstoneKind) refl))
+        (value-tombstone L (table L .tombstoneKind) [] (eq-eqb (table L .tombstoneKind) (table L .tombstoneKind) refl))
 
     -- where the tombstone finds room
     pub delete-laid :
         noRoom r (entrySize L 0) ≡ false → (work′ : List ℕ) (a : Start) →
-        record { start = a; work = work′ } ≡ laidBegun r (laidEntry L r (entryOf L (L .tombstoneKind) k (r .next) [])) work →
+        record { start = a; work = work′ } ≡ laidBegun r (laidEntry L r (entryOf L (table L .tombstoneKind) k (r .next) [])) work →
         StartPromise L (reaching t) (delete k) r area cells work work′ a
     unfolding laid
     delete-laid room work′ a h =

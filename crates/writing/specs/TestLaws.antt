@@ -209,10 +209,14 @@ module _ (L : Layout) (r : Record) (l : Lengths) (q : Terms) (j : Key) (p : Pres
       pub write-expected : (c : Refusal) → Check.Refused c ≡ checked (firstCause (expectedTests (q .expected) (factsOf p))) → WriteIs (Check.Refused c)
       write-expected c h = goes-on (part-refused (expectedTests (q .expected) (factsOf p)) (entryTests L r (factsOf p) (entrySize L n)) c h)
 
+      -- s is what the code finds for the length of the entry
       pub write-entry :
-          {a : Check} → Check.Passed ≡ checked (firstCause (expectedTests (q .expected) (factsOf p))) →
-          a ≡ checked (firstCause (entryTests L r (factsOf p) (entrySize L n))) → WriteIs a
-      write-entry h g = goes-on (part-passed (expectedTests (q .expected) (factsOf p)) (entryTests L r (factsOf p) (entrySize L n)) h g)
+          {a : Check} (s : ℕ) → s ≡ entrySize L n → Check.Passed ≡ checked (firstCause (expectedTests (q .expected) (factsOf p))) →
+          a ≡ checked (firstCause (entryTests L r (factsOf p) s)) → WriteIs a
+      write-entry s e h g =
+          goes-on
+          (part-passed (expectedTests (q .expected) (factsOf p)) (entryTests L r (factsOf p) (entrySize L n)) h
+          (g ∙ ap (λ (x : ℕ). checked (firstCause (entryTests L r (factsOf p) x))) e))
 
 -- ---- what the index says of a key
 
@@ -265,8 +269,11 @@ module _ (L : Layout) (r : Record) (l : Lengths) (t : Tables) (j : Key) (p : Pre
       unfolding firstTests idleCauses
       delete-spent h = part-passed (firstTests L r l t j) _ first (known-goes _ (refused _ _ (eq-eqb (r .next .0) (versionLimit L) h)))
 
+      -- s is what the code finds for the length of the tombstone
       pub delete-number :
-          {a : Check} → (r .next .0 ≡ versionLimit L → ⊥) → a ≡ checked (firstCause (numberTests r (entrySize L 0))) → DeleteIs a
+          {a : Check} (s : ℕ) → s ≡ entrySize L 0 → (r .next .0 ≡ versionLimit L → ⊥) → a ≡ checked (firstCause (numberTests r s)) → DeleteIs a
       unfolding firstTests idleCauses numberTests
-      delete-number left g =
-          part-passed (firstTests L r l t j) _ first (known-goes _ (skipped _ _ (ne-eqb (r .next .0) (versionLimit L) left) g))
+      delete-number s e left g =
+          part-passed (firstTests L r l t j) _ first
+          (known-goes _
+          (skipped _ _ (ne-eqb (r .next .0) (versionLimit L) left) (g ∙ ap (λ (x : ℕ). checked (firstCause (numberTests r x))) e)))

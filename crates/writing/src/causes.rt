@@ -9,10 +9,10 @@ use record::range::fits_lent;
 use record::reach::holds_table;
 use segment::Key;
 use segment::Version;
-use segment::layout::HEAD_SIZE;
 use segment::layout::NUMBER_LIMIT;
-use segment::layout::VERSION_LIMIT;
+use segment::layout::head_size;
 use segment::layout::object_kind;
+use segment::layout::version_limit;
 use starting::Check;
 use starting::checks::check_idle;
 ghost use Prim.Native.Nat.{_+_, _^_, _≤_, _<_};
@@ -20,7 +20,6 @@ ghost use mathlib.Core.Path.{_≡_};
 ghost use mathlib.Core.Bool.{true};
 ghost use lib.Dec.{leb};
 ghost use lib.ListN.{length};
-ghost use Rattle.segment.specs.Layout.{edition1};
 ghost use Rattle.record.specs.Range.{fitsLent};
 ghost use Rattle.model.specs.Causes.{firstCause};
 ghost use Rattle.model.specs.Refused.{noRoom, reaching, writeCauses, deleteCauses};
@@ -37,10 +36,10 @@ fn check_first(
     tables: Tables,
     key: Key,
 ) -> Check
-    requires { ⌜ fitsLent edition1 rec area index ≡ true ⌝ }
+    requires { ⌜ fitsLent (rec .edition) rec area index ≡ true ⌝ }
     ensures { λ r.
         ⌜
-        r ≡ checked (firstCause (firstTests edition1 rec (record { area = area; index = index; work = work }) tables key))
+        r ≡ checked (firstCause (firstTests (rec .edition) rec (record { area = area; index = index; work = work }) tables key))
         ⌝ }
 {
     if !holds_table(tables, key.table) {
@@ -148,10 +147,11 @@ fn check_key(rec: Record, presence: Presence) -> Check
 // 9, 11, 12 and 10, for an entry of that length.
 fn check_entry(rec: Record, presence: Presence, length: usize) -> Check
     requires { ⌜ (length ≤ 256) × (rec .map < 2 ^ rec .slots) × (1 ≤ rec .cells) ⌝ }
-    ensures { λ r. ⌜ r ≡ checked (firstCause (entryTests edition1 rec (factsOf presence) length)) ⌝ }
+    ensures { λ r. ⌜ r ≡ checked (firstCause (entryTests (rec .edition) rec (factsOf presence) length)) ⌝ }
 {
+    let edition = rec.edition;
     let next = rec.next;
-    if next.0 == VERSION_LIMIT {
+    if next.0 == version_limit(edition) {
         return Check::Refused(Refusal::VersionsSpent);
     }
     match check_key(rec, presence) {
@@ -171,27 +171,28 @@ pub fn check_fitting(
     key: Key,
     value: usize,
 ) -> Check
-    requires { ⌜ fitsLent edition1 rec (length (now area)) (length (now index)) ≡ true ⌝ }
+    requires { ⌜ fitsLent (rec .edition) rec (length (now area)) (length (now index)) ≡ true ⌝ }
     ensures { λ r.
         ⌜
         r ≡ checked
         (firstCause
-        (writeCauses edition1 rec
+        (writeCauses (rec .edition) rec
         (record { area = length (now (area .entry)); index = length (now (index .entry)); work = work })
         (record { tables = tables; expected = expected }) key
-        (factsFor edition1 rec (now (area .entry)) (now (index .entry)) key) value))
+        (factsFor (rec .edition) rec (now (area .entry)) (now (index .entry)) key) value))
         ⌝ }
 {
+    let edition = rec.edition;
     match check_first(rec, area.len(), index.len(), work, tables, key) {
         Check::Refused(c) => Check::Refused(c),
         Check::Passed => {
-            if object_kind(value) == 0 {
+            if object_kind(edition, value) == 0 {
                 return Check::Refused(Refusal::ValueLength);
             }
-            let presence = find(rec.size as usize, area, index, key);
+            let presence = find(edition, rec.size as usize, area, index, key);
             match check_expected(expected, presence) {
                 Check::Refused(c) => Check::Refused(c),
-                Check::Passed => check_entry(rec, presence, HEAD_SIZE + value),
+                Check::Passed => check_entry(rec, presence, head_size(edition) + value),
             }
         }
     }
@@ -212,10 +213,10 @@ pub fn check_write(
         ⌜
         r ≡ checked
         (firstCause
-        (writeCauses edition1 rec
+        (writeCauses (rec .edition) rec
         (record { area = length (now (area .entry)); index = length (now (index .entry)); work = work })
         (record { tables = tables; expected = expected }) key
-        (factsFor edition1 rec (now (area .entry)) (now (index .entry)) key) value))
+        (factsFor (rec .edition) rec (now (area .entry)) (now (index .entry)) key) value))
         ⌝ }
 {
     if !fits_lent(rec, area.len(), index.len()) {
@@ -237,26 +238,27 @@ pub fn check_delete(
         ⌜
         r ≡ checked
         (firstCause
-        (deleteCauses edition1 rec
+        (deleteCauses (rec .edition) rec
         (record { area = length (now (area .entry)); index = length (now (index .entry)); work = work })
-        (reaching tables) key (factsFor edition1 rec (now (area .entry)) (now (index .entry)) key)))
+        (reaching tables) key (factsFor (rec .edition) rec (now (area .entry)) (now (index .entry)) key)))
         ⌝ }
 {
+    let edition = rec.edition;
     if !fits_lent(rec, area.len(), index.len()) {
         return Check::Refused(Refusal::BadRecord);
     }
     match check_first(rec, area.len(), index.len(), work, tables, key) {
         Check::Refused(c) => Check::Refused(c),
-        Check::Passed => match find(rec.size as usize, area, index, key) {
+        Check::Passed => match find(edition, rec.size as usize, area, index, key) {
             Presence::Forbidden => Check::Refused(Refusal::BadRecord),
             Presence::Nothing => Check::Refused(Refusal::Absent),
             Presence::Tombstone => Check::Refused(Refusal::Absent),
             Presence::Object(_) => {
                 let next = rec.next;
-                if next.0 == VERSION_LIMIT {
+                if next.0 == version_limit(edition) {
                     return Check::Refused(Refusal::VersionsSpent);
                 }
-                check_number(rec, HEAD_SIZE)
+                check_number(rec, head_size(edition))
             }
         },
     }

@@ -4,8 +4,8 @@ use crate::causes::fits_head;
 use record::Pending;
 use record::Record;
 use segment::Key;
-use segment::layout::DIGEST_SIZE;
-use segment::layout::HEAD_SIZE;
+use segment::layout::digest_size;
+use segment::layout::head_size;
 use segment::writer::write_digest;
 use segment::writer::write_entry;
 use slot_map::next_free;
@@ -18,7 +18,7 @@ ghost use mathlib.Core.Bool.{true, false};
 ghost use mathlib.Core.Option.{some};
 ghost use lib.Dec.{leb};
 ghost use lib.ListN.{length};
-ghost use Rattle.segment.specs.Layout.{edition1, valueLength, entrySize};
+ghost use Rattle.segment.specs.Layout.{valueLength, entrySize};
 ghost use Rattle.segment.specs.Written.{entryOf};
 ghost use Rattle.model.specs.Operations.{laidAppend, laidHead, laidEntry};
 ghost use Rattle.starting.specs.Answer.{startedWith};
@@ -27,18 +27,19 @@ ghost use Rattle.writing.specs.Laying.{laidBegun, EntryReady};
 
 // An entry that goes to the end of the head.
 fn lay_append(rec: Record, work: &mut [u8], kind: u8, key: Key, value: &[u8]) -> Laying
-    requires { ⌜ EntryReady edition1 rec (length (now value)) (length (now work)) ⌝ }
-    requires { ⌜ leb (rec .end + entrySize edition1 (length (now value))) (rec .size) ≡ true ⌝ }
-    requires { ⌜ valueLength edition1 kind ≡ some (length (now value)) ⌝ }
+    requires { ⌜ EntryReady (rec .edition) rec (length (now value)) (length (now work)) ⌝ }
+    requires { ⌜ leb (rec .end + entrySize (rec .edition) (length (now value))) (rec .size) ≡ true ⌝ }
+    requires { ⌜ valueLength (rec .edition) kind ≡ some (length (now value)) ⌝ }
     ensures { λ r.
         ⌜
         record { start = startedWith rec (r .pending) (r .left); work = now (work .exit) }
-        ≡ laidBegun rec (laidAppend edition1 (entryOf edition1 kind key (rec .next) (now (value .entry)))) (now (work .entry))
+        ≡ laidBegun rec (laidAppend (rec .edition) (entryOf (rec .edition) kind key (rec .next) (now (value .entry)))) (now (work .entry))
         ⌝ }
 {
-    let count = HEAD_SIZE + value.len();
+    let edition = rec.edition;
+    let count = head_size(edition) + value.len();
     let next = rec.next;
-    write_entry(work, 0, kind, key, next, value);
+    write_entry(edition, work, 0, kind, key, next, value);
     let left = commit_stores(rec.size as usize, rec.end as usize, count) as u32;
     let length = count as u32;
     Laying {
@@ -49,20 +50,22 @@ fn lay_append(rec: Record, work: &mut [u8], kind: u8, key: Key, value: &[u8]) ->
 
 // An entry that goes to a new head, behind its digest.
 fn lay_head(rec: Record, work: &mut [u8], kind: u8, key: Key, value: &[u8]) -> Laying
-    requires { ⌜ EntryReady edition1 rec (length (now value)) (length (now work)) ⌝ }
+    requires { ⌜ EntryReady (rec .edition) rec (length (now value)) (length (now work)) ⌝ }
     requires { ⌜ NumberLeft rec ⌝ }
-    requires { ⌜ valueLength edition1 kind ≡ some (length (now value)) ⌝ }
+    requires { ⌜ valueLength (rec .edition) kind ≡ some (length (now value)) ⌝ }
     ensures { λ r.
         ⌜
         record { start = startedWith rec (r .pending) (r .left); work = now (work .exit) }
-        ≡ laidBegun rec (laidHead edition1 rec (entryOf edition1 kind key (rec .next) (now (value .entry)))) (now (work .entry))
+        ≡ laidBegun rec (laidHead (rec .edition) rec (entryOf (rec .edition) kind key (rec .next) (now (value .entry)))) (now (work .entry))
         ⌝ }
 {
-    let count = DIGEST_SIZE + (HEAD_SIZE + value.len());
+    let edition = rec.edition;
+    let start = digest_size(edition);
+    let count = start + (head_size(edition) + value.len());
     let next = rec.next;
     let slot = next_free(rec.slots, rec.map, rec.head);
-    write_digest(work, 0, new_digest(rec, 0, slot, next));
-    write_entry(work, DIGEST_SIZE, kind, key, next, value);
+    write_digest(edition, work, 0, new_digest(rec, 0, slot, next));
+    write_entry(edition, work, start, kind, key, next, value);
     let left = head_stores(rec.size as usize, count) as u32;
     let length = count as u32;
     Laying {
@@ -73,16 +76,17 @@ fn lay_head(rec: Record, work: &mut [u8], kind: u8, key: Key, value: &[u8]) -> L
 
 // An entry is appended to the head if it fits, else it comes to a new head.
 pub fn lay_entry(rec: Record, work: &mut [u8], kind: u8, key: Key, value: &[u8]) -> Laying
-    requires { ⌜ EntryReady edition1 rec (length (now value)) (length (now work)) ⌝ }
-    requires { ⌜ (leb (rec .end + entrySize edition1 (length (now value))) (rec .size) ≡ false → NumberLeft rec) ⌝ }
-    requires { ⌜ valueLength edition1 kind ≡ some (length (now value)) ⌝ }
+    requires { ⌜ EntryReady (rec .edition) rec (length (now value)) (length (now work)) ⌝ }
+    requires { ⌜ (leb (rec .end + entrySize (rec .edition) (length (now value))) (rec .size) ≡ false → NumberLeft rec) ⌝ }
+    requires { ⌜ valueLength (rec .edition) kind ≡ some (length (now value)) ⌝ }
     ensures { λ r.
         ⌜
         record { start = startedWith rec (r .pending) (r .left); work = now (work .exit) }
-        ≡ laidBegun rec (laidEntry edition1 rec (entryOf edition1 kind key (rec .next) (now (value .entry)))) (now (work .entry))
+        ≡ laidBegun rec (laidEntry (rec .edition) rec (entryOf (rec .edition) kind key (rec .next) (now (value .entry)))) (now (work .entry))
         ⌝ }
 {
-    if fits_head(rec, HEAD_SIZE + value.len()) {
+    let edition = rec.edition;
+    if fits_head(rec, head_size(edition) + value.len()) {
         return lay_append(rec, work, kind, key, value);
     }
     lay_head(rec, work, kind, key, value)

@@ -10,7 +10,6 @@ use segment::layout::object_kind;
 use starting::Check;
 use starting::answer::refused;
 use starting::answer::started;
-ghost use Rattle.segment.specs.Layout.{edition1};
 ghost use Rattle.model.specs.Operations.{write};
 ghost use Rattle.model.specs.Refused.{reaching};
 ghost use Rattle.model.specs.Promises.{StartPromise};
@@ -28,10 +27,11 @@ pub fn write_expecting(
 ) -> Start
     ensures { λ r.
         ⌜
-        StartPromise edition1 (record { tables = tables; expected = expected }) (write key (now (value .entry))) rec
+        StartPromise (rec .edition) (record { tables = tables; expected = expected }) (write key (now (value .entry))) rec
         (now (area .entry)) (now (index .entry)) (now (work .entry)) (now (work .exit)) r
         ⌝ }
 {
+    let edition = rec.edition;
     match check_write(
         rec,
         area,
@@ -44,7 +44,7 @@ pub fn write_expecting(
     ) {
         Check::Refused(c) => refused(rec, c),
         Check::Passed => {
-            let laying = lay_entry(rec, work, object_kind(value.len()), key, value);
+            let laying = lay_entry(rec, work, object_kind(edition, value.len()), key, value);
             let pending = laying.pending;
             started(rec, pending, laying.left)
         }
@@ -63,7 +63,7 @@ pub fn write(
 ) -> Start
     ensures { λ r.
         ⌜
-        StartPromise edition1 (reaching tables) (write key (now (value .entry))) rec (now (area .entry)) (now (index .entry))
+        StartPromise (rec .edition) (reaching tables) (write key (now (value .entry))) rec (now (area .entry)) (now (index .entry))
         (now (work .entry)) (now (work .exit)) r
         ⌝ }
 {

@@ -6,7 +6,6 @@ use native.Mathlib.Omega.{arith}
 use Prim.Native.Nat.{ℕ}
 use denote.Ref.{now}
 use lib.ListN.{set}
-use Rattle.segment.specs.Layout.{edition1}
 use Rattle.counting.specs.Counting.{segmentBytes, renewedAt}
 use Rattle.counting.specs.CountingLaws.{segment-short}
 use Rattle.counting.proofs.renew.Statement.{statement}
@@ -22,7 +21,7 @@ unfolding renewedAt
 returns c =
     let d = c .before .before .before .before .before .before .before .before in
     ap₂ (λ (l : List ℕ) (n : ℕ). set l (d .args .slot) n) (c .before .before .before .before .clear .ensures)
-    (c .bytes-in .ensures .0 ∙ ap (segmentBytes edition1) (c .before .cut .ensures))
+    (c .bytes-in .ensures .0 ∙ ap (segmentBytes _) (c .before .cut .ensures))
 
 pub renew-spec : {M : Type 1} → statement M
 renew-spec =

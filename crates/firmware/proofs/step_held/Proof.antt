@@ -44,7 +44,6 @@ use denote.Triple.Clauses.{ensured, lasts}
 use denote.Triple.Table.{entered, cited}
 use denote.Triple.Walked.{says, Stays, gave-slice, stay-dropped, walkOf, AllGo, goes-gave-slice, goes-dropped, Walks, ends-at, walked, walk-meets}
 use denote.Exit.{yes}
-use Rattle.segment.specs.Layout.{edition1}
 use Rattle.model.specs.Promises.{StepPromise}
 use Rattle.record.specs.declared.Record.{Record}
 use Rattle.stepping.specs.Tested.{StepTested}
@@ -152,7 +151,7 @@ module _ {M : Type 1} (𝓤 : URA M) (H : Heap 𝓤) (A : Atoms 𝓤) (W : Given
 
   abbrev Promised : Stepped → List ℕ → List ℕ → Type 0
   Promised r ys zs =
-      StepPromise edition1 h (area .now) ys (index .now) zs (work .now) r × StepTested edition1 h (area .now) ys (index .now) zs (work .now) r
+      StepPromise (h .edition) h (area .now) ys (index .now) zs (work .now) r × StepTested (h .edition) h (area .now) ys (index .now) zs (work .now) r
 
   abbrev Post : Val → SProp 𝓤
   Post = walkOf 𝓤 H A step-held.ended stayed (step-held.clauses 𝓤 H A at-mem run) .post (((κ₁, (κ₂, (κ₃, tt))), (q₁, (q₂, (q₃, tt))), tt, a, at), tt)

@@ -4,8 +4,7 @@ use Prim.Native.Nat.{_<_}
 use mathlib.Core.Path.{_≡_, sym, _∙_}
 use native.Mathlib.Omega.{arith}
 use borrow.Author.Tests.{not-false}
-use Rattle.segment.specs.Layout.{edition1}
-use Rattle.laws.specs.OperationsKept.{edition1-roomy}
+use Rattle.laws.specs.OperationsKept.{edition-roomy}
 use Rattle.starting.specs.declared.Check.{Check}
 use Rattle.writing.specs.StartLaws.{write-ready, write-number, write-known}
 use Rattle.words.specs.Words.{word}
@@ -39,15 +38,14 @@ passed : (e : tie.After-enum-told)
 passed e = sym (e .enum-told .given .1) ∙ e .before .before .check-fitting .ensures
 
 lay-entry-requires : tie.Need-lay-entry-requires
-unfolding edition1
 lay-entry-requires c κs =
     let e = c .before .before in
     let f = e .before .before .before in
     let a = e .before .before .before .before .before .before .before .before .before .before .before .before .before .args in (
-      write-ready edition1 (record { tables = a .tables; expected = a .expected }) (f .front-in .result) (a .area .now) (a .index .now) (a .work .now) (a .key) (a .value .now) (passed e) edition1-roomy,
+      write-ready _ (record { tables = a .tables; expected = a .expected }) (f .front-in .result) (a .area .now) (a .index .now) (a .work .now) (a .key) (a .value .now) (passed e) (edition-roomy _),
       (
-        write-number edition1 (record { tables = a .tables; expected = a .expected }) (f .front-in .result) (a .area .now) (a .index .now) (a .work .now) (a .key) (a .value .now) (passed e),
-        write-known edition1 (record { tables = a .tables; expected = a .expected }) (f .front-in .result) (a .area .now) (a .index .now) (a .work .now) (a .key) (a .value .now) (passed e) _ (c .object-kind .ensures),
+        write-number _ (record { tables = a .tables; expected = a .expected }) (f .front-in .result) (a .area .now) (a .index .now) (a .work .now) (a .key) (a .value .now) (passed e),
+        write-known _ (record { tables = a .tables; expected = a .expected }) (f .front-in .result) (a .area .now) (a .index .now) (a .work .now) (a .key) (a .value .now) (passed e) _ (c .object-kind .ensures),
       ),
     )
 
@@ -65,7 +63,6 @@ returns-2 c =
     write-turned (record { tables = a .tables; expected = a .expected }) (a .words .now) (a .area .now) (a .index .now) (a .work .now) (a .key) (a .value .now) (half (t .before .before .before .before .before .before .before)) _ (t .before .fits2 .ensures) (t .if1 .left) (f .front-in .ensures) _ (sym (e .cause .given .1) ∙ e .before .before .check-fitting .ensures) (c .number .ensures)
 
 returns-3 : tie.Need-returns-3
-unfolding edition1
 returns-3 c =
     let l = c .before .before .before .before .before .before in
     let o = l .before in

@@ -2,7 +2,6 @@
 use mathlib.Core.Path.{refl}
 use native.Mathlib.Omega.{arith}
 use Rattle.word.specs.Number.{Bytes}
-use Rattle.segment.specs.Layout.{edition1}
 use Rattle.report.specs.PutLaws.{within-same, within-more}
 use Rattle.report.specs.Recovered.{text-refused, text-recovered, recovered-ready}
 use borrow.Author.Needs.{needs}
@@ -32,7 +31,7 @@ slice-aggregate-put-listing c = search needs
 
 put-listing-requires : tie.Need-put-listing-requires
 put-listing-requires c κs = (
-  recovered-ready edition1 _ _ _ _ _ _ refl (c .before .before .before .before .before .before .recover-area .ensures) (c .before .before .enum-told .given .1) (bytes (c .before .before .before .before .before .before .before .before .before)),
+  recovered-ready _ _ _ _ _ _ refl (c .before .before .before .before .before .before .recover-area .ensures) (c .before .before .enum-told .given .1) (bytes (c .before .before .before .before .before .before .before .before .before)),
   c .before .before .before .before .before .before .before .before .before .before .pre,
 )
 
@@ -42,13 +41,13 @@ same-length c = search needs
 returns : tie.Need-returns
 returns c =
     within-more (omega arith)
-    (within-same (text-refused edition1 _ _ _ _ _ _ refl (c .before .before .before .before .before .before .before .before .before .recover-area .ensures) _ (c .before .before .before .before .before .answer .given .1)) (c .before .before .put-refused .ensures))
+    (within-same (text-refused _ _ _ _ _ _ refl (c .before .before .before .before .before .before .before .before .before .recover-area .ensures) _ (c .before .before .before .before .before .answer .given .1)) (c .before .before .put-refused .ensures))
 
 same-length-2 : tie.Need-same-length-2
 same-length-2 c = search needs
 
 returns-2 : tie.Need-returns-2
-returns-2 c = within-same (text-recovered edition1 _ _ _ _ _ _ refl (c .before .before .before .before .before .before .before .before .before .recover-area .ensures) (c .before .before .before .before .before .enum-told .given .1)) (c .before .before .put-listing .ensures)
+returns-2 c = within-same (text-recovered _ _ _ _ _ _ refl (c .before .before .before .before .before .before .before .before .before .recover-area .ensures) (c .before .before .before .before .before .enum-told .given .1)) (c .before .before .put-listing .ensures)
 
 pub put-area-spec : {M : Type 1} → statement M
 put-area-spec =

@@ -1,7 +1,6 @@
 -- `words::front_fits` meets its contract.
 use mathlib.Core.Path.{sym, _∙_}
 use native.Mathlib.Omega.{arith}
-use Rattle.segment.specs.Layout.{edition1}
 use Rattle.record.specs.RangeLaws.{numbers-limits, ends, goes}
 use borrow.Author.Needs.{needs}
 use Rattle.words.proofs.front_fits.Statement.{statement}
@@ -11,7 +10,7 @@ numbers-good-requires : tie.Need-numbers-good-requires
 numbers-good-requires c κs = search needs
 
 left-fits-requires : tie.Need-left-fits-requires
-left-fits-requires c κs = omega (arith, numbers-limits edition1 _ (sym (c .before .numbers-good .ensures) ∙ c .if1 .taken))
+left-fits-requires c κs = omega (arith, numbers-limits _ _ (sym (c .before .numbers-good .ensures) ∙ c .if1 .taken))
 
 returns : tie.Need-returns
 returns c = goes _ (c .before .before .numbers-good .ensures) (c .before .if1 .taken) (c .left-fits .ensures)

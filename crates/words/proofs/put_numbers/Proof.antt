@@ -51,7 +51,7 @@ same-length : tie.Need-same-length
 same-length c = simp length-set (omega arith)
 
 returns : tie.Need-returns
-returns c = search needs
+returns c = rw (c .edition-number .ensures)
 
 pub put-numbers-spec : {M : Type 1} → statement M
 put-numbers-spec =
@@ -69,6 +69,7 @@ put-numbers-spec =
     cast-words-2
     slice-write-words-9
     slice-write-words-10
+    (λ c κs. search needs)
     slice-write-words-11
     slice-write-words-12
     same-length

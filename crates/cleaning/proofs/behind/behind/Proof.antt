@@ -4,11 +4,15 @@ use borrow.Author.Needs.{needs}
 use Rattle.cleaning.proofs.behind.behind.Statement.{statement}
 use Rattle.cleaning.proofs.behind.behind.Tie as tie
 
+head-size-requires : tie.Need-head-size-requires
+head-size-requires c κs = search needs
+
+-- a tombstone is as long as the bytes before a value
 add-result : tie.Need-add-result
-add-result c = search needs
+add-result c = let t = c .before in omega (arith, c .head-size .ensures, t .before .pre .0, t .before .pre .1 (t .if1 .taken))
 
 returns : tie.Need-returns
-returns c = omega (arith, c .before .pre .1 (c .if1 .taken))
+returns c = let t = c .before in omega (arith, c .head-size .ensures, t .before .pre .1 (t .if1 .taken))
 
 add-result-2 : tie.Need-add-result-2
 add-result-2 c = search needs
@@ -44,6 +48,7 @@ pub behind-spec : {M : Type 1} → statement M
 behind-spec =
     tie.close
     (tie.spec
+    head-size-requires
     add-result
     returns
     add-result-2

@@ -6,7 +6,6 @@ use lib.ListN.{length, length-replicate}
 use denote.Ref.{now}
 use borrow.Author.Needs.{needs}
 use Rattle.word.specs.Number.{Bytes}
-use Rattle.segment.specs.Layout.{edition1}
 use Rattle.cleaning.specs.FilterLaws.{length-needed}
 use Rattle.cleaning.specs.CleanLaws.{front-refused, front-shape, front-fits, marked-promise}
 use Rattle.cleaning.proofs.clean.clean.Statement.{statement}
@@ -38,7 +37,7 @@ mark-needed-requires c κs =
     let t = c .before .before in
     let k = t .before .before in
     let a = k .before .before .before .before .args in
-    front-shape edition1 (now (a .area)) (now (a .index)) (a .rec) (a .victims) (now (a .work)) (sym (t .enum-told .given .1) ∙ k .check-victims .ensures)
+    front-shape _ (now (a .area)) (now (a .index)) (a .rec) (a .victims) (now (a .work)) (sym (t .enum-told .given .1) ∙ k .check-victims .ensures)
     _ _ (c .before .split-of .ensures) (length-replicate {A = ℕ} 128 0)
 
 slice-aggregate-clean-marked : tie.Need-slice-aggregate-clean-marked
@@ -51,13 +50,13 @@ clean-marked-requires c κs =
     let t = s .before in
     let k = t .before .before in
     let a = k .before .before .before .before .args in
-    front-fits edition1 (now (a .area)) (now (a .index)) (a .rec) (a .victims) (now (a .work)) (sym (t .enum-told .given .1) ∙ k .check-victims .ensures)
-    _ _ (s .split-of .ensures) (ap length (m .mark-needed .ensures) ∙ length-needed edition1 _ _ _ 128 _ (length-replicate {A = ℕ} 128 0))
+    front-fits _ (now (a .area)) (now (a .index)) (a .rec) (a .victims) (now (a .work)) (sym (t .enum-told .given .1) ∙ k .check-victims .ensures)
+    _ _ (s .split-of .ensures) (ap length (m .mark-needed .ensures) ∙ length-needed _ _ _ _ 128 _ (length-replicate {A = ℕ} 128 0))
 
 returns : tie.Need-returns
 returns c =
     let k = c .before .before .before .before in
-    front-refused edition1 _ _ _ _ _ (bytes (k .before .before .before)) _ (sym (c .before .before .c .given .1) ∙ k .check-victims .ensures) _ (c .refused .ensures)
+    front-refused _ _ _ _ _ _ (bytes (k .before .before .before)) _ (sym (c .before .before .c .given .1) ∙ k .check-victims .ensures) _ (c .refused .ensures)
 
 same-length : tie.Need-same-length
 same-length c = search needs
@@ -69,7 +68,7 @@ returns-2 c =
     let t = s .before in
     let k = t .before .before in
     let a = k .before .before .before .before .args in
-    marked-promise edition1 (now (a .area)) (now (a .index)) (a .rec) (a .victims) (now (a .work)) (sym (t .enum-told .given .1) ∙ k .check-victims .ensures)
+    marked-promise _ (now (a .area)) (now (a .index)) (a .rec) (a .victims) (now (a .work)) (sym (t .enum-told .given .1) ∙ k .check-victims .ensures)
     (bytes (k .before .before .before)) _ _ (s .split-of .ensures) (m .mark-needed .ensures) _ _ (c .before .before .clean-marked .ensures)
 
 pub clean-spec : {M : Type 1} → statement M

@@ -7,7 +7,7 @@ use native.Mathlib.Omega.{arith}
 use lib.ListN.{length, length-replicate}
 use denote.Ref.{now}
 use borrow.Author.Needs.{needs}
-use Rattle.segment.specs.Layout.{edition1}
+use Rattle.segment.specs.LayoutLaws.{width-low, width-high}
 use Rattle.cleaning.specs.Kept.{keptTest, keptBytes}
 use Rattle.cleaning.specs.Chosen.{chosenBytes}
 use Rattle.cleaning.specs.ChosenLaws.{length-choices, chosen-kept}
@@ -19,14 +19,15 @@ use Rattle.cleaning.proofs.clean.clean_marked.Tie as tie
 -- what is chosen is what is kept
 same : (c : tie.After-measure)
     → let a = c .before .before .before .before .before .before .args in
-    chosenBytes edition1 (now (a .area)) (c .measure .last .1 .1 .1 .0) (a .split)
-    ≡ keptBytes edition1 (now (a .area)) (now (a .index)) (now (a .marks)) (a .split)
-unfolding edition1
+    chosenBytes (a .rec .edition) (now (a .area)) (c .measure .last .1 .1 .1 .1 .0) (a .split)
+    ≡ keptBytes (a .rec .edition) (now (a .area)) (now (a .index)) (now (a .marks)) (a .split)
 same c =
     let s = c .before .before .before .before .before .before in
     let a = s .args in
-    ap (λ (l : List ℕ). chosenBytes edition1 (now (a .area)) l (a .split)) (c .measure .ensures .2)
-    ∙ chosen-kept edition1 (omega arith) (omega arith) (now (a .area)) (now (a .index)) (now (a .marks)) (a .split) (s .pre .shape .slots)
+    let low = width-low (a .rec .edition) in
+    let high = width-high (a .rec .edition) in
+    ap (λ (l : List ℕ). chosenBytes (a .rec .edition) (now (a .area)) l (a .split)) (c .measure .ensures .2)
+    ∙ chosen-kept (a .rec .edition) (omega (arith, low)) (omega (arith, high)) (now (a .area)) (now (a .index)) (now (a .marks)) (a .split) (s .pre .shape .slots)
 
 slice-aggregate-measure : tie.Need-slice-aggregate-measure
 slice-aggregate-measure c = search needs
@@ -59,14 +60,14 @@ begin-requires c κs =
       ready (s .pre) (now (a .index)) _ (m .measure .ensures .0) passed,
       room (s .pre) (now (a .index)) _ (m .measure .ensures .0) passed _
           (ap length (m .measure .ensures .2)
-          ∙ length-choices edition1 (keptTest edition1 (now (a .area)) (now (a .index)) (now (a .marks))) _ _ 256 _ _ (length-replicate {A = ℕ} 256 0))
+          ∙ length-choices (a .rec .edition) (keptTest (a .rec .edition) (now (a .area)) (now (a .index)) (now (a .marks))) _ _ 256 _ _ (length-replicate {A = ℕ} 256 0))
           (same m),
     )
 
 returns : tie.Need-returns
 returns c =
     let k = c .before .before .before .before in
-    marked-refused edition1 _ _ _ _ _ (k .before .before .measure .ensures .0) _ (sym (c .before .before .c .given .1) ∙ k .check-kept .ensures) _ (c .refused .ensures)
+    marked-refused _ _ _ _ _ _ (k .before .before .measure .ensures .0) _ (sym (c .before .before .c .given .1) ∙ k .check-kept .ensures) _ (c .refused .ensures)
 
 same-length : tie.Need-same-length
 same-length c = search needs
@@ -78,8 +79,8 @@ returns-2 c =
     let k = t .before .before in
     let m = b .before .before .before .before .before .before .before in
     let a = m .before .before .before .before .before .before .args in
-    marked-begun edition1 _ _ _ _ _ (m .measure .ensures .0) (sym (t .enum-told .given .1) ∙ k .check-kept .ensures)
-    (b .begin .ensures ∙ ap (λ (l : List ℕ). begunWith edition1 (a .rec) (a .victims) (now (a .work)) l none) (same m))
+    marked-begun _ _ _ _ _ _ (m .measure .ensures .0) (sym (t .enum-told .given .1) ∙ k .check-kept .ensures)
+    (b .begin .ensures ∙ ap (λ (l : List ℕ). begunWith (a .rec .edition) (a .rec) (a .victims) (now (a .work)) l none) (same m))
 
 pub clean-marked-spec : {M : Type 1} → statement M
 clean-marked-spec =

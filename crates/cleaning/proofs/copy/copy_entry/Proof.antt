@@ -3,7 +3,6 @@ use mathlib.Core.Path.{sym, _∙_}
 use lib.ListN.{length}
 use denote.Ref.{now}
 use borrow.Author.Needs.{needs}
-use Rattle.segment.specs.Layout.{edition1}
 use borrow.Author.Tests.{not-true, not-false}
 use Rattle.cleaning.specs.KeptLaws.{entry-dropped, entry-kept}
 use Rattle.cleaning.specs.Copied.{copied-none, copied-part, part-room}
@@ -15,7 +14,7 @@ is-kept-requires : tie.Need-is-kept-requires
 is-kept-requires c κs = search needs
 
 returns : tie.Need-returns
-returns c = copied-none _ _ _ (entry-dropped edition1 _ _ _ (c .before .before .before .before .before .before .args .header) _ (sym (c .before .is-kept .ensures) ∙ not-true _ (c .if1 .taken)))
+returns c = copied-none _ _ _ (entry-dropped _ _ _ _ (c .before .before .before .before .before .before .args .header) _ (sym (c .before .is-kept .ensures) ∙ not-true _ (c .if1 .taken)))
 
 add-end : tie.Need-add-end
 add-end c = search needs
@@ -34,8 +33,8 @@ copy-into-requires c κs =
     let s = c .before .before .before .before .before .before .before .before .before in
     let a = s .args in
     part-room (now (a .area)) (a .to) (a .place) (a .header .length) (length (now (a .work)))
-    (keptEntry edition1 (now (a .area)) (now (a .cells)) (now (a .marks)) (a .header) (a .place))
-    (entry-kept edition1 (now (a .area)) (now (a .cells)) (now (a .marks)) (a .header) (a .place) (sym (c .before .before .before .before .is-kept .ensures) ∙ not-false _ (c .before .before .before .if1 .left)))
+    (keptEntry _ (now (a .area)) (now (a .cells)) (now (a .marks)) (a .header) (a .place))
+    (entry-kept _ (now (a .area)) (now (a .cells)) (now (a .marks)) (a .header) (a .place) (sym (c .before .before .before .before .is-kept .ensures) ∙ not-false _ (c .before .before .before .if1 .left)))
     (s .pre .1 .1 .1)
 
 add-result : tie.Need-add-result
@@ -48,7 +47,7 @@ returns-2 : tie.Need-returns-2
 returns-2 c =
     let s = c .before .before .before .before .before .before .before .before .before .before .before .before .before in
     copied-part _ _ _ _ _ _ _ (s .pre .1 .0)
-    (entry-kept edition1 _ _ _ (s .args .header) _ (sym (c .before .before .before .before .before .before .before .before .is-kept .ensures) ∙ not-false _ (c .before .before .before .before .before .before .before .if1 .left)))
+    (entry-kept _ _ _ _ (s .args .header) _ (sym (c .before .before .before .before .before .before .before .before .is-kept .ensures) ∙ not-false _ (c .before .before .before .before .before .before .before .if1 .left)))
     (c .before .before .before .copy-into .ensures)
 
 pub copy-entry-spec : {M : Type 1} → statement M

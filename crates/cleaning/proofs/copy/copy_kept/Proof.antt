@@ -4,7 +4,6 @@ use mathlib.Core.Path.{_≡_, sym, ap}
 use native.Mathlib.Omega.{arith}
 use lib.ListN.{length}
 use denote.Ref.{now}
-use Rattle.segment.specs.Layout.{edition1}
 use Rattle.cleaning.specs.Chosen.{chosenBelow}
 use Rattle.cleaning.specs.ChosenLaws.{chosen-none, chosen-more, chosen-room}
 use Rattle.cleaning.specs.Copied.{Copied, copied-none, copied-as, copied-then, copied-long}
@@ -12,13 +11,13 @@ use Rattle.cleaning.proofs.copy.copy_kept.Statement.{statement}
 use Rattle.cleaning.proofs.copy.copy_kept.Tie as tie
 
 abbrev Inv-loop : tie.InvT-loop
-Inv-loop area chosen split work₀ from to₀ i₀ work to i = (i ≤ split .slots) × Copied (chosenBelow edition1 area chosen split i) work₀ from work to
+Inv-loop edition area chosen split work₀ from to₀ i₀ work to i = (i ≤ split .slots) × Copied (chosenBelow edition area chosen split i) work₀ from work to
 
 abbrev μ-loop : tie.MeasureT-loop
-μ-loop area chosen split work₀ from to₀ i₀ work to i = split .slots - i
+μ-loop edition area chosen split work₀ from to₀ i₀ work to i = split .slots - i
 
 loop-holds : tie.Need-loop-holds Inv-loop μ-loop
-loop-holds c = (omega arith, copied-none _ _ _ (chosen-none edition1 _ _ _))
+loop-holds c = (omega arith, copied-none _ _ _ (chosen-none _ _ _ _))
 
 copy-victim-requires : tie.Need-copy-victim-requires Inv-loop μ-loop
 copy-victim-requires c κs =
@@ -32,7 +31,7 @@ copy-victim-requires c κs =
           arith,
           l .inv .1 .behind,
           copied-long (l .inv .1),
-          chosen-room edition1 (now (a .area)) (now (a .chosen)) (a .split) (a .from) (length (now (a .work))) (l .i) (a .split .slots) (c .before .if1 .taken) (s .pre .1),
+          chosen-room _ (now (a .area)) (now (a .chosen)) (a .split) (a .from) (length (now (a .work))) (l .i) (a .split .slots) (c .before .if1 .taken) (s .pre .1),
         ),
       ),
     )
@@ -44,7 +43,7 @@ loop-less : tie.Need-loop-less Inv-loop μ-loop
 loop-less c = omega arith
 
 loop-again : tie.Need-loop-again Inv-loop μ-loop
-loop-again c = (omega arith, copied-as (sym (chosen-more edition1 _ _ _ _)) (copied-then (c .before .before .before .before .before .before .loop .inv .1) (c .before .before .copy-victim .ensures)))
+loop-again c = (omega arith, copied-as (sym (chosen-more _ _ _ _ _)) (copied-then (c .before .before .before .before .before .before .loop .inv .1) (c .before .before .copy-victim .ensures)))
 
 same-length : tie.Need-same-length Inv-loop μ-loop
 same-length c = copied-long (c .before .before .loop .inv .1)
@@ -53,7 +52,7 @@ returns : tie.Need-returns Inv-loop μ-loop
 returns c =
     let a = c .before .before .before .before .before .before .args in
     let e : c .before .before .loop .i ≡ a .split .slots = omega arith in
-    copied-as (ap (chosenBelow edition1 (now (a .area)) (now (a .chosen)) (a .split)) e) (c .before .before .loop .inv .1)
+    copied-as (ap (chosenBelow _ (now (a .area)) (now (a .chosen)) (a .split)) e) (c .before .before .loop .inv .1)
 
 pub copy-kept-spec : {M : Type 1} → statement M
 copy-kept-spec =

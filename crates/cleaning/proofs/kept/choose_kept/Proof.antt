@@ -3,7 +3,6 @@ use mathlib.Core.Path.{sym, _∙_}
 use denote.Ref.{now}
 use borrow.Author.Needs.{needs}
 use borrow.Author.Tests.{not-true, not-false}
-use Rattle.segment.specs.Layout.{edition1}
 use Rattle.cleaning.specs.Kept.{keptTest}
 use Rattle.cleaning.specs.KeptLaws.{length-kept, length-dropped}
 use Rattle.cleaning.specs.ChosenLaws.{entry-chosen, entry-left}
@@ -17,8 +16,8 @@ returns : tie.Need-returns
 returns c =
     let a = c .before .before .before .before .before .before .args in
     let dropped = sym (c .before .is-kept .ensures) ∙ not-true _ (c .if1 .taken) in (
-      length-dropped edition1 _ _ _ (a .header) _ dropped,
-      entry-left (keptTest edition1 (now (a .area)) (now (a .cells)) (now (a .marks))) _ (a .header) _ dropped,
+      length-dropped _ _ _ _ (a .header) _ dropped,
+      entry-left (keptTest _ (now (a .area)) (now (a .cells)) (now (a .marks))) _ (a .header) _ dropped,
     )
 
 choose-requires : tie.Need-choose-requires
@@ -33,8 +32,8 @@ returns-2 c =
     let s = t .before .before .before .before .before .before in
     let a = s .args in
     let kept = sym (t .before .is-kept .ensures) ∙ not-false _ (t .if1 .left) in (
-      length-kept edition1 _ _ _ (a .header) _ (s .pre .1 .0) kept,
-      entry-chosen (keptTest edition1 (now (a .area)) (now (a .cells)) (now (a .marks))) _ (a .header) _ kept (c .before .before .choose .ensures),
+      length-kept _ _ _ _ (a .header) _ (s .pre .1 .0) kept,
+      entry-chosen (keptTest _ (now (a .area)) (now (a .cells)) (now (a .marks))) _ (a .header) _ kept (c .before .before .choose .ensures),
     )
 
 pub choose-kept-spec : {M : Type 1} → statement M

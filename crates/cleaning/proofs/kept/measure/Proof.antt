@@ -4,7 +4,6 @@ use mathlib.Core.Path.{_≡_, refl, sym, _∙_, ap}
 use native.Mathlib.Omega.{arith}
 use lib.ListN.{length}
 use denote.Ref.{now}
-use Rattle.segment.specs.Layout.{edition1}
 use Rattle.cleaning.specs.Kept.{keptTest, keptBelow}
 use Rattle.cleaning.specs.KeptLaws.{below-none, below-length}
 use Rattle.cleaning.specs.Chosen.{chooseBelow}
@@ -13,17 +12,17 @@ use Rattle.cleaning.proofs.kept.measure.Statement.{statement}
 use Rattle.cleaning.proofs.kept.measure.Tie as tie
 
 abbrev Inv-loop : tie.InvT-loop
-Inv-loop area cells marks chosen₀ split total₀ i₀ chosen total i =
+Inv-loop edition area cells marks chosen₀ split total₀ i₀ chosen total i =
     (i ≤ split .slots)
-    × (total ≡ length (keptBelow edition1 area cells marks split i))
+    × (total ≡ length (keptBelow edition area cells marks split i))
     × (total ≤ 2048 * i)
-    × (chosen ≡ chooseBelow edition1 (keptTest edition1 area cells marks) area split chosen₀ i)
+    × (chosen ≡ chooseBelow edition (keptTest edition area cells marks) area split chosen₀ i)
 
 abbrev μ-loop : tie.MeasureT-loop
-μ-loop area cells marks chosen₀ split total₀ i₀ chosen total i = split .slots - i
+μ-loop edition area cells marks chosen₀ split total₀ i₀ chosen total i = split .slots - i
 
 loop-holds : tie.Need-loop-holds Inv-loop μ-loop
-loop-holds c = (omega arith, sym (ap length (below-none edition1 _ _ _ _)), omega arith, choice-none edition1 (keptTest edition1 _ _ _) _ _ _)
+loop-holds c = (omega arith, sym (ap length (below-none _ _ _ _ _)), omega arith, choice-none _ (keptTest _ _ _ _) _ _ _)
 
 measure-victim-requires : tie.Need-measure-victim-requires Inv-loop μ-loop
 measure-victim-requires c κs =
@@ -33,7 +32,7 @@ measure-victim-requires c κs =
       (
         s .pre .0,
         ap length (l .inv .3)
-            ∙ length-choices edition1 (keptTest edition1 (now (a .area)) (now (a .cells)) (now (a .marks))) _ _ 256 _ _ (s .pre .1),
+            ∙ length-choices _ (keptTest _ (now (a .area)) (now (a .cells)) (now (a .marks))) _ _ 256 _ _ (s .pre .1),
       ),
       c .before .if1 .taken,
     )
@@ -56,16 +55,16 @@ loop-again c =
     let l = m .before .before .before .before .loop in
     let a = m .before .before .before .before .before .before .before .before .before .args in (
       omega arith,
-      omega (arith, l .inv .1, m .measure-victim .ensures .0, below-length edition1 (now (a .area)) (now (a .cells)) (now (a .marks)) (a .split) (l .i)),
+      omega (arith, l .inv .1, m .measure-victim .ensures .0, below-length (a .edition) (now (a .area)) (now (a .cells)) (now (a .marks)) (a .split) (l .i)),
       omega (arith, l .inv .2, m .measure-victim .ensures .1),
-      choice-more edition1 (keptTest edition1 (now (a .area)) (now (a .cells)) (now (a .marks))) _ _ _ _ (l .inv .3) (m .measure-victim .ensures .2),
+      choice-more _ (keptTest _ (now (a .area)) (now (a .cells)) (now (a .marks))) _ _ _ _ (l .inv .3) (m .measure-victim .ensures .2),
     )
 
 same-length : tie.Need-same-length Inv-loop μ-loop
 same-length c =
     let a = c .before .before .before .before .before .before .before .args in
     ap length (c .before .before .loop .inv .3)
-    ∙ length-choices edition1 (keptTest edition1 (now (a .area)) (now (a .cells)) (now (a .marks))) _ _ _ _ _ refl
+    ∙ length-choices _ (keptTest _ (now (a .area)) (now (a .cells)) (now (a .marks))) _ _ _ _ _ refl
 
 returns : tie.Need-returns Inv-loop μ-loop
 returns c =
@@ -73,10 +72,10 @@ returns c =
     let a = s .args in
     let l = c .before .before .loop in
     let e : l .i ≡ a .split .slots = omega arith in (
-      l .inv .1 ∙ ap (λ (k : ℕ). length (keptBelow edition1 (now (a .area)) (now (a .cells)) (now (a .marks)) (a .split) k)) e,
+      l .inv .1 ∙ ap (λ (k : ℕ). length (keptBelow (a .edition) (now (a .area)) (now (a .cells)) (now (a .marks)) (a .split) k)) e,
       omega (arith, l .inv .2, s .pre .0 .slots .slots-high),
       l .inv .3
-          ∙ ap (chooseBelow edition1 (keptTest edition1 (now (a .area)) (now (a .cells)) (now (a .marks))) (now (a .area)) (a .split) (now (a .chosen))) e,
+          ∙ ap (chooseBelow _ (keptTest _ (now (a .area)) (now (a .cells)) (now (a .marks))) (now (a .area)) (a .split) (now (a .chosen))) e,
     )
 
 pub measure-spec : {M : Type 1} → statement M

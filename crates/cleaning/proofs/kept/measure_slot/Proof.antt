@@ -7,7 +7,8 @@ use native.Mathlib.Omega.{arith}
 use lib.ListN.{length}
 use denote.Ref.{now}
 use borrow.Author.Needs.{needs}
-use Rattle.segment.specs.Layout.{edition1, digestSize}
+use Rattle.segment.specs.Layout.{digestSize, entrySize}
+use Rattle.segment.specs.LayoutLaws.{width-high}
 use Rattle.model.specs.Log.{placedIn}
 use Rattle.index.specs.Build.{entriesAt}
 use Rattle.cleaning.specs.Kept.{keptTest, keptSlot}
@@ -19,16 +20,16 @@ use Rattle.cleaning.proofs.kept.measure_slot.Statement.{statement}
 use Rattle.cleaning.proofs.kept.measure_slot.Tie as tie
 
 abbrev Inv-loop : tie.InvT-loop
-Inv-loop area cells marks chosen₀ slot size s at₀ total₀ chosen at total =
-    (total + length (keptFrom edition1 area cells marks size slot s at) ≡ length (keptSlot edition1 area cells marks size slot))
+Inv-loop edition area cells marks chosen₀ slot size s at₀ total₀ chosen at total =
+    (total + length (keptFrom edition area cells marks size slot s at) ≡ length (keptSlot edition area cells marks size slot))
     × (total ≤ at)
     × (at ≤ length s)
-    × (choosePlaced edition1 (keptTest edition1 area cells marks) size chosen (placedIn slot (entriesAt edition1 s at))
-    ≡ choosePlaced edition1 (keptTest edition1 area cells marks) size chosen₀ (placedIn slot (entriesAt edition1 s (digestSize edition1))))
+    × (choosePlaced edition (keptTest edition area cells marks) size chosen (placedIn slot (entriesAt edition s at))
+    ≡ choosePlaced edition (keptTest edition area cells marks) size chosen₀ (placedIn slot (entriesAt edition s (digestSize edition))))
     × (length chosen ≡ length chosen₀)
 
 abbrev μ-loop : tie.MeasureT-loop
-μ-loop area cells marks chosen₀ slot size s at₀ total₀ chosen at total = length s - at
+μ-loop edition area cells marks chosen₀ slot size s at₀ total₀ chosen at total = length s - at
 
 -- the slot's part of the area is S bytes long
 long : (c : tie.After-cut Inv-loop μ-loop) → length (now (c .cut .result)) ≡ c .before .before .before .before .before .args .split .size
@@ -36,38 +37,43 @@ long c = let s = c .before .before .before .before .before in slot-long (s .pre 
 
 -- the entry that the turn meets, and its place
 met : (c : tie.After-known-told Inv-loop μ-loop)
-    → Meets edition1 (now (c .before .before .before .before .before .cut .result)) (c .before .before .before .before .loop .at) (c .before .header .given .0 .0)
-met c = meets edition1 _ _ _ (c .before .before .before .next .ensures) _ (c .before .header .given .1)
+    → Meets (c .before .before .before .before .before .before .before .before .before .before .before .args .edition) (now (c .before .before .before .before .before .before .cut .result)) (c .before .before .before .before .loop .at) (c .before .header .given .0 .0)
+met c = meets _ _ _ _ (c .before .before .before .next .ensures) _ (c .before .header .given .1)
 
--- a tombstone is 11 bytes long
-tombstone-long : (c : tie.After-known-told Inv-loop μ-loop) → c .before .header .given .0 .0 .tombstone ≡ true → c .before .header .given .0 .0 .length ≡ 11
-unfolding edition1
-tombstone-long c t = tombstone-length edition1 _ _ (met c) t
+-- a tombstone has no value
+tombstone-long : (c : tie.After-known-told Inv-loop μ-loop) → c .before .header .given .0 .0 .tombstone ≡ true
+    → c .before .header .given .0 .0 .length ≡ entrySize (c .before .before .before .before .before .before .before .before .before .before .before .args .edition) 0
+tombstone-long c t = tombstone-length _ _ _ (met c) t
 
 place : (c : tie.After-known-told Inv-loop μ-loop)
-    → let a = c .before .before .before .before .before .before .before .before .before .before .args in
+    → let a = c .before .before .before .before .before .before .before .before .before .before .before .args in
     a .slot * a .split .size + c .before .before .before .before .loop .at < 65536
 place c =
-    let s = c .before .before .before .before .before .before .before .before .before .before in
-    place-short (s .pre .0 .0 .slots) _ (s .pre .1) _ (c .before .before .before .before .before .cut .ensures) _ _ (met c .fits) (met c .some-byte)
+    let s = c .before .before .before .before .before .before .before .before .before .before .before in
+    place-short (s .pre .0 .0 .slots) _ (s .pre .1) _ (c .before .before .before .before .before .before .cut .ensures) _ _ (met c .fits) (met c .some-byte)
 
 short : (c : tie.After-choose-kept Inv-loop μ-loop) → c .choose-kept .result ≤ c .before .before .before .header .given .0 .0 .length
 short c =
     let k = c .before .before in
-    let a = k .before .before .before .before .before .before .before .before .before .before .args in
+    let a = k .before .before .before .before .before .before .before .before .before .before .before .args in
     omega (
       arith,
       c .choose-kept .ensures .0,
-      entry-short edition1 (now (a .area)) (now (a .cells)) (now (a .marks)) (k .before .header .given .0 .0)
+      entry-short (a .edition) (now (a .area)) (now (a .cells)) (now (a .marks)) (k .before .header .given .0 .0)
           (a .slot * a .split .size + k .before .before .before .before .loop .at),
     )
 
 cut-requires : tie.Need-cut-requires Inv-loop μ-loop
 cut-requires c κs = let s = c .before .before .before .before in slot-lies (s .pre .0 .0 .slots) (s .args .slot) (s .pre .1)
 
+digest-size-requires : tie.Need-digest-size-requires Inv-loop μ-loop
+digest-size-requires c κs = search needs
+
 loop-holds : tie.Need-loop-holds Inv-loop μ-loop
-unfolding edition1
-loop-holds c = (measured-whole edition1 _ _ _ _ _ _ (c .cut .ensures), omega arith, omega (arith, long c), refl, refl)
+loop-holds c =
+    let s = c .before .before .before .before .before .before in
+    rw (c .digest-size .ensures)
+    (measured-whole _ _ _ _ _ _ _ (c .before .cut .ensures), omega arith, omega (arith, long (c .before), s .pre .0 .0 .slots .size-low, width-high (s .args .edition)), refl, refl)
 
 next-requires : tie.Need-next-requires Inv-loop μ-loop
 next-requires c κs = search needs
@@ -85,22 +91,22 @@ choose-kept-requires : tie.Need-choose-kept-requires Inv-loop μ-loop
 choose-kept-requires c κs =
     let k = c .before in
     let l = k .before .before .before .before .loop in
-    let s = k .before .before .before .before .before .before .before .before .before .before in (
+    let s = k .before .before .before .before .before .before .before .before .before .before .before in (
       (s .pre .0 .0 .marks-long, l .inv .4 ∙ s .pre .0 .1),
-      (entry-lies (s .pre .0 .0 .slots) _ (s .pre .1) _ (k .before .before .before .before .before .cut .ensures) _ _ (met k .fits), place k),
+      (entry-lies (s .pre .0 .0 .slots) _ (s .pre .1) _ (k .before .before .before .before .before .before .cut .ensures) _ _ (met k .fits), place k),
     )
 
 add-total : tie.Need-add-total Inv-loop μ-loop
 add-total c =
     let m = c .before .before in
     let k = m .before .before in
-    omega (arith, short m, met k, long (k .before .before .before .before .before), k .before .before .before .before .loop .inv .1)
+    omega (arith, short m, met k, long (k .before .before .before .before .before .before), k .before .before .before .before .loop .inv .1)
 
 behind-requires : tie.Need-behind-requires Inv-loop μ-loop
 behind-requires c κs =
     let k = c .before .before .before .before in
-    let s = k .before .before .before .before .before .before .before .before .before .before in
-    (omega (arith, met k, long (k .before .before .before .before .before), s .pre .0 .0 .slots .size-high), tombstone-long k)
+    let s = k .before .before .before .before .before .before .before .before .before .before .before in
+    (omega (arith, met k, long (k .before .before .before .before .before .before), s .pre .0 .0 .slots .size-high), tombstone-long k)
 
 loop-less : tie.Need-loop-less Inv-loop μ-loop
 loop-less c = omega (arith, c .behind .ensures, met (c .before .before .before .before .before))
@@ -111,11 +117,11 @@ loop-again c =
     let k = m .before .before in
     let l = k .before .before .before .before .loop in
     let b = c .behind .ensures in (
-      measured-entry edition1 _ _ _ _ _ _ _ _ _ (l .inv .0) (met k) _ (m .choose-kept .ensures .0) _ b,
+      measured-entry _ _ _ _ _ _ _ _ _ _ (l .inv .0) (met k) _ (m .choose-kept .ensures .0) _ b,
       omega (arith, b, short m, l .inv .1),
       omega (arith, b, met k),
-      choice-entry edition1 (keptTest edition1 _ _ _) _ _ _ _ _ _ (l .inv .3) (met k) _ (m .choose-kept .ensures .1) _ b,
-      ap length (m .choose-kept .ensures .1) ∙ length-choice (keptTest edition1 _ _ _) _ _ _ _ (l .inv .4),
+      choice-entry _ (keptTest _ _ _ _) _ _ _ _ _ _ (l .inv .3) (met k) _ (m .choose-kept .ensures .1) _ b,
+      ap length (m .choose-kept .ensures .1) ∙ length-choice (keptTest _ _ _ _) _ _ _ _ (l .inv .4),
     )
 
 enum-told : tie.Need-enum-told Inv-loop μ-loop
@@ -127,14 +133,14 @@ same-length c = c .before .before .before .loop .inv .4
 returns : tie.Need-returns Inv-loop μ-loop
 returns c =
     let l = c .before .before .before .loop in
-    let k = c .before .before .before .before in
+    let k = c .before .before .before .before .before in
     let s = k .before .before .before .before .before in
     let a = s .args in
-    let stop = stops-end edition1 _ _ _ (c .before .before .next .ensures) (c .enum-told .given .1) in (
-      measured-stop edition1 _ _ _ _ _ _ _ _ _ (l .inv .0) stop,
+    let stop = stops-end _ _ _ _ (c .before .before .next .ensures) (c .enum-told .given .1) in (
+      measured-stop _ _ _ _ _ _ _ _ _ _ (l .inv .0) stop,
       omega (arith, l .inv .1, l .inv .2, long k, s .pre .0 .0 .slots .size-high),
-      choice-stop edition1 (keptTest edition1 _ _ _) _ _ _ _ _ _ (l .inv .3) stop
-          ∙ choice-whole edition1 (keptTest edition1 (now (a .area)) (now (a .cells)) (now (a .marks))) (a .split .size) (now (a .area)) (now (a .chosen)) (a .slot) _ (k .cut .ensures),
+      choice-stop _ (keptTest _ _ _ _) _ _ _ _ _ _ (l .inv .3) stop
+          ∙ choice-whole _ (keptTest _ (now (a .area)) (now (a .cells)) (now (a .marks))) (a .split .size) (now (a .area)) (now (a .chosen)) (a .slot) _ (k .cut .ensures),
     )
 
 enum-told-2 : tie.Need-enum-told-2 Inv-loop μ-loop
@@ -146,14 +152,14 @@ same-length-2 c = c .before .before .before .loop .inv .4
 returns-2 : tie.Need-returns-2 Inv-loop μ-loop
 returns-2 c =
     let l = c .before .before .before .loop in
-    let k = c .before .before .before .before in
+    let k = c .before .before .before .before .before in
     let s = k .before .before .before .before .before in
     let a = s .args in
-    let stop = stops-damage edition1 _ _ _ (c .before .before .next .ensures) (c .enum-told2 .given .1) in (
-      measured-stop edition1 _ _ _ _ _ _ _ _ _ (l .inv .0) stop,
+    let stop = stops-damage _ _ _ _ (c .before .before .next .ensures) (c .enum-told2 .given .1) in (
+      measured-stop _ _ _ _ _ _ _ _ _ _ (l .inv .0) stop,
       omega (arith, l .inv .1, l .inv .2, long k, s .pre .0 .0 .slots .size-high),
-      choice-stop edition1 (keptTest edition1 _ _ _) _ _ _ _ _ _ (l .inv .3) stop
-          ∙ choice-whole edition1 (keptTest edition1 (now (a .area)) (now (a .cells)) (now (a .marks))) (a .split .size) (now (a .area)) (now (a .chosen)) (a .slot) _ (k .cut .ensures),
+      choice-stop _ (keptTest _ _ _ _) _ _ _ _ _ _ (l .inv .3) stop
+          ∙ choice-whole _ (keptTest _ (now (a .area)) (now (a .cells)) (now (a .marks))) (a .split .size) (now (a .area)) (now (a .chosen)) (a .slot) _ (k .cut .ensures),
     )
 
 pub measure-slot-spec : {M : Type 1} → statement M
@@ -163,6 +169,7 @@ measure-slot-spec =
     Inv-loop
     μ-loop
     cut-requires
+    digest-size-requires
     loop-holds
     next-requires
     enum-known-header

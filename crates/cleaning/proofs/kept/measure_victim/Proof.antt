@@ -5,7 +5,6 @@ use lib.ListN.{length}
 use denote.Ref.{now}
 use borrow.Author.Needs.{needs}
 use borrow.Author.Tests.{not-true, not-false}
-use Rattle.segment.specs.Layout.{edition1}
 use Rattle.cleaning.specs.Kept.{keptTest}
 use Rattle.cleaning.specs.KeptLaws.{part-victim, part-other}
 use Rattle.cleaning.specs.ChosenLaws.{choice-victim, choice-passed}
@@ -19,9 +18,9 @@ returns : tie.Need-returns
 returns c =
     let a = c .before .before .before .before .before .before .args in
     let other = sym (c .before .is-named .ensures) ∙ not-true _ (c .if1 .taken) in (
-      sym (ap length (part-other edition1 _ _ _ _ _ other)),
+      sym (ap length (part-other _ _ _ _ _ _ other)),
       omega arith,
-      choice-passed edition1 (keptTest edition1 (now (a .area)) (now (a .cells)) (now (a .marks))) _ _ _ _ other,
+      choice-passed _ (keptTest _ (now (a .area)) (now (a .cells)) (now (a .marks))) _ _ _ _ other,
     )
 
 measure-slot-requires : tie.Need-measure-slot-requires
@@ -36,9 +35,9 @@ returns-2 c =
     let t = c .before .before .before .before in
     let a = t .before .before .before .before .before .before .args in
     let victim = sym (t .before .is-named .ensures) ∙ not-false _ (t .if1 .left) in (
-      m .0 ∙ ap length (part-victim edition1 _ _ _ _ _ victim),
+      m .0 ∙ ap length (part-victim _ _ _ _ _ _ victim),
       m .1,
-      choice-victim edition1 (keptTest edition1 (now (a .area)) (now (a .cells)) (now (a .marks))) _ _ _ _ victim (m .2),
+      choice-victim _ (keptTest _ (now (a .area)) (now (a .cells)) (now (a .marks))) _ _ _ _ victim (m .2),
     )
 
 pub measure-victim-spec : {M : Type 1} → statement M

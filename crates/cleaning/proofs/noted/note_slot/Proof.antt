@@ -5,7 +5,7 @@ use mathlib.Core.Path.{_≡_, refl, _∙_, ap}
 use native.Mathlib.Omega.{arith}
 use lib.ListN.{length}
 use denote.Ref.{now}
-use Rattle.segment.specs.Layout.{edition1, digestSize}
+use Rattle.segment.specs.Layout.{digestSize, entrySize}
 use Rattle.index.specs.Build.{entriesAt}
 use Rattle.cleaning.specs.Walks.{walkItems, walk-stop, walk-entry, walk-whole}
 use Rattle.cleaning.specs.Filter.{noteEntry}
@@ -17,12 +17,12 @@ use Rattle.cleaning.proofs.noted.note_slot.Tie as tie
 
 -- The invariant: the filter with the keys of the entries from here on is that of the slot.
 abbrev Inv-loop : tie.InvT-loop
-Inv-loop area filter₀ slot s at₀ filter at =
-    (walkItems edition1 noteEntry filter (entriesAt edition1 s at) ≡ walkItems edition1 noteEntry filter₀ (entriesAt edition1 s (digestSize edition1)))
+Inv-loop edition area filter₀ slot s at₀ filter at =
+    (walkItems edition noteEntry filter (entriesAt edition s at) ≡ walkItems edition noteEntry filter₀ (entriesAt edition s (digestSize edition)))
     × (length filter ≡ length filter₀)
 
 abbrev μ-loop : tie.MeasureT-loop
-μ-loop area filter₀ slot s at₀ filter at = length s - at
+μ-loop edition area filter₀ slot s at₀ filter at = length s - at
 
 -- the slot's part of the area is S bytes long
 long : (c : tie.After-cut Inv-loop μ-loop) → length (now (c .cut .result)) ≡ c .before .before .before .args .split .size
@@ -30,20 +30,22 @@ long c = let s = c .before .before .before in slot-long (s .pre .0 .slots) _ (s 
 
 -- the entry that the turn meets
 met : (c : tie.After-known-told Inv-loop μ-loop)
-    → Meets edition1 (now (c .before .before .before .before .before .cut .result)) (c .before .before .before .before .loop .at) (c .before .header .given .0 .0)
-met c = meets edition1 _ _ _ (c .before .before .before .next .ensures) _ (c .before .header .given .1)
+    → Meets (c .before .before .before .before .before .before .before .before .before .args .edition) (now (c .before .before .before .before .before .before .cut .result)) (c .before .before .before .before .loop .at) (c .before .header .given .0 .0)
+met c = meets _ _ _ _ (c .before .before .before .next .ensures) _ (c .before .header .given .1)
 
--- a tombstone is 11 bytes long
-tombstone-long : (c : tie.After-known-told Inv-loop μ-loop) → c .before .header .given .0 .0 .tombstone ≡ true → c .before .header .given .0 .0 .length ≡ 11
-unfolding edition1
-tombstone-long c t = tombstone-length edition1 _ _ (met c) t
+-- a tombstone has no value
+tombstone-long : (c : tie.After-known-told Inv-loop μ-loop) → c .before .header .given .0 .0 .tombstone ≡ true
+    → c .before .header .given .0 .0 .length ≡ entrySize (c .before .before .before .before .before .before .before .before .before .args .edition) 0
+tombstone-long c t = tombstone-length _ _ _ (met c) t
 
 cut-requires : tie.Need-cut-requires Inv-loop μ-loop
 cut-requires c κs = let s = c .before .before in slot-lies (s .pre .0 .slots) (s .args .slot) (s .pre .1)
 
+digest-size-requires : tie.Need-digest-size-requires Inv-loop μ-loop
+digest-size-requires c κs = search needs
+
 loop-holds : tie.Need-loop-holds Inv-loop μ-loop
-unfolding edition1
-loop-holds c = (refl, refl)
+loop-holds c = rw (c .digest-size .ensures) (refl, refl)
 
 next-requires : tie.Need-next-requires Inv-loop μ-loop
 next-requires c κs = search needs
@@ -53,12 +55,12 @@ enum-known-header c = search needs
 
 note-entry-requires : tie.Need-note-entry-requires Inv-loop μ-loop
 note-entry-requires c κs =
-    c .before .before .before .before .before .loop .inv .1 ∙ c .before .before .before .before .before .before .before .before .before .pre .0 .marks-long
+    c .before .before .before .before .before .loop .inv .1 ∙ c .before .before .before .before .before .before .before .before .before .before .pre .0 .marks-long
 
 behind-requires : tie.Need-behind-requires Inv-loop μ-loop
 behind-requires c κs =
     let k = c .before .before .before .before in
-    (omega (arith, met k, long (k .before .before .before .before .before), k .before .before .before .before .before .before .before .before .pre .0 .slots .size-high), tombstone-long k)
+    (omega (arith, met k, long (k .before .before .before .before .before .before), k .before .before .before .before .before .before .before .before .before .pre .0 .slots .size-high), tombstone-long k)
 
 loop-less : tie.Need-loop-less Inv-loop μ-loop
 loop-less c = omega (arith, c .behind .ensures, met (c .before .before .before .before .before))
@@ -67,7 +69,7 @@ loop-again : tie.Need-loop-again Inv-loop μ-loop
 loop-again c =
     let l = c .before .before .before .before .before .before .before .before .before in
     let made = c .before .before .before .note-entry .ensures in (
-      walk-entry edition1 noteEntry _ _ _ _ (l .loop .inv .0) (met (c .before .before .before .before .before)) _ made _ (c .behind .ensures),
+      walk-entry _ noteEntry _ _ _ _ (l .loop .inv .0) (met (c .before .before .before .before .before)) _ made _ (c .behind .ensures),
       ap length made ∙ length-note _ _ _ (l .loop .inv .1),
     )
 
@@ -79,10 +81,10 @@ same-length c = c .before .before .before .loop .inv .1
 
 returns : tie.Need-returns Inv-loop μ-loop
 returns c =
-    let k = c .before .before .before .before in
+    let k = c .before .before .before .before .before in
     let a = k .before .before .before .args in
-    walk-stop edition1 noteEntry _ _ _ _ (c .before .before .before .loop .inv .0) (stops-end edition1 _ _ _ (c .before .before .next .ensures) (c .enum-told .given .1))
-    ∙ walk-whole edition1 noteEntry (now (a .area)) (a .split .size) (now (a .filter)) (a .slot) _ (k .cut .ensures)
+    walk-stop _ noteEntry _ _ _ _ (c .before .before .before .loop .inv .0) (stops-end _ _ _ _ (c .before .before .next .ensures) (c .enum-told .given .1))
+    ∙ walk-whole _ noteEntry (now (a .area)) (a .split .size) (now (a .filter)) (a .slot) _ (k .cut .ensures)
 
 enum-told-2 : tie.Need-enum-told-2 Inv-loop μ-loop
 enum-told-2 c = search needs
@@ -92,10 +94,10 @@ same-length-2 c = c .before .before .before .loop .inv .1
 
 returns-2 : tie.Need-returns-2 Inv-loop μ-loop
 returns-2 c =
-    let k = c .before .before .before .before in
+    let k = c .before .before .before .before .before in
     let a = k .before .before .before .args in
-    walk-stop edition1 noteEntry _ _ _ _ (c .before .before .before .loop .inv .0) (stops-damage edition1 _ _ _ (c .before .before .next .ensures) (c .enum-told2 .given .1))
-    ∙ walk-whole edition1 noteEntry (now (a .area)) (a .split .size) (now (a .filter)) (a .slot) _ (k .cut .ensures)
+    walk-stop _ noteEntry _ _ _ _ (c .before .before .before .loop .inv .0) (stops-damage _ _ _ _ (c .before .before .next .ensures) (c .enum-told2 .given .1))
+    ∙ walk-whole _ noteEntry (now (a .area)) (a .split .size) (now (a .filter)) (a .slot) _ (k .cut .ensures)
 
 pub note-slot-spec : {M : Type 1} → statement M
 note-slot-spec =
@@ -104,6 +106,7 @@ note-slot-spec =
     Inv-loop
     μ-loop
     cut-requires
+    digest-size-requires
     loop-holds
     next-requires
     enum-known-header

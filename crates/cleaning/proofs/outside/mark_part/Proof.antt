@@ -2,7 +2,6 @@
 use mathlib.Core.Path.{sym, _∙_}
 use borrow.Author.Needs.{needs}
 use borrow.Author.Tests.{not-true, not-false}
-use Rattle.segment.specs.Layout.{edition1}
 use Rattle.cleaning.specs.Walks.{walk-named, walk-other}
 use Rattle.cleaning.specs.Filter.{siftEntry}
 use Rattle.cleaning.proofs.outside.mark_part.Statement.{statement}
@@ -12,7 +11,7 @@ is-named-requires : tie.Need-is-named-requires
 is-named-requires c κs = search needs
 
 returns : tie.Need-returns
-returns c = walk-other edition1 (siftEntry edition1 _ _ _) _ _ _ _ _ (sym (c .before .is-named .ensures) ∙ not-true _ (c .if1 .taken))
+returns c = walk-other _ (siftEntry _ _ _ _) _ _ _ _ _ (sym (c .before .is-named .ensures) ∙ not-true _ (c .if1 .taken))
 
 mark-slot-requires : tie.Need-mark-slot-requires
 mark-slot-requires c κs = search needs
@@ -22,7 +21,7 @@ same-length c = search needs
 
 returns-2 : tie.Need-returns-2
 returns-2 c =
-    walk-named edition1 (siftEntry edition1 _ _ _) _ _ _ _ _ (sym (c .before .before .before .before .before .is-named .ensures) ∙ not-false _ (c .before .before .before .before .if1 .left))
+    walk-named _ (siftEntry _ _ _ _) _ _ _ _ _ (sym (c .before .before .before .before .before .is-named .ensures) ∙ not-false _ (c .before .before .before .before .if1 .left))
     (c .before .before .mark-slot .ensures)
 
 pub mark-part-spec : {M : Type 1} → statement M

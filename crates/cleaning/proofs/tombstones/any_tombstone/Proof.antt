@@ -3,17 +3,16 @@ use Prim.Native.Nat.{_-_, _≤_}
 use mathlib.Core.Path.{_≡_, refl, sym, _∙_}
 use native.Mathlib.Omega.{arith}
 use mathlib.Core.Bool.{false}
-use Rattle.segment.specs.Layout.{edition1}
 use Rattle.laws.specs.LogLaws.{anyBelow}
 use Rattle.cleaning.specs.Tombstones.{victimHolds, any-found, any-more, any-none}
 use Rattle.cleaning.proofs.tombstones.any_tombstone.Statement.{statement}
 use Rattle.cleaning.proofs.tombstones.any_tombstone.Tie as tie
 
 abbrev Inv-loop : tie.InvT-loop
-Inv-loop area split i₀ i = (i ≤ split .slots) × (anyBelow (victimHolds edition1 area split) i ≡ false)
+Inv-loop edition area split i₀ i = (i ≤ split .slots) × (anyBelow (victimHolds edition area split) i ≡ false)
 
 abbrev μ-loop : tie.MeasureT-loop
-μ-loop area split i₀ i = split .slots - i
+μ-loop edition area split i₀ i = split .slots - i
 
 loop-holds : tie.Need-loop-holds Inv-loop μ-loop
 unfolding anyBelow

@@ -3,8 +3,9 @@ use mathlib.Core.Path.{sym, _∙_, ap}
 use Prim.Native.Nat.{ℕ}
 use mathlib.Core.List.{List}
 use native.Mathlib.Omega.{arith}
+use denote.Ref.{now}
 use borrow.Author.Needs.{needs}
-use Rattle.segment.specs.Layout.{edition1, digestSize}
+use Rattle.segment.specs.Layout.{digestSize}
 use borrow.Author.Tests.{not-true, not-false}
 use Rattle.index.specs.Build.{entriesAt}
 use Rattle.cleaning.specs.Tombstones.{tombstoneIn, victim-none, victim-goes}
@@ -16,7 +17,7 @@ is-named-requires : tie.Need-is-named-requires
 is-named-requires c κs = search needs
 
 returns : tie.Need-returns
-returns c = victim-none edition1 _ _ _ (sym (c .before .is-named .ensures) ∙ not-true _ (c .if1 .taken))
+returns c = victim-none _ _ _ _ (sym (c .before .is-named .ensures) ∙ not-true _ (c .if1 .taken))
 
 cut-requires : tie.Need-cut-requires
 cut-requires c κs = let s = c .before .before .before in slot-lies (s .pre .0) (s .args .slot) (s .pre .1)
@@ -29,8 +30,9 @@ holds-tombstone-requires c κs =
 returns-2 : tie.Need-returns-2
 returns-2 c =
     let n = c .before .before in
-    victim-goes edition1 _ _ _ (sym (n .before .is-named .ensures) ∙ not-false _ (n .if1 .left))
-    (c .holds-tombstone .ensures ∙ ap (λ (s : List ℕ). tombstoneIn (entriesAt edition1 s (digestSize edition1))) (c .before .cut .ensures))
+    let a = n .before .before .before .args in
+    victim-goes (a .edition) (now (a .area)) (a .split) (a .slot) (sym (n .before .is-named .ensures) ∙ not-false _ (n .if1 .left))
+    (c .holds-tombstone .ensures ∙ ap (λ (s : List ℕ). tombstoneIn (entriesAt (a .edition) s (digestSize (a .edition)))) (c .before .cut .ensures))
 
 pub slot-holds-spec : {M : Type 1} → statement M
 slot-holds-spec =

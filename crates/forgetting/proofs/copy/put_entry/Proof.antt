@@ -3,7 +3,6 @@ use mathlib.Core.Path.{sym}
 use native.Mathlib.Omega.{arith}
 use denote.Ref.{now}
 use borrow.Author.Needs.{needs}
-use Rattle.segment.specs.Layout.{edition1}
 use Rattle.cleaning.specs.KeptLaws.{entry-short}
 use Rattle.cleaning.specs.Copied.{copied-as}
 use Rattle.forgetting.specs.ForgotLaws.{entry-dead, entry-other}
@@ -20,7 +19,7 @@ returns : tie.Need-returns
 returns c =
     let t = c .before .before .before .before in
     let a = c .before .before .before .before .before .before .before .before .before .before .args in
-    copied-as (sym (entry-dead edition1 (now (a .area)) (now (a .cells)) (now (a .marks)) (a .live) (a .header) (a .place) (t .if1 .taken)))
+    copied-as (sym (entry-dead _ (now (a .area)) (now (a .cells)) (now (a .marks)) (a .live) (a .header) (a .place) (t .if1 .taken)))
     (c .before .before .put-tombstone .ensures)
 
 copy-entry-requires : tie.Need-copy-entry-requires
@@ -32,7 +31,7 @@ copy-entry-requires c κs =
         s .pre .1 .0,
         (
           s .pre .1 .1 .0,
-          omega (arith, entry-short edition1 (now (a .area)) (now (a .cells)) (now (a .marks)) (a .header) (a .place), s .pre .1 .1 .1 .1),
+          omega (arith, entry-short (a .edition) (now (a .area)) (now (a .cells)) (now (a .marks)) (a .header) (a .place), s .pre .1 .1 .1 .1),
         ),
       ),
     )
@@ -44,7 +43,7 @@ returns-2 : tie.Need-returns-2
 returns-2 c =
     let t = c .before .before .before .before in
     let a = c .before .before .before .before .before .before .before .before .before .before .args in
-    copied-as (sym (entry-other edition1 (now (a .area)) (now (a .cells)) (now (a .marks)) (a .live) (a .header) (a .place) (t .if1 .left)))
+    copied-as (sym (entry-other _ (now (a .area)) (now (a .cells)) (now (a .marks)) (a .live) (a .header) (a .place) (t .if1 .left)))
     (c .before .before .copy-entry .ensures)
 
 pub put-entry-spec : {M : Type 1} → statement M

@@ -1,7 +1,7 @@
 -- `forgetting::forget::begin` meets its contract.
 use native.Mathlib.Omega.{arith}
 use borrow.Author.Needs.{needs}
-use Rattle.segment.specs.Layout.{edition1}
+use Rattle.segment.specs.LayoutLaws.{limit-high}
 use Rattle.starting.specs.Stores.{head-most}
 use Rattle.starting.specs.NewHead.{head-ready}
 use Rattle.forgetting.specs.DeleteLaws.{victim-fits, victim-below, victim-size, victim-within, forgot-filled}
@@ -11,14 +11,15 @@ use Rattle.forgetting.proofs.forget.begin.Tie as tie
 next-free-requires : tie.Need-next-free-requires
 next-free-requires c κs = search needs
 
-add-t20 : tie.Need-add-t20
-unfolding edition1
-add-t20 c = omega (arith, c .before .before .before .before .before .before .before .before .pre .version-left)
+add-t21 : tie.Need-add-t21
+add-t21 c =
+    let s = c .before .before .before .before .before .before .before .before in
+    omega (arith, s .pre .version-left, limit-high (s .args .rec .edition))
 
 new-digest-requires : tie.Need-new-digest-requires
 new-digest-requires c κs =
     let v = c .before .before .before .before .before .before .before .before .pre in
-    head-ready edition1 _ _ _ (v .lent) _ (victim-within v) (v .number-left) _ (c .before .before .next-free .ensures)
+    head-ready _ _ _ _ (v .lent) _ (victim-within v) (v .number-left) _ (c .before .before .next-free .ensures)
 
 write-digest-requires : tie.Need-write-digest-requires
 write-digest-requires c κs = search needs
@@ -52,11 +53,10 @@ same-length : tie.Need-same-length
 same-length c = search needs
 
 returns : tie.Need-returns
-unfolding edition1
 returns c =
     let k = c .before .before .before .before .before in
     let d = k .before .before .before .before in
-    forgot-filled edition1 _ _ _ _ _ _ _ _ _ _ _ (d .before .new-digest .ensures) (d .write-digest .ensures) (k .put-slot .ensures .0)
+    forgot-filled _ _ _ _ _ _ _ _ _ _ _ _ (d .before .new-digest .ensures) (d .write-digest .ensures) (k .put-slot .ensures .0)
     (d .before .before .before .before .next-free .ensures) (c .before .head-stores .ensures) (c .started .ensures)
 
 pub begin-spec : {M : Type 1} → statement M
@@ -64,7 +64,7 @@ begin-spec =
     tie.close
     (tie.spec
     next-free-requires
-    add-t20
+    add-t21
     new-digest-requires
     write-digest-requires
     put-slot-requires

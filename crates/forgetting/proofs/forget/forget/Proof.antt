@@ -1,7 +1,6 @@
 -- `forgetting::forget::forget` meets its contract.
 use mathlib.Core.Path.{sym, _∙_}
 use borrow.Author.Needs.{needs}
-use Rattle.segment.specs.Layout.{edition1}
 use Rattle.index.specs.SearchLaws.{search-inside}
 use Rattle.forgetting.specs.DeleteLaws.{forgot-at, forgot-free, forgot-full}
 use Rattle.forgetting.proofs.forget.forget.Statement.{statement}
@@ -18,7 +17,7 @@ forget-at-requires c κs =
     let i = c .before .before in (
       c .before .before .before .before .before .before .before .before .pre,
       (
-        search-inside edition1 _ _ _ _ (sym (i .before .before .search .ensures) ∙ i .cell .given .1),
+        search-inside _ _ _ _ _ (sym (i .before .before .search .ensures) ∙ i .cell .given .1),
         sym (i .before .before .search .ensures) ∙ i .cell .given .1,
       ),
     )
@@ -41,17 +40,17 @@ same-length c = search needs
 returns : tie.Need-returns
 returns c =
     let i = c .before .before .before .before .before in
-    forgot-at edition1 _ _ _ _ _ _ (sym (i .before .before .search .ensures) ∙ i .cell .given .1) (c .before .before .forget-at .ensures)
+    forgot-at _ _ _ _ _ _ _ (sym (i .before .before .search .ensures) ∙ i .cell .given .1) (c .before .before .forget-at .ensures)
 
 returns-2 : tie.Need-returns-2
 returns-2 c =
     let t = c .before in
-    forgot-free edition1 _ _ _ _ _ _ (sym (t .before .before .search .ensures) ∙ t .enum-told .given .1) _ (c .refused .ensures)
+    forgot-free _ _ _ _ _ _ _ (sym (t .before .before .search .ensures) ∙ t .enum-told .given .1) _ (c .refused .ensures)
 
 returns-3 : tie.Need-returns-3
 returns-3 c =
     let t = c .before in
-    forgot-full edition1 _ _ _ _ _ (sym (t .before .before .search .ensures) ∙ t .enum-told2 .given .1) _ (c .refused2 .ensures)
+    forgot-full _ _ _ _ _ _ (sym (t .before .before .search .ensures) ∙ t .enum-told2 .given .1) _ (c .refused2 .ensures)
 
 pub forget-spec : {M : Type 1} → statement M
 forget-spec =

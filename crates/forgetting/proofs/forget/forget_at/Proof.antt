@@ -7,7 +7,6 @@ use lib.ListN.{length, length-replicate}
 use denote.Ref.{now}
 use borrow.Author.Needs.{needs, scaled-fits}
 use borrow.Author.Tests.{not-true, not-false}
-use Rattle.segment.specs.Layout.{edition1}
 use Rattle.forgetting.specs.Sifted.{length-left}
 use Rattle.forgetting.specs.Forgetting.{inLog}
 use Rattle.forgetting.specs.DeleteLaws.{in-log-below, victim-fits, victim-ready, victim-begun, forgot-outside}
@@ -40,7 +39,7 @@ refused-requires c κs = search needs
 
 returns : tie.Need-returns
 returns c =
-    forgot-outside edition1 _ _ _ _ _ _ _ _ (sym (c .before .before .in-log .ensures) ∙ not-true _ (c .before .if1 .taken)) _ (c .refused .ensures)
+    forgot-outside _ _ _ _ _ _ _ _ _ (sym (c .before .before .in-log .ensures) ∙ not-true _ (c .before .if1 .taken)) _ (c .refused .ensures)
 
 cast-with-slot : tie.Need-cast-with-slot
 cast-with-slot c =
@@ -63,7 +62,7 @@ mark-left-requires c κs =
     let e = c .before .before .before in
     let s = e .before .before .before .before .before .before .before in
     victim-fits
-    (victim-ready edition1 (s .args .rec) _ _ (c .before .before .with-slot .ensures) _ (c .before .split-of .ensures)
+    (victim-ready _ (s .args .rec) _ _ (c .before .before .with-slot .ensures) _ (c .before .split-of .ensures)
     (sym (e .before .in-log .ensures) ∙ not-false _ (e .if1 .left)) _ _ _ (s .pre .0) _ (length-replicate {A = ℕ} 128 0))
 
 slice-aggregate-is-marked : tie.Need-slice-aggregate-is-marked
@@ -81,9 +80,9 @@ begin-requires c κs =
     let p = m .before .before in
     let e = p .before .before in
     let s = e .before .before .before .before .before .before .before in
-    victim-ready edition1 (s .args .rec) _ _ (p .before .with-slot .ensures) _ (p .split-of .ensures)
+    victim-ready _ (s .args .rec) _ _ (p .before .with-slot .ensures) _ (p .split-of .ensures)
     (sym (e .before .in-log .ensures) ∙ not-false _ (e .if1 .left)) _ _ _ (s .pre .0) _
-    (ap length (m .mark-left .ensures) ∙ length-left edition1 _ _ _ _ _ 128 (length-replicate {A = ℕ} 128 0))
+    (ap length (m .mark-left .ensures) ∙ length-left _ _ _ _ _ _ 128 (length-replicate {A = ℕ} 128 0))
 
 same-length : tie.Need-same-length
 same-length c = search needs
@@ -95,7 +94,7 @@ returns-2 c =
     let e = p .before .before in
     let b = e .before .before .before .before .before .before .before in
     let a = b .args in
-    victim-begun edition1 (a .rec) _ _ (p .before .with-slot .ensures) _ (p .split-of .ensures)
+    victim-begun _ (a .rec) _ _ (p .before .with-slot .ensures) _ (p .split-of .ensures)
     (sym (e .before .in-log .ensures) ∙ not-false _ (e .if1 .left)) (now (a .area)) (now (a .index)) (a .key) (now (a .work)) (a .cell) _ _ _ (b .pre .1 .1)
     (m .mark-left .ensures) (c .before .before .before .before .before .before .is-marked .ensures) (c .before .before .begin .ensures)
 

@@ -4,7 +4,6 @@ use mathlib.Core.Path.{_∙_, ap}
 use mathlib.Core.List.{List}
 use denote.Ref.{now}
 use borrow.Author.Needs.{needs}
-use Rattle.segment.specs.Layout.{edition1}
 use Rattle.cleaning.specs.Filter.{noteVictims, siftOutside}
 use Rattle.forgetting.proofs.forget.mark_left.Statement.{statement}
 use Rattle.forgetting.proofs.forget.mark_left.Tie as tie
@@ -36,8 +35,8 @@ returns c =
     let p = n .before .before .before in
     let a = p .before .before .before .before .before .args in
     c .before .before .mark-outside .ensures
-    ∙ ap (λ (l : List ℕ). siftOutside edition1 (now (a .area)) (now (a .index)) l (a .split) (now (a .marks)))
-    (n .note-victims .ensures ∙ ap (noteVictims edition1 (now (a .area)) (a .split)) (p .put .ensures))
+    ∙ ap (λ (l : List ℕ). siftOutside (a .edition) (now (a .area)) (now (a .index)) l (a .split) (now (a .marks)))
+    (n .note-victims .ensures ∙ ap (noteVictims (a .edition) (now (a .area)) (a .split)) (p .put .ensures))
 
 pub mark-left-spec : {M : Type 1} → statement M
 mark-left-spec =

@@ -4,9 +4,10 @@ use native.Mathlib.Omega.{arith}
 use denote.Ref.{now}
 use borrow.Author.Needs.{needs}
 use Rattle.word.specs.Number.{Bytes}
-use Rattle.segment.specs.Layout.{edition1}
-use Rattle.segment.specs.LayoutLaws.{tombstone-length}
-use Rattle.laws.specs.OperationsKept.{edition1-roomy}
+use Rattle.segment.specs.Layout.{entrySize}
+use Rattle.segment.specs.LayoutLaws.{tombstone-length, width-high}
+use Rattle.laws.specs.OperationsKept.{edition-roomy}
+use Rattle.model.specs.Operations.{noRoom}
 use Rattle.starting.specs.declared.Check.{Check}
 use Rattle.writing.specs.StartLaws.{deletes, delete-refused, delete-ready, delete-number, delete-laid, laid-started}
 use Rattle.forgetting.specs.DeleteLaws.{delete-lent, forget-ready, forget-promise}
@@ -19,7 +20,7 @@ bytes c i = omega (arith, c .shared-slice-known .given i)
 -- the tests are passed
 passed : (t : tie.After-enum-told) →
     let a = t .before .before .before .before .before .before .args in
-    Check.Passed ≡ deletes edition1 (a .tables) (a .rec) (now (a .area)) (now (a .index)) (now (a .work)) (a .key)
+    Check.Passed ≡ deletes (a .rec .edition) (a .tables) (a .rec) (now (a .area)) (now (a .index)) (now (a .work)) (a .key)
 passed t = sym (t .enum-told .given .1) ∙ t .before .before .check-delete .ensures
 
 check-delete-requires : tie.Need-check-delete-requires
@@ -34,30 +35,41 @@ refused-requires c κs = search needs
 enum-told : tie.Need-enum-told
 enum-told c = search needs
 
+head-size-requires : tie.Need-head-size-requires
+head-size-requires c κs = search needs
+
 no-room-requires : tie.Need-no-room-requires
 no-room-requires c κs =
-    let a = c .before .before .before .before .before .before .args in
-    (omega arith, delete-lent edition1 (a .tables) (a .rec) (now (a .area)) (now (a .index)) (now (a .work)) (a .key) (passed c) .map-below)
+    let t = c .before in
+    let a = t .before .before .before .before .before .before .args in (
+      omega (arith, c .head-size .ensures, width-high (a .rec .edition)),
+      delete-lent _ (a .tables) (a .rec) (now (a .area)) (now (a .index)) (now (a .work)) (a .key) (passed t) .map-below,
+    )
+
+-- what the test for room found
+full-test : (c : tie.After-no-room) → c .no-room .result ≡ noRoom (c .before .before .before .before .before .before .before .before .args .rec) (entrySize (c .before .before .before .before .before .before .before .before .args .rec .edition) 0)
+full-test c = rw (c .before .head-size .ensures) at (c .no-room .ensures)
 
 forget-requires : tie.Need-forget-requires
-unfolding edition1
 forget-requires c κs =
-    let t = c .before .before .before in
+    let t = c .before .before .before .before in
     let a = t .before .before .before .before .before .before .args in
-    forget-ready edition1 (a .tables) (a .rec) (now (a .area)) (now (a .index)) (now (a .work)) (a .key) (passed t)
-    (sym (c .before .before .no-room .ensures) ∙ c .before .if1 .taken)
+    forget-ready _ (a .tables) (a .rec) (now (a .area)) (now (a .index)) (now (a .work)) (a .key) (passed t)
+    (sym (full-test (c .before .before)) ∙ c .before .if1 .taken)
 
 same-length : tie.Need-same-length
 same-length c = search needs
 
 returns : tie.Need-returns
-unfolding edition1
 returns c =
     let f = c .before .before .before .before in
-    let t = f .before .before in
+    let t = f .before .before .before in
     let a = t .before .before .before .before .before .before .args in
-    forget-promise edition1 (a .tables) (a .rec) (now (a .area)) (now (a .index)) (now (a .work)) (a .key) (passed t)
-    (sym (f .before .no-room .ensures) ∙ f .if1 .taken) (bytes (t .before .before .before .before .before)) _ _ (c .before .before .forget .ensures)
+    forget-promise _ (a .tables) (a .rec) (now (a .area)) (now (a .index)) (now (a .work)) (a .key) (passed t)
+    (sym (full-test (f .before)) ∙ f .if1 .taken) (bytes (t .before .before .before .before .before)) _ _ (c .before .before .forget .ensures)
+
+tombstone-kind-requires : tie.Need-tombstone-kind-requires
+tombstone-kind-requires c κs = search needs
 
 sub-lay-entry : tie.Need-sub-lay-entry
 sub-lay-entry c = search needs
@@ -69,29 +81,29 @@ part-lay-entry-end : tie.Need-part-lay-entry-end
 part-lay-entry-end c = search needs
 
 lay-entry-requires : tie.Need-lay-entry-requires
-unfolding edition1
 lay-entry-requires c κs =
-    let t = c .before .before .before .before in
+    let t = c .before .before .before .before .before .before in
     let a = t .before .before .before .before .before .before .args in (
-      delete-ready edition1 (a .tables) (a .rec) (now (a .area)) (now (a .index)) (now (a .work)) (a .key) (passed t) edition1-roomy,
-      (delete-number edition1 (a .tables) (a .rec) (now (a .area)) (now (a .index)) (now (a .work)) (a .key) (passed t), tombstone-length edition1),
+      delete-ready _ (a .tables) (a .rec) (now (a .area)) (now (a .index)) (now (a .work)) (a .key) (passed t) (edition-roomy _),
+      (delete-number _ (a .tables) (a .rec) (now (a .area)) (now (a .index)) (now (a .work)) (a .key) (passed t), rw (c .before .tombstone-kind .ensures) (tombstone-length _)),
     )
 
 returns-2 : tie.Need-returns-2
 returns-2 c =
-    delete-refused edition1 _ _ _ _ _ _ _ (sym (c .before .before .c .given .1) ∙ c .before .before .before .before .check-delete .ensures) _
+    delete-refused _ _ _ _ _ _ _ _ (sym (c .before .before .c .given .1) ∙ c .before .before .before .before .check-delete .ensures) _
     (c .refused .ensures)
 
 same-length-2 : tie.Need-same-length-2
 same-length-2 c = search needs
 
 returns-3 : tie.Need-returns-3
-unfolding edition1
 returns-3 c =
-    let f = c .before .before .before .before .before .before in
-    let t = f .before .before in
-    delete-laid edition1 _ _ _ _ _ _ (passed t) (sym (f .before .no-room .ensures) ∙ f .if1 .left) _ _
-    (laid-started (t .before .before .before .before .before .before .args .rec) (c .started .ensures) (c .before .before .before .lay-entry .ensures))
+    let l = c .before .before .before in
+    let k = l .before .before in
+    let f = k .before .before in
+    let t = f .before .before .before in
+    delete-laid _ _ _ _ _ _ _ (passed t) (sym (full-test (f .before)) ∙ f .if1 .left) _ _
+    (laid-started (t .before .before .before .before .before .before .args .rec) (c .started .ensures) (rw (k .tombstone-kind .ensures) at (l .lay-entry .ensures)))
 
 pub delete-spec : {M : Type 1} → statement M
 delete-spec =
@@ -101,10 +113,12 @@ delete-spec =
     enum-known-c
     refused-requires
     enum-told
+    head-size-requires
     no-room-requires
     forget-requires
     same-length
     returns
+    tombstone-kind-requires
     sub-lay-entry
     part-lay-entry-start
     part-lay-entry-end

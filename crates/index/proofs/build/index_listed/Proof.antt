@@ -1,7 +1,6 @@
 -- `index::build::index_listed` meets its contract.
 use mathlib.Core.Path.{sym, _∙_}
 use borrow.Author.Tests.{not-true, not-false}
-use Rattle.segment.specs.Layout.{edition1}
 use Rattle.index.specs.Turns.{listed-out, listed-slot, in-log-room, slot-small}
 use borrow.Author.Needs.{needs}
 use Rattle.index.proofs.build.index_listed.Statement.{statement}
@@ -11,7 +10,7 @@ in-log-requires : tie.Need-in-log-requires
 in-log-requires c κs = search needs
 
 returns : tie.Need-returns
-returns c = listed-out edition1 _ _ _ _ _ _ _ (c .before .in-log .ensures) (not-true _ (c .if1 .taken))
+returns c = listed-out _ _ _ _ _ _ _ _ (c .before .in-log .ensures) (not-true _ (c .if1 .taken))
 
 index-slot-requires : tie.Need-index-slot-requires
 index-slot-requires c κs =
@@ -24,7 +23,7 @@ same-length c = search needs
 returns-2 : tie.Need-returns-2
 returns-2 c =
     let t = c .before .before .before .before in
-    listed-slot edition1 _ _ _ _ _ _ _ (t .before .in-log .ensures) (not-false _ (t .if1 .left)) _ (c .before .before .index-slot .ensures)
+    listed-slot _ _ _ _ _ _ _ _ (t .before .in-log .ensures) (not-false _ (t .if1 .left)) _ (c .before .before .index-slot .ensures)
 
 pub index-listed-spec : {M : Type 1} → statement M
 index-listed-spec =

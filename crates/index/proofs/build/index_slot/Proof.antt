@@ -5,23 +5,22 @@ use native.Mathlib.Omega.{arith}
 use lib.ListN.{length}
 use denote.Ref.{now}
 use borrow.Author.Needs.{needs}
-use Rattle.segment.specs.Layout.{edition1}
 use Rattle.model.specs.Log.{segmentOf, placedIn}
 use Rattle.index.specs.Insert.{counted, insertAll}
 use Rattle.index.specs.Build.{entriesAt, slotEntries}
-use Rattle.index.specs.Turns.{slot-end, slot-damage, slot-fits, slot-over, slot-next, slot-few}
+use Rattle.index.specs.Turns.{slot-start, slot-end, slot-damage, slot-fits, slot-over, slot-next, slot-few}
 use Rattle.index.proofs.build.index_slot.Statement.{statement}
 use Rattle.index.proofs.build.index_slot.Tie as tie
 
 abbrev Inv-loop : tie.InvT-loop
-Inv-loop area cells₀ slot size keys s start at₀ keys₀ cells at keys′ =
+Inv-loop edition area cells₀ slot size keys s start at₀ keys₀ cells at keys′ =
     (length cells ≡ length cells₀)
     × (keys′ ≤ length cells)
-    × (insertAll edition1 area size (placedIn slot (entriesAt edition1 (segmentOf area size slot) at)) (counted cells keys′)
-    ≡ insertAll edition1 area size (slotEntries edition1 area size slot) (counted cells₀ keys))
+    × (insertAll edition area size (placedIn slot (entriesAt edition (segmentOf area size slot) at)) (counted cells keys′)
+    ≡ insertAll edition area size (slotEntries edition area size slot) (counted cells₀ keys))
 
 abbrev μ-loop : tie.MeasureT-loop
-μ-loop area cells₀ slot size keys s start at₀ keys₀ cells at keys′ = size - at
+μ-loop edition area cells₀ slot size keys s start at₀ keys₀ cells at keys′ = size - at
 
 cut-requires : tie.Need-cut-requires Inv-loop μ-loop
 cut-requires c κs = search needs
@@ -29,9 +28,15 @@ cut-requires c κs = search needs
 mul-start : tie.Need-mul-start Inv-loop μ-loop
 mul-start c = search needs
 
+digest-size-requires : tie.Need-digest-size-requires Inv-loop μ-loop
+digest-size-requires c κs = search needs
+
 loop-holds : tie.Need-loop-holds Inv-loop μ-loop
-unfolding edition1
-loop-holds c = (refl, search needs, refl)
+loop-holds c = (
+  refl,
+  search needs,
+  slot-start _ _ _ _ _ _ _ (c .digest-size .ensures),
+)
 
 next-requires : tie.Need-next-requires Inv-loop μ-loop
 next-requires c κs = search needs
@@ -42,16 +47,16 @@ enum-known-header c = search needs
 -- an entry that is met lies within the segment
 fits : (c : tie.After-header Inv-loop μ-loop) →
     (0 < c .header .given .0 .0 .length)
-    × (c .before .before .before .loop .at + c .header .given .0 .0 .length ≤ c .before .before .before .before .before .before .before .args .size)
+    × (c .before .before .before .loop .at + c .header .given .0 .0 .length ≤ c .before .before .before .before .before .before .before .before .args .size)
 fits c =
     let l = c .before .before .before in
-    slot-fits edition1 _ _ _ _ _ _ _ (l .loop .inv .2) _ (l .before .cut .ensures) _ (c .before .before .next .ensures) _ (c .header .given .1)
-    (l .before .before .before .before .pre .0)
+    slot-fits _ _ _ _ _ _ _ _ (l .loop .inv .2) _ (l .before .before .cut .ensures) _ (c .before .before .next .ensures) _ (c .header .given .1)
+    (l .before .before .before .before .before .pre .0)
 
 -- the cells stay as many
 long : (c : tie.After-index-entry Inv-loop μ-loop) →
-    length (c .index-entry .last .1 .0) ≡ length (now (c .before .before .before .before .before .before .before .before .before .before .before .before .args .cells))
-long c = c .index-entry .kept .1 .0 ∙ c .before .before .before .before .before .before .before .before .loop .inv .0
+    length (c .index-entry .last .1 .1 .0) ≡ length (now (c .before .before .before .before .before .before .before .before .before .before .before .before .before .args .cells))
+long c = c .index-entry .kept .1 .1 .0 ∙ c .before .before .before .before .before .before .before .before .loop .inv .0
 
 add-place : tie.Need-add-place Inv-loop μ-loop
 add-place c = omega (arith, fits (c .before))
@@ -75,7 +80,7 @@ returns c =
     let i = c .before .before .before .before in
     let k = i .before .before .before .before .before in
     let l = k .before .before .before in
-    slot-over edition1 _ _ _ _ _ _ _ (l .loop .inv .2) _ (l .before .cut .ensures) _ (k .before .before .next .ensures) _ (k .header .given .1) _ _
+    slot-over _ _ _ _ _ _ _ _ (l .loop .inv .2) _ (l .before .before .cut .ensures) _ (k .before .before .next .ensures) _ (k .header .given .1) _ _
     (i .index-entry .ensures) (c .enum-told .given .1)
 
 add-at : tie.Need-add-at Inv-loop μ-loop
@@ -90,9 +95,9 @@ loop-again c =
     let k = i .before .before .before .before .before in
     let l = k .before .before .before in (
       long i,
-      slot-few edition1 _ _ _ _ _ _ _ (l .loop .inv .2) _ (l .before .cut .ensures) _ (k .before .before .next .ensures) _ (k .header .given .1) _ _ (i .index-entry .ensures) _
+      slot-few _ _ _ _ _ _ _ _ (l .loop .inv .2) _ (l .before .before .cut .ensures) _ (k .before .before .next .ensures) _ (k .header .given .1) _ _ (i .index-entry .ensures) _
           (c .before .before .n .given .1) (l .loop .inv .1),
-      slot-next edition1 _ _ _ _ _ _ _ (l .loop .inv .2) _ (l .before .cut .ensures) _ (k .before .before .next .ensures) _ (k .header .given .1) _ _ (i .index-entry .ensures) _
+      slot-next _ _ _ _ _ _ _ _ (l .loop .inv .2) _ (l .before .before .cut .ensures) _ (k .before .before .next .ensures) _ (k .header .given .1) _ _ (i .index-entry .ensures) _
           (c .before .before .n .given .1),
     )
 
@@ -105,7 +110,7 @@ same-length-2 c = c .before .before .before .loop .inv .0
 returns-2 : tie.Need-returns-2 Inv-loop μ-loop
 returns-2 c =
     let l = c .before .before .before in
-    slot-end edition1 _ _ _ _ _ _ _ (l .loop .inv .2) _ (l .before .cut .ensures) _ (c .before .before .next .ensures) (c .enum-told2 .given .1)
+    slot-end _ _ _ _ _ _ _ _ (l .loop .inv .2) _ (l .before .before .cut .ensures) _ (c .before .before .next .ensures) (c .enum-told2 .given .1)
 
 enum-told-3 : tie.Need-enum-told-3 Inv-loop μ-loop
 enum-told-3 c = search needs
@@ -116,7 +121,7 @@ same-length-3 c = c .before .before .before .loop .inv .0
 returns-3 : tie.Need-returns-3 Inv-loop μ-loop
 returns-3 c =
     let l = c .before .before .before in
-    slot-damage edition1 _ _ _ _ _ _ _ (l .loop .inv .2) _ (l .before .cut .ensures) _ (c .before .before .next .ensures) (c .enum-told3 .given .1)
+    slot-damage _ _ _ _ _ _ _ _ (l .loop .inv .2) _ (l .before .before .cut .ensures) _ (c .before .before .next .ensures) (c .enum-told3 .given .1)
 
 pub index-slot-spec : {M : Type 1} → statement M
 index-slot-spec =
@@ -126,6 +131,7 @@ index-slot-spec =
     μ-loop
     cut-requires
     mul-start
+    digest-size-requires
     loop-holds
     next-requires
     enum-known-header

@@ -4,7 +4,6 @@ use mathlib.Core.Path.{_≡_, refl, sym, _∙_}
 use native.Mathlib.Omega.{arith}
 use lib.ListN.{length}
 use borrow.Author.Needs.{needs}
-use Rattle.segment.specs.Layout.{edition1}
 use Rattle.index.specs.Search.{probe, cellHas, searchFor}
 use Rattle.index.specs.Probe.{orElse}
 use Rattle.index.specs.SearchLaws.{search-empty, search-above, first-below, search-runs, runs-over, run-at, run-free, run-next}
@@ -12,20 +11,20 @@ use Rattle.index.proofs.search.search.Statement.{statement}
 use Rattle.index.proofs.search.search.Tie as tie
 
 abbrev Inv-loop : tie.InvT-loop
-Inv-loop area cells key n m from₀ end₀ from end =
+Inv-loop edition area cells key n m from₀ end₀ from end =
     (from ≤ end)
     × (end ≤ length cells)
-    × (orElse (probe (cellHas edition1 area key) cells (end - from) from) (probe (cellHas edition1 area key) cells from 0)
-    ≡ searchFor edition1 area cells key)
+    × (orElse (probe (cellHas edition area key) cells (end - from) from) (probe (cellHas edition area key) cells from 0)
+    ≡ searchFor edition area cells key)
 
 abbrev μ-loop : tie.MeasureT-loop
-μ-loop area cells key n m from₀ end₀ from end = end + from
+μ-loop edition area cells key n m from₀ end₀ from end = end + from
 
 returns : tie.Need-returns Inv-loop μ-loop
-returns c = search-empty edition1 _ _ _ (c .if1 .taken)
+returns c = search-empty _ _ _ _ (c .if1 .taken)
 
 returns-2 : tie.Need-returns-2 Inv-loop μ-loop
-returns-2 c = search-above edition1 _ _ _ (c .if2 .taken)
+returns-2 c = search-above _ _ _ _ (c .if2 .taken)
 
 cast-m : tie.Need-cast-m Inv-loop μ-loop
 cast-m c = search needs
@@ -38,7 +37,7 @@ loop-holds c =
     let l = first-below _ _ _ (omega arith) (c .first-cell .ensures) in (
       omega (arith, l),
       omega arith,
-      search-runs edition1 _ _ _ refl (omega arith) (omega arith) (c .before .key-hash .ensures) (c .first-cell .ensures),
+      search-runs _ _ _ _ refl (omega arith) (omega arith) (c .before .key-hash .ensures) (c .first-cell .ensures),
     )
 
 search-up-requires : tie.Need-search-up-requires Inv-loop μ-loop

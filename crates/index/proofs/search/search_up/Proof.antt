@@ -4,18 +4,17 @@ use mathlib.Core.Path.{_≡_, refl, sym, _∙_}
 use native.Mathlib.Omega.{arith}
 use lib.ListN.{length}
 use borrow.Author.Needs.{needs}
-use Rattle.segment.specs.Layout.{edition1}
 use Rattle.index.specs.Search.{probe, cellHas}
 use Rattle.index.specs.SearchLaws.{turn-full, turn-free, turn-at, turn-next}
 use Rattle.index.proofs.search.search_up.Statement.{statement}
 use Rattle.index.proofs.search.search_up.Tie as tie
 
 abbrev Inv-loop : tie.InvT-loop
-Inv-loop area cells key from end at₀ at =
-    (at ≤ end) × (end ≤ length cells) × (probe (cellHas edition1 area key) cells (end - at) at ≡ probe (cellHas edition1 area key) cells (end - from) from)
+Inv-loop edition area cells key from end at₀ at =
+    (at ≤ end) × (end ≤ length cells) × (probe (cellHas edition area key) cells (end - at) at ≡ probe (cellHas edition area key) cells (end - from) from)
 
 abbrev μ-loop : tie.MeasureT-loop
-μ-loop area cells key from end at₀ at = end - at
+μ-loop edition area cells key from end at₀ at = end - at
 
 loop-holds : tie.Need-loop-holds Inv-loop μ-loop
 loop-holds c = (omega arith, omega arith, refl)

@@ -4,7 +4,6 @@ use mathlib.Core.Path.{sym, _∙_}
 use native.Mathlib.Omega.{arith}
 use borrow.Author.Needs.{needs}
 use borrow.Author.Tests.{not-true, not-false}
-use Rattle.segment.specs.Layout.{edition1}
 use Rattle.joining.specs.NotesLaws.{part-noted, part-keeps, counted-skip, counted-more, tombstones-skip, tombstones-more}
 use Rattle.joining.proofs.notes.note_part.Statement.{statement}
 use Rattle.joining.proofs.notes.note_part.Tie as tie
@@ -16,7 +15,7 @@ returns : tie.Need-returns
 returns c =
     let s = c .before .before .before .before .before .before .before in
     let other = sym (c .before .is-named .ensures) ∙ not-true _ (c .if1 .taken) in
-    (part-keeps edition1 _ _ _ _ _ other, counted-skip edition1 _ _ _ _ _ (s .pre .1 .1 .0) other, tombstones-skip edition1 _ _ _ _ (s .pre .1 .1 .1) other)
+    (part-keeps _ _ _ _ _ _ other, counted-skip _ _ _ _ _ _ (s .pre .1 .1 .0) other, tombstones-skip _ _ _ _ _ (s .pre .1 .1 .1) other)
 
 note-slot-requires : tie.Need-note-slot-requires
 note-slot-requires c κs = search needs
@@ -53,9 +52,9 @@ returns-2 c =
     let s = c .before .before .before .before .before .before .before .before .before .before .before .before .before in
     let w = c .before .before .before .before .note-slot .ensures in
     let low : s .args .slot < 32 = omega (arith, s .pre .1 .0, s .pre .0 .slots .slots-high) in (
-      part-noted edition1 _ _ _ _ _ (sym (c .before .before .before .before .before .before .before .is-named .ensures) ∙ not-false _ (c .before .before .before .before .before .before .if1 .left)) (w .1),
-      counted-more edition1 _ _ _ _ _ (s .pre .1 .1 .0) low _ (w .0 .objects-are) (omega (arith, w .0 .few)),
-      tombstones-more edition1 _ _ _ _ (s .pre .1 .1 .1) low _ (w .0 .tombstones-are),
+      part-noted _ _ _ _ _ _ (sym (c .before .before .before .before .before .before .before .is-named .ensures) ∙ not-false _ (c .before .before .before .before .before .before .if1 .left)) (w .1),
+      counted-more _ _ _ _ _ _ (s .pre .1 .1 .0) low _ (w .0 .objects-are) (omega (arith, w .0 .few)),
+      tombstones-more _ _ _ _ _ (s .pre .1 .1 .1) low _ (w .0 .tombstones-are),
     )
 
 pub note-part-spec : {M : Type 1} → statement M

@@ -3,7 +3,6 @@ use Prim.Native.Nat.{_-_}
 use native.Mathlib.Omega.{arith}
 use lib.ListN.{length}
 use denote.Ref.{now}
-use Rattle.segment.specs.Layout.{edition1}
 use Rattle.cleaning.specs.EntriesLaws.{Meets, meets}
 use Rattle.joining.specs.Weights.{Passed}
 use Rattle.joining.specs.WeightsLaws.{passed-start, passed-object}
@@ -12,17 +11,17 @@ use Rattle.joining.proofs.weights.behind.Statement.{statement}
 use Rattle.joining.proofs.weights.behind.Tie as tie
 
 abbrev Inv-loop : tie.InvT-loop
-Inv-loop s from count at₀ at = Passed edition1 s from at
+Inv-loop edition s from count at₀ at = Passed edition s from at
 
 abbrev μ-loop : tie.MeasureT-loop
-μ-loop s from count at₀ at = length s - at
+μ-loop edition s from count at₀ at = length s - at
 
 -- the entry that the turn meets
-met : (c : tie.After-known-told Inv-loop μ-loop) → Meets edition1 (now (c .before .before .before .before .before .before .args .s)) (c .before .before .before .before .loop .at) (c .before .header .given .0 .0)
-met c = meets edition1 _ _ _ (c .before .before .before .next .ensures) _ (c .before .header .given .1)
+met : (c : tie.After-known-told Inv-loop μ-loop) → Meets (c .before .before .before .before .before .before .args .edition) (now (c .before .before .before .before .before .before .args .s)) (c .before .before .before .before .loop .at) (c .before .header .given .0 .0)
+met c = meets _ _ _ _ (c .before .before .before .next .ensures) _ (c .before .header .given .1)
 
 loop-holds : tie.Need-loop-holds Inv-loop μ-loop
-loop-holds c = passed-start edition1 _ _ (c .before .pre .0)
+loop-holds c = passed-start _ _ _ (c .before .pre .0)
 
 next-requires : tie.Need-next-requires Inv-loop μ-loop
 next-requires c κs = search needs
@@ -43,7 +42,7 @@ loop-less : tie.Need-loop-less Inv-loop μ-loop
 loop-less c = omega (arith, met (c .before .before .before) .fits, met (c .before .before .before) .some-byte, c .if2 .left)
 
 loop-again : tie.Need-loop-again Inv-loop μ-loop
-loop-again c = passed-object edition1 _ _ _ (c .before .before .before .before .before .before .before .loop .inv) (met (c .before .before .before)) (c .before .before .if1 .left) _ (c .if2 .left)
+loop-again c = passed-object _ _ _ _ (c .before .before .before .before .before .before .before .loop .inv) (met (c .before .before .before)) (c .before .before .if1 .left) _ (c .if2 .left)
 
 enum-told : tie.Need-enum-told Inv-loop μ-loop
 enum-told c = search needs

@@ -2,7 +2,6 @@
 use mathlib.Core.Path.{sym, _∙_}
 use native.Mathlib.Omega.{arith}
 use borrow.Author.Tests.{not-true, not-false}
-use Rattle.segment.specs.Layout.{edition1}
 use Rattle.joining.specs.WeightsLaws.{rows-skip, rows-none, rows-more}
 use borrow.Author.Needs.{needs}
 use Rattle.joining.proofs.weights.weigh_part.Statement.{statement}
@@ -12,7 +11,7 @@ is-named-requires : tie.Need-is-named-requires
 is-named-requires c κs = search needs
 
 returns : tie.Need-returns
-returns c = rows-skip edition1 _ _ _ _ _ _ _ (c .before .before .before .before .before .before .before .before .pre .1 .1 .1) (sym (c .before .is-named .ensures) ∙ not-true _ (c .if1 .taken))
+returns c = rows-skip _ _ _ _ _ _ _ _ (c .before .before .before .before .before .before .before .before .pre .1 .1 .1) (sym (c .before .is-named .ensures) ∙ not-true _ (c .if1 .taken))
 
 mul-if2 : tie.Need-mul-if2
 mul-if2 c = search needs
@@ -24,7 +23,7 @@ returns-2 : tie.Need-returns-2
 returns-2 c =
     let s = c .before .before .before .before .before .before .before .before .before .before in
     let own = sym (c .before .before .before .is-named .ensures) ∙ not-false _ (c .before .before .if1 .left) in
-    rows-none edition1 _ _ _ _ _ _ _ (s .pre .1 .1 .1) (s .pre .1 .0) own (sym (s .pre .1 .1 .0 .tombstones-are _ (s .pre .1 .0) own) ∙ c .if2 .taken)
+    rows-none _ _ _ _ _ _ _ _ (s .pre .1 .1 .1) (s .pre .1 .0) own (sym (s .pre .1 .1 .0 .tombstones-are _ (s .pre .1 .0) own) ∙ c .if2 .taken)
 
 weigh-slot-requires : tie.Need-weigh-slot-requires
 weigh-slot-requires c κs =
@@ -60,7 +59,7 @@ same-length-2 c = search needs
 returns-3 : tie.Need-returns-3
 returns-3 c =
     let s = c .before .before .before .before .before .before .before .before .before .before .before .before .before .before .before in
-    rows-more edition1 _ _ _ _ _ _ _ (s .pre .1 .1 .1) (omega (arith, s .pre .1 .0, s .pre .0 .slots .slots-high)) (s .pre .1 .0)
+    rows-more _ _ _ _ _ _ _ _ (s .pre .1 .1 .1) (omega (arith, s .pre .1 .0, s .pre .0 .slots .slots-high)) (s .pre .1 .0)
     (sym (c .before .before .before .before .before .before .before .before .is-named .ensures) ∙ not-false _ (c .before .before .before .before .before .before .before .if1 .left)) _ _ (c .before .before .before .weigh-slot .ensures)
 
 pub weigh-part-spec : {M : Type 1} → statement M

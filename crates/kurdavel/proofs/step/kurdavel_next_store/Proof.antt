@@ -2,7 +2,6 @@
 use borrow.Author.Needs.{needs}
 use mathlib.Core.Path.{_≡_, refl, sym, _∙_, ap}
 use native.Mathlib.Omega.{arith}
-use Rattle.segment.specs.Layout.{edition1}
 use Rattle.record.specs.declared.TellAnswer.{TellAnswer}
 use Rattle.telling.specs.Told.{foundBy}
 use Rattle.telling.specs.Places.{answered}
@@ -32,7 +31,7 @@ found-in-requires c κs =
 -- what is found
 found-is : (s : tie.After-found-in)
     → let a = s .before .before .before .before .before .before .before .before .args in
-    answered (a .work .now) (s .found-in .result) ≡ foundBy edition1 (decoded (a .words .now) .rec) (a .area .now) (word (a .words .now) 2) (a .work .now)
+    answered (a .work .now) (s .found-in .result) ≡ foundBy (decoded (a .words .now) .rec .edition) (decoded (a .words .now) .rec) (a .area .now) (word (a .words .now) 2) (a .work .now)
 found-is s =
     let t = s .before in
     let a = t .before .before .before .before .before .before .before .args in

@@ -4,7 +4,6 @@ use Prim.Native.Nat.{_≤_, _<_}
 use mathlib.Core.Path.{_≡_, refl, sym, _∙_, ap}
 use native.Mathlib.Omega.{arith}
 use lib.ListN.{length}
-use Rattle.segment.specs.Layout.{edition1}
 use Rattle.record.specs.declared.TellAnswer.{TellAnswer}
 use Rattle.telling.specs.Told.{foundBy}
 use Rattle.telling.specs.Places.{answered}
@@ -31,7 +30,7 @@ found-in-requires c κs =
 -- what is found, with the work buffer
 found-is : (s : tie.After-found-in)
     → let a = s .before .before .before .before .before .before .before .before .before .before .args in
-    answered (a .work .now) (s .found-in .result) ≡ foundBy edition1 (decoded (a .words .now) .rec) (a .area .now) (length (a .index .now)) (a .work .now)
+    answered (a .work .now) (s .found-in .result) ≡ foundBy (decoded (a .words .now) .rec .edition) (decoded (a .words .now) .rec) (a .area .now) (length (a .index .now)) (a .work .now)
 found-is s =
     let t = s .before .before .before in
     let a = t .before .before .before .before .before .before .before .args in
@@ -49,7 +48,7 @@ byte-from-requires c κs = let p = c .before in p .before .before .found-in .ens
 -- the store that is made
 at-is : (b : tie.After-byte-from)
     → let a = b .before .before .before .before .before .before .before .before .before .before .before .before .before .before .args in
-    foundBy edition1 (decoded (a .words .now) .rec) (a .area .now) (length (a .index .now)) (a .work .now)
+    foundBy (decoded (a .words .now) .rec .edition) (decoded (a .words .now) .rec) (a .area .now) (length (a .index .now)) (a .work .now)
     ≡ TellAnswer.At (b .before .before .place .given .0 .0) (b .byte-from .result)
 unfolding answered
 at-is b =

@@ -2,7 +2,6 @@
 use Prim.Native.Nat.{_-_, _≤_}
 use mathlib.Core.Path.{_≡_, refl}
 use native.Mathlib.Omega.{arith}
-use Rattle.segment.specs.Layout.{edition1}
 use Rattle.model.specs.Log.{viewsOf, headOf}
 use Rattle.log.specs.Shape.{inside, digest-inside}
 use Rattle.log.specs.Heads.{told, head-turn}
@@ -10,7 +9,7 @@ use Rattle.log.proofs.head.find_head.Statement.{statement}
 use Rattle.log.proofs.head.find_head.Tie as tie
 
 abbrev Inv-loop : tie.InvT-loop
-Inv-loop n s area best₀ i₀ best i = (i ≤ n) × (best ≡ told (headOf (viewsOf edition1 area s) i))
+Inv-loop n s area best₀ i₀ best i = (i ≤ n) × (best ≡ told (headOf (viewsOf area s) i))
 
 abbrev μ-loop : tie.MeasureT-loop
 μ-loop n s area best₀ i₀ best i = n - i
@@ -34,7 +33,7 @@ loop-less c = omega arith
 loop-again : tie.Need-loop-again Inv-loop μ-loop
 loop-again c = (
   omega arith,
-  head-turn edition1 (c .before .before .before .before .before .args .area .now) (c .before .before .before .before .before .args .s) _ _ (c .before .cut .ensures) _ _ (c .before .before .before .loop .inv .1) (c .later .ensures),
+  head-turn (c .before .before .before .before .before .args .area .now) (c .before .before .before .before .before .args .s) _ _ (c .before .cut .ensures) _ _ (c .before .before .before .loop .inv .1) (c .later .ensures),
 )
 
 returns : tie.Need-returns Inv-loop μ-loop

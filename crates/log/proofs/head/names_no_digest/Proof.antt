@@ -5,7 +5,6 @@ use mathlib.Core.Bool.{false}
 use native.Mathlib.Omega.{arith}
 use borrow.Author.Needs.{needs}
 use borrow.Author.Tests.{not-true, not-false}
-use Rattle.segment.specs.Layout.{edition1}
 use Rattle.model.specs.Log.{viewsOf}
 use Rattle.model.specs.Recovery.{namesNoDigest}
 use Rattle.slot_map.specs.Bit.{named}
@@ -15,7 +14,7 @@ use Rattle.log.proofs.head.names_no_digest.Statement.{statement}
 use Rattle.log.proofs.head.names_no_digest.Tie as tie
 
 abbrev Inv-loop : tie.InvT-loop
-Inv-loop n s area map i₀ i = (i ≤ n) × (namesNoDigest (viewsOf edition1 area s) (named map) i ≡ false)
+Inv-loop n s area map i₀ i = (i ≤ n) × (namesNoDigest (viewsOf area s) (named map) i ≡ false)
 
 abbrev μ-loop : tie.MeasureT-loop
 μ-loop n s area map i₀ i = n - i
@@ -48,7 +47,7 @@ is-digest-requires c κs = search needs
 returns : tie.Need-returns Inv-loop μ-loop
 returns c =
     let a = c .before .before .before .before .before .before .before .before .args in
-    names-found edition1 (a .area .now) (a .s) _ _ (c .before .before .cut .ensures) _ (c .before .is-digest .ensures) (named (a .map)) (not-true _ (c .if2 .taken))
+    names-found (a .area .now) (a .s) _ _ (c .before .before .cut .ensures) _ (c .before .is-digest .ensures) (named (a .map)) (not-true _ (c .if2 .taken))
     (sym (c .before .before .before .before .is-named .ensures) ∙ not-false _ (c .before .before .before .if1 .left)) _ (c .before .before .before .before .before .loop-test .taken)
 
 loop-less-2 : tie.Need-loop-less-2 Inv-loop μ-loop
@@ -57,7 +56,7 @@ loop-less-2 c = omega arith
 loop-again-2 : tie.Need-loop-again-2 Inv-loop μ-loop
 loop-again-2 c = (
   omega arith,
-  names-turn edition1 (c .before .before .before .before .before .before .before .before .args .area .now) (c .before .before .before .before .before .before .before .before .args .s) (c .before .before .before .before .before .before .loop .i) _ (c .before .before .cut .ensures) _ (c .before .is-digest .ensures) (named (c .before .before .before .before .before .before .before .before .args .map)) (not-false _ (c .if2 .left)) (c .before .before .before .before .before .before .loop .inv .1),
+  names-turn (c .before .before .before .before .before .before .before .before .args .area .now) (c .before .before .before .before .before .before .before .before .args .s) (c .before .before .before .before .before .before .loop .i) _ (c .before .before .cut .ensures) _ (c .before .is-digest .ensures) (named (c .before .before .before .before .before .before .before .before .args .map)) (not-false _ (c .if2 .left)) (c .before .before .before .before .before .before .loop .inv .1),
 )
 
 returns-2 : tie.Need-returns-2 Inv-loop μ-loop

@@ -3,7 +3,6 @@ use lib.Dec.{ltb}
 use Prim.Native.Nat.{_+_, _-_, _≤_}
 use mathlib.Core.Path.{_≡_, refl, ap}
 use native.Mathlib.Omega.{arith}
-use Rattle.segment.specs.Layout.{edition1}
 use Rattle.model.specs.Log.{viewsOf}
 use Rattle.model.specs.Recovery.{sharing}
 use Rattle.log.specs.Shape.{inside, digest-inside}
@@ -12,7 +11,7 @@ use Rattle.log.proofs.head.shared_number.Statement.{statement}
 use Rattle.log.proofs.head.shared_number.Tie as tie
 
 abbrev Inv-loop : tie.InvT-loop
-Inv-loop n s area number count₀ i₀ count i = (i ≤ n) × (count ≡ sharing (viewsOf edition1 area s) (number .0) i)
+Inv-loop n s area number count₀ i₀ count i = (i ≤ n) × (count ≡ sharing (viewsOf area s) (number .0) i)
 
 abbrev μ-loop : tie.MeasureT-loop
 μ-loop n s area number count₀ i₀ count i = n - i
@@ -34,8 +33,8 @@ add-count c =
     omega (
       arith,
       c .before .before .before .before .before .pre,
-      number-turn edition1 (a .area .now) (a .s) i _ (c .before .cut .ensures) (a .number .0) _ _ (c .before .before .before .loop .inv .1) (c .has-number .ensures),
-      sharing-le (viewsOf edition1 (a .area .now) (a .s)) (a .number .0) (i + 1),
+      number-turn (a .area .now) (a .s) i _ (c .before .cut .ensures) (a .number .0) _ _ (c .before .before .before .loop .inv .1) (c .has-number .ensures),
+      sharing-le (viewsOf (a .area .now) (a .s)) (a .number .0) (i + 1),
     )
 
 add-i : tie.Need-add-i Inv-loop μ-loop
@@ -47,7 +46,7 @@ loop-less c = omega arith
 loop-again : tie.Need-loop-again Inv-loop μ-loop
 loop-again c = (
   omega arith,
-  number-turn edition1 (c .before .before .before .before .before .args .area .now) (c .before .before .before .before .before .args .s) (c .before .before .before .loop .i) _ (c .before .cut .ensures) _ _ _ (c .before .before .before .loop .inv .1) (c .has-number .ensures),
+  number-turn (c .before .before .before .before .before .args .area .now) (c .before .before .before .before .before .args .s) (c .before .before .before .loop .i) _ (c .before .cut .ensures) _ _ _ (c .before .before .before .loop .inv .1) (c .has-number .ensures),
 )
 
 returns : tie.Need-returns Inv-loop μ-loop

@@ -3,7 +3,6 @@ use Prim.Native.Nat.{_-_, _≤_}
 use mathlib.Core.Path.{_≡_, refl, sym, _∙_}
 use native.Mathlib.Omega.{arith}
 use borrow.Author.Tests.{not-true, not-false}
-use Rattle.segment.specs.Layout.{edition1}
 use Rattle.slot_map.specs.Bit.{named}
 use Rattle.model.specs.Log.{viewsOf}
 use Rattle.log.specs.Shape.{inside}
@@ -12,7 +11,7 @@ use Rattle.log.proofs.survey.survey.Statement.{statement}
 use Rattle.log.proofs.survey.survey.Tie as tie
 
 abbrev Inv-loop : tie.InvT-loop
-Inv-loop n s area map filter₀ passed₀ i₀ filter passed i = (i ≤ n) × Surveying (viewsOf edition1 area s) (named map) i (passed .sound) (passed .highest .0) (passed .apart) filter
+Inv-loop n s area map filter₀ passed₀ i₀ filter passed i = (i ≤ n) × Surveying (viewsOf area s) (named map) i (passed .sound) (passed .highest .0) (passed .apart) filter
 
 abbrev μ-loop : tie.MeasureT-loop
 μ-loop n s area map filter₀ passed₀ i₀ filter passed i = n - i

@@ -5,18 +5,17 @@ use mathlib.Core.List.{List}
 use native.Mathlib.Omega.{arith}
 use borrow.Author.Needs.{needs}
 use borrow.Author.Tests.{not-true, not-false}
-use Rattle.segment.specs.Layout.{edition1}
 use Rattle.slot_map.specs.Bit.{named}
-use Rattle.model.specs.Log.{viewsOf, scan, itemsOf, logOf}
+use Rattle.model.specs.Log.{Scan, viewsOf, itemsOf, logOf}
 use Rattle.laws.specs.Members.{total}
-use Rattle.log.specs.Shape.{inside, part-short}
+use Rattle.log.specs.Shape.{inside, part-short, own-scan}
 use Rattle.log.specs.Suspects.{hits}
 use Rattle.log.specs.Counts.{countOf, total-skip, total-take}
 use Rattle.log.proofs.suspects.count.Statement.{statement}
 use Rattle.log.proofs.suspects.count.Tie as tie
 
 abbrev Inv-loop : tie.InvT-loop
-Inv-loop n s area map marks table total₀ i₀ total i = (i ≤ n) × (total ≤ i * 2048) × (total ≡ hits table (logOf (viewsOf edition1 area s) (named map) i))
+Inv-loop n s area map marks table total₀ i₀ total i = (i ≤ n) × (total ≤ i * 2048) × (total ≡ hits table (logOf (viewsOf area s) (named map) i))
 
 abbrev μ-loop : tie.MeasureT-loop
 μ-loop n s area map marks table total₀ i₀ total i = n - i
@@ -44,6 +43,9 @@ loop-again c = (
 cut-requires : tie.Need-cut-requires Inv-loop μ-loop
 cut-requires c κs = inside (c .before .before .before .before .before .before .before .pre .0) _ (c .before .before .loop-test .taken)
 
+edition-of-requires : tie.Need-edition-of-requires Inv-loop μ-loop
+edition-of-requires c κs = search needs
+
 count-in-requires : tie.Need-count-in-requires Inv-loop μ-loop
 count-in-requires c κs = search needs
 
@@ -52,11 +54,11 @@ short c =
     omega (
       arith,
       c .count-in .ensures .few,
-      part-short (c .before .before .before .before .before .before .before .before .before .pre .0) (c .before .before .before .before .before .loop .i) (c .before .before .before .before .loop-test .taken) _ (c .before .cut .ensures),
+      part-short (c .before .before .before .before .before .before .before .before .before .before .pre .0) (c .before .before .before .before .before .before .loop .i) (c .before .before .before .before .before .loop-test .taken) _ (c .before .before .cut .ensures),
     )
 
 add-total : tie.Need-add-total Inv-loop μ-loop
-add-total c = omega (arith, short c, c .before .before .before .before .before .before .before .before .before .pre .0)
+add-total c = omega (arith, short c, c .before .before .before .before .before .before .before .before .before .before .pre .0)
 
 loop-less-2 : tie.Need-loop-less-2 Inv-loop μ-loop
 loop-less-2 c = omega arith
@@ -65,8 +67,9 @@ loop-again-2 : tie.Need-loop-again-2 Inv-loop μ-loop
 loop-again-2 c = (
   omega arith,
   omega (arith, short c),
-  total-take (viewsOf edition1 (c .before .before .before .before .before .before .before .before .before .args .area .now) (c .before .before .before .before .before .before .before .before .before .args .s)) _ _ _ _ (c .before .before .before .before .before .loop .inv .2) (sym (c .before .before .before .is-named .ensures) ∙ not-false _ (c .before .before .if1 .left)) _
-      (c .count-in .ensures .counts ∙ ap (λ (l : List ℕ). countOf (c .before .before .before .before .before .before .before .before .before .args .table .now) (itemsOf (scan edition1 l))) (c .before .cut .ensures)),
+  total-take (viewsOf (c .before .before .before .before .before .before .before .before .before .before .args .area .now) (c .before .before .before .before .before .before .before .before .before .before .args .s)) _ _ _ _ (c .before .before .before .before .before .before .loop .inv .2) (sym (c .before .before .before .before .is-named .ensures) ∙ not-false _ (c .before .before .before .if1 .left)) _
+      (c .count-in .ensures .counts
+      ∙ ap (λ (x : Scan). countOf (c .before .before .before .before .before .before .before .before .before .before .args .table .now) (itemsOf x)) (own-scan (c .before .before .before .before .before .before .before .before .before .before .args .area .now) (c .before .before .before .before .before .before .before .before .before .before .args .s) (c .before .before .before .before .before .before .loop .i) _ (c .before .before .cut .ensures) _ (c .before .edition-of .ensures))),
 )
 
 returns : tie.Need-returns Inv-loop μ-loop
@@ -86,6 +89,7 @@ count-spec =
     loop-less
     loop-again
     cut-requires
+    edition-of-requires
     count-in-requires
     add-total
     loop-less-2

@@ -4,7 +4,6 @@ use mathlib.Core.Path.{_≡_, refl, sym, _∙_}
 use mathlib.Core.List.{List}
 use native.Mathlib.Omega.{arith}
 use borrow.Author.Needs.{needs}
-use Rattle.segment.specs.Layout.{edition1}
 use Rattle.slot_map.specs.Bit.{named}
 use Rattle.model.specs.Log.{Placed, viewsOf, logOf}
 use Rattle.laws.specs.Versions.{count}
@@ -15,7 +14,7 @@ use Rattle.log.proofs.suspects.suspect.Tie as tie
 
 -- the whole log, its suspects, and the entry that has the version
 abbrev log : tie.Start → List Placed
-log c = logOf (viewsOf edition1 (c .args .area .now) (c .args .s)) (named (c .args .map)) (c .args .n)
+log c = logOf (viewsOf (c .args .area .now) (c .args .s)) (named (c .args .map)) (c .args .n)
 
 held : (c : tie.Start) → Suspects (log c) (c .args .table .now)
 held c = c .pre .1 .0

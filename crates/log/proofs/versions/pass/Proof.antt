@@ -3,7 +3,6 @@ use mathlib.Core.Path.{sym, _∙_}
 use mathlib.Core.List.{List}
 use borrow.Author.Needs.{needs}
 use borrow.Author.Tests.{not-true}
-use Rattle.segment.specs.Layout.{edition1}
 use Rattle.slot_map.specs.Bit.{named}
 use Rattle.model.specs.Log.{Placed, viewsOf, logOf}
 use Rattle.laws.specs.Members.{clash}
@@ -13,7 +12,7 @@ use Rattle.log.proofs.versions.pass.Tie as tie
 
 -- the whole log, and its suspects
 abbrev log : tie.Start → List Placed
-log c = logOf (viewsOf edition1 (c .args .area .now) (c .args .s)) (named (c .args .map)) (c .args .n)
+log c = logOf (viewsOf (c .args .area .now) (c .args .s)) (named (c .args .map)) (c .args .n)
 
 held : (c : tie.Start) → Suspects (log c) (c .args .table .now)
 held c = c .pre .1 .1 .0

@@ -4,7 +4,7 @@ use mathlib.Core.Path.{_≡_, refl, sym, _∙_}
 use native.Mathlib.Omega.{arith}
 use borrow.Author.Tests.{not-true, not-false}
 use lib.ListN.{length}
-use Rattle.segment.specs.Layout.{edition1, versionLimit}
+use Rattle.segment.specs.Layout.{versionLimit}
 use Rattle.slot_map.specs.Bit.{named}
 use Rattle.model.specs.Log.{viewsOf, logOf}
 use Rattle.log.specs.Tables.{vacant}
@@ -13,19 +13,15 @@ use Rattle.log.proofs.versions.search_shared.Statement.{statement}
 use Rattle.log.proofs.versions.search_shared.Tie as tie
 
 abbrev Inv-loop : tie.InvT-loop
-Inv-loop n s area map filter₀ table₀ i₀ filter table i = (i ≤ n) × (length filter ≡ 512) × Filtered (logOf (viewsOf edition1 area s) (named map) n) (logOf (viewsOf edition1 area s) (named map) i) filter table
+Inv-loop n s area map filter₀ table₀ i₀ filter table i = (i ≤ n) × (length filter ≡ 512) × Filtered (logOf (viewsOf area s) (named map) n) (logOf (viewsOf area s) (named map) i) filter table
 
 abbrev μ-loop : tie.MeasureT-loop
 μ-loop n s area map filter₀ table₀ i₀ filter table i = n - i
 
-limit : versionLimit edition1 ≤ vacant
-unfolding edition1
-limit = omega arith
-
 loop-holds : tie.Need-loop-holds Inv-loop μ-loop
 loop-holds c =
     let a = c .before .args in
-    (omega arith, refl, filtered-none edition1 limit (a .area .now) (a .s) (named (a .map)) (a .n) _)
+    (omega arith, refl, filtered-none (a .area .now) (a .s) (named (a .map)) (a .n) _)
 
 add-i : tie.Need-add-i Inv-loop μ-loop
 add-i c = omega arith

@@ -2,14 +2,13 @@
 use borrow.Author.Needs.{needs}
 use mathlib.Core.Path.{sym, _∙_}
 use native.Mathlib.Omega.{arith}
-use Rattle.segment.specs.Layout.{edition1}
 use Rattle.record.specs.Range.{fitsLent}
 use Rattle.record.specs.RangeLaws.{range-limits, ends, goes}
 use Rattle.record.proofs.range.fits_lent.Statement.{statement}
 use Rattle.record.proofs.range.fits_lent.Tie as tie
 
 lengths-own-requires : tie.Need-lengths-own-requires
-lengths-own-requires c κs = omega (arith, range-limits edition1 _ (sym (c .before .in-range .ensures) ∙ c .if1 .taken))
+lengths-own-requires c κs = omega (arith, range-limits _ _ (sym (c .before .in-range .ensures) ∙ c .if1 .taken))
 
 returns : tie.Need-returns
 unfolding fitsLent

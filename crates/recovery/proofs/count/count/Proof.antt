@@ -4,19 +4,18 @@ use mathlib.Core.Path.{sym}
 use native.Mathlib.Omega.{arith}
 use lib.ListN.{length}
 use borrow.Author.Needs.{needs}
-use Rattle.segment.specs.Layout.{edition1}
 use Rattle.recovery.specs.CountLaws.{Counting, count-starts, count-turn, count-ends}
 use Rattle.recovery.proofs.count.count.Statement.{statement}
 use Rattle.recovery.proofs.count.count.Tie as tie
 
 abbrev Inv-loop : tie.InvT-loop
-Inv-loop s area cells counts₀ i₀ counts i = Counting edition1 s area cells i counts
+Inv-loop edition s area cells counts₀ i₀ counts i = Counting edition s area cells i counts
 
 abbrev μ-loop : tie.MeasureT-loop
-μ-loop s area cells counts₀ i₀ counts i = length cells - i
+μ-loop edition s area cells counts₀ i₀ counts i = length cells - i
 
 loop-holds : tie.Need-loop-holds Inv-loop μ-loop
-loop-holds c = count-starts edition1 _ _ _
+loop-holds c = count-starts _ _ _ _
 
 mul-count-cell : tie.Need-mul-count-cell Inv-loop μ-loop
 mul-count-cell c = search needs
@@ -41,11 +40,11 @@ loop-less c = search needs
 
 loop-again : tie.Need-loop-again Inv-loop μ-loop
 loop-again c =
-    count-turn edition1 _ _ _ _ _ _ (c .before .before .before .before .before .before .before .before .pre .1)
+    count-turn _ _ _ _ _ _ _ (c .before .before .before .before .before .before .before .before .pre .1)
     (c .before .before .before .before .loop-test .taken) (c .before .before .before .before .before .loop .inv) (c .before .count-cell .ensures)
 
 returns : tie.Need-returns Inv-loop μ-loop
-returns c = count-ends edition1 _ _ _ _ _ (c .loop-test .left) (c .before .loop .inv)
+returns c = count-ends _ _ _ _ _ _ (c .loop-test .left) (c .before .loop .inv)
 
 pub count-spec : {M : Type 1} → statement M
 count-spec =

@@ -1,50 +1,47 @@
--- `recovery::format::format` meets its contract: the stores of its three parts are those of a format.
-use mathlib.Core.Path.{refl, sym, _∙_}
-use native.Mathlib.Omega.{arith}
-use lib.ListN.{length, length-set}
+-- `recovery::format::format` meets its contract: the number names one of the two editions, or none.
 use borrow.Author.Needs.{needs}
-use Rattle.segment.specs.Layout.{edition1}
-use Rattle.recovery.specs.FormatLaws.{Fits, geometry-fits, format-refused, format-done}
+use Rattle.segment.specs.Layout.{numberOfLayout}
+use Rattle.recovery.specs.FormatLaws.{format-unknown}
 use Rattle.recovery.proofs.format.format.Statement.{statement}
 use Rattle.recovery.proofs.format.format.Tie as tie
 
-room : (c : tie.Else1) → Fits (c .before .before .before .args .n) (c .before .before .before .args .s) (length (c .before .before .before .args .area .now))
-room c = geometry-fits _ _ _ (sym (c .before .geometry-bad .ensures) ∙ c .if1 .left)
-
-geometry-bad-requires : tie.Need-geometry-bad-requires
-geometry-bad-requires c κs = search needs
-
-returns : tie.Need-returns
-returns c = format-refused edition1 _ _ _ (sym (c .before .geometry-bad .ensures) ∙ c .if1 .taken)
-
-clear-requires : tie.Need-clear-requires
-clear-requires c κs = let f = room (c .before) in (omega arith, omega arith)
-
-write-digest-requires : tie.Need-write-digest-requires
-unfolding edition1
-write-digest-requires c κs = let f = room (c .before .before .before .before .before) in omega arith
-
-slice-write-area : tie.Need-slice-write-area
-slice-write-area c = let f = room (c .before .before .before .before .before .before .before .before) in omega arith
+format-as-requires : tie.Need-format-as-requires
+format-as-requires c κs = search needs
 
 same-length : tie.Need-same-length
-same-length c = omega (arith, length-set (c .before .before .write-digest .last .0) 13 0)
+same-length c = search needs
+
+returns : tie.Need-returns
+unfolding numberOfLayout
+returns c =
+    let k = c .before .before .before .before .before .before in
+    rw (c .before .before .before .before .if1 .taken) (c .before .before .format-as .ensures)
+
+format-as-requires-2 : tie.Need-format-as-requires-2
+format-as-requires-2 c κs = search needs
+
+same-length-2 : tie.Need-same-length-2
+same-length-2 c = search needs
 
 returns-2 : tie.Need-returns-2
-unfolding edition1
+unfolding numberOfLayout
 returns-2 c =
-    let e = c .before .before .before .before .before .before .before .before in
-    format-done edition1 _ _ _ _ _ _ (sym (e .before .geometry-bad .ensures) ∙ e .if1 .left)
-    (c .before .before .before .before .before .before .clear .ensures) (c .before .before .write-digest .ensures) refl
+    let k = c .before .before .before .before .before .before .before in
+    rw (c .before .before .before .before .if2 .taken) (c .before .before .format-as2 .ensures)
+
+returns-3 : tie.Need-returns-3
+returns-3 c =
+    let k = c .before .before .before in
+    format-unknown _ _ _ _ (c .before .if1 .left) (c .if2 .left)
 
 pub format-spec : {M : Type 1} → statement M
 format-spec =
     tie.close
     (tie.spec
-    geometry-bad-requires
-    returns
-    clear-requires
-    write-digest-requires
-    slice-write-area
+    format-as-requires
     same-length
-    returns-2)
+    returns
+    format-as-requires-2
+    same-length-2
+    returns-2
+    returns-3)

@@ -3,7 +3,6 @@ use mathlib.Core.Path.{_≡_, sym, _∙_, ap}
 use mathlib.Core.Bool.{true}
 use lib.ListN.{length}
 use borrow.Author.Tests.{not-true, not-false}
-use Rattle.segment.specs.Layout.{edition1}
 use Rattle.record.specs.Range.{fitsLent}
 use Rattle.record.specs.Reach.{holdsTable}
 use Rattle.recovery.specs.Lookups.{lookupAt}
@@ -13,7 +12,7 @@ use Rattle.recovery.proofs.read.find.Statement.{statement}
 use Rattle.recovery.proofs.read.find.Tie as tie
 
 fit : (c : tie.Else1)
-    → let a = c .before .before .before .before .args in fitsLent edition1 (a .rec) (length (a .area .now)) (length (a .index .now)) ≡ true
+    → let a = c .before .before .before .before .args in fitsLent (a .rec .edition) (a .rec) (length (a .area .now)) (length (a .index .now)) ≡ true
 fit c = sym (c .before .fits-lent .ensures) ∙ not-false _ (c .if1 .left)
 
 held : (c : tie.Else2) → let a = c .before .before .before .before .before .before .args in holdsTable (a .tables) (a .key .table) ≡ true
@@ -23,13 +22,13 @@ fits-lent-requires : tie.Need-fits-lent-requires
 fits-lent-requires c κs = search needs
 
 returns : tie.Need-returns
-returns c = sym (looked-unfit edition1 _ _ _ _ _ (sym (c .before .fits-lent .ensures) ∙ not-true _ (c .if1 .taken)))
+returns c = sym (looked-unfit _ _ _ _ _ _ (sym (c .before .fits-lent .ensures) ∙ not-true _ (c .if1 .taken)))
 
 holds-table-requires : tie.Need-holds-table-requires
 holds-table-requires c κs = search needs
 
 returns-2 : tie.Need-returns-2
-returns-2 c = sym (looked-outside edition1 _ _ _ _ _ (fit (c .before .before)) (sym (c .before .holds-table .ensures) ∙ not-true _ (c .if2 .taken)))
+returns-2 c = sym (looked-outside _ _ _ _ _ _ (fit (c .before .before)) (sym (c .before .holds-table .ensures) ∙ not-true _ (c .if2 .taken)))
 
 cast-look-at : tie.Need-cast-look-at
 cast-look-at c = search needs
@@ -40,14 +39,14 @@ search-requires c κs = search needs
 look-at-requires : tie.Need-look-at-requires
 look-at-requires c κs =
     let e = c .before .before in
-    λ i f. reached edition1 _ _ _ _ _ (fit (e .before .before)) (held e) i (sym (c .search .ensures) ∙ f)
+    λ i f. reached _ _ _ _ _ _ (fit (e .before .before)) (held e) i (sym (c .search .ensures) ∙ f)
 
 returns-3 : tie.Need-returns-3
 returns-3 c =
     let e = c .before .before .before in
     c .look-at .ensures
-    ∙ ap (lookupAt edition1 _ _ _) (c .before .search .ensures)
-    ∙ sym (looked-fit edition1 _ _ _ _ _ (fit (e .before .before)) (held e))
+    ∙ ap (lookupAt _ _ _ _) (c .before .search .ensures)
+    ∙ sym (looked-fit _ _ _ _ _ _ (fit (e .before .before)) (held e))
 
 pub find-spec : {M : Type 1} → statement M
 find-spec =

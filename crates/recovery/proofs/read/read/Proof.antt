@@ -1,5 +1,4 @@
 -- `recovery::read::read` meets its contract.
-use Rattle.segment.specs.Layout.{edition1}
 use Rattle.recovery.specs.LookupLaws.{read-promise}
 use borrow.Author.Needs.{needs}
 use Rattle.recovery.proofs.read.read.Statement.{statement}
@@ -12,7 +11,7 @@ told-requires : tie.Need-told-requires
 told-requires c κs = search needs
 
 returns : tie.Need-returns
-returns c = read-promise edition1 _ _ _ _ _ _ _ (c .before .find .ensures) (c .told .ensures)
+returns c = read-promise _ _ _ _ _ _ _ _ (c .before .find .ensures) (c .told .ensures)
 
 pub read-spec : {M : Type 1} → statement M
 read-spec = tie.close (tie.spec find-requires told-requires returns)

@@ -3,7 +3,7 @@ use Prim.Native.Nat.{ℕ, _-_, _+_}
 use mathlib.Core.Path.{_≡_, refl, sym, _∙_, ap}
 use native.Mathlib.Omega.{arith}
 use lib.ListN.{take, drop}
-use Rattle.segment.specs.Layout.{edition1}
+use Rattle.segment.specs.Layout.{entrySize}
 use Rattle.model.specs.Promises.{nowhere}
 use Rattle.recovery.specs.Lookups.{partBy}
 use Rattle.recovery.specs.LookupLaws.{ObjectInside, object-inside, value-promise}
@@ -12,8 +12,8 @@ use Rattle.recovery.proofs.read.read_value.Statement.{statement}
 use Rattle.recovery.proofs.read.read_value.Tie as tie
 
 inside : (c : tie.After-place)
-    → ObjectInside edition1 (c .before .before .before .before .before .args .area .now) (c .place .given .0 .0) (c .place .given .0 .1 .1 .1 .0)
-inside c = object-inside edition1 _ _ _ _ _ _ _ _ _ (sym (c .before .before .find .ensures) ∙ c .place .given .1)
+    → ObjectInside (c .before .before .before .before .before .args .rec .edition) (c .before .before .before .before .before .args .area .now) (c .place .given .0 .0) (c .place .given .0 .1 .1 .1 .0)
+inside c = object-inside _ _ _ _ _ _ _ _ _ _ (sym (c .before .before .find .ensures) ∙ c .place .given .1)
 
 find-requires : tie.Need-find-requires
 find-requires c κs = search needs
@@ -21,25 +21,23 @@ find-requires c κs = search needs
 enum-known-place : tie.Need-enum-known-place
 enum-known-place c = search needs
 
+head-size-requires : tie.Need-head-size-requires
+head-size-requires c κs = search needs
+
 add-result : tie.Need-add-result
-unfolding edition1
-add-result c = let h = inside (c .before) in omega arith
+add-result c = let h = inside (c .before .before) in omega (arith, c .head-size .ensures)
 
 add-result-2 : tie.Need-add-result-2
-unfolding edition1
-add-result-2 c = let h = inside (c .before) in omega arith
+add-result-2 c = let h = inside (c .before .before) in omega (arith, c .head-size .ensures)
 
 sub-result : tie.Need-sub-result
-unfolding edition1
-sub-result c = let h = inside (c .before) in omega arith
+sub-result c = let h = inside (c .before .before) in omega (arith, c .head-size .ensures)
 
 part-result-start : tie.Need-part-result-start
-unfolding edition1
-part-result-start c = let h = inside (c .before) in omega arith
+part-result-start c = let h = inside (c .before .before) in omega (arith, c .head-size .ensures)
 
 part-result-end : tie.Need-part-result-end
-unfolding edition1
-part-result-end c = let h = inside (c .before) in omega arith
+part-result-end c = let h = inside (c .before .before) in omega (arith, c .head-size .ensures)
 
 enum-told : tie.Need-enum-told
 enum-told c = search needs
@@ -78,50 +76,52 @@ part-result-end-4 : tie.Need-part-result-end-4
 part-result-end-4 c = search needs
 
 returns : tie.Need-returns
-unfolding edition1 partBy
+unfolding partBy
 returns c =
-    let k = c .before .before in
+    let k = c .before .before .before in
     let h = inside k in
+    let L = k .before .before .before .before .before .args .rec .edition in
     let p = k .place .given .0 .0 in
     let n = k .place .given .0 .1 .1 .1 .0 in
-    let long : p + n - (p + 11) ≡ n - 11 = omega arith in
-    record {
-      part = record { place = p + 11; bytes = n - 11 };
+    let long : p + n - (p + entrySize L 0) ≡ n - entrySize L 0 = omega arith in
+    rw (c .before .head-size .ensures)
+    (record {
+      part = record { place = p + entrySize L 0; bytes = n - entrySize L 0 };
       refers =
           record {
             inside = omega arith;
             same-block = refl;
             starts = refl;
-            holds = ap (λ (m : ℕ). take m (drop (p + 11) (k .before .before .before .before .before .args .area .now))) long;
+            holds = ap (λ (m : ℕ). take m (drop (p + entrySize L 0) (k .before .before .before .before .before .args .area .now))) long;
           };
-      promised = value-promise edition1 _ _ _ _ _ _ (sym (k .place .given .1) ∙ k .before .before .find .ensures);
-    }
+      promised = value-promise _ _ _ _ _ _ _ (sym (k .place .given .1) ∙ k .before .before .find .ensures);
+    })
 
 returns-2 : tie.Need-returns-2
-unfolding edition1 partBy
+unfolding partBy
 returns-2 c =
     record {
       part = nowhere;
       refers = record { inside = omega arith; same-block = refl; starts = refl; holds = refl };
-      promised = value-promise edition1 _ _ _ _ _ _ (sym (c .before .enum-told .given .1) ∙ c .before .before .before .find .ensures);
+      promised = value-promise _ _ _ _ _ _ _ (sym (c .before .enum-told .given .1) ∙ c .before .before .before .find .ensures);
     }
 
 returns-3 : tie.Need-returns-3
-unfolding edition1 partBy
+unfolding partBy
 returns-3 c =
     record {
       part = nowhere;
       refers = record { inside = omega arith; same-block = refl; starts = refl; holds = refl };
-      promised = value-promise edition1 _ _ _ _ _ _ (sym (c .before .enum-told2 .given .1) ∙ c .before .before .before .find .ensures);
+      promised = value-promise _ _ _ _ _ _ _ (sym (c .before .enum-told2 .given .1) ∙ c .before .before .before .find .ensures);
     }
 
 returns-4 : tie.Need-returns-4
-unfolding edition1 partBy
+unfolding partBy
 returns-4 c =
     record {
       part = nowhere;
       refers = record { inside = omega arith; same-block = refl; starts = refl; holds = refl };
-      promised = value-promise edition1 _ _ _ _ _ _ (sym (c .before .enum-told3 .given .1) ∙ c .before .before .before .find .ensures);
+      promised = value-promise _ _ _ _ _ _ _ (sym (c .before .enum-told3 .given .1) ∙ c .before .before .before .find .ensures);
     }
 
 pub read-value-spec : {M : Type 1} → statement M
@@ -130,6 +130,7 @@ read-value-spec =
     (tie.spec
     find-requires
     enum-known-place
+    head-size-requires
     add-result
     add-result-2
     sub-result

@@ -1,7 +1,6 @@
 -- `recovery::recover::check_digest` meets its contract: a law for each return, at the tests that led there.
 use Prim.Native.Nat.{ℕ}
 use Rattle.recovery.specs.CheckLaws.{digest-counters, digest-map, digest-named, digest-passed}
-use Rattle.segment.specs.Layout.{edition1}
 use Rattle.model.specs.Log.{View, Head, viewsOf}
 use borrow.Author.Needs.{needs}
 use Rattle.recovery.proofs.recover.check_digest.Statement.{statement}
@@ -9,7 +8,7 @@ use Rattle.recovery.proofs.recover.check_digest.Tie as tie
 
 -- the views of the slots, and the head
 abbrev views : (c : tie.Start) → ℕ → View
-views c = viewsOf edition1 (c .args .area .now) (c .args .s)
+views c = viewsOf (c .args .area .now) (c .args .s)
 
 abbrev head : (c : tie.Start) → Head
 head c = record { slot = c .args .slot; digest = c .args .digest }

@@ -1,7 +1,6 @@
 -- `recovery::recover::look_at` meets its contract.
 use mathlib.Core.Path.{_≡_, sym, _∙_}
 use mathlib.Core.Option.{some}
-use Rattle.segment.specs.Layout.{edition1}
 use Rattle.model.specs.Log.{viewsOf, headOf}
 use Rattle.laws.specs.HeadLaws.{head-is}
 use Rattle.recovery.specs.CheckLaws.{head-none, head-some}
@@ -12,7 +11,7 @@ use Rattle.log.specs.Heads.{told-nothing, told-at}
 
 found : (c : tie.After-slot)
     → let a = c .before .before .before .before .args in
-    headOf (viewsOf edition1 (a .area .now) (a .s)) (a .n) ≡ some (record { slot = c .slot .given .0 .0; digest = c .slot .given .0 .1 .0 })
+    headOf (viewsOf (a .area .now) (a .s)) (a .n) ≡ some (record { slot = c .slot .given .0 .0; digest = c .slot .given .0 .1 .0 })
 found c = told-at _ _ _ (sym (c .before .before .find-head .ensures) ∙ c .slot .given .1)
 
 find-head-requires : tie.Need-find-head-requires

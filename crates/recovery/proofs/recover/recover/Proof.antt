@@ -1,6 +1,5 @@
 -- `recovery::recover::recover` meets its contract.
 use mathlib.Core.Path.{sym, _∙_}
-use Rattle.segment.specs.Layout.{edition1}
 use Rattle.recovery.specs.CheckLaws.{check-refused, check-passed}
 use Rattle.recovery.specs.RecoverPromises.{lent-promise}
 use borrow.Author.Needs.{needs}
@@ -26,7 +25,7 @@ returns : tie.Need-returns
 returns c =
     let k = c .before .before in
     let a = k .before .before .before .before .before .before .args in
-    lent-promise edition1 (a .n) (a .s) (a .order .now) (a .area .now) (a .index .now) _ _
+    lent-promise _ (a .n) (a .s) (a .order .now) (a .area .now) (a .index .now) _ _
     (check-refused _ _ (sym (k .before .before .check-lent .ensures) ∙ k .cause .given .1)) (c .refused .ensures)
 
 same-length : tie.Need-same-length

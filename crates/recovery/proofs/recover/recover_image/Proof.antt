@@ -1,8 +1,6 @@
 -- `recovery::recover::recover_image` meets its contract: a law for each answer of the image and of the rebuilding.
 use mathlib.Core.Path.{_≡_, sym, _∙_}
 use native.Mathlib.Omega.{arith}
-use lib.Dec.{lit<}
-use Rattle.segment.specs.Layout.{edition1}
 use Rattle.model.specs.Log.{viewsOf}
 use Rattle.laws.specs.Stores.{slot-inside}
 use Rattle.recovery.specs.Recovering.{imageOf}
@@ -12,15 +10,15 @@ use borrow.Author.Needs.{needs}
 use Rattle.recovery.proofs.recover.recover_image.Statement.{statement}
 use Rattle.recovery.proofs.recover.recover_image.Tie as tie
 
-sound : (c : tie.After-slot)
+sound : (c : tie.After-edition)
     → let a = c .before .before .before .before .before .before .args in
-    imageOf (viewsOf edition1 (a .area .now) (a .s)) (a .n) ≡ Image.Sound (c .slot .given .0 .0) (c .slot .given .0 .1 .0) (c .slot .given .0 .1 .1 .0)
-sound c = sym (c .before .before .look-at .ensures) ∙ c .slot .given .1
+    imageOf (viewsOf (a .area .now) (a .s)) (a .n) ≡ Image.Sound (c .edition .given .0 .0) (c .edition .given .0 .1 .0) (c .edition .given .0 .1 .1 .0) (c .edition .given .0 .1 .1 .1 .0)
+sound c = sym (c .before .before .look-at .ensures) ∙ c .edition .given .1
 
 look-at-requires : tie.Need-look-at-requires
 look-at-requires c κs =
     let a = c .before .before .before .args in
-    lent-shape edition1 (a .n) (a .s) (a .order .now) (a .area .now) (a .index .now) (c .before .before .before .pre)
+    lent-shape (a .n) (a .s) (a .order .now) (a .area .now) (a .index .now) (c .before .before .before .pre)
 
 enum-known-cause : tie.Need-enum-known-cause
 enum-known-cause c = search needs
@@ -28,13 +26,13 @@ enum-known-cause c = search needs
 refused-requires : tie.Need-refused-requires
 refused-requires c κs = search needs
 
-enum-known-slot : tie.Need-enum-known-slot
-enum-known-slot c = search needs
+enum-known-edition : tie.Need-enum-known-edition
+enum-known-edition c = search needs
 
 build-requires : tie.Need-build-requires
 build-requires c κs =
     let t = c .before .before .before .before .before .before .before .before in
-    let f = lent-fits edition1 (t .args .n) (t .args .s) (t .args .order .now) (t .args .area .now) (t .args .index .now) (t .pre) in
+    let f = lent-fits (t .args .n) (t .args .s) (t .args .order .now) (t .args .area .now) (t .args .index .now) (t .pre) in
     omega arith
 
 enum-told : tie.Need-enum-told
@@ -52,7 +50,7 @@ cast-record-of c =
     let b = c .before .before .before .before .before in
     let t = k .before .before .before .before .before .before in
     let a = t .args in
-    omega (arith, cells-few edition1 (a .n) (a .s) (a .order .now) (a .area .now) (a .index .now) (t .pre))
+    omega (arith, cells-few (a .n) (a .s) (a .order .now) (a .area .now) (a .index .now) (t .pre))
 
 cast-record-of-2 : tie.Need-cast-record-of-2
 cast-record-of-2 c =
@@ -60,7 +58,7 @@ cast-record-of-2 c =
     let b = c .before .before .before .before .before in
     let t = k .before .before .before .before .before .before in
     let a = t .args in
-    omega (arith, keys-few edition1 (a .n) (a .s) (a .order .now) (a .area .now) (a .index .now) (t .pre) _ _ _ (sound k) _ _ _ (b .build .ensures) (c .before .keys .given .1))
+    omega (arith, keys-few (k .edition .given .0 .0) (a .n) (a .s) (a .order .now) (a .area .now) (a .index .now) (t .pre) _ _ _ (sound k) _ _ _ (b .build .ensures) (c .before .keys .given .1))
 
 count-requires : tie.Need-count-requires
 count-requires c κs =
@@ -68,20 +66,19 @@ count-requires c κs =
     let b = c .before .before .before .before .before .before in
     let t = k .before .before .before .before .before .before in
     let a = t .args in
-    let f = lent-fits edition1 (a .n) (a .s) (a .order .now) (a .area .now) (a .index .now) (t .pre) in
-    let long = cells-kept edition1 (a .n) (a .s) (a .order .now) (a .area .now) (a .index .now) (t .pre) _ _ _ (sound k) _ _ _ (b .build .ensures) (c .before .before .keys .given .1) in
+    let f = lent-fits (a .n) (a .s) (a .order .now) (a .area .now) (a .index .now) (t .pre) in
+    let long = cells-kept (k .edition .given .0 .0) (a .n) (a .s) (a .order .now) (a .area .now) (a .index .now) (t .pre) _ _ _ (sound k) _ _ _ (b .build .ensures) (c .before .before .keys .given .1) in
     (omega arith, omega arith, omega (arith, long))
 
 record-of-requires : tie.Need-record-of-requires
-unfolding edition1
 record-of-requires c κs =
     let k = c .before .before .before .before .before .before .before .before .before .before in
     let t = k .before .before .before .before .before .before in
     let a = t .args in
-    let f = lent-fits edition1 (a .n) (a .s) (a .order .now) (a .area .now) (a .index .now) (t .pre) in
-    let below = head-inside edition1 (a .n) (a .s) (a .order .now) (a .area .now) (a .index .now) (t .pre) _ _ _ (sound k) in (
-      slot-inside (a .area .now) (a .n) (a .s) (k .slot .given .0 .0) (f .area-own) below,
-      highest-fits edition1 (a .n) (a .s) (a .order .now) (a .area .now) (a .index .now) (t .pre) _ _ _ (sound k) (lit< tt),
+    let f = lent-fits (a .n) (a .s) (a .order .now) (a .area .now) (a .index .now) (t .pre) in
+    let below = head-inside (k .edition .given .0 .0) (a .n) (a .s) (a .order .now) (a .area .now) (a .index .now) (t .pre) _ _ _ (sound k) in (
+      slot-inside (a .area .now) (a .n) (a .s) (k .edition .given .0 .1 .0) (f .area-own) below,
+      highest-fits (k .edition .given .0 .0) (a .n) (a .s) (a .order .now) (a .area .now) (a .index .now) (t .pre) _ _ _ (sound k),
       omega arith,
       omega arith,
     )
@@ -90,7 +87,7 @@ returns : tie.Need-returns
 returns c =
     let k = c .before .before in
     let t = k .before .before .before .before .before .before in
-    image-promise edition1 (t .args .n) (t .args .s) (t .args .order .now) (t .args .area .now) (t .args .index .now) (t .pre) _ _
+    image-promise (t .args .n) (t .args .s) (t .args .order .now) (t .args .area .now) (t .args .index .now) (t .pre) _ _
     (sym (k .before .before .look-at .ensures) ∙ k .cause .given .1) (c .refused .ensures)
 
 same-length : tie.Need-same-length
@@ -102,7 +99,7 @@ returns-2 c =
     let b = c .before .before .before .before .before in
     let t = k .before .before .before .before .before .before in
     let a = t .args in
-    over-promise edition1 (a .n) (a .s) (a .order .now) (a .area .now) (a .index .now) (t .pre) _ _ _ (sound k) _ _ _ (b .build .ensures)
+    over-promise (k .edition .given .0 .0) (a .n) (a .s) (a .order .now) (a .area .now) (a .index .now) (t .pre) _ _ _ (sound k) _ _ _ (b .build .ensures)
     (c .before .enum-told .given .1) (c .refused2 .ensures)
 
 same-length-2 : tie.Need-same-length-2
@@ -114,7 +111,7 @@ returns-3 c =
     let b = c .before .before .before .before .before .before .before .before in
     let t = k .before .before .before .before .before .before in
     let a = t .args in
-    keys-promise edition1 (a .n) (a .s) (a .order .now) (a .area .now) (a .index .now) (t .pre) _ _ _ (sound k) _ _ _ _ _ (b .build .ensures)
+    keys-promise (k .edition .given .0 .0) (a .n) (a .s) (a .order .now) (a .area .now) (a .index .now) (t .pre) _ _ _ (sound k) _ _ _ _ _ (b .build .ensures)
     (c .before .before .before .before .keys .given .1) (c .before .count .ensures) (c .record-of .ensures)
 
 pub recover-image-spec : {M : Type 1} → statement M
@@ -124,7 +121,7 @@ recover-image-spec =
     look-at-requires
     enum-known-cause
     refused-requires
-    enum-known-slot
+    enum-known-edition
     build-requires
     enum-told
     refused-requires-2

@@ -2,18 +2,17 @@
 use mathlib.Core.Path.{_≡_, _∙_, ap, sym}
 use mathlib.Core.Option.{some}
 use borrow.Author.Needs.{needs}
-use Rattle.segment.specs.Layout.{edition1}
 use Rattle.report.specs.Gather.{cellRank, rankRead, cell-free, cell-read}
 use Rattle.report.specs.Inserting.{adds-none, adds-rank}
 use Rattle.report.proofs.gather.add_cell.Statement.{statement}
 use Rattle.report.proofs.gather.add_cell.Tie as tie
 
 -- what the reader answered, as what the cell gives
-given : (c : tie.After-read) → cellRank edition1 (c .before .before .before .before .before .args .s) (c .before .before .before .before .before .args .area .now) (c .before .before .before .before .before .args .cell) ≡ rankRead (c .read .result)
-given c = cell-read edition1 _ _ _ _ _ (c .before .before .if1 .left) (c .before .cut .ensures) (c .read .ensures)
+given : (c : tie.After-read) → cellRank (c .before .before .before .before .before .args .edition) (c .before .before .before .before .before .args .s) (c .before .before .before .before .before .args .area .now) (c .before .before .before .before .before .args .cell) ≡ rankRead (c .read .result)
+given c = cell-read _ _ _ _ _ _ (c .before .before .if1 .left) (c .before .cut .ensures) (c .read .ensures)
 
 returns : tie.Need-returns
-returns c = adds-none _ _ (cell-free edition1 _ _ _ (c .if1 .taken))
+returns c = adds-none _ _ (cell-free _ _ _ _ (c .if1 .taken))
 
 sub-place : tie.Need-sub-place
 sub-place c = search needs

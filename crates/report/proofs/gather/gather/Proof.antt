@@ -4,17 +4,16 @@ use mathlib.Core.Path.{_≡_, refl, _∙_}
 use native.Mathlib.Omega.{arith}
 use lib.ListN.{length}
 use borrow.Author.Needs.{needs}
-use Rattle.segment.specs.Layout.{edition1}
 use Rattle.report.specs.Gather.{cellRank}
 use Rattle.report.specs.Inserting.{Gathered, gather-starts, gather-turn, gather-ends}
 use Rattle.report.proofs.gather.gather.Statement.{statement}
 use Rattle.report.proofs.gather.gather.Tie as tie
 
 abbrev Inv-loop : tie.InvT-loop
-Inv-loop s area index ranks₀ n₀ i₀ ranks n i = Gathered (cellRank edition1 s area) index ranks i n × (length ranks ≡ length ranks₀)
+Inv-loop edition s area index ranks₀ n₀ i₀ ranks n i = Gathered (cellRank edition s area) index ranks i n × (length ranks ≡ length ranks₀)
 
 abbrev μ-loop : tie.MeasureT-loop
-μ-loop s area index ranks₀ n₀ i₀ ranks n i = i
+μ-loop edition s area index ranks₀ n₀ i₀ ranks n i = i
 
 loop-holds : tie.Need-loop-holds Inv-loop μ-loop
 loop-holds c = (gather-starts _ _ _, refl)
@@ -45,7 +44,7 @@ loop-again : tie.Need-loop-again Inv-loop μ-loop
 loop-again c =
     let l = c .before .before .before .before .before .before .loop in (
       gather-turn _ _ _ _ _ _ _ (c .before .before .before .before .before .loop-test .taken) (l .inv .0) (c .before .before .add-cell .ensures),
-      c .before .before .add-cell .kept .1 .1 .1 .0 ∙ l .inv .1,
+      c .before .before .add-cell .kept .1 .1 .1 .1 .0 ∙ l .inv .1,
     )
 
 same-length : tie.Need-same-length Inv-loop μ-loop

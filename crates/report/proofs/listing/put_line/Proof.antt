@@ -1,6 +1,5 @@
 -- `report::listing::put_line` meets its contract: an arm for each answer of the lookup.
 use mathlib.Core.Path.{_≡_, sym, _∙_, ap}
-use Rattle.segment.specs.Layout.{edition1}
 use Rattle.model.specs.Log.{present}
 use Rattle.model.specs.Operations.{logNow}
 use Rattle.report.specs.Report.{lineOf}
@@ -12,8 +11,8 @@ use Rattle.report.proofs.listing.put_line.Tie as tie
 
 -- the line of what was found
 line : (c : tie.After-find)
-    → let a = c .before .before .before .before .args in lineFound (a .key) (c .find .result) ≡ lineOf edition1 (a .key) (present (logNow edition1 (a .area .now) (a .rec)) (a .key))
-line c = line-found edition1 _ _ _ _ _ (c .before .before .before .before .pre .0) (c .find .ensures)
+    → let a = c .before .before .before .before .args in lineFound (a .key) (c .find .result) ≡ lineOf (a .rec .edition) (a .key) (present (logNow (a .area .now) (a .rec)) (a .key))
+line c = line-found _ _ _ _ _ _ (c .before .before .before .before .pre .0) (c .find .ensures)
 
 find-requires : tie.Need-find-requires
 find-requires c κs = search needs

@@ -3,7 +3,6 @@ use Prim.Native.Nat.{_-_}
 use native.Mathlib.Omega.{arith}
 use lib.ListN.{length}
 use borrow.Author.Needs.{needs}
-use Rattle.segment.specs.Layout.{edition1}
 use Rattle.model.specs.Operations.{logNow}
 use Rattle.report.specs.Listing.{presentKeys}
 use Rattle.report.specs.Gather.{keys-typed}
@@ -13,7 +12,7 @@ use Rattle.report.proofs.listing.put_lines.Tie as tie
 
 abbrev Inv-loop : tie.InvT-loop
 Inv-loop rec area index ranks out₀ at end₀ i₀ out end i =
-    LinesLeft edition1 (logNow edition1 area rec) (presentKeys (logNow edition1 area rec)) out₀ at out end i
+    LinesLeft (rec .edition) (logNow area rec) (presentKeys (logNow area rec)) out₀ at out end i
 
 abbrev μ-loop : tie.MeasureT-loop
 μ-loop rec area index ranks out₀ at end₀ i₀ out end i = length ranks - i
@@ -30,7 +29,7 @@ shared-slice-read-key-of c = search needs
 key-of-requires : tie.Need-key-of-requires Inv-loop μ-loop
 key-of-requires c κs =
     let start = c .before .before .before .before .before .before .before in
-    rank-fits _ _ (start .pre .1) (keys-typed edition1 _ _ _ (start .pre .0)) _ (c .before .loop-test .taken)
+    rank-fits _ _ (start .pre .1) (keys-typed _ _ _ _ (start .pre .0)) _ (c .before .loop-test .taken)
 
 put-line-requires : tie.Need-put-line-requires Inv-loop μ-loop
 put-line-requires c κs =
@@ -48,7 +47,7 @@ loop-again : tie.Need-loop-again Inv-loop μ-loop
 loop-again c =
     let start = c .before .before .before .before .before .before .before .before .before .before .before .before in
     let l = c .before .before .before .before .before .before .before .loop in
-    lines-turn _ _ _ _ (start .pre .1) _ _ _ _ _ (l .inv) (keys-typed edition1 _ _ _ (start .pre .0)) (c .before .before .before .before .before .before .loop-test .taken) _
+    lines-turn _ _ _ _ (start .pre .1) _ _ _ _ _ (l .inv) (keys-typed _ _ _ _ (start .pre .0)) (c .before .before .before .before .before .before .loop-test .taken) _
     (c .before .before .before .before .key-of .ensures) _ _ (c .before .before .put-line .kept .1 .1 .1 .1 .0) (c .before .before .put-line .ensures)
 
 same-length : tie.Need-same-length Inv-loop μ-loop

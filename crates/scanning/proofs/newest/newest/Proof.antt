@@ -3,7 +3,6 @@ use Prim.Native.Nat.{_-_, _≤_}
 use mathlib.Core.Path.{_≡_, sym, _∙_}
 use native.Mathlib.Omega.{arith}
 use borrow.Author.Tests.{not-true, not-false}
-use Rattle.segment.specs.Layout.{edition1}
 use Rattle.slot_map.specs.Bit.{named}
 use Rattle.model.specs.Log.{viewsOf}
 use Rattle.log.specs.Shape.{inside}
@@ -12,7 +11,7 @@ use Rattle.scanning.proofs.newest.newest.Statement.{statement}
 use Rattle.scanning.proofs.newest.newest.Tie as tie
 
 abbrev Inv-loop : tie.InvT-loop
-Inv-loop n s area map key seen₀ i₀ seen i = (i ≤ n) × (seen ≡ seenBelow s key (viewsOf edition1 area s) (named map) i)
+Inv-loop n s area map key seen₀ i₀ seen i = (i ≤ n) × (seen ≡ seenBelow s key (viewsOf area s) (named map) i)
 
 abbrev μ-loop : tie.MeasureT-loop
 μ-loop n s area map key seen₀ i₀ seen i = n - i

@@ -1,7 +1,6 @@
 -- `scanning::newest::see_at` meets its contract: a law for each return.
 use mathlib.Core.Path.{_∙_}
 use borrow.Author.Needs.{needs}
-use Rattle.segment.specs.Layout.{edition1}
 use Rattle.scanning.specs.Seeing.{seenNext}
 use Rattle.scanning.specs.SeeingLaws.{seen-read, seen-other}
 use Rattle.scanning.proofs.newest.see_at.Statement.{statement}
@@ -14,7 +13,7 @@ read32-requires : tie.Need-read32-requires
 read32-requires c κs = search needs
 
 returns : tie.Need-returns
-returns c = seen-other edition1 _ _ _ _ _ _ (c .before .before .read32 .ensures) (c .if1 .taken)
+returns c = seen-other _ _ _ _ _ _ _ (c .before .before .read32 .ensures) (c .if1 .taken)
 
 next-requires : tie.Need-next-requires
 next-requires c κs = search needs
@@ -33,15 +32,15 @@ enum-told-2 c = search needs
 
 returns-2 : tie.Need-returns-2
 unfolding seenNext
-returns-2 c = c .see .ensures ∙ seen-read edition1 _ _ _ _ _ _ (c .before .before .before .before .next .ensures) _ (c .before .before .header .given .1)
+returns-2 c = c .see .ensures ∙ seen-read _ _ _ _ _ _ _ (c .before .before .before .before .next .ensures) _ (c .before .before .header .given .1)
 
 returns-3 : tie.Need-returns-3
 unfolding seenNext
-returns-3 c = seen-read edition1 _ _ _ _ _ _ (c .before .before .next .ensures) _ (c .enum-told .given .1)
+returns-3 c = seen-read _ _ _ _ _ _ _ (c .before .before .next .ensures) _ (c .enum-told .given .1)
 
 returns-4 : tie.Need-returns-4
 unfolding seenNext
-returns-4 c = seen-read edition1 _ _ _ _ _ _ (c .before .before .next .ensures) _ (c .enum-told2 .given .1)
+returns-4 c = seen-read _ _ _ _ _ _ _ (c .before .before .next .ensures) _ (c .enum-told2 .given .1)
 
 pub see-at-spec : {M : Type 1} → statement M
 see-at-spec =

@@ -1,15 +1,14 @@
 -- `scanning::newest::see_slot` meets its contract. The invariant: this was seen of the entries passed, and the scan goes on from here.
 use Prim.Native.Nat.{ℕ, _-_}
 use mathlib.Core.Bool.{false}
-use mathlib.Core.List.{List}
-use mathlib.Core.Path.{_≡_, sym, _∙_, ap}
+use mathlib.Core.Path.{_≡_, refl, _∙_, ap}
 use native.Mathlib.Omega.{arith}
 use borrow.Author.Needs.{needs}
 use lib.ListN.{length}
-use Rattle.segment.specs.Layout.{edition1}
 use Rattle.segment.specs.EntryLaws.{kind-end}
-use Rattle.model.specs.Log.{scan, itemsOf, isDamaged, placedIn}
+use Rattle.model.specs.Log.{Scan, itemsOf, isDamaged, placedIn}
 use Rattle.laws.specs.Stores.{length-segment}
+use Rattle.log.specs.Shape.{own-scan}
 use Rattle.log.specs.Extents.{Meets, restOf}
 use Rattle.scanning.specs.Seeing.{seenIn}
 use Rattle.scanning.specs.SeeingLaws.{Seeing, see-start, see-turn, see-end, sound-start, sound-on, past-all, kind-none, kind-meets}
@@ -17,10 +16,10 @@ use Rattle.scanning.proofs.newest.see_slot.Statement.{statement}
 use Rattle.scanning.proofs.newest.see_slot.Tie as tie
 
 abbrev Inv-loop : tie.InvT-loop
-Inv-loop s area slot key before part start at₀ seen₀ at seen = Seeing edition1 part s slot key before at seen × (isDamaged (restOf edition1 part at) ≡ false)
+Inv-loop s area slot key before part start edition at₀ seen₀ at seen = Seeing edition part s slot key before at seen × (isDamaged (restOf edition part at) ≡ false)
 
 abbrev μ-loop : tie.MeasureT-loop
-μ-loop s area slot key before part start at₀ seen₀ at seen = length part - at
+μ-loop s area slot key before part start edition at₀ seen₀ at seen = length part - at
 
 cut-requires : tie.Need-cut-requires Inv-loop μ-loop
 cut-requires c κs = search needs
@@ -28,38 +27,51 @@ cut-requires c κs = search needs
 mul-start : tie.Need-mul-start Inv-loop μ-loop
 mul-start c = search needs
 
+edition-of-requires : tie.Need-edition-of-requires Inv-loop μ-loop
+edition-of-requires c κs = search needs
+
+digest-size-requires : tie.Need-digest-size-requires Inv-loop μ-loop
+digest-size-requires c κs = search needs
+
 loop-holds : tie.Need-loop-holds Inv-loop μ-loop
-unfolding edition1
-loop-holds c = (see-start edition1 _ _ _ _ _, sound-start edition1 _ _ (c .cut .ensures) (c .before .before .pre .1))
+loop-holds c =
+    let a = c .before .before .before .before .args in
+    rw (c .digest-size .ensures) (
+      see-start _ _ _ _ _ _,
+      sound-start _ _ _ refl
+          (ap isDamaged (own-scan (a .area .now) (a .s) (a .slot) _ (c .before .before .cut .ensures) _ (c .before .edition-of .ensures))
+          ∙ c .before .before .before .before .pre .1),
+    )
 
 shared-slice-read-kind : tie.Need-shared-slice-read-kind Inv-loop μ-loop
 shared-slice-read-kind c = search needs
 
 returns : tie.Need-returns Inv-loop μ-loop
 returns c =
-    let a = c .before .before .before .before .before .before .args in
-    see-end edition1 _ _ _ _ _ _ _ (c .before .before .before .loop .inv .0) (kind-end edition1 _ _ (c .before .before .loop-test .taken) (c .if1 .taken)) ∙
-    ap (λ (l : List ℕ). seenIn (a .s) (a .key) (a .before) (placedIn (a .slot) (itemsOf (scan edition1 l)))) (c .before .before .before .before .cut .ensures)
+    let a = c .before .before .before .before .before .before .before .before .args in
+    see-end _ _ _ _ _ _ _ _ (c .before .before .before .loop .inv .0) (kind-end _ _ _ (c .before .before .loop-test .taken) (c .if1 .taken)) ∙
+    ap (λ (r : Scan). seenIn (a .s) (a .key) (a .before) (placedIn (a .slot) (itemsOf r)))
+    (own-scan (a .area .now) (a .s) (a .slot) _ (c .before .before .before .before .before .before .cut .ensures) _ (c .before .before .before .before .before .edition-of .ensures))
 
 kind-size-requires : tie.Need-kind-size-requires Inv-loop μ-loop
 kind-size-requires c κs = search needs
 
 returns-2 : tie.Need-returns-2 Inv-loop μ-loop
-returns-2 c = absurd (kind-none edition1 _ _ (c .before .before .before .before .before .loop .inv .1) (c .before .before .before .before .loop-test .taken) (c .before .before .if1 .left) _ (c .before .kind-size .ensures) (c .if2 .taken))
+returns-2 c = absurd (kind-none _ _ _ (c .before .before .before .before .before .loop .inv .1) (c .before .before .before .before .loop-test .taken) (c .before .before .if1 .left) _ (c .before .kind-size .ensures) (c .if2 .taken))
 
 -- the entry that the turn passes
-met : (c : tie.Else2 Inv-loop μ-loop) → (v : ℕ) × Meets edition1 (c .before .before .before .before .before .before .cut .result .now) (c .before .before .before .before .before .loop .at) v (c .before .kind-size .result)
-met c = kind-meets edition1 _ _ (c .before .before .before .before .before .loop .inv .1) _ (c .before .kind-size .ensures) (c .if2 .left)
+met : (c : tie.Else2 Inv-loop μ-loop) → (v : ℕ) × Meets (c .before .before .before .before .before .before .before .edition-of .result) (c .before .before .before .before .before .before .before .before .cut .result .now) (c .before .before .before .before .before .loop .at) v (c .before .kind-size .result)
+met c = kind-meets _ _ _ (c .before .before .before .before .before .loop .inv .1) _ (c .before .kind-size .ensures) (c .if2 .left)
 
 add-see-at : tie.Need-add-see-at Inv-loop μ-loop
 add-see-at c =
-    let a = c .before .before .before .before .before .before .before .before .args in
-    let p = c .before .before .before .before .before .before .before .before .pre .0 in
+    let a = c .before .before .before .before .before .before .before .before .before .before .args in
+    let p = c .before .before .before .before .before .before .before .before .before .before .pre .0 in
     omega (
       arith,
       c .before .before .before .before .loop-test .taken,
       p,
-      ap length (c .before .before .before .before .before .before .cut .ensures),
+      ap length (c .before .before .before .before .before .before .before .before .cut .ensures),
       length-segment (a .area .now) (a .s) (a .slot) p,
     )
 
@@ -74,15 +86,16 @@ loop-less c = omega (arith, met (c .before) .1 .fits, met (c .before) .1 .some-b
 
 loop-again : tie.Need-loop-again Inv-loop μ-loop
 loop-again c = (
-  see-turn edition1 _ _ _ _ _ _ _ (c .before .before .before .before .before .before .loop .inv .0) (met (c .before) .1) _ (c .see-at .ensures),
-  sound-on edition1 _ _ (c .before .before .before .before .before .before .loop .inv .1) (met (c .before) .1),
+  see-turn _ _ _ _ _ _ _ _ (c .before .before .before .before .before .before .loop .inv .0) (met (c .before) .1) _ (c .see-at .ensures),
+  sound-on _ _ _ (c .before .before .before .before .before .before .loop .inv .1) (met (c .before) .1),
 )
 
 returns-3 : tie.Need-returns-3 Inv-loop μ-loop
 returns-3 c =
-    let a = c .before .before .before .before .args in
-    see-end edition1 _ _ _ _ _ _ _ (c .before .loop .inv .0) (past-all edition1 _ _ (c .before .loop .inv .1) (c .loop-test .left)) ∙
-    ap (λ (l : List ℕ). seenIn (a .s) (a .key) (a .before) (placedIn (a .slot) (itemsOf (scan edition1 l)))) (c .before .before .cut .ensures)
+    let a = c .before .before .before .before .before .before .args in
+    see-end _ _ _ _ _ _ _ _ (c .before .loop .inv .0) (past-all _ _ _ (c .before .loop .inv .1) (c .loop-test .left)) ∙
+    ap (λ (r : Scan). seenIn (a .s) (a .key) (a .before) (placedIn (a .slot) (itemsOf r)))
+    (own-scan (a .area .now) (a .s) (a .slot) _ (c .before .before .before .before .cut .ensures) _ (c .before .before .before .edition-of .ensures))
 
 pub see-slot-spec : {M : Type 1} → statement M
 see-slot-spec =
@@ -92,6 +105,8 @@ see-slot-spec =
     μ-loop
     cut-requires
     mul-start
+    edition-of-requires
+    digest-size-requires
     loop-holds
     shared-slice-read-kind
     returns

@@ -1,5 +1,4 @@
 -- `segment::entries::next` meets its contract.
-use Rattle.segment.specs.Layout.{edition1}
 use Rattle.segment.specs.Entries.{nextRead, next-read}
 use borrow.Author.Needs.{needs}
 use Rattle.segment.proofs.entries.next.Statement.{statement}
@@ -22,19 +21,19 @@ enum-told-2 c = search needs
 
 returns : tie.Need-returns
 unfolding nextRead
-returns c = next-read edition1 _ _ _ (c .before .before .before .read .ensures) (c .before .key .given .1)
+returns c = next-read _ _ _ _ (c .before .before .before .read .ensures) (c .before .key .given .1)
 
 returns-2 : tie.Need-returns-2
 unfolding nextRead
-returns-2 c = next-read edition1 _ _ _ (c .before .before .before .read .ensures) (c .before .key2 .given .1)
+returns-2 c = next-read _ _ _ _ (c .before .before .before .read .ensures) (c .before .key2 .given .1)
 
 returns-3 : tie.Need-returns-3
 unfolding nextRead
-returns-3 c = next-read edition1 _ _ _ (c .before .before .read .ensures) (c .enum-told .given .1)
+returns-3 c = next-read _ _ _ _ (c .before .before .read .ensures) (c .enum-told .given .1)
 
 returns-4 : tie.Need-returns-4
 unfolding nextRead
-returns-4 c = next-read edition1 _ _ _ (c .before .before .read .ensures) (c .enum-told2 .given .1)
+returns-4 c = next-read _ _ _ _ (c .before .before .read .ensures) (c .enum-told2 .given .1)
 
 pub next-spec : {M : Type 1} → statement M
 next-spec =

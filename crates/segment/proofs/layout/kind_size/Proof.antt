@@ -1,37 +1,30 @@
--- `segment::layout::kind_size` meets its contract: each arm is a row of the layout's table.
-use borrow.Author.Tests.{ne-eqb}
-use Rattle.segment.specs.Choice.{pick}
-use Rattle.segment.specs.Layout.{edition1, lookup, valueLength}
-use Rattle.segment.specs.Kinds.{sizeOrZero}
+-- `segment::layout::kind_size` meets its contract.
+use mathlib.Core.Path.{sym, _∙_, ap}
+use Rattle.segment.specs.Kinds.{kindSize}
+use Rattle.segment.specs.Layout.{Layout}
+use borrow.Author.Needs.{needs}
 use Rattle.segment.proofs.layout.kind_size.Statement.{statement}
 use Rattle.segment.proofs.layout.kind_size.Tie as tie
 
+enum-told : tie.Need-enum-told
+enum-told c = search needs
+
+first-size-requires : tie.Need-first-size-requires
+first-size-requires c κs = search needs
+
+enum-told-2 : tie.Need-enum-told-2
+enum-told-2 c = search needs
+
+second-size-requires : tie.Need-second-size-requires
+second-size-requires c κs = search needs
+
 returns : tie.Need-returns
-unfolding edition1 lookup valueLength sizeOrZero pick
-returns c = rw (c .match .keys1)
+returns c = c .first-size .ensures ∙ ap (λ (L : Layout). kindSize L (c .before .before .before .args .kind)) (sym (c .before .enum-told .given .1))
 
 returns-2 : tie.Need-returns-2
-unfolding edition1 lookup valueLength sizeOrZero pick
-returns-2 c = rw (c .match .keys2)
-
-returns-3 : tie.Need-returns-3
-unfolding edition1 lookup valueLength sizeOrZero pick
-returns-3 c = rw (c .match .keys3)
-
-returns-4 : tie.Need-returns-4
-unfolding edition1 lookup valueLength sizeOrZero pick
-returns-4 c = rw (c .match .keys4)
-
-returns-5 : tie.Need-returns-5
-unfolding edition1 lookup valueLength sizeOrZero pick
-returns-5 c = rw (c .match .keys5)
-
-returns-6 : tie.Need-returns-6
-unfolding edition1 lookup valueLength sizeOrZero pick
-returns-6 c =
-    let none-of = c .match .rest in
-    simp
-    (ne-eqb _ 1 (none-of .0 .0 .0 .0 .1), ne-eqb _ 2 (none-of .0 .0 .0 .1), ne-eqb _ 3 (none-of .0 .0 .1), ne-eqb _ 4 (none-of .0 .1), ne-eqb _ 7 (none-of .1))
+returns-2 c = c .second-size .ensures ∙ ap (λ (L : Layout). kindSize L (c .before .before .before .args .kind)) (sym (c .before .enum-told2 .given .1))
 
 pub kind-size-spec : {M : Type 1} → statement M
-kind-size-spec = tie.close (tie.spec returns returns-2 returns-3 returns-4 returns-5 returns-6)
+kind-size-spec =
+    tie.close
+    (tie.spec enum-told first-size-requires enum-told-2 second-size-requires returns returns-2)

@@ -1,31 +1,30 @@
--- `segment::layout::object_kind` meets its contract: each arm is a row of the layout's table.
-use borrow.Author.Tests.{ne-eqb}
-use Rattle.segment.specs.Choice.{pick, orZero}
-use Rattle.segment.specs.Layout.{edition1, lookBack}
+-- `segment::layout::object_kind` meets its contract.
+use mathlib.Core.Path.{sym, _∙_, ap}
+use Rattle.segment.specs.Choice.{orZero}
+use Rattle.segment.specs.Layout.{Layout, objectKind}
+use borrow.Author.Needs.{needs}
 use Rattle.segment.proofs.layout.object_kind.Statement.{statement}
 use Rattle.segment.proofs.layout.object_kind.Tie as tie
 
+enum-told : tie.Need-enum-told
+enum-told c = search needs
+
+first-kind-requires : tie.Need-first-kind-requires
+first-kind-requires c κs = search needs
+
+enum-told-2 : tie.Need-enum-told-2
+enum-told-2 c = search needs
+
+second-kind-requires : tie.Need-second-kind-requires
+second-kind-requires c κs = search needs
+
 returns : tie.Need-returns
-unfolding edition1 lookBack orZero pick
-returns c = rw (c .match .keys1)
+returns c = c .first-kind .ensures ∙ ap (λ (L : Layout). orZero (objectKind L (c .before .before .before .args .length))) (sym (c .before .enum-told .given .1))
 
 returns-2 : tie.Need-returns-2
-unfolding edition1 lookBack orZero pick
-returns-2 c = rw (c .match .keys2)
-
-returns-3 : tie.Need-returns-3
-unfolding edition1 lookBack orZero pick
-returns-3 c = rw (c .match .keys3)
-
-returns-4 : tie.Need-returns-4
-unfolding edition1 lookBack orZero pick
-returns-4 c = rw (c .match .keys4)
-
-returns-5 : tie.Need-returns-5
-unfolding edition1 lookBack orZero pick
-returns-5 c =
-    let none-of = c .match .rest in
-    simp (ne-eqb _ 8 (none-of .0 .0 .0 .1), ne-eqb _ 24 (none-of .0 .0 .1), ne-eqb _ 56 (none-of .0 .1), ne-eqb _ 120 (none-of .1))
+returns-2 c = c .second-kind .ensures ∙ ap (λ (L : Layout). orZero (objectKind L (c .before .before .before .args .length))) (sym (c .before .enum-told2 .given .1))
 
 pub object-kind-spec : {M : Type 1} → statement M
-object-kind-spec = tie.close (tie.spec returns returns-2 returns-3 returns-4 returns-5)
+object-kind-spec =
+    tie.close
+    (tie.spec enum-told first-kind-requires enum-told-2 second-kind-requires returns returns-2)

@@ -1,11 +1,12 @@
 -- `segment::reader::read` meets its contract: a law for each return, at the tests that led there.
 use Prim.Native.Nat.{_+_, _≤_}
-use mathlib.Core.Path.{_∙_, ap}
+use mathlib.Core.Path.{sym, _∙_, ap}
 use native.Mathlib.Omega.{arith}
 use lib.ListN.{length}
 use denote.Ref.{now}
 use borrow.Author.Tests.{not-true, not-false}
-use Rattle.segment.specs.Layout.{edition1}
+use Rattle.segment.specs.Layout.{table}
+use Rattle.segment.specs.LayoutLaws.{width-low}
 use Rattle.segment.specs.Kinds.{size-least}
 use Rattle.segment.specs.ReaderLaws.{reads-past, reads-at-end, reads-kind-end, reads-unknown, reads-long, reads-bad-version, reads-tombstone, reads-object}
 use Rattle.segment.specs.declared.Version.{Version}
@@ -42,57 +43,59 @@ add-version-at c = search needs
 
 -- where the whole entry is there, so are the fields before its value
 room : (c : tie.Else5)
-    → c .before .before .before .before .before .before .before .before .args .at + 11
+    → c .before .before .before .before .before .before .before .before .args .at + 7 + table (c .before .before .before .before .before .before .before .before .args .edition) .width
     ≤ length (now (c .before .before .before .before .before .before .before .before .args .s))
-unfolding edition1
-room c = omega (arith, size-least edition1 _ (λ e. c .before .if4 .left (c .before .before .kind-size .ensures ∙ e)))
+room c =
+    omega (
+      arith,
+      size-least (c .before .before .before .before .before .before .before .before .args .edition) _ (λ e. c .before .if4 .left (c .before .before .kind-size .ensures ∙ e)),
+    )
 
 version-at-requires : tie.Need-version-at-requires
-unfolding edition1
 version-at-requires c κs = omega (arith, room c)
 
 good-version-requires : tie.Need-good-version-requires
 good-version-requires c κs = search needs
 
 returns-6 : tie.Need-returns-6
-unfolding edition1
 returns-6 c =
     let l = c .before .before .before in
     let k = l .before .before in
-    reads-bad-version edition1 _ _ _ (k .kind-size .ensures) (k .before .before .before .if2 .left) (l .before .if4 .left) (l .if5 .left) _
+    reads-bad-version _ _ _ _ (k .kind-size .ensures) (k .before .before .before .if2 .left) (l .before .if4 .left) (l .if5 .left) _
     (ap (λ (x : Version). x .0) (c .before .before .version-at .ensures)) _ (c .before .good-version .ensures) (not-true _ (c .if6 .taken))
 
 add-read16 : tie.Need-add-read16
 add-read16 c = search needs
 
 read16-requires : tie.Need-read16-requires
-read16-requires c κs = omega (arith, room (c .before .before .before))
+read16-requires c κs = omega (arith, width-low (c .before .before .before .before .before .before .before .before .before .before .before .args .edition), room (c .before .before .before))
 
 add-read32 : tie.Need-add-read32
 add-read32 c = search needs
 
 read32-requires : tie.Need-read32-requires
-read32-requires c κs = omega (arith, room (c .before .before .before .before))
+read32-requires c κs = omega (arith, width-low (c .before .before .before .before .before .before .before .before .before .before .before .before .args .edition), room (c .before .before .before .before))
+
+tombstone-kind-requires : tie.Need-tombstone-kind-requires
+tombstone-kind-requires c κs = search needs
 
 returns-7 : tie.Need-returns-7
-unfolding edition1
 returns-7 c =
-    let v = c .before .before .before in
+    let v = c .before .before .before .before in
     let l = v .before .before .before in
     let k = l .before .before in
-    reads-tombstone edition1 _ _ _ (k .kind-size .ensures) (k .before .before .before .if2 .left) (l .before .if4 .left) (l .if5 .left) _
+    reads-tombstone _ _ _ _ (k .kind-size .ensures) (k .before .before .before .if2 .left) (l .before .if4 .left) (l .if5 .left) _
     (ap (λ (x : Version). x .0) (v .before .before .version-at .ensures)) _ (v .before .good-version .ensures) (not-false _ (v .if6 .left)) _ _
-    (c .before .before .read16 .ensures) (c .before .read32 .ensures) (c .if7 .taken)
+    (c .before .before .before .read16 .ensures) (c .before .before .read32 .ensures) (c .if7 .taken ∙ c .before .tombstone-kind .ensures)
 
 returns-8 : tie.Need-returns-8
-unfolding edition1
 returns-8 c =
-    let v = c .before .before .before in
+    let v = c .before .before .before .before in
     let l = v .before .before .before in
     let k = l .before .before in
-    reads-object edition1 _ _ _ (k .kind-size .ensures) (k .before .before .before .if2 .left) (l .before .if4 .left) (l .if5 .left) _
+    reads-object _ _ _ _ (k .kind-size .ensures) (k .before .before .before .if2 .left) (l .before .if4 .left) (l .if5 .left) _
     (ap (λ (x : Version). x .0) (v .before .before .version-at .ensures)) _ (v .before .good-version .ensures) (not-false _ (v .if6 .left)) _ _
-    (c .before .before .read16 .ensures) (c .before .read32 .ensures) (c .if7 .left)
+    (c .before .before .before .read16 .ensures) (c .before .before .read32 .ensures) (λ e. c .if7 .left (e ∙ sym (c .before .tombstone-kind .ensures)))
 
 pub read-spec : {M : Type 1} → statement M
 read-spec =
@@ -114,5 +117,6 @@ read-spec =
     read16-requires
     add-read32
     read32-requires
+    tombstone-kind-requires
     returns-7
     returns-8)

@@ -6,7 +6,6 @@ use native.Mathlib.Omega.{arith}
 use Prim.Native.Nat.{ℕ}
 use denote.Ref.{now}
 use lib.ListN.{getD}
-use Rattle.segment.specs.Layout.{edition1}
 use Rattle.record.specs.RangeLaws.{counts-below}
 use Rattle.model.specs.Counts.{moreBytes}
 use Rattle.stepping.specs.FinishLaws.{lost-few}
@@ -20,7 +19,7 @@ more-requires c κs =
     omega (
       arith,
       ap (λ (l : List ℕ). getD l (a .slot) 0) (c .before .before .lost-by .ensures),
-      lost-few edition1 (a .rec .size) (now (a .area)) (a .rec .counts) (a .answer) (a .slot),
+      lost-few (a .rec .edition) (a .rec .size) (now (a .area)) (a .rec .counts) (a .answer) (a .slot),
       counts-below _ (a .slot) (a .rec .counts) (d .pre .3),
       d .pre .1,
       d .pre .2,

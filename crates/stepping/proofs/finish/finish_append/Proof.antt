@@ -1,7 +1,6 @@
 -- `stepping::finish::finish_append` meets its contract.
 use borrow.Author.Needs.{needs}
 use native.Mathlib.Omega.{arith}
-use Rattle.segment.specs.Layout.{edition1}
 use Rattle.stepping.specs.FinishLaws.{segment-in, append-goes}
 use Rattle.stepping.proofs.finish.finish_append.Statement.{statement}
 use Rattle.stepping.proofs.finish.finish_append.Tie as tie
@@ -12,7 +11,7 @@ finish-entry-requires c κs =
     (omega arith, omega arith, omega arith, omega arith, segment-in (d .args .rec .slots) (d .args .rec .size) (d .args .rec .head) _ (d .pre .2) (d .pre .3), d .pre .7)
 
 returns : tie.Need-returns
-returns c = append-goes edition1 _ _ _ _ (c .before .before .before .before .before .append-commit .ensures) (c .before .before .finish-entry .ensures)
+returns c = append-goes _ _ _ _ _ (c .before .before .before .before .before .append-commit .ensures) (c .before .before .finish-entry .ensures)
 
 pub finish-append-spec : {M : Type 1} → statement M
 finish-append-spec =

@@ -1,7 +1,6 @@
 -- `stepping::finish::finish_clean` meets its contract.
 use borrow.Author.Needs.{needs}
 use native.Mathlib.Omega.{arith}
-use Rattle.segment.specs.Layout.{edition1}
 use Rattle.stepping.specs.FinishLaws.{segment-in, clean-goes}
 use Rattle.stepping.proofs.finish.finish_clean.Statement.{statement}
 use Rattle.stepping.proofs.finish.finish_clean.Tie as tie
@@ -14,7 +13,7 @@ finish-rebuilt-requires c κs =
 returns : tie.Need-returns
 returns c =
     let d = c .before .before .before .before in
-    clean-goes edition1 _ _ _ _ _ _ (d .before .before .without-slots .ensures) (d .before .with-slot .ensures) (d .head-commit .ensures)
+    clean-goes _ _ _ _ _ _ _ (d .before .before .without-slots .ensures) (d .before .with-slot .ensures) (d .head-commit .ensures)
     (c .before .before .finish-rebuilt .ensures)
 
 pub finish-clean-spec : {M : Type 1} → statement M

@@ -1,7 +1,6 @@
 -- `stepping::finish::finish_rebuilt` meets its contract.
 use denote.Ref.{now}
 use borrow.Author.Needs.{needs}
-use Rattle.segment.specs.Layout.{edition1}
 use Rattle.stepping.specs.Finish.{upFrom}
 use Rattle.stepping.specs.FinishLaws.{rebuilt-goes}
 use Rattle.stepping.proofs.finish.finish_rebuilt.Statement.{statement}
@@ -11,7 +10,7 @@ returns : tie.Need-returns
 unfolding upFrom
 returns c =
     let a = c .before .before .before .before .before .before .before .before .before .args in
-    rebuilt-goes edition1 (a .rec) (now (a .area)) (now (a .index)) (a .slot) (a .victims) (a .done) (a .version .0)
+    rebuilt-goes _ (a .rec) (now (a .area)) (now (a .index)) (a .slot) (a .victims) (a .done) (a .version .0)
     (c .before .before .before .before .rebuild .ensures) (c .before .renewed-counts .ensures) (c .answered .ensures)
 
 pub finish-rebuilt-spec : {M : Type 1} → statement M

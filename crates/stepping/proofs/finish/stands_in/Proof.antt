@@ -4,7 +4,6 @@ use Prim.Native.Nat.{ℕ}
 use mathlib.Core.List.{List}
 use borrow.Author.Needs.{needs}
 use Rattle.segment.specs.Entry.{entryAt, answer}
-use Rattle.segment.specs.Layout.{edition1}
 use Rattle.stepping.proofs.finish.stands_in.Statement.{statement}
 use Rattle.stepping.proofs.finish.stands_in.Tie as tie
 
@@ -15,7 +14,9 @@ read-requires : tie.Need-read-requires
 read-requires c κs = search needs
 
 returns : tie.Need-returns
-returns c = c .read .ensures ∙ ap (λ (s : List ℕ). answer edition1 (entryAt edition1 s (c .before .before .before .args .offset))) (c .before .cut .ensures)
+returns c =
+    let a = c .before .before .before .args in
+    c .read .ensures ∙ ap (λ (s : List ℕ). answer (a .edition) (entryAt (a .edition) s (a .offset))) (c .before .cut .ensures)
 
 pub stands-in-spec : {M : Type 1} → statement M
 stands-in-spec = tie.close (tie.spec cut-requires read-requires returns)

@@ -1,5 +1,4 @@
 -- `telling::agree::aim_of` meets its contract, for each kind of operation.
-use Rattle.segment.specs.Layout.{edition1}
 use Rattle.telling.specs.AgreeLaws.{agree-idle, agree-append, agree-head, agree-clean, agree-forget}
 use Rattle.telling.specs.NextLaws.{target-idle, target-append, target-new-head, target-clean, target-forget}
 use borrow.Author.Needs.{needs}
@@ -48,27 +47,27 @@ head-target-requires-3 c κs = search needs
 returns : tie.Need-returns
 returns c =
     let r = c .before .before .args .rec in
-    λ i. record { agreed = agree-idle edition1 r (c .enum-told .given .1) i; to = target-idle (r .head) (r .end) (c .enum-told .given .1) i }
+    λ i. record { agreed = agree-idle (r .edition) r (c .enum-told .given .1) i; to = target-idle (r .head) (r .end) (c .enum-told .given .1) i }
 
 returns-2 : tie.Need-returns-2
 returns-2 c =
     let r = c .before .before .before .before .args .rec in
-    λ i. record { agreed = agree-append edition1 r (c .before .before .pending .given .1) (c .entry-agrees .ensures) i; to = target-append (r .head) (r .end) (c .before .before .pending .given .1) i }
+    λ i. record { agreed = agree-append (r .edition) r (c .before .before .pending .given .1) (c .entry-agrees .ensures) i; to = target-append (r .head) (r .end) (c .before .before .pending .given .1) i }
 
 returns-3 : tie.Need-returns-3
 returns-3 c =
     let r = c .before .before .before .before .before .args .rec in
-    λ i. record { agreed = agree-head edition1 r (c .before .before .before .pending2 .given .1) (c .before .head-agrees .ensures) i; to = target-new-head (r .head) (r .end) (c .before .before .before .pending2 .given .1) (c .head-target .ensures) i }
+    λ i. record { agreed = agree-head (r .edition) r (c .before .before .before .pending2 .given .1) (c .before .head-agrees .ensures) i; to = target-new-head (r .head) (r .end) (c .before .before .before .pending2 .given .1) (c .head-target .ensures) i }
 
 returns-4 : tie.Need-returns-4
 returns-4 c =
     let r = c .before .before .before .before .before .args .rec in
-    λ i. record { agreed = agree-clean edition1 r (c .before .before .before .pending3 .given .1) (c .before .clean-agrees .ensures) i; to = target-clean (r .head) (r .end) (c .before .before .before .pending3 .given .1) (c .head-target2 .ensures) i }
+    λ i. record { agreed = agree-clean (r .edition) r (c .before .before .before .pending3 .given .1) (c .before .clean-agrees .ensures) i; to = target-clean (r .head) (r .end) (c .before .before .before .pending3 .given .1) (c .head-target2 .ensures) i }
 
 returns-5 : tie.Need-returns-5
 returns-5 c =
     let r = c .before .before .before .before .before .args .rec in
-    λ i. record { agreed = agree-forget edition1 r (c .before .before .before .pending4 .given .1) (c .before .delete-agrees .ensures) i; to = target-forget (r .head) (r .end) (c .before .before .before .pending4 .given .1) (c .head-target3 .ensures) i }
+    λ i. record { agreed = agree-forget (r .edition) r (c .before .before .before .pending4 .given .1) (c .before .delete-agrees .ensures) i; to = target-forget (r .head) (r .end) (c .before .before .before .pending4 .given .1) (c .head-target3 .ensures) i }
 
 pub aim-of-spec : {M : Type 1} → statement M
 aim-of-spec =

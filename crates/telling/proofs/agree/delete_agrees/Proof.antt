@@ -1,5 +1,4 @@
 -- `telling::agree::delete_agrees` meets its contract.
-use Rattle.segment.specs.Layout.{edition1}
 use Rattle.record.specs.RangeLaws.{ends, goes}
 use borrow.Author.Needs.{needs}
 use Rattle.telling.proofs.agree.delete_agrees.Statement.{statement}
@@ -12,11 +11,9 @@ forget-agrees-requires : tie.Need-forget-agrees-requires
 forget-agrees-requires c κs = search needs
 
 returns : tie.Need-returns
-unfolding edition1
 returns c = goes _ (c .before .before .slot-agrees .ensures) (c .before .if1 .taken) (c .forget-agrees .ensures)
 
 returns-2 : tie.Need-returns-2
-unfolding edition1
 returns-2 c = ends _ (c .before .slot-agrees .ensures) (c .if1 .left)
 
 pub delete-agrees-spec : {M : Type 1} → statement M

@@ -1,7 +1,11 @@
 -- `telling::agree::head_agrees` meets its contract.
-use Rattle.segment.specs.Layout.{edition1}
-use Rattle.record.specs.RangeLaws.{ends, goes}
+use Prim.Native.Nat.{ℕ}
+use mathlib.Core.Path.{_∙_, ap}
+use native.Mathlib.Omega.{arith}
 use borrow.Author.Needs.{needs}
+use Rattle.segment.specs.LayoutLaws.{width-high}
+use Rattle.record.specs.RangeLaws.{ends, goes}
+use Rattle.telling.specs.Agree.{entryAgrees}
 use Rattle.telling.proofs.agree.head_agrees.Statement.{statement}
 use Rattle.telling.proofs.agree.head_agrees.Tie as tie
 
@@ -9,16 +13,17 @@ slot-agrees-requires : tie.Need-slot-agrees-requires
 slot-agrees-requires c κs = search needs
 
 entry-agrees-requires : tie.Need-entry-agrees-requires
-entry-agrees-requires c κs = search needs
+entry-agrees-requires c κs = omega (arith, c .digest-size .ensures, width-high (c .before .before .before .args .rec .edition))
 
 returns : tie.Need-returns
-unfolding edition1
-returns c = goes _ (c .before .before .slot-agrees .ensures) (c .before .if1 .taken) (c .entry-agrees .ensures)
+returns c =
+    let s = c .before .before .before .before .args in
+    goes _ (c .before .before .before .slot-agrees .ensures) (c .before .before .if1 .taken)
+    (c .entry-agrees .ensures ∙ ap (λ (n : ℕ). entryAgrees (s .rec .edition) (s .rec) n (s .count)) (c .before .digest-size .ensures))
 
 returns-2 : tie.Need-returns-2
-unfolding edition1
 returns-2 c = ends _ (c .before .slot-agrees .ensures) (c .if1 .left)
 
 pub head-agrees-spec : {M : Type 1} → statement M
 head-agrees-spec =
-    tie.close (tie.spec slot-agrees-requires entry-agrees-requires returns returns-2)
+    tie.close (tie.spec slot-agrees-requires (λ c κs. search needs) entry-agrees-requires returns returns-2)

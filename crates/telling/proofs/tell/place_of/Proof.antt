@@ -6,9 +6,8 @@ use native.Mathlib.Omega.{arith}
 use borrow.Author.Needs.{needs}
 use denote.Ref.{now}
 use lib.ListN.{length, replicate, length-replicate}
-use Rattle.segment.specs.Layout.{edition1}
 use Rattle.record.specs.Answers.{storesLeft}
-use Rattle.laws.specs.OperationsKept.{edition1-laws}
+use Rattle.laws.specs.OperationsKept.{edition-laws}
 use Rattle.telling.specs.Agree.{agreesWith}
 use Rattle.telling.specs.Next.{targetOf, nextStore}
 use Rattle.telling.specs.NextLaws.{target-first, target-left, next-target}
@@ -23,7 +22,7 @@ use Rattle.telling.proofs.tell.place_of.Tie as tie
 left-is : (k : tie.After-aim-of) → k .aim-of .result .to .left ≡ storesLeft (k .before .before .args .rec .pending)
 left-is k = target-left _ _ _ (ap (λ (a : Aim). a .to) (k .aim-of .ensures))
 
-agrees-is : (k : tie.After-aim-of) → k .aim-of .result .agreed ≡ agreesWith edition1 (k .before .before .args .rec) (k .before .before .args .rec .pending)
+agrees-is : (k : tie.After-aim-of) → k .aim-of .result .agreed ≡ agreesWith (k .before .before .args .rec .edition) (k .before .before .args .rec) (k .before .before .args .rec .pending)
 agrees-is k = ap (λ (a : Aim). a .agreed) (k .aim-of .ensures)
 
 to-is : (k : tie.After-aim-of)
@@ -31,23 +30,23 @@ to-is : (k : tie.After-aim-of)
 to-is k = ap (λ (a : Aim). a .to) (k .aim-of .ensures)
 
 aim-of-requires : tie.Need-aim-of-requires
-aim-of-requires c κs = tell-lent edition1 edition1-laws (c .before .args .rec) (now (c .before .args .area)) (replicate {A = ℕ} 0 0) (c .before .pre) .slots-high
+aim-of-requires c κs = tell-lent _ (edition-laws _) (c .before .args .rec) (now (c .before .args .area)) (replicate {A = ℕ} 0 0) (c .before .pre) .slots-high
 
 returns : tie.Need-returns
-returns c = place-refused edition1 _ _ _ _ (λ w e. tell-short edition1 edition1-laws (c .before .before .before .before .before .args .rec) (now (c .before .before .before .before .before .args .area)) w (c .before .before .before .before .before .pre) (omega (arith, e, c .if1 .taken)))
+returns c = place-refused _ _ _ _ _ (λ w e. tell-short _ (edition-laws _) (c .before .before .before .before .before .args .rec) (now (c .before .before .before .before .before .args .area)) w (c .before .before .before .before .before .pre) (omega (arith, e, c .if1 .taken)))
 
 returns-2 : tie.Need-returns-2
 returns-2 c =
     let d = c .before .before in
     let k = d .before .before .before in
-    place-refused edition1 _ _ _ _ (λ w e. tell-none edition1 edition1-laws (k .before .before .args .rec) (now (k .before .before .args .area)) w (k .before .before .pre) (omega (arith, e, d .if1 .left)) (left-is k) (c .if2 .taken))
+    place-refused _ _ _ _ _ (λ w e. tell-none _ (edition-laws _) (k .before .before .args .rec) (now (k .before .before .args .area)) w (k .before .before .pre) (omega (arith, e, d .if1 .left)) (left-is k) (c .if2 .taken))
 
 returns-3 : tie.Need-returns-3
 returns-3 c =
     let e = c .before .before in
     let d = e .before .before in
     let k = d .before .before .before in
-    place-refused edition1 _ _ _ _ (λ w l. tell-unfit edition1 edition1-laws (k .before .before .args .rec) (now (k .before .before .args .area)) w (k .before .before .pre) (omega (arith, l, d .if1 .left)) (left-is k) (e .if2 .left) (agrees-is k) (c .if3 .taken))
+    place-refused _ _ _ _ _ (λ w l. tell-unfit _ (edition-laws _) (k .before .before .args .rec) (now (k .before .before .args .area)) w (k .before .before .pre) (omega (arith, l, d .if1 .left)) (left-is k) (e .if2 .left) (agrees-is k) (c .if3 .taken))
 
 next-place-requires : tie.Need-next-place-requires
 next-place-requires c κs = target-first _ _ _ (to-is (c .before .before .before .before .before .before .before))
@@ -69,7 +68,7 @@ cast-t17 c =
     let l = length-replicate {A = ℕ} (k .before .before .args .work) 0 in
     record {
       fits =
-          tell-place edition1 edition1-laws (k .before .before .args .rec) (now (k .before .before .args .area)) w (k .before .before .pre) (omega (arith, l, d .if1 .left)) (left-is k) (e .if2 .left) (agrees-is k) (g .if3 .left)
+          tell-place _ (edition-laws _) (k .before .before .args .rec) (now (k .before .before .args .area)) w (k .before .before .pre) (omega (arith, l, d .if1 .left)) (left-is k) (e .if2 .left) (agrees-is k) (g .if3 .left)
           (next-is (p .before .before) w l) _ _ (ap (filled w) (p .place .given .1));
     }
 
@@ -89,9 +88,9 @@ returns-4 c =
     let e = g .before .before in
     let d = e .before .before in
     let k = d .before .before .before in
-    place-refused edition1 _ _ _ _
+    place-refused _ _ _ _ _
     (λ w l.
-    tell-nowhere edition1 edition1-laws (k .before .before .args .rec) (now (k .before .before .args .area)) w (k .before .before .pre) (omega (arith, l, d .if1 .left)) (left-is k) (e .if2 .left) (agrees-is k) (g .if3 .left)
+    tell-nowhere _ (edition-laws _) (k .before .before .args .rec) (now (k .before .before .args .area)) w (k .before .before .pre) (omega (arith, l, d .if1 .left)) (left-is k) (e .if2 .left) (agrees-is k) (g .if3 .left)
     (next-is (p .before .before) w l) (ap (filled w) (p .enum-told .given .1)))
 
 returns-5 : tie.Need-returns-5
@@ -102,9 +101,9 @@ returns-5 c =
     let e = g .before .before in
     let d = e .before .before in
     let k = d .before .before .before in
-    place-told edition1 _ _ _ _ _ _
+    place-told _ _ _ _ _ _ _
     (λ w l.
-    tell-at edition1 edition1-laws (k .before .before .args .rec) (now (k .before .before .args .area)) w (k .before .before .pre) (omega (arith, l, d .if1 .left)) (left-is k) (e .if2 .left) (agrees-is k) (g .if3 .left)
+    tell-at _ (edition-laws _) (k .before .before .args .rec) (now (k .before .before .args .area)) w (k .before .before .pre) (omega (arith, l, d .if1 .left)) (left-is k) (e .if2 .left) (agrees-is k) (g .if3 .left)
     (next-is (p .before .before) w l) _ _ (ap (filled w) (p .place .given .1)))
     (copies-slot _ _ _ _ _ _ _ _ _ _ _ (sym (p .before .before .next-place .ensures) ∙ p .place .given .1) .1)
 

@@ -3,7 +3,7 @@ use mathlib.Core.Path.{_≡_, refl, sym, _∙_}
 use denote.Ref.{now}
 use lib.ListN.{length}
 use native.Mathlib.Omega.{arith}
-use Rattle.segment.specs.Layout.{edition1}
+use Rattle.segment.specs.LayoutLaws.{width-high}
 use Rattle.record.specs.RangeLaws.{Lent}
 use Rattle.model.specs.Causes.{firstCause}
 use Rattle.starting.specs.declared.Check.{Check}
@@ -19,17 +19,17 @@ use Rattle.writing.proofs.causes.check_delete.Tie as tie
 -- what is known once 4, 22, 3 and 5 are passed
 first : (c : tie.After-enum-told) →
     let a = c .before .before .before .before .before .before .before .args in
-    Check.Passed ≡ checked (firstCause (firstTests edition1 (a .rec) (record { area = length (now (a .area)); index = length (now (a .index)); work = a .work }) (a .tables) (a .key)))
+    Check.Passed ≡ checked (firstCause (firstTests (a .rec .edition) (a .rec) (record { area = length (now (a .area)); index = length (now (a .index)); work = a .work }) (a .tables) (a .key)))
 first c = sym (c .enum-told .given .1) ∙ c .before .before .check-first .ensures
 
 lent : (c : tie.After-enum-told) →
-    let a = c .before .before .before .before .before .before .before .args in Lent edition1 (a .rec) (length (now (a .area))) (length (now (a .index)))
-lent c = first-lent edition1 _ _ _ _ (first c)
+    let a = c .before .before .before .before .before .before .before .args in Lent (a .rec .edition) (a .rec) (length (now (a .area))) (length (now (a .index)))
+lent c = first-lent _ _ _ _ _ (first c)
 
 returns : tie.Need-returns
 returns c =
     let a = c .before .before .before .before .args in
-    delete-first edition1 _ _ _ _ _ _ (first-bad edition1 (a .rec) (record { area = length (now (a .area)); index = length (now (a .index)); work = a .work }) (a .tables) (a .key) (c .before .fits-lent .ensures) (c .if1 .taken))
+    delete-first _ _ _ _ _ _ _ (first-bad _ (a .rec) (record { area = length (now (a .area)); index = length (now (a .index)); work = a .work }) (a .tables) (a .key) (c .before .fits-lent .ensures) (c .if1 .taken))
 
 check-first-requires : tie.Need-check-first-requires
 check-first-requires c κs = sym (c .before .fits-lent .ensures) ∙ not-false _ (c .if1 .left)
@@ -59,37 +59,35 @@ enum-told-5 : tie.Need-enum-told-5
 enum-told-5 c = search needs
 
 returns-2 : tie.Need-returns-2
-unfolding edition1
 returns-2 c =
-    let f = c .before .before .before .before .before in
-    delete-spent edition1 _ _ _ _ _ (first (f .before .before)) _ (sym (c .before .before .before .enum-told5 .given .1) ∙ f .find .ensures) (c .if2 .taken)
+    let f = c .before .before .before .before .before .before in
+    delete-spent _ _ _ _ _ _ (first (f .before .before)) _ (sym (c .before .before .before .before .enum-told5 .given .1) ∙ f .find .ensures) (c .if2 .taken ∙ c .before .before .version-limit .ensures)
 
 check-number-requires : tie.Need-check-number-requires
-check-number-requires c κs = omega arith
+check-number-requires c κs = omega (arith, width-high (c .before .before .before .before .before .before .before .before .before .before .before .before .before .before .before .before .args .rec .edition), c .head-size .ensures)
 
 returns-3 : tie.Need-returns-3
-returns-3 c = delete-first edition1 _ _ _ _ _ _ (sym (c .before .c .given .1) ∙ c .before .before .before .check-first .ensures)
+returns-3 c = delete-first _ _ _ _ _ _ _ (sym (c .before .c .given .1) ∙ c .before .before .before .check-first .ensures)
 
 returns-4 : tie.Need-returns-4
 returns-4 c =
-    delete-forbidden edition1 _ _ _ _ _ (first (c .before .before .before .before)) (sym (c .enum-told2 .given .1) ∙ c .before .before .find .ensures)
+    delete-forbidden _ _ _ _ _ _ (first (c .before .before .before .before)) (sym (c .enum-told2 .given .1) ∙ c .before .before .find .ensures)
 
 returns-5 : tie.Need-returns-5
 unfolding factsOf
 returns-5 c =
-    delete-absent edition1 _ _ _ _ _ (first (c .before .before .before .before)) Nothing (sym (c .enum-told3 .given .1) ∙ c .before .before .find .ensures) refl refl
+    delete-absent _ _ _ _ _ _ (first (c .before .before .before .before)) Nothing (sym (c .enum-told3 .given .1) ∙ c .before .before .find .ensures) refl refl
 
 returns-6 : tie.Need-returns-6
 unfolding factsOf
 returns-6 c =
-    delete-absent edition1 _ _ _ _ _ (first (c .before .before .before .before)) Tombstone (sym (c .enum-told4 .given .1) ∙ c .before .before .find .ensures) refl refl
+    delete-absent _ _ _ _ _ _ (first (c .before .before .before .before)) Tombstone (sym (c .enum-told4 .given .1) ∙ c .before .before .find .ensures) refl refl
 
 returns-7 : tie.Need-returns-7
-unfolding edition1
 returns-7 c =
-    let f = c .before .before .before .before .before .before in
-    delete-number edition1 _ _ _ _ _ (first (f .before .before)) _ (sym (c .before .before .before .before .enum-told5 .given .1) ∙ f .find .ensures)
-    (c .before .if2 .left) (c .check-number .ensures)
+    let f = c .before .before .before .before .before .before .before .before in
+    delete-number _ _ _ _ _ _ (first (f .before .before)) _ (sym (c .before .before .before .before .before .before .enum-told5 .given .1) ∙ f .find .ensures)
+    _ (c .before .head-size .ensures) (λ e. c .before .before .if2 .left (e ∙ sym (c .before .before .before .before .version-limit .ensures))) (c .check-number .ensures)
 
 pub check-delete-spec : {M : Type 1} → statement M
 check-delete-spec =
@@ -106,7 +104,9 @@ check-delete-spec =
     enum-told-3
     enum-told-4
     enum-told-5
+    (λ c κs. search needs)
     returns-2
+    (λ c κs. search needs)
     check-number-requires
     returns-3
     returns-4

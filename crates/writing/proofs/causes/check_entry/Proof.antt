@@ -1,14 +1,15 @@
 -- `writing::causes::check_entry` meets its contract.
 use mathlib.Core.Path.{sym, _∙_}
-use Rattle.segment.specs.Layout.{edition1}
 use Rattle.writing.specs.TestLaws.{entry-spent, entry-key, entry-room}
 use borrow.Author.Needs.{needs}
 use Rattle.writing.proofs.causes.check_entry.Statement.{statement}
 use Rattle.writing.proofs.causes.check_entry.Tie as tie
 
+version-limit-requires : tie.Need-version-limit-requires
+version-limit-requires c κs = search needs
+
 returns : tie.Need-returns
-unfolding edition1
-returns c = entry-spent edition1 _ _ _ (c .if1 .taken)
+returns c = entry-spent _ _ _ _ (c .if1 .taken ∙ c .before .before .version-limit .ensures)
 
 check-key-requires : tie.Need-check-key-requires
 check-key-requires c κs = search needs
@@ -23,19 +24,20 @@ check-room-requires : tie.Need-check-room-requires
 check-room-requires c κs = search needs
 
 returns-2 : tie.Need-returns-2
-unfolding edition1
-returns-2 c = entry-key edition1 _ _ _ (c .before .before .before .before .if1 .left) _ (sym (c .before .c .given .1) ∙ c .before .before .before .check-key .ensures)
+returns-2 c =
+    let t = c .before .before .before .before in
+    entry-key _ _ _ _ (λ e. t .if1 .left (e ∙ sym (t .before .before .version-limit .ensures))) _ (sym (c .before .c .given .1) ∙ c .before .before .before .check-key .ensures)
 
 returns-3 : tie.Need-returns-3
-unfolding edition1
 returns-3 c =
     let k = c .before .before .before in
-    entry-room edition1 _ _ _ (k .before .if1 .left) (sym (c .before .enum-told .given .1) ∙ k .check-key .ensures) (c .check-room .ensures)
+    entry-room _ _ _ _ (λ e. k .before .if1 .left (e ∙ sym (k .before .before .before .version-limit .ensures))) (sym (c .before .enum-told .given .1) ∙ k .check-key .ensures) (c .check-room .ensures)
 
 pub check-entry-spec : {M : Type 1} → statement M
 check-entry-spec =
     tie.close
     (tie.spec
+    version-limit-requires
     returns
     check-key-requires
     enum-known-c

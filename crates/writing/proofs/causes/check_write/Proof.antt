@@ -4,7 +4,6 @@ use mathlib.Core.Path.{sym, _∙_}
 use lib.ListN.{length}
 use denote.Ref.{now}
 use borrow.Author.Tests.{not-false}
-use Rattle.segment.specs.Layout.{edition1}
 use Rattle.writing.specs.TestLaws.{first-bad, write-first}
 use Rattle.writing.proofs.causes.check_write.Statement.{statement}
 use Rattle.writing.proofs.causes.check_write.Tie as tie
@@ -12,7 +11,7 @@ use Rattle.writing.proofs.causes.check_write.Tie as tie
 returns : tie.Need-returns
 returns c =
     let a = c .before .before .before .before .args in
-    write-first edition1 _ _ _ _ _ _ _ (first-bad edition1 (a .rec) (record { area = length (now (a .area)); index = length (now (a .index)); work = a .work }) (a .tables) (a .key) (c .before .fits-lent .ensures) (c .if1 .taken))
+    write-first _ _ _ _ _ _ _ _ (first-bad _ (a .rec) (record { area = length (now (a .area)); index = length (now (a .index)); work = a .work }) (a .tables) (a .key) (c .before .fits-lent .ensures) (c .if1 .taken))
 
 check-fitting-requires : tie.Need-check-fitting-requires
 check-fitting-requires c κs = sym (c .before .fits-lent .ensures) ∙ not-false _ (c .if1 .left)

@@ -1,8 +1,7 @@
 -- `writing::start::write_expecting` meets its contract.
 use mathlib.Core.Path.{sym, _∙_}
 use denote.Ref.{now}
-use Rattle.segment.specs.Layout.{edition1}
-use Rattle.laws.specs.OperationsKept.{edition1-roomy}
+use Rattle.laws.specs.OperationsKept.{edition-roomy}
 use Rattle.writing.specs.StartLaws.{write-refused, write-ready, write-number, write-known, write-laid, laid-started}
 use borrow.Author.Needs.{needs}
 use Rattle.writing.proofs.start.write_expecting.Statement.{statement}
@@ -24,21 +23,20 @@ object-kind-requires : tie.Need-object-kind-requires
 object-kind-requires c κs = search needs
 
 lay-entry-requires : tie.Need-lay-entry-requires
-unfolding edition1
 lay-entry-requires c κs =
     let t = c .before .before in
     let a = t .before .before .before .before .before .before .before .args in
     let passed = sym (t .enum-told .given .1) ∙ t .before .before .check-write .ensures in (
-      write-ready edition1 (record { tables = a .tables; expected = a .expected }) (a .rec) (now (a .area)) (now (a .index)) (now (a .work)) (a .key) (now (a .value)) passed edition1-roomy,
+      write-ready _ (record { tables = a .tables; expected = a .expected }) (a .rec) (now (a .area)) (now (a .index)) (now (a .work)) (a .key) (now (a .value)) passed (edition-roomy _),
       (
-        write-number edition1 (record { tables = a .tables; expected = a .expected }) (a .rec) (now (a .area)) (now (a .index)) (now (a .work)) (a .key) (now (a .value)) passed,
-        write-known edition1 (record { tables = a .tables; expected = a .expected }) (a .rec) (now (a .area)) (now (a .index)) (now (a .work)) (a .key) (now (a .value)) passed _ (c .object-kind .ensures),
+        write-number _ (record { tables = a .tables; expected = a .expected }) (a .rec) (now (a .area)) (now (a .index)) (now (a .work)) (a .key) (now (a .value)) passed,
+        write-known _ (record { tables = a .tables; expected = a .expected }) (a .rec) (now (a .area)) (now (a .index)) (now (a .work)) (a .key) (now (a .value)) passed _ (c .object-kind .ensures),
       ),
     )
 
 returns : tie.Need-returns
 returns c =
-    write-refused edition1 _ _ _ _ _ _ _ _ (sym (c .before .before .c .given .1) ∙ c .before .before .before .before .check-write .ensures) _
+    write-refused _ _ _ _ _ _ _ _ _ (sym (c .before .before .c .given .1) ∙ c .before .before .before .before .check-write .ensures) _
     (c .refused .ensures)
 
 started-requires : tie.Need-started-requires
@@ -51,7 +49,7 @@ returns-2 : tie.Need-returns-2
 returns-2 c =
     let d = c .before .before .before in
     let t = d .before .before .before in
-    write-laid edition1 _ _ _ _ _ _ _ (sym (t .enum-told .given .1) ∙ t .before .before .check-write .ensures) _ _ _
+    write-laid _ _ _ _ _ _ _ _ (sym (t .enum-told .given .1) ∙ t .before .before .check-write .ensures) _ _ _
     (d .before .object-kind .ensures) (laid-started (t .before .before .before .before .before .before .before .args .rec) (c .started .ensures) (d .lay-entry .ensures))
 
 pub write-expecting-spec : {M : Type 1} → statement M
