@@ -38,6 +38,20 @@
  *     first.
  *   Words that are no record are a refusal like any other (4) and treated so.
  *
+ * EDITIONS
+ *   There are two editions of the bytes in the area. The format decides which one a store has, and the area tells it from
+ *   then on: no other call is told, and word KURDAVEL_WORD_EDITION of the record says it.
+ *                                     edition 1                 edition 2
+ *     versions                        1 to 4,294,967,294        1 to 18,446,744,073,709,551,614
+ *     next version at the most        4,294,967,295             18,446,744,073,709,551,615
+ *     kinds that reads tell,
+ *       values of 8, 24, 56, 120      1, 2, 3, 7                9, 10, 11, 12
+ *     bytes of their entries          19, 35, 67, 131           23, 39, 71, 135
+ *     bytes of a tombstone            11                        15
+ *     bytes of a slot's digest        13                        17
+ *   All else is the same for both. Edition 2 is for a store that would use up the versions, of which every write and every
+ *   delete takes one; edition 1 has room for more entries. Slots of both editions in one log are damage (28).
+ *
  * HOW THE CALLS GO TOGETHER
  *   kurdavel_format once, for a new area. After that, and after each cut, kurdavel_recover: it gives the record and
  *   the index that the other calls take. Then reads at any time; and operations, one at a time: a start
@@ -74,12 +88,12 @@
  *   work whatever the store holds. A read, the start of a write or delete and the last step of either search the index
  *   once, but for a delete that is done as a cleaning (kurdavel_delete). Recovery, the start of a cleaning of slots
  *   that hold tombstones, the start of such a delete and the last step of every cleaning and of every such delete look
- *   at each entry of the log (at most (N - 1) * ((S - 13) / 11) of them), with a search for each; recovery and these
- *   last steps also write all M words of the index. kurdavel_join takes no more than one and a half times as long as
- *   the starts of a cleaning of each slot of the log, one after another. kurdavel_scan_read looks at each entry of the
- *   log as recovery does, without the index, and takes no longer. A search looks at few words while M is well above the
- *   number of keys, and never at more than the keys and one more. docs/PERFORMANCE.md has bounds and measured worst
- *   cases.
+ *   at each entry of the log (at most (N - 1) * ((S - 13) / 11) of them, in edition 2 (N - 1) * ((S - 17) / 15)), with a
+ *   search for each; recovery and these last steps also write all M words of the index. kurdavel_join takes no more than
+ *   one and a half times as long as the starts of a cleaning of each slot of the log, one after another.
+ *   kurdavel_scan_read looks at each entry of the log as recovery does, without the index, and takes no longer. A search
+ *   looks at few words while M is well above the number of keys, and never at more than the keys and one more.
+ *   docs/PERFORMANCE.md has bounds and measured worst cases.
  *
  * THE PROMISE ABOUT CUTS, AND THE RULES OF USE THAT IT RESTS ON
  *   Wherever the power fails, the next recovery is accepted and gives exactly what the finished operations left,
@@ -134,18 +148,20 @@
  *   Every key with an entry in the log has one cell, and M - 1 keys is the most. A deleted key counts until no entry
  *   of it is left: a cleaning drops its older objects from the slots that it names, and its tombstone once no other
  *   slot has an object of the key. So M is to be above the number of live keys and of deleted ones not yet cleaned
- *   away, together. (N - 1) * ((S - 13) / 11) + 1 cells, in whole numbers, are enough for any log, where that is no
- *   more than 4,096. A search is shorter where more cells are free, and faster where M is a power of two.
- *   One slot is always kept free for cleaning. An entry takes 11 bytes and its value (19, 35, 67 or 131), a tombstone
- *   11, and a slot holds S - 13 bytes of them. A delete needs no room: a store that is full of live objects can be
- *   emptied again, one key after another.
+ *   away, together. (N - 1) * ((S - 13) / 11) + 1 cells, in whole numbers, are enough for any log of edition 1, and
+ *   (N - 1) * ((S - 17) / 15) + 1 for any of edition 2, where that is no more than 4,096. A search is shorter where more
+ *   cells are free, and faster where M is a power of two.
+ *   One slot is always kept free for cleaning. In edition 1 an entry takes 11 bytes and its value (19, 35, 67 or 131), a
+ *   tombstone 11, and a slot holds S - 13 bytes of them; in edition 2 it is 15 and the value (23, 39, 71 or 135), 15, and
+ *   S - 17. A delete needs no room: a store that is full of live objects can be emptied again, one key after another.
  *
  *   An idle task that cleans ahead of need asks kurdavel_fewest for its victim: of that slot the fewest bytes of
  *   objects are kept. The words KURDAVEL_WORD_PRESENT.. of the record say for each slot how many they are. Tombstones
- *   may be kept besides, 11 bytes each.
+ *   may be kept besides, 11 bytes each, and 15 in edition 2.
  *
  *   What helps after a refusal
- *    9  Only a format, which empties the store: no version is left. Reads and cleanings go on.
+ *    9  Only a format, which empties the store: no version is left. Reads and cleanings go on. A store of
+ *       edition 1 may be formatted in edition 2, which has versions enough.
  *   10  Only a format, which empties the store: no digest number is left. Reads go on, and so do writes and deletes
  *       whose entry fits the head.
  *   11  Clean the slots that hold entries of deleted keys, objects and tombstone of a key together or the objects
@@ -177,7 +193,7 @@ extern "C" {
  * The version of this interface. MAJOR goes up when a program written for an earlier one may have to change, or an area
  * written by an earlier one may be refused; MINOR when something is added.
  */
-#define KURDAVEL_VERSION_MAJOR 5u
+#define KURDAVEL_VERSION_MAJOR 6u
 #define KURDAVEL_VERSION_MINOR 0u
 #define KURDAVEL_VERSION (KURDAVEL_VERSION_MAJOR * 1000u + KURDAVEL_VERSION_MINOR)
 
@@ -201,11 +217,11 @@ extern "C" {
 #define KURDAVEL_STACK_RECOVER 4864u
 #define KURDAVEL_STACK_READ 192u
 #define KURDAVEL_STACK_READ_VALUE 192u
-#define KURDAVEL_STACK_WRITE 704u
-#define KURDAVEL_STACK_WRITE_EXPECTING 704u
+#define KURDAVEL_STACK_WRITE 832u
+#define KURDAVEL_STACK_WRITE_EXPECTING 832u
 #define KURDAVEL_STACK_DELETE 2176u
 #define KURDAVEL_STACK_CLEAN 2560u
-#define KURDAVEL_STACK_STEP 2176u
+#define KURDAVEL_STACK_STEP 2560u
 #define KURDAVEL_STACK_FEWEST 640u
 #define KURDAVEL_STACK_NEXT_STORE 320u
 #define KURDAVEL_STACK_JOIN 8960u
@@ -213,6 +229,12 @@ extern "C" {
 #define KURDAVEL_STACK_SCAN_READ_VALUE 4608u
 #define KURDAVEL_STACK_FROM_FLOAT 64u
 #define KURDAVEL_STACK_TO_FLOAT 64u
+
+/* The editions of the bytes in an area. kurdavel_format takes no other number, and no record has another. */
+enum kurdavel_edition {
+    KURDAVEL_EDITION_1 = 1, /* versions of 4 bytes */
+    KURDAVEL_EDITION_2 = 2  /* versions of 8 bytes */
+};
 
 /* The words of a record. The store is the library's to change: read these, and write none. */
 enum kurdavel_word {
@@ -224,10 +246,10 @@ enum kurdavel_word {
     KURDAVEL_WORD_DIGEST = 5,     /* digest number of the head */
     KURDAVEL_WORD_MAP = 6,        /* slots of the log: bit i, from the lowest, is slot i */
     KURDAVEL_WORD_NEXT = 7,       /* next version, its low half */
-    KURDAVEL_WORD_NEXT_HIGH = 8,  /* its high half: 0, since no next version is above 4,294,967,295 */
+    KURDAVEL_WORD_NEXT_HIGH = 8,  /* its high half, which is 0 in edition 1 */
     KURDAVEL_WORD_KEYS = 9,       /* keys that have entries in the log, deleted ones too */
-    KURDAVEL_WORD_RESERVE_10 = 10, /* in reserve, as is 11: 0, or the words are no record */
-    KURDAVEL_WORD_RESERVE_11 = 11,
+    KURDAVEL_WORD_EDITION = 10,   /* edition of the log: 1 or 2, or the words are no record */
+    KURDAVEL_WORD_RESERVE_11 = 11, /* in reserve: 0, or the words are no record */
     KURDAVEL_WORD_PENDING = 12,   /* see below */
     KURDAVEL_WORD_SLOT = 13,      /* slot of the new head, or 0 */
     KURDAVEL_WORD_VICTIMS = 14,   /* slots that are cleaned, or 0 */
@@ -249,17 +271,18 @@ enum kurdavel_pending {
 /* The answers: 0, or the number of the first cause that refuses the call. */
 enum kurdavel_answer {
     KURDAVEL_ACCEPTED = 0,
-    KURDAVEL_REFUSED_GEOMETRY = 1,         /* N or S out of its limits, or the area not N * S bytes long */
+    KURDAVEL_REFUSED_GEOMETRY = 1,         /* N or S out of its limits, or the area not N * S bytes long; or, at a
+                                              format, no such edition */
     KURDAVEL_REFUSED_CELLS = 2,            /* M out of its limits */
     KURDAVEL_REFUSED_WORK_SHORT = 3,       /* work buffer of fewer than S bytes */
     KURDAVEL_REFUSED_BAD_RECORD = 4,       /* the words are no record, or too few; a number of it out of range, as a
-                                              next version above 4,294,967,295; area or index not as long as it says;
-                                              or a byte in the log that no store makes */
+                                              next version above that of its edition; area or index not as long as it
+                                              says; or a byte in the log that no store makes */
     KURDAVEL_REFUSED_BUSY = 5,             /* another operation is under way */
     KURDAVEL_REFUSED_NONE_PENDING = 6,     /* no operation is under way */
     KURDAVEL_REFUSED_VALUE_LENGTH = 7,     /* a value is 8, 24, 56 or 120 bytes long, and this is not */
     KURDAVEL_REFUSED_ABSENT = 8,           /* the key was never written, or is deleted */
-    KURDAVEL_REFUSED_VERSIONS_SPENT = 9,   /* no version is left to give */
+    KURDAVEL_REFUSED_VERSIONS_SPENT = 9,   /* no version of the store's edition is left to give */
     KURDAVEL_REFUSED_NUMBERS_SPENT = 10,   /* a new head is needed, and no digest number is left for it */
     KURDAVEL_REFUSED_KEYS_FULL = 11,       /* a new key, and M - 1 others have entries in the log */
     KURDAVEL_REFUSED_NO_ROOM = 12,         /* a write: no room in the head, and a new head would take the last free
@@ -267,10 +290,11 @@ enum kurdavel_answer {
     KURDAVEL_REFUSED_BAD_VICTIMS = 13,     /* the victims are none, or not all in the log */
     KURDAVEL_REFUSED_KEPT_TOO_LONG = 14,   /* what is kept of the victims is too long for one slot */
     KURDAVEL_REFUSED_BAD_ORDER = 15,       /* the order is not each slot once */
-    KURDAVEL_REFUSED_NO_DIGEST = 16,       /* no slot has a digest: not formatted */
-    KURDAVEL_REFUSED_BAD_DIGEST = 17,      /* the highest digest number is 0 or shared, or that digest's next version
-                                              is 0 */
-    KURDAVEL_REFUSED_DAMAGED_LOG = 18,     /* an entry of unknown kind, past its slot, or with an impossible version */
+    KURDAVEL_REFUSED_NO_DIGEST = 16,       /* no slot has a digest, of either edition: not formatted */
+    KURDAVEL_REFUSED_BAD_DIGEST = 17,      /* the highest digest number, of both editions, is 0 or shared, or that
+                                              digest's next version is 0 */
+    KURDAVEL_REFUSED_DAMAGED_LOG = 18,     /* an entry that passes the end of its slot, or whose kind or version its
+                                              edition does not have */
     KURDAVEL_REFUSED_SHARED_VERSION = 19,  /* a version stands twice in the log */
     KURDAVEL_REFUSED_TOO_MANY_KEYS = 20,   /* more than M - 1 keys have entries in the log */
     KURDAVEL_REFUSED_OTHER_VERSION = 21,   /* the key has another version than the caller expects */
@@ -281,22 +305,25 @@ enum kurdavel_answer {
     KURDAVEL_REFUSED_NOT_A_DIGEST = 25,    /* the head's map names a slot that does not begin with a digest */
     KURDAVEL_REFUSED_BAD_FLOAT = 26,       /* the float is no whole number from 0 to 67,108,864, or its sign bit is
                                               set */
-    KURDAVEL_REFUSED_BAD_COUNT = 27        /* the count is above 67,108,864, or no float holds it */
+    KURDAVEL_REFUSED_BAD_COUNT = 27,       /* the count is above 67,108,864, or no float holds it */
+    KURDAVEL_REFUSED_BOTH_EDITIONS = 28    /* slots of the log are of both editions */
 };
 
 /*
- * Makes the area an empty store. A cut during this call is not covered: format again.
+ * Makes the area an empty store of the edition, KURDAVEL_EDITION_1 or KURDAVEL_EDITION_2; any other number is refused
+ * with 1. A cut during this call is not covered: format again.
  * Refused: 1.
  */
-uint32_t kurdavel_format(uint32_t slots, uint32_t slot_bytes, uint8_t *area, size_t area_bytes);
+uint32_t kurdavel_format(uint32_t slots, uint32_t slot_bytes, uint32_t edition, uint8_t *area, size_t area_bytes);
 
 /*
  * Reads the log and makes the record and the index. `order` names each slot 0 to N - 1 once, in the order in which
- * they are to be read; every order gives the same store. M is index_words. A pending operation is dropped.
- * Refused: 4, 1, 2, 15, 16, 17, 24, 25, 18, 19, 20, in this order. Here 4 has one cause, a record shorter than
+ * they are to be read; every order gives the same store. M is index_words. A pending operation is dropped. The edition
+ * is that of the area.
+ * Refused: 4, 1, 2, 15, 16, 17, 24, 25, 28, 18, 19, 20, in this order. Here 4 has one cause, a record shorter than
  * KURDAVEL_RECORD_WORDS. It belongs to this interface and not to recovery itself, which takes no record; it is
- * tested first, so that it hides any other cause. 17, 24 and 25 tell apart what is wrong with the head's digest: its
- * number or next version, its map, or a slot that the map names.
+ * tested first, so that it hides any other cause. 17, 24, 25 and 28 tell apart what is wrong with the head's digest: its
+ * number or next version, its map, or a slot that the map names, without a digest or of the other edition.
  * After 20 no call that takes a record may be made before a recovery is accepted (rules of use).
  */
 uint32_t kurdavel_recover(uint32_t slots, uint32_t slot_bytes, const uint8_t *order, size_t order_bytes,
@@ -304,8 +331,8 @@ uint32_t kurdavel_recover(uint32_t slots, uint32_t slot_bytes, const uint8_t *or
                           uint32_t *record, size_t record_words);
 
 /*
- * Tells the version and the kind (1, 2, 3 or 7: a value of 8, 24, 56 or 120 bytes) of a key's object. Where it is
- * refused, both are 0.
+ * Tells the version and the kind of a key's object: 1, 2, 3 or 7 for a value of 8, 24, 56 or 120 bytes, and 9, 10, 11 or
+ * 12 in edition 2. Where it is refused, both are 0.
  * Refused: 4, 22, 8, in this order.
  */
 uint32_t kurdavel_read(const uint32_t *record, size_t record_words, const uint8_t *area, size_t area_bytes,
@@ -404,7 +431,7 @@ uint32_t kurdavel_join(const uint32_t *record, size_t record_words, const uint8_
  * Tells the version and the kind of a key's object by a scan of the log: no record, no index and no work buffer are needed.
  * For every area that a recovery accepts with some index it answers what kurdavel_read answers after it; there may be more
  * keys than any index takes. Where it is refused, both are 0.
- * Refused: 1, 16, 17, 24, 25, 18, 19, 22, 8, in this order.
+ * Refused: 1, 16, 17, 24, 25, 28, 18, 19, 22, 8, in this order.
  */
 uint32_t kurdavel_scan_read(uint32_t slots, uint32_t slot_bytes, const uint8_t *area, size_t area_bytes, uint16_t first,
                             uint16_t last, uint16_t table, uint32_t key, uint64_t *version, uint32_t *kind);
@@ -412,7 +439,7 @@ uint32_t kurdavel_scan_read(uint32_t slots, uint32_t slot_bytes, const uint8_t *
 /*
  * Tells where the value of a key's object lies in the area, by the same scan: at area + *place, *bytes long, as
  * kurdavel_read_value. Where it is refused, both are 0.
- * Refused: 1, 16, 17, 24, 25, 18, 19, 22, 8, in this order.
+ * Refused: 1, 16, 17, 24, 25, 28, 18, 19, 22, 8, in this order.
  */
 uint32_t kurdavel_scan_read_value(uint32_t slots, uint32_t slot_bytes, const uint8_t *area, size_t area_bytes,
                                   uint16_t first, uint16_t last, uint16_t table, uint32_t key, uint32_t *place,
@@ -483,8 +510,8 @@ struct kurdavel_value {
     uint32_t length;
 };
 
-static inline uint32_t kurdavel_store_format(const struct kurdavel_area *area) {
-    return kurdavel_format(area->slots, area->slot_bytes, area->bytes, area->length);
+static inline uint32_t kurdavel_store_format(const struct kurdavel_area *area, enum kurdavel_edition edition) {
+    return kurdavel_format(area->slots, area->slot_bytes, (uint32_t)edition, area->bytes, area->length);
 }
 
 /*

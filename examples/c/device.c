@@ -55,7 +55,7 @@ static void format_device(void) {
     struct kurdavel_store store;
     uint32_t place;
     lend(&store);
-    expect_accepted("format", kurdavel_store_format(&store.area));
+    expect_accepted("format", kurdavel_store_format(&store.area, KURDAVEL_EDITION_1));
     for (place = 0; place < AREA_BYTES; place++) write_byte(place, copy[place]);
     written = 0;
 }

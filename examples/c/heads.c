@@ -102,7 +102,7 @@ static int clean_head(struct kurdavel_store *store) {
 static void make_drive(void) {
     struct kurdavel_store store;
     struct kurdavel_area area = {SLOTS, SLOT_BYTES, medium, sizeof medium};
-    expect(kurdavel_store_format(&area) == KURDAVEL_ACCEPTED, "the format is accepted");
+    expect(kurdavel_store_format(&area, KURDAVEL_EDITION_1) == KURDAVEL_ACCEPTED, "the format is accepted");
     power_on(&store);
     power = UINT32_MAX;
     while (store.record.words[KURDAVEL_WORD_HEAD] == 0) write_record(&store, old_key, old_record);

@@ -1,8 +1,8 @@
 /*
  * The edges of the interface: refusals and what they leave, an operation that is given up, an index that is too small
  * for the log, two passes that write over what they read, two owners with tables of their own, the longest value, a full
- * store that is emptied, an idle task that chooses what to clean, two slots that are joined, a damaged digest, and a boot
- * loader that has no index yet.
+ * store that is emptied, an idle task that chooses what to clean, two slots that are joined, a damaged digest, the versions
+ * of either edition, and a boot loader that has no index yet.
  * Prints what is answered; `rules.stdout` beside this file is what it must print.
  */
 #include "kurdavel.h"
@@ -185,7 +185,7 @@ static void longest_value(struct kurdavel_store *store) {
     static const uint8_t adaptives[KURDAVEL_VALUE_MAX + 1] = {0x78};
     uint32_t stores = 0, kind = 0;
     uint64_t version = 0;
-    expect_accepted("format", kurdavel_store_format(&store->area));
+    expect_accepted("format", kurdavel_store_format(&store->area, KURDAVEL_EDITION_1));
     expect_accepted("recover", kurdavel_store_recover(store, order, sizeof order));
     printf("a value of %u bytes: %u\n", KURDAVEL_VALUE_MAX + 1,
            (unsigned)kurdavel_store_write(store, servo, key_of(0), adaptives, KURDAVEL_VALUE_MAX + 1, &stores));
@@ -206,7 +206,7 @@ static void full_store(struct kurdavel_store *store) {
     static const size_t lengths[3] = {120, 56, 24};
     uint32_t stores = 0, number = 0, filled = 0;
     uint64_t version = 0;
-    expect_accepted("format", kurdavel_store_format(&store->area));
+    expect_accepted("format", kurdavel_store_format(&store->area, KURDAVEL_EDITION_1));
     expect_accepted("recover", kurdavel_store_recover(store, order, sizeof order));
     while (kurdavel_store_write(store, servo, key_of(filled), value, lengths[filled % 3], &stores) ==
            KURDAVEL_ACCEPTED) {
@@ -237,7 +237,7 @@ static void full_store(struct kurdavel_store *store) {
 static void idle(struct kurdavel_store *store) {
     static const uint8_t value[56] = {0x1d};
     uint32_t stores = 0, slot = 77, i;
-    expect_accepted("format", kurdavel_store_format(&store->area));
+    expect_accepted("format", kurdavel_store_format(&store->area, KURDAVEL_EDITION_1));
     expect_accepted("recover", kurdavel_store_recover(store, order, sizeof order));
     for (i = 0; i < 9; i++) {
         /* Of the objects in the second slot only one is not written again. */
@@ -263,7 +263,7 @@ static void idle(struct kurdavel_store *store) {
 static void join(struct kurdavel_store *store) {
     static const uint8_t value[56] = {0x70};
     uint32_t stores = 0, first = 77, second = 77, number = 0, answer;
-    expect_accepted("format", kurdavel_store_format(&store->area));
+    expect_accepted("format", kurdavel_store_format(&store->area, KURDAVEL_EDITION_1));
     expect_accepted("recover", kurdavel_store_recover(store, order, sizeof order));
     printf("joining of one slot: %u", (unsigned)kurdavel_store_join(store, &first, &second));
     printf(", slots %u and %u\n", (unsigned)first, (unsigned)second);
@@ -294,10 +294,42 @@ static void damaged_digest(struct kurdavel_store *store) {
                    {"map with a slot that has no digest", 5, 0x03}};
     uint32_t i;
     for (i = 0; i < 4; i++) {
-        expect_accepted("format", kurdavel_store_format(&store->area));
+        expect_accepted("format", kurdavel_store_format(&store->area, KURDAVEL_EDITION_1));
         medium[faults[i].place] = faults[i].byte;
         printf("%s: %u\n", faults[i].what, (unsigned)kurdavel_store_recover(store, order, sizeof order));
     }
+}
+
+/*
+ * The edition decides how far the versions go: of two stores with the same next version, 4,294,967,295, that of edition 1
+ * has none left to give. There is no third edition, and no log of both.
+ */
+static void editions(struct kurdavel_store *store) {
+    static const enum kurdavel_edition both[2] = {KURDAVEL_EDITION_1, KURDAVEL_EDITION_2};
+    static const uint8_t value[8] = {0xed};
+    uint32_t stores = 0, kind = 0, slot = 0, i;
+    uint64_t version = 0;
+    printf("format in edition 3: %u\n", (unsigned)kurdavel_format(SLOTS, SLOT_BYTES, 3, medium, sizeof medium));
+    for (i = 0; i < 2; i++) {
+        expect_accepted("format", kurdavel_store_format(&store->area, both[i]));
+        memset(medium + 9, 0xff, 4); /* the next version in the digest, as after a long life */
+        expect_accepted("recover", kurdavel_store_recover(store, order, sizeof order));
+        printf("edition %u, next version %" PRIu64 ", a write: ",
+               (unsigned)store->record.words[KURDAVEL_WORD_EDITION], kurdavel_store_next_version(store));
+        printf("%u\n", (unsigned)kurdavel_store_write(store, servo, key_of(0), value, sizeof value, &stores));
+    }
+    finish(store, stores);
+    finish(store, start_write(store, 0));
+    expect_accepted("read", kurdavel_store_read(store, servo, key_of(0), &version, &kind));
+    printf("after one more: version %" PRIu64 ", kind %u\n", version, (unsigned)kind);
+    store->record.words[KURDAVEL_WORD_EDITION] = 3;
+    printf("record of edition 3: %u\n", (unsigned)kurdavel_store_fewest(store, &slot));
+
+    /* The map names slot 1 too, which begins with a digest of edition 1. */
+    medium[5] = 0x03;
+    memset(medium + SLOT_BYTES, 0, 13);
+    medium[SLOT_BYTES] = 5;
+    printf("log of both editions: %u\n", (unsigned)kurdavel_store_recover(store, order, sizeof order));
 }
 
 /* A boot loader reads one value from the area alone: no index, no record, no work buffer. */
@@ -306,7 +338,7 @@ static void boot_loader(struct kurdavel_store *store) {
     struct kurdavel_value value;
     uint32_t stores = 0, kind = 0;
     uint64_t version = 0;
-    expect_accepted("format", kurdavel_store_format(&area));
+    expect_accepted("format", kurdavel_store_format(&area, KURDAVEL_EDITION_1));
     expect_accepted("recover", kurdavel_store_recover(store, order, sizeof order));
     finish(store, start_write(store, 5));
     expect_accepted("delete", kurdavel_store_delete(store, servo, key_of(5), &stores));
@@ -332,7 +364,7 @@ int main(void) {
     uint32_t number, stores = 0;
     uint64_t version;
     lend(&store);
-    expect_accepted("format", kurdavel_store_format(&store.area));
+    expect_accepted("format", kurdavel_store_format(&store.area, KURDAVEL_EDITION_1));
     printf("cleaning before a recovery: %u\n", (unsigned)kurdavel_store_clean(&store, 1, &stores));
     expect_accepted("recover", kurdavel_store_recover(&store, order, sizeof order));
     for (number = 0; number < KEYS; number++) finish(&store, start_write(&store, number));
@@ -357,6 +389,7 @@ int main(void) {
     idle(&store);
     join(&store);
     damaged_digest(&store);
+    editions(&store);
     boot_loader(&store);
     return 0;
 }

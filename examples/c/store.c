@@ -1,7 +1,8 @@
 /*
- * A firmware and its store: format, power on, write, a power cut in the middle of a write, power on, read.
- * Prints what happens; `store.stdout` beside this file is what it must print. With the name of a file it writes the
- * image there at the end, as the program `dump` reads it: N (1 byte), S (2 bytes) and the area.
+ * A firmware and its store: format, power on, write, a power cut in the middle of a write, power on, read. The same twice,
+ * with a store of each edition: nothing but the format is told which.
+ * Prints what happens; `store.stdout` beside this file is what it must print. With the names of two files it writes there
+ * the images that the two stores leave, as the program `dump` reads them: N (1 byte), S (2 bytes) and the area.
  */
 #include "kurdavel.h"
 
@@ -49,7 +50,8 @@ static void power_on(struct kurdavel_store *store) {
     memset(work, 0xa5, sizeof work);
     lend(store);
     expect_accepted("recover", kurdavel_store_recover(store, order, sizeof order));
-    printf("power on: next version %" PRIu64 ", keys %u\n", kurdavel_store_next_version(store),
+    printf("power on: edition %u, next version %" PRIu64 ", keys %u\n",
+           (unsigned)store->record.words[KURDAVEL_WORD_EDITION], kurdavel_store_next_version(store),
            (unsigned)store->record.words[KURDAVEL_WORD_KEYS]);
 }
 
@@ -105,11 +107,12 @@ static void save(const char *name) {
     }
 }
 
-int main(int count, char **arguments) {
+/* The life of a store of an edition. Its image goes to the file, if one is named. */
+static void live(enum kurdavel_edition edition, const char *file) {
     struct kurdavel_store store;
     struct kurdavel_key key = {7, 9}, other = {7, 10};
     lend(&store);
-    expect_accepted("format", kurdavel_store_format(&store.area));
+    expect_accepted("format", kurdavel_store_format(&store.area, edition));
     power_on(&store);
 
     steps(&store, start_write(&store, key, 0x11));
@@ -129,6 +132,11 @@ int main(int count, char **arguments) {
     show(&store, key);
     show(&store, other);
 
-    if (count > 1) save(arguments[1]);
+    if (file != NULL) save(file);
+}
+
+int main(int count, char **arguments) {
+    live(KURDAVEL_EDITION_1, count > 1 ? arguments[1] : NULL);
+    live(KURDAVEL_EDITION_2, count > 2 ? arguments[2] : NULL);
     return 0;
 }

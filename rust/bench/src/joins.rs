@@ -1,8 +1,9 @@
 //! How many stores a byte costs in a store that is written for long: the entries themselves, and what cleaning them away takes.
 
 use reference::book::Operation as Called;
+use reference::edition::FIRST;
 use reference::testing::load::{entry_bytes, Load, Spread};
-use reference::{Edition, Record, Refusal, SlotMap};
+use reference::{Record, Refusal, SlotMap};
 
 use crate::image::SLOT_BYTES;
 use crate::store::{ALL, CELLS, SLOTS};
@@ -13,7 +14,7 @@ const LENGTHS: [usize; 4] = [8, 24, 56, 120];
 const SETTLING: u32 = 40_000;
 const COUNTED: u32 = 40_000;
 /// Bytes of entries that the log holds at the most: one slot is kept free.
-const ROOM: usize = (SLOTS - 1) * (SLOT_BYTES - 13);
+const ROOM: usize = (SLOTS - 1) * (SLOT_BYTES - FIRST.digest_bytes());
 
 /// A store under load, made by calls of the reference.
 struct Drive {
@@ -40,7 +41,7 @@ impl Drive {
         let mut area = vec![0; SLOTS * SLOT_BYTES];
         let mut index = vec![0; CELLS];
         let order: Vec<u8> = (0..SLOTS as u8).collect();
-        let formatted = reference::format(slots, slot_bytes, Edition::FIRST, &mut area);
+        let formatted = reference::format(slots, slot_bytes, FIRST.edition, &mut area);
         formatted.expect("the sizes are right");
         let record = reference::recover(slots, slot_bytes, &area, &mut index, &order);
         Drive {
@@ -67,7 +68,7 @@ impl Drive {
         }
         self.record = record;
         self.counts.stores += u64::from(stores);
-        self.counts.bytes += entry_bytes(operation);
+        self.counts.bytes += entry_bytes(&FIRST, operation);
         Ok(())
     }
 
@@ -93,7 +94,7 @@ impl Drive {
 
 /// Counts a store of so many percent of live bytes under a load.
 fn counted(percent: usize, spread: Spread) -> Counts {
-    let mut load = Load::new(ROOM * percent / 100, &LENGTHS, spread, 7);
+    let mut load = Load::new(&FIRST, ROOM * percent / 100, &LENGTHS, spread, 7);
     let mut drive = Drive::formatted();
     for number in 0..load.keys() {
         let write = load.write(number);

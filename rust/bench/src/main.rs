@@ -5,6 +5,7 @@
 //! patterns of 32 bits, and does nothing else.
 
 mod calls;
+mod editions;
 mod history;
 mod image;
 mod joins;
@@ -38,5 +39,6 @@ fn times() {
     history::cases(&mut report);
     calls::cases(&mut report);
     positions::cases(&mut report);
+    editions::cases(&mut report);
     report.worst_calls();
 }

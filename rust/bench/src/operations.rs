@@ -2,16 +2,20 @@
 
 use std::hint::black_box;
 
-use crate::image::{full, At, Entry, DIGEST_BYTES, OBJECTS, SLOT_BYTES};
+use reference::edition::{Layout, FIRST};
+
+use crate::editions::named;
+use crate::image::{full, full_of, objects, At, Entry, DIGEST_BYTES, OBJECTS, SLOT_BYTES};
 use crate::report::{Call, Keys, Report};
 use crate::store::{Operation, Store, ALL, CELLS, LOG, PROVED_ALL, SLOTS};
 use crate::timing::compare;
 
 /// The cases.
 pub fn cases(report: &mut Report) {
-    reads(report);
-    writes(report);
-    cleanings(report);
+    reads(report, &FIRST);
+    writes(report, &FIRST);
+    conditional_writes(report);
+    cleanings(report, &FIRST);
     full_deletes(report);
     fewest(report);
     next_store(report);
@@ -19,8 +23,9 @@ pub fn cases(report: &mut Report) {
 }
 
 /// Reads of keys all over a full store.
-fn reads(report: &mut Report) {
-    let store = Store::new(full(SLOTS, |at| at.object(at.count % 2000)), CELLS);
+pub fn reads(report: &mut Report, layout: &Layout) {
+    let area = full_of(layout, SLOTS, |at| at.object(at.count % 2000));
+    let store = Store::new(area, CELLS);
     for (case, table) in [("read of a present key", 1), ("read of an absent key", 2)] {
         let next = |key: &mut u32| std::mem::replace(key, (*key + 7) % 2000);
         let timing = compare(
@@ -45,57 +50,60 @@ fn reads(report: &mut Report) {
                 let _ = black_box(reference::read(record, &store.area, &store.index, ALL, key));
             },
         );
-        report.call(Call::Read, Keys::Plain, case, timing);
+        report.call(Call::Read, Keys::Plain, &named(case, layout), timing);
     }
 }
 
 /// A store with two slots in the log, whose head has room or none.
-fn two_slots(room: bool) -> Store {
-    let mut area = full(3, |at| at.object(at.count % 60));
+fn two_slots(layout: &Layout, room: bool) -> Store {
+    let mut area = full_of(layout, 3, |at| at.object(at.count % 60));
     area.resize(SLOTS * SLOT_BYTES, 0);
     if room {
-        area[SLOT_BYTES + 13] = 0;
+        area[SLOT_BYTES + layout.digest_bytes()] = 0;
     }
     Store::new(area, 256)
 }
 
-/// A write of 8 bytes with all its steps: into a head with room, into a new head, and over the version that the key has; and the
-/// start of the last alone.
-fn writes(report: &mut Report) {
+/// A write of 8 bytes with all its steps: into a head with room, and into a new head.
+pub fn writes(report: &mut Report, layout: &Layout) {
     for (case, room) in [
         ("write with its steps, appended", true),
         ("write with its steps, new head", false),
     ] {
-        let timing = two_slots(room).time_whole(Operation::Write(5, &[9; 8]));
-        report.line(case, timing);
+        let timing = two_slots(layout, room).time_whole(Operation::Write(5, &[9; 8]));
+        report.line(&named(case, layout), timing);
     }
-    let mut store = two_slots(true);
+}
+
+/// The same over the version that the key has, and its start alone.
+fn conditional_writes(report: &mut Report) {
+    let mut store = two_slots(&FIRST, true);
     let write = Operation::WriteExpecting(5, store.version(5), &[9; 8]);
     let case = "conditional write with its steps, appended";
     report.line(case, store.time_whole(write));
-    let mut store = two_slots(true);
+    let mut store = two_slots(&FIRST, true);
     let write = Operation::WriteExpecting(5, store.version(5), &[9; 8]);
     let timing = store.time_start(write, Ok(20));
     report.line("start of a conditional write", timing);
 }
 
 /// Objects of which, in the first two slots, every second one is overwritten later.
-fn half_overwritten(at: At) -> Entry {
-    let count = at.count;
-    let overwritten = count < 214 && count % 2 == 1 || count == 300;
+fn half_overwritten(layout: &Layout, at: At) -> Entry {
+    let (count, first_two) = (at.count, 2 * objects(layout) as u32);
+    let overwritten = count < first_two && count % 2 == 1 || count == 300;
     at.object(if overwritten { 0 } else { count + 1 })
 }
 
 /// Cleaning with all its steps: one slot that is all kept, and two of which half is.
-fn cleanings(report: &mut Report) {
+pub fn cleanings(report: &mut Report, layout: &Layout) {
     for (case, victims) in [
         ("cleaning of one slot", 0b100),
         ("cleaning of two slots", 0b11),
     ] {
-        let mut area = full(8, half_overwritten);
+        let mut area = full_of(layout, 8, |at| half_overwritten(layout, at));
         area.resize(SLOTS * SLOT_BYTES, 0);
         let timing = Store::new(area, CELLS).time_whole(Operation::Clean(victims));
-        report.line(case, timing);
+        report.line(&named(case, layout), timing);
     }
 }
 
@@ -110,7 +118,7 @@ fn full_deletes(report: &mut Report) {
     ] {
         let last = (LOG * OBJECTS) as u32 - 1;
         let area = full(SLOTS, |at| match older && at.count == last {
-            true => at.object(key).versioned(1),
+            true => at.object(key).versioned(1u32),
             false => at.object(at.count).versioned(at.count + 2),
         });
         let mut store = Store::new(area, CELLS);
@@ -149,7 +157,7 @@ fn next_store(report: &mut Report) {
         ),
         ("the next store of a cleaning told", Operation::Clean(1)),
     ] {
-        let mut store = two_slots(true);
+        let mut store = two_slots(&FIRST, true);
         let (proved, _) = store.start_proved(operation);
         let (reference, stores) = store.start_reference(operation);
         stores.expect("an accepted start");

@@ -9,8 +9,8 @@ use crate::store::{proved_key, reference_key, ALL, CELLS, PROVED_ALL, SLOTS};
 use crate::timing::compare;
 use crate::versions::{in_steps, meeting};
 
-/// Objects and tombstones so mixed that 4,000 keys fill the area.
-fn mixed(at: At) -> Entry {
+/// Objects and tombstones so mixed that 4,000 keys fill an area of the first edition.
+pub fn mixed(at: At) -> Entry {
     if at.count % 12 >= 7 {
         at.tombstone(at.count)
     } else {
@@ -75,7 +75,8 @@ fn chosen(report: &mut Report) {
     }
 }
 
-fn plain(report: &mut Report, case: &str, area: Vec<u8>) {
+/// Times the recovery of an area whose keys nobody chose.
+pub fn plain(report: &mut Report, case: &str, area: Vec<u8>) {
     recovery(report, Keys::Plain, case, area);
 }
 
@@ -99,7 +100,7 @@ pub fn recovery(report: &mut Report, keys: Keys, case: &str, area: Vec<u8>) {
     report.call(Call::Recovery, keys, case, timing);
 }
 
-/// Reads by a scan of the images that recoveries are timed on: a key in the middle, which takes no longer than recovery.
+/// Reads by a scan of the images that recoveries are timed on.
 fn scans(report: &mut Report) {
     let versions = meeting();
     for (case, area) in [
@@ -120,21 +121,25 @@ fn scans(report: &mut Report) {
             }),
         ),
     ] {
-        let (n, s) = (SLOTS as u32, SLOT_BYTES as u32);
-        let timing = compare(
-            &mut (),
-            |()| {
-                let key = proved_key(black_box(1000));
-                let area = black_box(&area);
-                let _ = black_box(kurdavel::scan_read(n, s, area, PROVED_ALL, key));
-            },
-            |()| {
-                let key = reference_key(black_box(1000));
-                let area = black_box(&area);
-                let _ = black_box(reference::scan_read(n, s, area, ALL, key));
-            },
-        );
-        let name = format!("read by a scan, {case}");
-        report.call(Call::ScanRead, Keys::Plain, &name, timing);
+        scan(report, &format!("read by a scan, {case}"), area);
     }
+}
+
+/// Times the read of a key in the middle by a scan, which takes no longer than recovery.
+pub fn scan(report: &mut Report, case: &str, area: Vec<u8>) {
+    let (n, s) = (SLOTS as u32, SLOT_BYTES as u32);
+    let timing = compare(
+        &mut (),
+        |()| {
+            let key = proved_key(black_box(1000));
+            let area = black_box(&area);
+            let _ = black_box(kurdavel::scan_read(n, s, area, PROVED_ALL, key));
+        },
+        |()| {
+            let key = reference_key(black_box(1000));
+            let area = black_box(&area);
+            let _ = black_box(reference::scan_read(n, s, area, ALL, key));
+        },
+    );
+    report.call(Call::ScanRead, Keys::Plain, case, timing);
 }

@@ -3,6 +3,7 @@
 use std::fmt::Write;
 
 use reference::book::Operation;
+use reference::edition::{NEXT, NUMBER};
 use reference::index::rule_holds;
 use reference::rng::Rng;
 use reference::testing::calls::Given;
@@ -124,10 +125,16 @@ impl Pair {
         }
     }
 
-    /// Two stores formatted over the given bytes and recovered.
-    pub fn fresh(slots: u32, slot_bytes: u32, cells: usize, area: &[u8]) -> Result<Pair, Fault> {
+    /// Two stores of an edition, formatted over the given bytes and recovered.
+    pub fn fresh(
+        edition: Edition,
+        slots: u32,
+        slot_bytes: u32,
+        cells: usize,
+        area: &[u8],
+    ) -> Result<Pair, Fault> {
         let mut pair = Pair::unrecovered(slots, slot_bytes, cells, area);
-        pair.format(slots, slot_bytes)?
+        pair.format(slots, slot_bytes, edition)?
             .map_err(|refusal| format!("format refused: {refusal}"))?;
         pair.must_recover(&pair.ascending())?;
         Ok(pair)
@@ -193,12 +200,16 @@ impl Pair {
     }
 
     /// Formats both.
-    pub fn format(&mut self, slots: u32, slot_bytes: u32) -> Result<Result<(), u32>, Fault> {
-        self.tell(format_args!("format {slots} {slot_bytes}"));
-        let proved = kurdavel::format(slots, slot_bytes, &mut self.proved.area);
+    pub fn format(
+        &mut self,
+        slots: u32,
+        slot_bytes: u32,
+        edition: Edition,
+    ) -> Result<Result<(), u32>, Fault> {
+        self.tell(format_args!("format {slots} {slot_bytes} {edition:?}"));
+        let answer = translate::format(slots, slot_bytes, edition.0, &mut self.proved.area);
         let area = &mut self.reference.area;
-        let owed = reference::format(slots, slot_bytes, Edition::FIRST, area);
-        let answer = translate::proved(proved);
+        let owed = reference::format(slots, slot_bytes, edition, area);
         same!("format", answer, translate::reference(owed));
         if answer.is_ok() {
             self.records = None;
@@ -213,6 +224,18 @@ impl Pair {
         self.tell(format_args!("bytes {bytes:?} at {place}"));
         self.proved.area[place..end].copy_from_slice(bytes);
         self.reference.area[place..end].copy_from_slice(bytes);
+    }
+
+    /// Gives the digest of a formatted store this number.
+    pub fn age_number(&mut self, number: u32) {
+        self.age(NUMBER, &number.to_le_bytes());
+    }
+
+    /// Gives the digest of a formatted store this next version.
+    pub fn age_next(&mut self, next: Version) {
+        let layout = Edition::of_segment(self.area()).and_then(Edition::layout);
+        let width = layout.expect("a format came before").version_bytes;
+        self.age(NEXT, &next.0.to_le_bytes()[..width]);
     }
 
     /// All that a call may not leave otherwise in one than in the other.

@@ -1,6 +1,6 @@
 //! The reference's types as the wrapper's.
 
-use kurdavel::{Fields, Pending, Record};
+use kurdavel::{slices, Edition, Fields, Pending, Record};
 
 /// The wrapper's key.
 pub fn key(key: reference::Key) -> kurdavel::Key {
@@ -18,12 +18,18 @@ pub fn tables(tables: reference::Tables) -> kurdavel::Tables {
     }
 }
 
-/// The word in reserve that takes what makes an edition another: it is 0 in every record of the library, which has one edition.
-const OTHER_EDITION: usize = 10;
+/// The word of a record that has the edition.
+pub const EDITION: usize = 10;
 
-/// Whether both can be held to an image: the library has one edition, and takes no digest of the second for one.
-pub fn is_comparable(image: &reference::testing::images::Image) -> bool {
-    !image.has_digest_of(reference::Edition::SECOND)
+/// A format by the proved store, told any number for the edition. The wrapper's type has those alone that there are.
+pub fn format(slots: u32, slot_bytes: u32, edition: u32, area: &mut [u8]) -> Result<(), u32> {
+    match Edition::from_number(edition) {
+        Some(edition) => proved(kurdavel::format(slots, slot_bytes, edition, area)),
+        None => match slices::format(slots, slot_bytes, edition, area) {
+            0 => Ok(()),
+            refusal => Err(refusal),
+        },
+    }
 }
 
 /// The wrapper's version.
@@ -31,7 +37,7 @@ pub fn version(version: reference::Version) -> kurdavel::Version {
     kurdavel::Version(version.0)
 }
 
-/// The record's words. Those of another edition than the first are no record's.
+/// The record's words, with any number for the edition.
 pub fn record(record: reference::Record) -> Record {
     let fields = Fields {
         slots: record.slots,
@@ -43,11 +49,17 @@ pub fn record(record: reference::Record) -> Record {
         map: kurdavel::SlotMap(record.map.0),
         next: version(record.next),
         keys: record.keys,
+        edition: Edition::First,
         pending: pending(record.pending),
         present_bytes: record.present_bytes,
     };
-    let mut words = *Record::of(fields).words();
-    words[OTHER_EDITION] = record.edition.0 ^ reference::Edition::FIRST.0;
+    with_edition(&Record::of(fields), record.edition.0)
+}
+
+/// The record with another number for the edition.
+pub fn with_edition(record: &Record, edition: u32) -> Record {
+    let mut words = *record.words();
+    words[EDITION] = edition;
     Record::from_words(words)
 }
 

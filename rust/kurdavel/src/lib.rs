@@ -5,11 +5,11 @@
 //! caller lends all memory; nothing is allocated.
 //!
 //! ```
-//! use kurdavel::{format, recover, Key, Progress, Tables, Version};
+//! use kurdavel::{format, recover, Edition, Key, Progress, Tables, Version};
 //!
 //! // The medium: 4 slots of 256 bytes, all that survives a cut.
 //! let mut area = [0; 4 * 256];
-//! format(4, 256, &mut area)?;
+//! format(4, 256, Edition::First, &mut area)?;
 //!
 //! // Power on: index and work buffer are memory that a cut loses.
 //! let (mut index, mut work) = ([0; 16], [0; 256]);
@@ -32,6 +32,29 @@
 //! let record = recover(4, 256, &[3, 1, 0, 2], &area, &mut index)?;
 //! assert_eq!(record.read_value(&area, &index, Tables::ALL, key), &[0x11; 8]);
 //! assert_eq!(record.next(), Version(2));
+//! # Ok::<(), kurdavel::Refusal>(())
+//! ```
+//!
+//! # Editions
+//!
+//! There are two [`Edition`]s of the bytes in an area. The format is told which one a store is to have; the area tells it from
+//! then on, and [`Fields`] says it. The second gives out versions of 64 bits, for a store that would use up those of 32; its
+//! entries are 4 bytes longer, and its kinds are others. All else is the same.
+//!
+//! ```
+//! use kurdavel::{format, recover, Edition, Key, Tables};
+//! let key = Key { table: 7, key: 9 };
+//! for (edition, stores, kind) in [(Edition::First, 20, 1), (Edition::Second, 24, 9)] {
+//!     let (mut area, mut index, mut work) = ([0; 4 * 256], [0; 16], [0; 256]);
+//!     format(4, 256, edition, &mut area)?;
+//!     let mut record = recover(4, 256, &[0, 1, 2, 3], &area, &mut index)?;
+//!     let left = record.write(&area, &index, &mut work, Tables::ALL, key, &[0x11; 8])?;
+//!     assert_eq!(left, stores);
+//!     while record.left() > 0 {
+//!         record.step(&mut area, &mut index, &work)?;
+//!     }
+//!     assert_eq!(record.read(&area, &index, Tables::ALL, key)?.kind, kind);
+//! }
 //! # Ok::<(), kurdavel::Refusal>(())
 //! ```
 //!
@@ -95,4 +118,4 @@ pub use position::{from_float, to_float};
 pub use record::{Fields, Pending, Record, WORDS};
 pub use refusal::Refusal;
 pub use store::{format, recover, scan_read, scan_read_value, Found, Progress, Store};
-pub use values::{DigestNumber, Key, SlotMap, Tables, Version};
+pub use values::{DigestNumber, Edition, Key, SlotMap, Tables, Version};

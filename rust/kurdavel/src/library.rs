@@ -5,6 +5,7 @@ extern "C" {
     pub(crate) fn kurdavel_format(
         slots: u32,
         slot_bytes: u32,
+        edition: u32,
         area: *mut u8,
         area_bytes: usize,
     ) -> u32;

@@ -1,6 +1,6 @@
 //! The store record as words, and what they say.
 
-use crate::values::{DigestNumber, SlotMap, Version};
+use crate::values::{DigestNumber, Edition, SlotMap, Version};
 
 /// How many words a record takes.
 pub const WORDS: usize = 49;
@@ -134,6 +134,8 @@ pub struct Fields {
     pub next: Version,
     /// How many keys have entries in the log, deleted ones too.
     pub keys: u32,
+    /// The edition of the log.
+    pub edition: Edition,
     /// The operation under way.
     pub pending: Pending,
     /// For each slot the bytes of its present objects: whole entries that give present keys their values. 0 outside the
@@ -167,7 +169,7 @@ impl Record {
     /// The record that says this.
     ///
     /// ```
-    /// use kurdavel::{DigestNumber, Fields, Pending, Record, SlotMap, Version};
+    /// use kurdavel::{DigestNumber, Edition, Fields, Pending, Record, SlotMap, Version};
     /// let fields = Fields {
     ///     slots: 4,
     ///     slot_bytes: 256,
@@ -178,17 +180,18 @@ impl Record {
     ///     map: SlotMap(1),
     ///     next: Version(1),
     ///     keys: 0,
+    ///     edition: Edition::First,
     ///     pending: Pending::Append { length: 19, left: 20 },
     ///     present_bytes: [0; 32],
     /// };
     /// let record = Record::of(fields);
-    /// assert_eq!(record.words()[..12], [4, 256, 16, 0, 13, 1, 1, 1, 0, 0, 0, 0]);
+    /// assert_eq!(record.words()[..12], [4, 256, 16, 0, 13, 1, 1, 1, 0, 0, 1, 0]);
     /// assert_eq!(record.words()[12..17], [1, 0, 0, 19, 20]);
     /// assert_eq!(record.fields(), Some(fields));
     /// ```
     pub fn of(fields: Fields) -> Record {
         let mut words = [0; WORDS];
-        words[..10].copy_from_slice(&[
+        words[..11].copy_from_slice(&[
             fields.slots,
             fields.slot_bytes,
             fields.cells,
@@ -199,6 +202,7 @@ impl Record {
             fields.next.0 as u32,
             (fields.next.0 >> 32) as u32,
             fields.keys,
+            fields.edition.number(),
         ]);
         words[PENDING..PRESENT].copy_from_slice(&fields.pending.words());
         words[PRESENT..].copy_from_slice(&fields.present_bytes);
@@ -207,7 +211,7 @@ impl Record {
 
     /// What the record says; nothing if its words are no record's.
     pub fn fields(&self) -> Option<Fields> {
-        let [slots, slot_bytes, cells, head, end, digest, map, _, _, keys, 0, 0, pending @ ..] =
+        let [slots, slot_bytes, cells, head, end, digest, map, _, _, keys, edition, 0, pending @ ..] =
             self.words
         else {
             return None;
@@ -223,6 +227,7 @@ impl Record {
             map: SlotMap(map),
             next: self.next(),
             keys,
+            edition: Edition::from_number(edition)?,
             pending: Pending::of_words(pending.try_into().ok()?)?,
             present_bytes: present.try_into().ok()?,
         })

@@ -6,7 +6,7 @@ use std::fmt;
 #[derive(Clone, Copy, PartialEq, Eq, PartialOrd, Ord, Hash, Debug)]
 #[repr(u8)]
 pub enum Refusal {
-    /// N or S is out of its limits, or the area is not N × S bytes long.
+    /// N or S is out of its limits, or the area is not N × S bytes long; or, at a format, there is no such edition.
     Geometry = 1,
     /// The length of the index is out of its limits.
     Cells = 2,
@@ -22,7 +22,7 @@ pub enum Refusal {
     ValueLength = 7,
     /// The key was never written, or is deleted.
     Absent = 8,
-    /// No version is left to give. Only a format helps; reads and cleanings go on.
+    /// No version of the store's edition is left to give. Only a format helps; reads and cleanings go on.
     VersionsSpent = 9,
     /// A new head is needed, and no digest number is left for it. Only a format helps; reads go on, and so do writes and
     /// deletes whose entry fits the head.
@@ -40,11 +40,11 @@ pub enum Refusal {
     KeptTooLong = 14,
     /// The order is not each slot once.
     BadOrder = 15,
-    /// No slot has a digest.
+    /// No slot has a digest, of either edition.
     NoDigest = 16,
-    /// The highest digest number is 0 or shared, or that digest's next version is 0.
+    /// The highest digest number, of both editions, is 0 or shared, or that digest's next version is 0.
     BadDigest = 17,
-    /// An entry of the log cannot be.
+    /// An entry of the log passes the end of its slot, or has a kind or version that its edition does not have.
     DamagedLog = 18,
     /// A version stands twice in the log.
     SharedVersion = 19,
@@ -66,11 +66,13 @@ pub enum Refusal {
     BadFloat = 26,
     /// The count is above 67,108,864, or no float holds it.
     BadCount = 27,
+    /// Slots of the log are of both editions.
+    BothEditions = 28,
 }
 
 impl Refusal {
     /// All causes, by number.
-    pub const ALL: [Refusal; 27] = [
+    pub const ALL: [Refusal; 28] = [
         Refusal::Geometry,
         Refusal::Cells,
         Refusal::WorkShort,
@@ -98,6 +100,7 @@ impl Refusal {
         Refusal::NotADigest,
         Refusal::BadFloat,
         Refusal::BadCount,
+        Refusal::BothEditions,
     ];
 
     /// The number of the cause.

@@ -17,11 +17,19 @@
 
 use crate::library::*;
 
-/// Makes an area an empty store.
+/// Makes an area an empty store of an edition. An edition other than 1 and 2 is refused with 1.
+///
+/// ```
+/// use kurdavel::slices;
+/// let mut area = [0xff; 1024];
+/// assert_eq!(slices::format(4, 256, 3, &mut area), 1);
+/// assert_eq!(area, [0xff; 1024]);
+/// assert_eq!(slices::format(4, 256, 2, &mut area), 0);
+/// ```
 #[inline]
-pub fn format(slots: u32, slot_bytes: u32, area: &mut [u8]) -> u32 {
+pub fn format(slots: u32, slot_bytes: u32, edition: u32, area: &mut [u8]) -> u32 {
     // SAFETY: the pointer and length are those of one exclusive slice.
-    unsafe { kurdavel_format(slots, slot_bytes, area.as_mut_ptr(), area.len()) }
+    unsafe { kurdavel_format(slots, slot_bytes, edition, area.as_mut_ptr(), area.len()) }
 }
 
 /// Reads the log of an area, in the order given, and makes its record and index.

@@ -3,14 +3,15 @@
 use crate::record::{Record, WORDS};
 use crate::refusal::Refusal;
 use crate::slices;
-use crate::values::{Key, SlotMap, Tables, Version};
+use crate::values::{Edition, Key, SlotMap, Tables, Version};
 
 /// What a read tells of a present key besides its value.
 #[derive(Clone, Copy, PartialEq, Eq, Debug)]
 pub struct Found {
     /// The version.
     pub version: Version,
-    /// The kind of the object: 1, 2, 3 or 7, for a value of 8, 24, 56 or 120 bytes.
+    /// The kind of the object, for a value of 8, 24, 56 or 120 bytes: 1, 2, 3 or 7 in the first edition, and 9, 10, 11 or
+    /// 12 in the second.
     pub kind: u8,
 }
 
@@ -38,18 +39,26 @@ pub struct Store {
     pub byte: u8,
 }
 
-/// Makes an area of `slots` slots of `slot_bytes` bytes each an empty store.
+/// Makes an area of `slots` slots of `slot_bytes` bytes each an empty store of an edition. No other call is told the edition:
+/// the area tells it.
 ///
 /// ```
-/// use kurdavel::{format, Refusal};
+/// use kurdavel::{format, Edition, Refusal};
 /// let mut area = [0xff; 1024];
-/// assert_eq!(format(4, 256, &mut area), Ok(()));
+/// assert_eq!(format(4, 256, Edition::First, &mut area), Ok(()));
 /// assert_eq!(area[..14], [5, 1, 0, 0, 0, 1, 0, 0, 0, 1, 0, 0, 0, 0]);
-/// assert_eq!(format(3, 256, &mut area), Err(Refusal::Geometry));
+/// assert_eq!(format(4, 256, Edition::Second, &mut area), Ok(()));
+/// assert_eq!(area[..18], [8, 1, 0, 0, 0, 1, 0, 0, 0, 1, 0, 0, 0, 0, 0, 0, 0, 0]);
+/// assert_eq!(format(3, 256, Edition::First, &mut area), Err(Refusal::Geometry));
 /// ```
 #[inline]
-pub fn format(slots: u32, slot_bytes: u32, area: &mut [u8]) -> Result<(), Refusal> {
-    Refusal::unless_accepted(slices::format(slots, slot_bytes, area))
+pub fn format(
+    slots: u32,
+    slot_bytes: u32,
+    edition: Edition,
+    area: &mut [u8],
+) -> Result<(), Refusal> {
+    Refusal::unless_accepted(slices::format(slots, slot_bytes, edition.number(), area))
 }
 
 /// Reads the log of an area and makes its record and index.
@@ -59,13 +68,13 @@ pub fn format(slots: u32, slot_bytes: u32, area: &mut [u8]) -> Result<(), Refusa
 /// before a recovery is accepted (see the rules of use in the [crate's documentation](crate)).
 ///
 /// ```
-/// use kurdavel::{recover, Refusal};
+/// use kurdavel::{recover, Edition, Refusal};
 /// let answer = recover(4, 256, &[0, 1, 2, 3], &[0; 1024], &mut [0; 16]);
 /// assert_eq!(answer, Err(Refusal::NoDigest));
 ///
 /// // What is wrong with the head's digest is told apart: its number or next version, its map, or a slot in the map.
 /// let mut area = [0; 1024];
-/// kurdavel::format(4, 256, &mut area)?;
+/// kurdavel::format(4, 256, Edition::First, &mut area)?;
 /// for (place, byte, cause) in [
 ///     (9, 0, Refusal::BadDigest),
 ///     (5, 0b10001, Refusal::BadMap),
@@ -75,6 +84,17 @@ pub fn format(slots: u32, slot_bytes: u32, area: &mut [u8]) -> Result<(), Refusa
 ///     damaged[place] = byte;
 ///     assert_eq!(recover(4, 256, &[0, 1, 2, 3], &damaged, &mut [0; 16]), Err(cause));
 /// }
+///
+/// // Slot 1 is in the map, and begins with a digest of the other edition.
+/// let mut mixed = area;
+/// (mixed[5], mixed[256]) = (0b11, 8);
+/// let answer = recover(4, 256, &[0, 1, 2, 3], &mixed, &mut [0; 16]);
+/// assert_eq!(answer, Err(Refusal::BothEditions));
+///
+/// // The record says the edition that the area has.
+/// kurdavel::format(4, 256, Edition::Second, &mut area)?;
+/// let record = recover(4, 256, &[0, 1, 2, 3], &area, &mut [0; 16])?;
+/// assert_eq!(record.fields().expect("a record").edition, Edition::Second);
 /// # Ok::<(), Refusal>(())
 /// ```
 #[inline]
@@ -96,7 +116,7 @@ pub fn recover(
 ///
 /// ```
 /// # let mut area = [0; 1024];
-/// # kurdavel::format(4, 256, &mut area)?;
+/// # kurdavel::format(4, 256, kurdavel::Edition::First, &mut area)?;
 /// use kurdavel::{scan_read, scan_read_value, Key, Refusal, Tables, Version};
 /// let key = Key { table: 1, key: 2 };
 /// assert_eq!(scan_read(4, 256, &area, Tables::ALL, key), Err(Refusal::Absent));
@@ -171,7 +191,7 @@ impl Record {
     ///
     /// ```
     /// # let mut area = [0; 1024];
-    /// # kurdavel::format(4, 256, &mut area)?;
+    /// # kurdavel::format(4, 256, kurdavel::Edition::First, &mut area)?;
     /// # let mut index = [0; 16];
     /// # let record = kurdavel::recover(4, 256, &[0, 1, 2, 3], &area, &mut index)?;
     /// use kurdavel::{Key, Refusal, Tables};
@@ -278,7 +298,7 @@ impl Record {
     ///
     /// ```
     /// # let mut area = [0; 1024];
-    /// # kurdavel::format(4, 256, &mut area)?;
+    /// # kurdavel::format(4, 256, kurdavel::Edition::First, &mut area)?;
     /// # let (mut index, mut work) = ([0; 16], [0; 256]);
     /// # let mut record = kurdavel::recover(4, 256, &[0, 1, 2, 3], &area, &mut index)?;
     /// use kurdavel::{Key, Refusal, Tables, Version};
@@ -336,7 +356,7 @@ impl Record {
     ///
     /// ```
     /// # let mut area = [0; 1024];
-    /// # kurdavel::format(4, 256, &mut area)?;
+    /// # kurdavel::format(4, 256, kurdavel::Edition::First, &mut area)?;
     /// # let (mut index, mut work) = ([0; 16], [0; 256]);
     /// # let mut record = kurdavel::recover(4, 256, &[0, 1, 2, 3], &area, &mut index)?;
     /// use kurdavel::{Key, Progress, Refusal, Tables, Version};
@@ -393,7 +413,7 @@ impl Record {
     ///
     /// ```
     /// # let mut area = [0; 1024];
-    /// # kurdavel::format(4, 256, &mut area)?;
+    /// # kurdavel::format(4, 256, kurdavel::Edition::First, &mut area)?;
     /// # let (mut index, mut work) = ([0; 16], [0; 256]);
     /// # let mut record = kurdavel::recover(4, 256, &[0, 1, 2, 3], &area, &mut index)?;
     /// use kurdavel::SlotMap;
@@ -427,7 +447,7 @@ impl Record {
     ///
     /// ```
     /// # let mut area = [0; 1024];
-    /// # kurdavel::format(4, 256, &mut area)?;
+    /// # kurdavel::format(4, 256, kurdavel::Edition::First, &mut area)?;
     /// # let (mut index, mut work) = ([0; 16], [0; 256]);
     /// # let mut record = kurdavel::recover(4, 256, &[0, 1, 2, 3], &area, &mut index)?;
     /// use kurdavel::{Key, Tables};
@@ -462,7 +482,7 @@ impl Record {
     ///
     /// ```
     /// # let mut area = [0; 1024];
-    /// # kurdavel::format(4, 256, &mut area)?;
+    /// # kurdavel::format(4, 256, kurdavel::Edition::First, &mut area)?;
     /// # let (mut index, mut work) = ([0; 16], [0; 256]);
     /// # let mut record = kurdavel::recover(4, 256, &[0, 1, 2, 3], &area, &mut index)?;
     /// use kurdavel::{Key, Refusal, Tables};
@@ -494,7 +514,7 @@ impl Record {
     ///
     /// ```
     /// # let mut area = [0; 1024];
-    /// # kurdavel::format(4, 256, &mut area)?;
+    /// # kurdavel::format(4, 256, kurdavel::Edition::First, &mut area)?;
     /// # let (mut index, mut work) = ([0; 16], [0; 256]);
     /// # let mut record = kurdavel::recover(4, 256, &[0, 1, 2, 3], &area, &mut index)?;
     /// use kurdavel::{Key, Tables};
@@ -524,7 +544,7 @@ impl Record {
     ///
     /// ```
     /// # let mut area = [0; 1024];
-    /// # kurdavel::format(4, 256, &mut area)?;
+    /// # kurdavel::format(4, 256, kurdavel::Edition::First, &mut area)?;
     /// # let (mut index, mut work) = ([0; 16], [0; 256]);
     /// # let mut record = kurdavel::recover(4, 256, &[0, 1, 2, 3], &area, &mut index)?;
     /// use kurdavel::{Key, Refusal, SlotMap, Tables};

@@ -9,6 +9,43 @@ impl Version {
     pub const NONE: Version = Version(0);
 }
 
+/// The edition of the bytes in an area, which the format decides and the area tells from then on.
+#[derive(Clone, Copy, PartialEq, Eq, PartialOrd, Ord, Hash, Debug)]
+#[repr(u32)]
+pub enum Edition {
+    /// Versions of 4 bytes: up to 4,294,967,294 are given out.
+    First = 1,
+    /// Versions of 8 bytes: up to 18,446,744,073,709,551,614 are given out. An entry takes 4 bytes more than in the first
+    /// edition, and so does the digest that begins a slot.
+    Second = 2,
+}
+
+impl Edition {
+    /// Both editions.
+    pub const ALL: [Edition; 2] = [Edition::First, Edition::Second];
+
+    /// Its number, as the library takes it.
+    ///
+    /// ```
+    /// use kurdavel::Edition;
+    /// assert_eq!(Edition::Second.number(), 2);
+    /// assert_eq!(Edition::from_number(2), Some(Edition::Second));
+    /// assert_eq!(Edition::from_number(3), None);
+    /// ```
+    pub const fn number(self) -> u32 {
+        self as u32
+    }
+
+    /// The edition with this number, if there is one.
+    pub const fn from_number(number: u32) -> Option<Edition> {
+        match number {
+            1 => Some(Edition::First),
+            2 => Some(Edition::Second),
+            _ => None,
+        }
+    }
+}
+
 /// The number of a digest.
 #[derive(Clone, Copy, PartialEq, Eq, PartialOrd, Ord, Hash, Debug)]
 pub struct DigestNumber(pub u32);

@@ -2,7 +2,7 @@
 
 use std::collections::BTreeMap;
 
-use kurdavel::{DigestNumber, Fields, Pending, Record, Refusal, SlotMap, Version, WORDS};
+use kurdavel::{DigestNumber, Edition, Fields, Pending, Record, Refusal, SlotMap, Version, WORDS};
 
 const HEADER: &str = include_str!("../../../include/kurdavel.h");
 
@@ -44,6 +44,21 @@ fn refusals() {
     assert_eq!(numbers("KURDAVEL_REFUSED_"), wrapper);
 }
 
+/// `KURDAVEL_EDITION_1` and `_2` are the editions that the wrapper has.
+#[test]
+fn editions() {
+    let wrapper: Vec<u32> = Edition::ALL.into_iter().map(Edition::number).collect();
+    let stated = numbers("KURDAVEL_EDITION_");
+    assert!(stated.values().eq(&wrapper));
+    for (name, number) in stated {
+        assert_eq!(name, number.to_string());
+        assert_eq!(
+            Edition::from_number(number).map(Edition::number),
+            Some(number)
+        );
+    }
+}
+
 #[test]
 fn words_of_a_record() {
     assert_eq!(numbers("KURDAVEL_RECORD_")["WORDS"] as usize, WORDS);
@@ -71,6 +86,7 @@ fn fields_of_a_record() {
         map: SlotMap(7),
         next: Version(8 | 9 << 32),
         keys: 10,
+        edition: Edition::Second,
         pending: Pending::Forget {
             slot: 11,
             victims: SlotMap(12),
@@ -92,8 +108,9 @@ fn fields_of_a_record() {
         "NEXT",
         "NEXT_HIGH",
         "KEYS",
+        "EDITION",
     ];
-    assert_eq!(order.map(word), [1, 2, 3, 4, 5, 6, 7, 8, 9, 10]);
+    assert_eq!(order.map(word), [1, 2, 3, 4, 5, 6, 7, 8, 9, 10, 2]);
     let pending = ["PENDING", "SLOT", "VICTIMS", "LENGTH", "LEFT"];
     assert_eq!(pending.map(word), [4, 11, 12, 13, 14]);
     let present = &record.words()[named["PRESENT"] as usize..];
@@ -102,16 +119,36 @@ fn fields_of_a_record() {
     assert_eq!(record.next(), fields.next);
 }
 
-/// Words in reserve are 0, or the words are no record's.
+/// Words that are all 0 but for the edition.
+fn blank() -> [u32; WORDS] {
+    let mut words = [0; WORDS];
+    words[numbers("KURDAVEL_WORD_")["EDITION"] as usize] = Edition::First.number();
+    words
+}
+
+/// A word in reserve is 0, or the words are no record's.
 #[test]
 fn words_in_reserve() {
     let reserve = numbers("KURDAVEL_WORD_RESERVE_");
-    assert_eq!(reserve.len(), 2);
+    assert_eq!(reserve.len(), 1);
     for &word in reserve.values() {
-        let mut words = [0; WORDS];
+        let mut words = blank();
         assert!(Record::from_words(words).fields().is_some());
         words[word as usize] = 1;
         assert_eq!(Record::from_words(words).fields(), None);
+    }
+}
+
+/// The edition is 1 or 2, or the words are no record's.
+#[test]
+fn editions_of_a_record() {
+    let word = numbers("KURDAVEL_WORD_")["EDITION"] as usize;
+    for number in [0, 1, 2, 3, 257, 258, u32::MAX] {
+        let mut words = blank();
+        words[word] = number;
+        let said = Record::from_words(words).fields();
+        let edition = said.map(|fields| fields.edition.number());
+        assert_eq!(edition, [1, 2].contains(&number).then_some(number));
     }
 }
 
@@ -123,7 +160,7 @@ fn pending() {
     assert!(stated.iter().copied().eq(0..stated.len() as u32));
     let tag_word = numbers("KURDAVEL_WORD_")["PENDING"] as usize;
     let known = |tag: &u32| {
-        let mut words = [0; WORDS];
+        let mut words = blank();
         words[tag_word] = *tag;
         let said = Record::from_words(words).fields();
         said.is_some_and(|fields| *Record::of(fields).words() == words)

@@ -1,7 +1,7 @@
 //! What happens where the rule of use after a recovery refused with 20 is broken, and that keeping it is enough; how an
-//! operation is given up; and how long the place of a value may be used.
+//! operation is given up; and how long the place of a value may be used. All in both editions.
 
-use kurdavel::{format, recover, slices, Key, Progress, Record, Refusal, SlotMap, Tables};
+use kurdavel::{format, recover, slices, Edition, Key, Progress, Record, Refusal, SlotMap, Tables};
 
 const ORDER: [u8; 4] = [0, 1, 2, 3];
 const KEYS: u32 = 20;
@@ -21,11 +21,15 @@ fn key(number: u32) -> Key {
 }
 
 impl Store {
-    /// N 4, S 256 and M 64, with twenty keys in two slots.
-    fn with_keys() -> Store {
+    /// N 4, S 256 and M 64, with twenty keys in two slots: a store of each edition.
+    fn both_with_keys() -> [Store; 2] {
+        Edition::ALL.map(Store::with_keys)
+    }
+
+    fn with_keys(edition: Edition) -> Store {
         let mut area = vec![0; 4 * 256];
         let mut index = vec![0; 64];
-        format(4, 256, &mut area).unwrap();
+        format(4, 256, edition, &mut area).unwrap();
         let record = recover(4, 256, &ORDER, &area, &mut index).unwrap();
         let mut store = Store {
             area,
@@ -35,8 +39,9 @@ impl Store {
         };
         for number in 0..KEYS {
             store.start_write(number, &[number as u8; 8]);
-            while let Progress::More { .. } = store.step() {}
+            store.finish();
         }
+        assert_eq!(store.record.map(), SlotMap(0b11));
         store
     }
 
@@ -51,6 +56,10 @@ impl Store {
     fn step(&mut self) -> Progress {
         let (area, index) = (&mut self.area, &mut self.index);
         self.record.step(area, index, &self.work).unwrap()
+    }
+
+    fn finish(&mut self) {
+        while let Progress::More { .. } = self.step() {}
     }
 
     fn start_delete(&mut self, number: u32) {
@@ -110,45 +119,49 @@ impl Store {
 /// The misuse: the record from before is used again. It passes every test, and keys that are there read as absent.
 #[test]
 fn old_record_after_20_hides_keys() {
-    let mut store = Store::with_keys();
-    assert_eq!(store.present(), 20);
-    store.recover_with_too_few();
-    assert!(store.present() < 20);
+    for mut store in Store::both_with_keys() {
+        assert_eq!(store.present(), 20);
+        store.recover_with_too_few();
+        assert!(store.present() < 20);
+    }
 }
 
 /// The misuse goes on: a cleaning is accepted, and keys that the index has lost are lost for good.
 #[test]
 fn cleaning_with_the_old_record_after_20_loses_keys() {
-    let mut store = Store::with_keys();
-    store.recover_with_too_few();
-    store.start_clean(SlotMap::of(0));
-    while let Progress::More { .. } = store.step() {}
-    store.recover_with_all();
-    assert!(store.present() < 20);
+    for mut store in Store::both_with_keys() {
+        store.recover_with_too_few();
+        store.start_clean(SlotMap::of(0));
+        store.finish();
+        store.recover_with_all();
+        assert!(store.present() < 20);
+    }
 }
 
 /// The rule kept: a recovery with enough cells is accepted, and nothing is lost.
 #[test]
 fn recovery_with_enough_cells_after_20_gives_everything() {
-    let mut store = Store::with_keys();
-    store.recover_with_too_few();
-    store.recover_with_all();
-    assert_eq!(store.present(), 20);
+    for mut store in Store::both_with_keys() {
+        store.recover_with_too_few();
+        store.recover_with_all();
+        assert_eq!(store.present(), 20);
+    }
 }
 
 /// A recovery gives an operation up: nothing is pending then, and the store is as before the start.
 #[test]
 fn recovery_gives_an_operation_up() {
-    let mut store = Store::with_keys();
-    let next = store.record.next();
-    store.start_write(3, &[0xaa; 56]);
-    for _ in 0..5 {
-        store.step();
+    for mut store in Store::both_with_keys() {
+        let next = store.record.next();
+        store.start_write(3, &[0xaa; 56]);
+        for _ in 0..5 {
+            store.step();
+        }
+        store.recover_with_all();
+        assert_eq!(store.record.left(), 0);
+        assert_eq!(store.record.next(), next);
+        assert_eq!(store.present(), 20);
     }
-    store.recover_with_all();
-    assert_eq!(store.record.left(), 0);
-    assert_eq!(store.record.next(), next);
-    assert_eq!(store.present(), 20);
 }
 
 /// The bytes at a value's place stay through all steps of the next operation, also of one that replaces or deletes the
@@ -163,12 +176,13 @@ fn place_of_a_value_stays_through_the_next_operation() {
     ];
     for start in starts {
         for number in [3, KEYS - 1] {
-            let mut store = Store::with_keys();
-            let place = store.place(number);
-            start(&mut store);
-            while store.record.left() > 0 {
-                store.step();
-                assert_eq!(store.area[place.clone()], [number as u8; 8]);
+            for mut store in Store::both_with_keys() {
+                let place = store.place(number);
+                start(&mut store);
+                while store.record.left() > 0 {
+                    store.step();
+                    assert_eq!(store.area[place.clone()], [number as u8; 8]);
+                }
             }
         }
     }
@@ -177,13 +191,14 @@ fn place_of_a_value_stays_through_the_next_operation() {
 /// Once the slot of a value is cleaned, a later operation may store over its place.
 #[test]
 fn place_of_a_value_ends_with_its_slot() {
-    let mut store = Store::with_keys();
-    let place = store.place(3);
-    for slot in [0, 1, 3] {
-        store.start_clean(SlotMap::of(slot));
-        while let Progress::More { .. } = store.step() {}
+    for mut store in Store::both_with_keys() {
+        let place = store.place(3);
+        for slot in [0, 1, 3] {
+            store.start_clean(SlotMap::of(slot));
+            store.finish();
+        }
+        assert_eq!(store.present(), 20);
+        assert_ne!(store.area[place.clone()], [3; 8]);
+        assert_ne!(store.place(3), place);
     }
-    assert_eq!(store.present(), 20);
-    assert_ne!(store.area[place.clone()], [3; 8]);
-    assert_ne!(store.place(3), place);
 }

@@ -1,6 +1,8 @@
 //! The static library, through its wrapper, as a replay drives it.
 
-use kurdavel::{DigestNumber, Fields, Key, Pending, Refusal, SlotMap, Tables, Version};
+use kurdavel::{DigestNumber, Edition, Fields, Key, Pending, Refusal, SlotMap, Tables, Version};
+
+use crate::translate;
 
 use super::event::{Field, Geometry, Record};
 use super::subject::{
@@ -15,16 +17,6 @@ fn refused(refusal: Refusal) -> No {
     No::Refused(refusal.number())
 }
 
-/// The edition of every store of the library: it is told none, and its record has none.
-const EDITION: u32 = 1;
-
-/// N and S, where format is told the library's edition or none.
-fn in_edition(geometry: Geometry) -> Answer<(u32, u32)> {
-    match geometry.edition {
-        None | Some(EDITION) => Ok((geometry.slots, geometry.slot_bytes)),
-        Some(_) => Err(No::Missing("a format of another edition")),
-    }
-}
 /// Tables and key, as the implementation takes them.
 fn of(asked: Asked) -> (Tables, Key) {
     let range = range_of(asked);
@@ -45,8 +37,8 @@ impl Subject for Library {
     const NAME: &'static str = "library";
 
     fn format(geometry: Geometry, area: &mut [u8]) -> Answer<()> {
-        let (slots, slot_bytes) = in_edition(geometry)?;
-        kurdavel::format(slots, slot_bytes, area).map_err(refused)
+        let edition = geometry.edition.unwrap_or(Edition::First.number());
+        translate::format(geometry.slots, geometry.slot_bytes, edition, area).map_err(No::Refused)
     }
 
     fn recover(geometry: Geometry, order: &[u8], memory: &mut Memory) -> Answer<kurdavel::Record> {
@@ -152,21 +144,25 @@ impl Subject for Library {
             keys: fields.keys,
             left: (fields.pending != Pending::Idle).then_some(fields.pending.left()),
             present_bytes: Some(present_of(fields.slots, &fields.present_bytes)),
-            edition: Some(EDITION),
+            edition: Some(fields.edition.number()),
             switched: None,
         })
     }
 
+    /// The edition goes by the words: the wrapper's fields have no number but those of editions.
     fn forged(record: &kurdavel::Record, field: Field, value: u64) -> Answer<kurdavel::Record> {
-        let mut fields = record
+        let mut edition = record.words()[translate::EDITION];
+        let plain = translate::with_edition(record, Edition::First.number());
+        let mut fields = plain
             .fields()
             .ok_or(No::Missing("a record that says nothing"))?;
-        change(&mut fields, field, value)?;
-        Ok(kurdavel::Record::of(fields))
+        change(&mut fields, &mut edition, field, value)?;
+        let changed = kurdavel::Record::of(fields);
+        Ok(translate::with_edition(&changed, edition))
     }
 }
 
-fn change(fields: &mut Fields, field: Field, value: u64) -> Answer<()> {
+fn change(fields: &mut Fields, edition: &mut u32, field: Field, value: u64) -> Answer<()> {
     let number = value as u32;
     match field {
         Field::Slots => fields.slots = number,
@@ -179,7 +175,7 @@ fn change(fields: &mut Fields, field: Field, value: u64) -> Answer<()> {
         Field::Next => fields.next = Version(value),
         Field::Keys => fields.keys = number,
         Field::Left => fields.pending = with_left(fields.pending, number),
-        Field::Edition => return Err(No::Missing("a record with an edition")),
+        Field::Edition => *edition = number,
         Field::PresentBytes(slot) => match fields.present_bytes.get_mut(slot as usize) {
             Some(bytes) => *bytes = number,
             None => return Err(No::Missing("a slot above 31")),

@@ -1,7 +1,7 @@
 //! Images valid and damaged: both recover them alike, in any order, and read every key alike.
 
 use compare::pair::Pair;
-use compare::{translate, Fault};
+use compare::Fault;
 use reference::edition::FIRST;
 use reference::rng::Rng;
 use reference::testing::calls;
@@ -35,7 +35,7 @@ fn recover(rng: &mut Rng, image: &Image, cells: usize) -> Result<u32, Fault> {
     }
 }
 
-fn must_recover(rng: &mut Rng, image: &Image, cells: usize, met: &mut [u32; 26]) {
+fn must_recover(rng: &mut Rng, image: &Image, cells: usize, met: &mut [u32; 29]) {
     let cause = recover(rng, image, cells)
         .unwrap_or_else(|fault| panic!("{fault}\nN {} S {}", image.slots, image.slot_bytes));
     met[cause as usize] += 1;
@@ -44,9 +44,10 @@ fn must_recover(rng: &mut Rng, image: &Image, cells: usize, met: &mut [u32; 26])
 #[test]
 fn whole_images() {
     let mut rng = Rng::new(1);
-    let mut met = [0; 26];
+    let mut met = [0; 29];
     for _ in 0..8000 {
-        let image = Shape::random(&mut rng, Edition::FIRST).make(&mut rng);
+        let edition = *rng.pick(&Edition::ALL);
+        let image = Shape::random(&mut rng, edition).make(&mut rng);
         let cells = *rng.pick(&[16, 17, 500, 4095, 4096]);
         must_recover(&mut rng, &image, cells, &mut met);
     }
@@ -57,9 +58,10 @@ fn whole_images() {
 /// Images, each damaged a few bytes at a time, in twelve ways one after the other and apart.
 fn damage_all(seed: u64) {
     let mut rng = Rng::new(seed);
-    let mut met = [0; 26];
+    let mut met = [0; 29];
     for _ in 0..8000 {
-        let mut image = Shape::random(&mut rng, Edition::FIRST).make(&mut rng);
+        let edition = *rng.pick(&Edition::ALL);
+        let mut image = Shape::random(&mut rng, edition).make(&mut rng);
         let whole = image.area.clone();
         for _ in 0..12 {
             if rng.one_in(3) {
@@ -68,16 +70,13 @@ fn damage_all(seed: u64) {
             for _ in 0..rng.within(1, 4) {
                 image.damage(&mut rng);
             }
-            if !translate::is_comparable(&image) {
-                continue;
-            }
             let cells = *rng.pick(&[16, 100, 4096]);
             must_recover(&mut rng, &image, cells, &mut met);
         }
     }
     println!("{met:?}");
     assert!(met[0] > 10_000, "{met:?}");
-    let told = [&met[15..=20], &met[24..]].concat();
+    let told = [&met[15..=20], &met[24..=25], &met[28..]].concat();
     assert!(told.iter().all(|&count| count > 500), "{met:?}");
 }
 
@@ -92,16 +91,17 @@ fn more_damaged_images() {
     damage_all(5);
 }
 
-/// Bytes that are few kinds only, so that much looks like entries.
+/// Bytes that are few kinds only, so that much looks like entries: those of the first edition, or of both.
 #[test]
 fn random_bytes() {
     let mut rng = Rng::new(3);
-    let mut met = [0; 26];
+    let mut met = [0; 29];
     for _ in 0..4000 {
         let (slots, slot_bytes) = (rng.within(4, 32), rng.within(256, 600));
         let mut area = vec![0; (slots * slot_bytes) as usize];
+        let kinds = *rng.pick(&[8, 14]);
         for byte in &mut area {
-            *byte = rng.below(8) as u8;
+            *byte = rng.below(kinds) as u8;
         }
         let image = Image {
             slots,
@@ -121,9 +121,10 @@ fn random_bytes() {
 #[test]
 fn shared_versions_in_full_areas() {
     let mut rng = Rng::new(4);
-    let mut met = [0; 26];
+    let mut met = [0; 29];
     for round in 0..300 {
-        let mut image = Image::with_many_keys(&mut rng, Edition::FIRST);
+        let edition = Edition::ALL[round / 2 % 2];
+        let mut image = Image::with_many_keys(&mut rng, edition);
         if round % 2 == 0 {
             image.share_a_version(&mut rng);
         }

@@ -6,19 +6,24 @@ use compare::Fault;
 use reference::book::Operation;
 use reference::rng::Rng;
 use reference::testing::choices::{Choice, A, B, ORDERS};
-use reference::testing::full::{other, LENGTHS, SPREADS, TIGHT};
-use reference::{Key, Pending};
+use reference::testing::full::{other, tight_slot, LENGTHS, SPREADS, TIGHT};
+use reference::{Edition, Key, Pending};
 
 use crate::short_histories::Explorer;
 
 /// Two stores of four slots, filled with values of these lengths.
-fn filled(slot_bytes: u32, keys: &[Key], lengths: &[usize]) -> Pair {
+fn filled(edition: Edition, slot_bytes: u32, keys: &[Key], lengths: &[usize]) -> Pair {
     let area = vec![0xEE; 4 * slot_bytes as usize];
-    let pair = Pair::fresh(4, slot_bytes, 64, &area).and_then(|mut pair| {
+    let pair = Pair::fresh(edition, 4, slot_bytes, 64, &area).and_then(|mut pair| {
         pair.fill(keys, lengths)?;
         Ok(pair)
     });
     pair.unwrap_or_else(|fault| panic!("{fault}"))
+}
+
+/// Two such stores, in whose head no tombstone fits.
+fn tight(edition: Edition, keys: &[Key]) -> Pair {
+    filled(edition, tight_slot(edition), keys, &TIGHT)
 }
 
 /// Deletes a key, which must be accepted; cut before and after every store. Tells whether it was done as a cleaning.
@@ -53,8 +58,13 @@ fn delete_all(pair: &mut Pair, keys: &[Key]) -> Result<u32, Fault> {
         }
     }
     let all = Operation::Clean(pair.record().map);
+    // A digest alone, the 0 before it and the one after it.
+    let stores = match pair.record().edition {
+        Edition::SECOND => 19,
+        _ => 15,
+    };
     match pair.begin(&all)? {
-        Ok(15) => pair.finish().map(|()| forgotten),
+        Ok(told) if told == stores => pair.finish().map(|()| forgotten),
         answer => Err(format!("cleaning of an empty store: {answer:?}")),
     }
 }
@@ -63,13 +73,20 @@ fn must<T>(pair: &mut Pair, done: Result<T, Fault>) -> T {
     done.unwrap_or_else(|fault| panic!("{fault} after\n{}", pair.history()))
 }
 
+/// The spreads of keys in a store of each edition.
+fn spreads() -> impl Iterator<Item = (Edition, [Key; 9])> {
+    Edition::ALL
+        .into_iter()
+        .flat_map(|edition| SPREADS.map(|spread| (edition, spread)))
+}
+
 #[test]
 fn every_key_of_a_tight_store() {
-    for spread in SPREADS {
+    for (edition, spread) in spreads() {
         let mut reversed = spread;
         reversed.reverse();
         for order in [spread, reversed] {
-            let mut pair = filled(256, &spread, &TIGHT);
+            let mut pair = tight(edition, &spread);
             let done = delete_all(&mut pair, &order);
             assert!(must(&mut pair, done) > 0);
         }
@@ -87,7 +104,8 @@ fn every_key_of_random_full_stores() {
         };
         let mut keys: Vec<Key> = (0..rng.within(2, 50)).map(other).collect();
         let lengths: Vec<usize> = (0..rng.within(1, 6)).map(|_| *rng.pick(&LENGTHS)).collect();
-        let mut pair = filled(slot_bytes, &keys, &lengths);
+        let edition = Edition::ALL[(seed % 2) as usize];
+        let mut pair = filled(edition, slot_bytes, &keys, &lengths);
         for last in (1..keys.len()).rev() {
             keys.swap(last, rng.below(last as u32 + 1) as usize);
         }
@@ -101,8 +119,8 @@ fn every_key_of_random_full_stores() {
 /// Every history of up to three operations from a tight store, cut after every store.
 #[test]
 fn short_histories() {
-    for spread in SPREADS {
-        let mut pair = filled(256, &spread, &TIGHT);
+    for (edition, spread) in spreads() {
+        let mut pair = tight(edition, &spread);
         let mut explorer = Explorer {
             choices: vec![
                 Choice::Delete(A),

@@ -2,7 +2,7 @@
 //! operations, cuts and recoveries.
 
 use compare::pair::Pair;
-use compare::{translate, Fault};
+use compare::Fault;
 use reference::rng::Rng;
 use reference::testing::calls;
 use reference::testing::images::{Image, Shape};
@@ -13,7 +13,7 @@ use reference::{Edition, Key};
 struct Tally {
     recovered: u32,
     accepted: u32,
-    refused: [u32; 28],
+    refused: [u32; 29],
 }
 
 impl Tally {
@@ -58,14 +58,12 @@ fn play_all(seed: u64, rounds: u32, damages: u32) -> Tally {
     let mut rng = Rng::new(seed);
     let mut tally = Tally::default();
     for round in 0..rounds {
-        let mut shape = Shape::random(&mut rng, Edition::FIRST);
+        let edition = *rng.pick(&Edition::ALL);
+        let mut shape = Shape::random(&mut rng, edition);
         shape.slot_bytes = shape.slot_bytes.min(700);
         let mut image = shape.make(&mut rng);
         for _ in 0..rng.below(damages + 1) {
             image.damage(&mut rng);
-        }
-        if !translate::is_comparable(&image) {
-            continue;
         }
         let cells = *rng.pick(&[16, 100, 4096]);
         if let Err(fault) = go_on(&mut rng, &image, cells, &mut tally) {
@@ -92,7 +90,7 @@ fn valid_images_live_on() {
 fn damaged_images_go_on() {
     let tally = play_all(32, 12_000, 3);
     assert!(tally.recovered > 4000 && tally.accepted > 20_000);
-    for cause in (17..=20).chain([24, 25]) {
+    for cause in (17..=20).chain([24, 25, 28]) {
         assert!(tally.refused[cause] > 10, "{:?}", tally.refused);
     }
 }

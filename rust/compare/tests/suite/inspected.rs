@@ -59,19 +59,17 @@ fn verdicts_and_present_entries() {
     let mut rng = Rng::new(34);
     let mut met = [0; 64];
     for round in 0..1500 {
-        let mut made = Shape::random(&mut rng, Edition::FIRST).make(&mut rng);
+        let edition = *rng.pick(&Edition::ALL);
+        let mut made = Shape::random(&mut rng, edition).make(&mut rng);
         if round % 3 > 0 {
             for _ in 0..rng.within(1, 5) {
                 made.damage(&mut rng);
             }
-        }
-        if !translate::is_comparable(&made) {
-            continue;
         }
         met[inspect(&mut rng, made)] += 1;
     }
     println!("{met:?}");
     let refused: u32 = met[1..].iter().sum();
     assert!(met[0] > 500 && refused > 300, "{met:?}");
-    assert!(met[18] > 20 && met[19] > 5, "{met:?}");
+    assert!(met[18] > 20 && met[19] > 5 && met[28] > 5, "{met:?}");
 }

@@ -57,7 +57,7 @@ impl Lent {
             1 => self.record.map.0 & rng.bits() as u32,
             _ => rng.bits() as u32,
         });
-        let expected = *rng.pick(&[0, 1, self.record.next.0, u32::MAX.into()]);
+        let expected = *rng.pick(&[0, 1, self.record.next.0, u32::MAX.into(), u64::MAX]);
         let expected = translate::version(reference::Version(expected));
         let starts = [
             records[0].write(area, index, work, tables, key, &value),
@@ -136,7 +136,8 @@ fn forged_stores() {
     let mut rng = Rng::new(21);
     let (mut starts, mut steps) = (0, 0);
     for _ in 0..5000 {
-        let mut shape = Shape::random(&mut rng, Edition::FIRST);
+        let edition = *rng.pick(&Edition::ALL);
+        let mut shape = Shape::random(&mut rng, edition);
         shape.slot_bytes = rng.within(256, 700);
         shape.slots = rng.within(4, 12);
         let image = shape.make(&mut rng);

@@ -1,11 +1,11 @@
-//! Random histories with cuts, refused calls and recoveries at any time, over many geometries.
+//! Random histories with cuts, refused calls and recoveries at any time, over many geometries and in both editions.
 
 use compare::pair::Pair;
 use compare::Fault;
 use reference::book::Operation;
 use reference::rng::Rng;
 use reference::testing::{calls, full};
-use reference::{Key, Pending, Tables};
+use reference::{Edition, Key, Pending, Tables, Version};
 
 /// How many operations, cuts and refusals of each cause a run met.
 #[derive(Default)]
@@ -16,7 +16,7 @@ struct Tally {
     /// Writes that met 12 and were accepted after a join.
     joined: u32,
     cuts: u32,
-    refused: [u32; 28],
+    refused: [u32; 29],
 }
 
 impl Tally {
@@ -38,7 +38,9 @@ struct Player {
 }
 
 impl Player {
+    /// A store of either edition in turn.
     fn new(seed: u64) -> Result<Player, Fault> {
+        let edition = Edition::ALL[(seed % 2) as usize];
         let mut rng = Rng::new(seed);
         let slots = match rng.below(4) {
             0 | 1 => 4,
@@ -58,9 +60,9 @@ impl Player {
         let mut area = vec![0; (slots * slot_bytes) as usize];
         rng.fill(&mut area);
         let mut pair = Pair::unrecovered(slots, slot_bytes, cells as usize, &area);
-        pair.format(slots, slot_bytes)?
+        pair.format(slots, slot_bytes, edition)?
             .expect("the geometry is right");
-        age(&mut rng, &mut pair);
+        age(&mut rng, &mut pair, edition);
         let keys = (0..rng.within(2, 24))
             .map(|_| calls::any_key(&mut rng))
             .collect();
@@ -206,15 +208,18 @@ impl Player {
     }
 }
 
-/// In some stores, counters close to their limits, as after a long history.
-fn age(rng: &mut Rng, pair: &mut Pair) {
+/// In some stores, counters close to their limits, as after a long history; in those of the second edition also versions
+/// close to the first's.
+fn age(rng: &mut Rng, pair: &mut Pair, edition: Edition) {
     if rng.one_in(6) {
-        let next = u32::MAX - rng.below(12);
-        pair.age(9, &next.to_le_bytes());
+        let next = u64::from(u32::MAX - rng.below(12));
+        pair.age_next(Version(match edition {
+            Edition::SECOND if rng.one_in(2) => next | u64::MAX << 32,
+            _ => next,
+        }));
     }
     if rng.one_in(6) {
-        let number = u32::MAX - rng.below(4);
-        pair.age(1, &number.to_le_bytes());
+        pair.age_number(u32::MAX - rng.below(4));
     }
 }
 
@@ -243,16 +248,26 @@ fn play_all(seeds: std::ops::Range<u64>, actions: u32) -> Tally {
 }
 
 /// Many short histories.
-#[test]
-fn many_histories() {
-    let total = play_all(0..20_000, 40);
+fn short_histories(seeds: std::ops::Range<u64>) {
+    let total = play_all(seeds, 40);
     for cause in (2..=3).chain(5..=15).chain(20..=23) {
         assert!(total.refused[cause] > 0, "{:?}", total.refused);
     }
 }
 
+// Two halves, so that they run side by side.
+#[test]
+fn many_histories() {
+    short_histories(0..15_000);
+}
+
+#[test]
+fn more_histories() {
+    short_histories(15_000..30_000);
+}
+
 /// A few long ones, in which heads are replaced many times.
 #[test]
 fn long_histories() {
-    play_all(1_000_000..1_000_060, 2500);
+    play_all(1_000_000..1_000_120, 2500);
 }

@@ -3,23 +3,27 @@
 use compare::guarded::Guarded;
 use compare::pair::{scan, Pair};
 use compare::translate;
-use kurdavel::{slices, Record, Refusal, WORDS};
+use kurdavel::{slices, Record, Refusal, Version, WORDS};
 use reference::book::Operation;
 use reference::rng::Rng;
 use reference::testing::forged;
-use reference::Key;
+use reference::{Edition, Key};
 
 const KEY: Key = Key { table: 7, key: 9 };
 
-/// The words of the next version, its low and its high half.
+/// The words of the end, of the next version, its low and its high half, and the first of the present bytes.
+const END: usize = 4;
 const NEXT: usize = 7;
 const NEXT_HIGH: usize = 8;
+const PRESENT: usize = 17;
+/// The word in reserve.
+const RESERVE: usize = 11;
 
 /// A store with a written key, and with a write pending if asked.
-fn store(rng: &mut Rng, pending: bool) -> Pair {
+fn store(rng: &mut Rng, edition: Edition, pending: bool) -> Pair {
     let (slots, slot_bytes) = (rng.within(4, 32), rng.within(256, 300));
     let area = vec![5; (slots * slot_bytes) as usize];
-    let mut pair = Pair::fresh(slots, slot_bytes, 16, &area).unwrap();
+    let mut pair = Pair::fresh(edition, slots, slot_bytes, 16, &area).unwrap();
     pair.begin(&Operation::Write(KEY, vec![1; 8]))
         .unwrap()
         .unwrap();
@@ -148,8 +152,8 @@ fn refuse_fewest(words: &[u32]) {
 fn records_that_are_none() {
     let mut rng = Rng::new(11);
     for round in 0..24_000 {
-        let pending = rng.one_in(2);
-        let pair = store(&mut rng, pending);
+        let (edition, pending) = (*rng.pick(&Edition::ALL), rng.one_in(2));
+        let pair = store(&mut rng, edition, pending);
         let genuine = *translate::record(pair.record()).words();
         let (mut area, mut index) = (pair.area().to_vec(), pair.index().to_vec());
         let mut words = genuine.to_vec();
@@ -161,7 +165,10 @@ fn records_that_are_none() {
             1 => area.truncate(area.len() - 1),
             2 => index.push(0),
             3 => words.truncate(rng.below(WORDS as u32) as usize),
-            4 => words[NEXT_HIGH] = rng.bits() as u32 | 1 << rng.below(32),
+            4 if edition == Edition::FIRST => {
+                words[NEXT_HIGH] = rng.bits() as u32 | 1 << rng.below(32);
+            }
+            4 => words[NEXT..=NEXT_HIGH].fill(0),
             _ => spoil(&mut rng, &mut words),
         }
         refuse_all(&words, &area, &index, pair.work_bytes());
@@ -171,54 +178,99 @@ fn records_that_are_none() {
     }
 }
 
-/// The highest next version is a record's, and no version is left to give; the one above it stands in the high half alone,
-/// and is refused by every call.
+/// The words with another next version.
+fn with_next(words: &[u32; WORDS], next: u64) -> [u32; WORDS] {
+    let mut words = *words;
+    (words[NEXT], words[NEXT_HIGH]) = (next as u32, (next >> 32) as u32);
+    assert_eq!(Record::from_words(words).next(), Version(next));
+    words
+}
+
+/// The highest next version of an edition is a record's, and no version is left to give. In the first edition the one above
+/// it stands in the high half alone, and is refused by every call; in the second it is one like any other.
+#[test]
+fn next_versions_at_the_limits() {
+    let narrow = u64::from(u32::MAX);
+    for (edition, next, cause) in [
+        (Edition::FIRST, narrow, Some(Refusal::VersionsSpent)),
+        (Edition::SECOND, u64::MAX, Some(Refusal::VersionsSpent)),
+        (Edition::SECOND, narrow, None),
+        (Edition::SECOND, narrow + 1, None),
+    ] {
+        for pending in [false, true] {
+            let pair = store(&mut Rng::new(3), edition, pending);
+            let (area, index) = (pair.area(), pair.index());
+            let words = with_next(translate::record(pair.record()).words(), next);
+            let mut record = Record::from_words(words);
+            let (tables, key) = (kurdavel::Tables::ALL, translate::key(KEY));
+            assert!(record.read(area, index, tables, key).is_ok());
+            let mut work = vec![0; pair.work_bytes()];
+            let answer = record.delete(area, index, &mut work, tables, key);
+            let cause = if pending { Some(Refusal::Busy) } else { cause };
+            assert_eq!(answer.err(), cause);
+        }
+    }
+}
+
 #[test]
 fn next_version_above_the_limit() {
     for pending in [false, true] {
-        let pair = store(&mut Rng::new(3), pending);
+        let pair = store(&mut Rng::new(3), Edition::FIRST, pending);
         let (area, index) = (pair.area(), pair.index());
-        let mut words = *translate::record(pair.record()).words();
-        (words[NEXT], words[NEXT_HIGH]) = (u32::MAX, 0);
-        let mut highest = Record::from_words(words);
-        assert_eq!(highest.next(), kurdavel::Version(u32::MAX.into()));
-        let (tables, key) = (kurdavel::Tables::ALL, translate::key(KEY));
-        assert!(highest.read(area, index, tables, key).is_ok());
-        let mut work = vec![0; pair.work_bytes()];
-        let spent = highest.delete(area, index, &mut work, tables, key);
-        let cause = [Refusal::VersionsSpent, Refusal::Busy][usize::from(pending)];
-        assert_eq!(spent, Err(cause));
+        for next in [1 << 32, 1 << 63, u64::MAX] {
+            let words = with_next(translate::record(pair.record()).words(), next);
+            refuse_all(&words, area, index, pair.work_bytes());
+            refuse_fewest(&words);
+        }
+    }
+}
 
-        (words[NEXT], words[NEXT_HIGH]) = (0, 1);
-        let above = Record::from_words(words);
-        assert_eq!(above.next(), kurdavel::Version(1 << 32));
-        refuse_all(&words, area, index, pair.work_bytes());
-        refuse_fewest(&words);
+/// The end, the present bytes and what a next version may be go by the record's edition: words of one edition that are in
+/// range, but not in the other's.
+#[test]
+fn range_by_the_edition() {
+    for pending in [false, true] {
+        let pair = store(&mut Rng::new(5), Edition::SECOND, pending);
+        let (area, index) = (pair.area(), pair.index());
+        let most = pair.slot_bytes() - 17;
+        for (word, number) in [(END, 16), (PRESENT, most + 1), (PRESENT + 31, most + 4)] {
+            let mut words = *translate::record(pair.record()).words();
+            words[word] = number;
+            refuse_all(&words, area, index, pair.work_bytes());
+            refuse_fewest(&words);
+            words[translate::EDITION] = 1;
+            let mut slot = 0;
+            assert_eq!(slices::fewest(&words, &mut slot), 0, "{words:?}");
+        }
     }
 }
 
 /// A write that expects the key's version with another high half is refused with 21, and accepted without one.
 #[test]
 fn expected_version_in_all_its_bits() {
-    let pair = store(&mut Rng::new(4), false);
-    let (area, index) = (pair.area(), pair.index());
-    let (tables, key) = (kurdavel::Tables::ALL, translate::key(KEY));
-    let found = translate::record(pair.record()).read(area, index, tables, key);
-    let version = found.unwrap().version.0;
-    for high in (0..32).map(|bit| 1u64 << (32 + bit)).chain([0]) {
-        let mut work = vec![0; pair.work_bytes()];
-        let mut record = translate::record(pair.record());
-        let expected = kurdavel::Version(high + version);
-        let answer = record.write_expecting(area, index, &mut work, tables, key, expected, &[3; 8]);
-        let owed = match high {
-            0 => Ok(20),
-            _ => Err(Refusal::OtherVersion),
-        };
-        assert_eq!(answer, owed, "{expected:?}");
+    for (edition, stores) in [(Edition::FIRST, 20), (Edition::SECOND, 24)] {
+        let pair = store(&mut Rng::new(4), edition, false);
+        let (area, index) = (pair.area(), pair.index());
+        let (tables, key) = (kurdavel::Tables::ALL, translate::key(KEY));
+        let found = translate::record(pair.record()).read(area, index, tables, key);
+        let version = found.unwrap().version.0;
+        for high in (0..32).map(|bit| 1u64 << (32 + bit)).chain([0]) {
+            let mut work = vec![0; pair.work_bytes()];
+            let mut record = translate::record(pair.record());
+            let expected = Version(high + version);
+            let answer =
+                record.write_expecting(area, index, &mut work, tables, key, expected, &[3; 8]);
+            let owed = match high {
+                0 => Ok(stores),
+                _ => Err(Refusal::OtherVersion),
+            };
+            assert_eq!(answer, owed, "{expected:?}");
+        }
     }
 }
 
-/// Makes the words of a pending operation none that encode one, or a word in reserve other than 0.
+/// Makes the words of a pending operation none that encode one, the edition none that there is, or the word in reserve other
+/// than 0.
 fn spoil(rng: &mut Rng, words: &mut [u32]) {
     let other = rng.bits() as u32 | 1;
     match rng.below(6) {
@@ -226,7 +278,8 @@ fn spoil(rng: &mut Rng, words: &mut [u32]) {
         1 => words[12..17].copy_from_slice(&[0, 0, 0, 0, other]),
         2 => words[12..17].copy_from_slice(&[1, other, 0, 19, 20]),
         3 => words[12..17].copy_from_slice(&[2, 1, other, 32, 33]),
-        _ => words[*rng.pick(&[10, 11])] = other,
+        4 => words[translate::EDITION] = *rng.pick(&[0, 3, 257, 258, other | 4]),
+        _ => words[RESERVE] = other,
     }
     assert_eq!(Record::from_words(words.try_into().unwrap()).fields(), None);
 }
@@ -234,8 +287,14 @@ fn spoil(rng: &mut Rng, words: &mut [u32]) {
 /// Words past those of the record stay, and change no answer.
 #[test]
 fn longer_records() {
+    for (edition, stores) in [(Edition::FIRST, 20), (Edition::SECOND, 24)] {
+        longer_record(edition, stores);
+    }
+}
+
+fn longer_record(edition: Edition, owed: u32) {
     let mut area = [0; 1024];
-    kurdavel::format(4, 256, &mut area).unwrap();
+    translate::format(4, 256, edition.0, &mut area).unwrap();
     let (mut index, mut work) = ([0; 16], [0; 256]);
     let mut words = [6; WORDS + 3];
     let order = [0, 1, 2, 3];
@@ -256,7 +315,7 @@ fn longer_records() {
         &[1; 8],
         &mut stores,
     );
-    assert_eq!((answer, stores), (0, 20));
+    assert_eq!((answer, stores), (0, owed));
     for _ in 0..stores {
         slices::step(
             &mut words,
@@ -275,7 +334,7 @@ fn longer_records() {
 #[test]
 fn recovery_into_too_few_words() {
     let mut area = [0; 1024];
-    kurdavel::format(4, 256, &mut area).unwrap();
+    kurdavel::format(4, 256, kurdavel::Edition::Second, &mut area).unwrap();
     let mut index = [8; 16];
     for length in 0..WORDS {
         let mut words = vec![6; length];
@@ -286,7 +345,7 @@ fn recovery_into_too_few_words() {
     }
 }
 
-/// Format and recovery with every N, S and length near their limits.
+/// Format and recovery with every N, S and length near their limits, in both editions and in none.
 #[test]
 fn geometries() {
     let mut formats = 0;
@@ -309,17 +368,28 @@ fn geometries() {
                 let length = length.min(70_000) as usize;
                 let mut pair =
                     Pair::unrecovered(slots.min(40), slot_bytes.min(4096), 16, &vec![5; length]);
-                let answer = pair.format(slots, slot_bytes).unwrap();
-                formats += u32::from(answer.is_ok());
-                let tables = reference::Tables::ALL;
-                let (told, part) = scan(slots, slot_bytes, pair.area(), tables, KEY).unwrap();
-                assert_eq!((told, part), (answer.and(Err(8)), (0, 0)));
-                for cells in [0, 15, 16, 4096, 4097] {
-                    let order = pair.ascending();
-                    let _ = pair.recover(cells, &order).unwrap();
+                for edition in [0, 3, 5, 8, 257, 258, u32::MAX] {
+                    let answer = pair.format(slots, slot_bytes, Edition(edition));
+                    assert_eq!(answer, Ok(Err(1)));
+                }
+                for edition in Edition::ALL {
+                    formats += u32::from(format_and_recover(&mut pair, slots, slot_bytes, edition));
                 }
             }
         }
     }
-    assert!(formats > 100, "{formats}");
+    assert!(formats > 200, "{formats}");
+}
+
+/// Tells whether the format was accepted.
+fn format_and_recover(pair: &mut Pair, slots: u32, slot_bytes: u32, edition: Edition) -> bool {
+    let answer = pair.format(slots, slot_bytes, edition).unwrap();
+    let tables = reference::Tables::ALL;
+    let (told, part) = scan(slots, slot_bytes, pair.area(), tables, KEY).unwrap();
+    assert_eq!((told, part), (answer.and(Err(8)), (0, 0)));
+    for cells in [0, 15, 16, 4096, 4097] {
+        let order = pair.ascending();
+        let _ = pair.recover(cells, &order).unwrap();
+    }
+    answer.is_ok()
 }

@@ -3,6 +3,7 @@
 use compare::pair::Pair;
 use compare::Fault;
 use reference::testing::choices::{two_keys, Choice, A, B, ORDERS};
+use reference::Edition;
 
 pub struct Explorer {
     pub choices: Vec<Choice>,
@@ -63,9 +64,10 @@ fn check_reads(pair: &Pair) -> Result<(), Fault> {
     Ok(())
 }
 
-fn explore_all(slot_bytes: u32, fill: u8, bytes: [usize; 2]) {
+fn explore_all(edition: Edition, slot_bytes: u32, fill: u8, bytes: [usize; 2]) {
     let area = vec![fill; 4 * slot_bytes as usize];
-    let pair = Pair::fresh(4, slot_bytes, 16, &area).unwrap_or_else(|fault| panic!("{fault}"));
+    let pair = Pair::fresh(edition, 4, slot_bytes, 16, &area);
+    let pair = pair.unwrap_or_else(|fault| panic!("{fault}"));
     let mut explorer = Explorer {
         choices: two_keys(bytes),
         histories: 0,
@@ -80,25 +82,51 @@ fn explore_all(slot_bytes: u32, fill: u8, bytes: [usize; 2]) {
 
 #[test]
 fn small_values_over_zeros() {
-    explore_all(256, 0, [8, 8]);
+    explore_all(Edition::FIRST, 256, 0, [8, 8]);
 }
 
 #[test]
 fn mixed_values_over_object_kinds() {
-    explore_all(256, 1, [24, 8]);
+    explore_all(Edition::FIRST, 256, 1, [24, 8]);
 }
 
 #[test]
 fn large_values_over_tombstone_kinds() {
-    explore_all(256, 4, [56, 56]);
+    explore_all(Edition::FIRST, 256, 4, [56, 56]);
 }
 
 #[test]
 fn large_and_small_values_over_digest_kinds() {
-    explore_all(257, 5, [56, 8]);
+    explore_all(Edition::FIRST, 257, 5, [56, 8]);
 }
 
 #[test]
 fn longest_values_over_their_own_kind() {
-    explore_all(256, 7, [120, 8]);
+    explore_all(Edition::FIRST, 256, 7, [120, 8]);
+}
+
+#[test]
+fn small_values_of_the_second_edition_over_object_kinds() {
+    explore_all(Edition::SECOND, 256, 9, [8, 8]);
+}
+
+#[test]
+fn mixed_values_of_the_second_edition_over_tombstone_kinds() {
+    explore_all(Edition::SECOND, 257, 13, [24, 56]);
+}
+
+#[test]
+fn large_and_small_values_of_the_second_edition_over_digest_kinds() {
+    explore_all(Edition::SECOND, 256, 8, [56, 8]);
+}
+
+/// Over bytes that are digests of the other edition.
+#[test]
+fn longest_values_of_the_second_edition_over_the_first() {
+    explore_all(Edition::SECOND, 256, 5, [120, 8]);
+}
+
+#[test]
+fn longest_values_of_the_first_edition_over_the_second() {
+    explore_all(Edition::FIRST, 256, 8, [120, 24]);
 }

@@ -7,7 +7,7 @@ use compare::Fault;
 use reference::book::{Book, Event, Operation};
 use reference::rng::Rng;
 use reference::testing::calls::{self, Given};
-use reference::{Key, Tables, Version};
+use reference::{Edition, Key, Tables, Version};
 
 /// One of the two runs.
 struct Run {
@@ -19,15 +19,20 @@ struct Run {
 type Read = (Told, usize, Vec<u8>);
 
 impl Run {
-    fn new(geometry: (u32, u32, usize), area: &[u8], digest: (u32, u32)) -> Result<Run, Fault> {
+    fn new(
+        edition: Edition,
+        geometry: (u32, u32, usize),
+        area: &[u8],
+        digest: (u32, Version),
+    ) -> Result<Run, Fault> {
         let (slots, slot_bytes, cells) = geometry;
         let (number, next) = digest;
-        let mut pair = Pair::fresh(slots, slot_bytes, cells, area)?;
-        pair.age(1, &number.to_le_bytes());
-        pair.age(9, &next.to_le_bytes());
+        let mut pair = Pair::fresh(edition, slots, slot_bytes, cells, area)?;
+        pair.age_number(number);
+        pair.age_next(next);
         pair.must_recover(&pair.ascending())?;
         let mut book = Book::new();
-        book.next = Version(next.into());
+        book.next = next;
         Ok(Run { pair, book })
     }
 
@@ -87,7 +92,7 @@ struct Tally {
     /// Values that servo read, and values that media read which differ between the runs.
     servo: u32,
     differing: u32,
-    refused: [u32; 28],
+    refused: [u32; 29],
 }
 
 struct Owners {
@@ -111,7 +116,10 @@ fn key_of(rng: &mut Rng, all: Tables) -> Key {
 }
 
 impl Owners {
+    /// A store of either edition in turn.
     fn new(seed: u64, servo_differs: bool) -> Result<Owners, Fault> {
+        let edition = Edition::ALL[(seed % 2) as usize];
+        let spent = edition.layout().expect("an edition").spent();
         let mut rng = Rng::new(seed);
         let geometry = (rng.within(4, 10), *rng.pick(&[256, 256, 300, 512]), 16);
         let mut area = vec![0; (geometry.0 * geometry.1) as usize];
@@ -122,11 +130,11 @@ impl Owners {
             1
         };
         let next = if rng.one_in(8) {
-            u32::MAX - rng.below(12)
+            Version(spent.0 - u64::from(rng.below(12)))
         } else {
-            1
+            Version(1)
         };
-        let run = || Run::new(geometry, &area, (number, next));
+        let run = || Run::new(edition, geometry, &area, (number, next));
         let mut owners = Owners {
             runs: [run()?, run()?],
             border: rng.within(1, u16::MAX.into()) as u16,

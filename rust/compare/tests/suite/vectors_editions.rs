@@ -1,9 +1,9 @@
 //! Level 11: format is told the edition, the record has it, and versions have 64 bits. The lines are written out by hand;
-//! the reference follows them, and any other word is caught.
+//! both follow them, and any other word is caught.
 
 use compare::vectors::fnv::fnv1a;
 use compare::vectors::level::Level;
-use compare::vectors::run::{replay_through, Report, Through};
+use compare::vectors::run::{replay, Report};
 
 /// The first next version above 32 bits.
 const NEXT: u64 = 1 << 32;
@@ -76,16 +76,16 @@ fn lines() -> Vec<String> {
     ]
 }
 
-fn replay(through: Through, lines: &[String]) -> Report {
+fn replay_lines(lines: &[String]) -> Report {
     let level = Level::new(11).unwrap();
     let text = lines.join("\n");
-    replay_through(through, "editions", level, text.as_bytes()).expect("a text in memory")
+    replay("editions", level, text.as_bytes()).expect("a text in memory")
 }
 
 #[test]
-fn the_reference_follows() {
+fn both_follow() {
     let lines = lines();
-    let report = replay(Through::Reference, &lines);
+    let report = replay_lines(&lines);
     let failures: Vec<String> = report.failures().map(ToString::to_string).collect();
     assert!(report.is_clean(), "{}", failures.join("\n"));
     assert_eq!(report.events, lines.len() as u64);
@@ -116,7 +116,8 @@ fn other_words_are_caught() {
         assert_ne!(words[word], other);
         words[word] = other;
         changed[line] = words.join(" ");
-        let report = replay(Through::Reference, &changed);
-        assert!(!report.is_clean(), "line {line}: {}", changed[line]);
+        let report = replay_lines(&changed);
+        let caught = [&report.library, &report.reference].map(|tally| tally.failures > 0);
+        assert_eq!(caught, [true; 2], "line {line}: {}", changed[line]);
     }
 }

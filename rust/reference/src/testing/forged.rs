@@ -66,8 +66,7 @@ fn layout_of(genuine: Record) -> &'static Layout {
     genuine.edition.layout().unwrap_or(&FIRST)
 }
 
-/// A record like the given one, some fields of which are anything; but it is of no other edition
-/// that there is.
+/// A record like the given one, some fields of which are anything, the edition among them.
 pub fn record(rng: &mut Rng, genuine: Record) -> Record {
     let mut record = genuine;
     for _ in 0..rng.below(4) {
@@ -81,12 +80,20 @@ pub fn record(rng: &mut Rng, genuine: Record) -> Record {
             6 => record.slots = number(rng, 33),
             7 => record.slot_bytes = number(rng, 2049),
             8 => record.present_bytes[rng.below(32) as usize] = number(rng, record.slot_bytes),
-            9 if rng.one_in(4) => record.edition = no_edition(rng),
+            9 => record.edition = edition(rng),
             _ => record.cells = number(rng, 4097),
         }
     }
     record.pending = pending(rng, genuine.slots, layout_of(genuine));
     record
+}
+
+/// An edition, seldom one that there is not.
+fn edition(rng: &mut Rng) -> Edition {
+    match rng.below(4) {
+        0 => no_edition(rng),
+        _ => *rng.pick(&Edition::ALL),
+    }
 }
 
 /// The number of no edition.

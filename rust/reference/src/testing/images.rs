@@ -1,6 +1,6 @@
 //! Images made without the store: valid ones in many shapes, and ways to damage them.
 
-use crate::edition::{Edition, Layout, MAP, NEXT, NUMBER, VERSION};
+use crate::edition::{Edition, Layout, FIRST, MAP, NEXT, NUMBER, SECOND, VERSION};
 use crate::rng::Rng;
 use crate::Key;
 
@@ -247,13 +247,7 @@ impl Image {
         self.area.copy_within(version, to + VERSION);
     }
 
-    /// Whether some slot begins with a digest of this edition.
-    pub fn has_digest_of(&self, edition: Edition) -> bool {
-        let mut slots = self.area.chunks(self.slot_bytes as usize);
-        slots.any(|segment| Edition::of_segment(segment) == Some(edition))
-    }
-
-    /// Alters a byte where it is likely to matter.
+    /// Alters a byte where it is likely to matter. A slot may come to begin with a digest of either edition.
     pub fn damage(&mut self, rng: &mut Rng) {
         let slot_start = (rng.below(self.slots) * self.slot_bytes) as usize;
         let digest = self.layout.digest_bytes() as u32;
@@ -268,6 +262,7 @@ impl Image {
             _ => rng.below(self.area.len() as u32) as usize,
         };
         self.area[at] = match rng.below(4) {
+            0 if at == slot_start && rng.one_in(2) => *rng.pick(&[FIRST.digest, SECOND.digest]),
             0 => rng.below(15) as u8,
             1 => 0,
             2 => 0xFF,

@@ -2,7 +2,7 @@
 //! there is no room.
 
 use crate::book::Operation;
-use crate::edition::FIRST;
+use crate::edition::Layout;
 use crate::rng::Rng;
 use crate::Key;
 
@@ -20,19 +20,24 @@ pub enum Spread {
 /// The keys of a store, each with a value of a length of its own, so that overwriting one changes no live bytes.
 #[derive(Clone, Debug)]
 pub struct Load {
+    layout: &'static Layout,
     lengths: Vec<usize>,
     hot: usize,
     spread: Spread,
     rng: Rng,
 }
 
-/// Bytes of an entry besides its value, in a store of the first edition.
-const ENTRY: usize = FIRST.tombstone_bytes();
-
 impl Load {
     /// As many keys, with values of these lengths in turn, as have at most so many live bytes.
-    pub fn new(live_bytes: usize, lengths: &[usize], spread: Spread, seed: u64) -> Load {
+    pub fn new(
+        layout: &'static Layout,
+        live_bytes: usize,
+        lengths: &[usize],
+        spread: Spread,
+        seed: u64,
+    ) -> Load {
         let mut load = Load {
+            layout,
             lengths: Vec::new(),
             hot: 0,
             spread,
@@ -40,7 +45,7 @@ impl Load {
         };
         let mut live = 0;
         for &length in lengths.iter().cycle() {
-            live += ENTRY + length;
+            live += layout.tombstone_bytes() + length;
             if live > live_bytes {
                 break;
             }
@@ -57,7 +62,8 @@ impl Load {
 
     /// Live bytes once every key is written.
     pub fn live_bytes(&self) -> usize {
-        self.lengths.iter().map(|length| ENTRY + length).sum()
+        let entry = self.layout.tombstone_bytes();
+        self.lengths.iter().map(|length| entry + length).sum()
     }
 
     /// The write of a key. The hot keys are the last ones, so that a first round leaves them together.
@@ -84,10 +90,11 @@ impl Load {
 }
 
 /// The bytes of the entry that a write lays down.
-pub fn entry_bytes(write: &Operation) -> u64 {
+pub fn entry_bytes(layout: &Layout, write: &Operation) -> u64 {
+    let entry = layout.tombstone_bytes();
     match write {
-        Operation::Write(_, value) => (ENTRY + value.len()) as u64,
-        Operation::Delete(_) => ENTRY as u64,
+        Operation::Write(_, value) => (entry + value.len()) as u64,
+        Operation::Delete(_) => entry as u64,
         Operation::Clean(_) => 0,
     }
 }

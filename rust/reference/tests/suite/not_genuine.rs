@@ -73,10 +73,7 @@ fn no_call_panics_or_alters_more_than_a_byte() {
         };
         for _ in 0..10 {
             rounds += 1;
-            let mut record = forged::record(&mut rng, genuine);
-            if rng.one_in(4) {
-                record.edition = *rng.pick(&Edition::ALL);
-            }
+            let record = forged::record(&mut rng, genuine);
             forged::spoil_index(&mut rng, &mut index, slots * slot_bytes);
             if rng.one_in(3) {
                 image.damage(&mut rng);
