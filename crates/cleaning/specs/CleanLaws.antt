@@ -44,7 +44,7 @@ use Rattle.cleaning.specs.Kept.{keptBytes}
 use Rattle.cleaning.specs.KeptAlike.{needed-bytes}
 use Rattle.cleaning.specs.Chosen.{chosenBytes}
 use Rattle.cleaning.specs.KeptModel.{splitOf}
-use Rattle.cleaning.specs.Copied.{Copied}
+use Rattle.segment.specs.Copied.{Copied}
 use Rattle.cleaning.specs.Begun.{CleanReady, CleanFits, Room, cleaningWith, frontCauses, keptCauses, begunWith, markedWith, causesWith, cleaned-promise}
 use Rattle.cleaning.specs.declared.Split.{Split}
 

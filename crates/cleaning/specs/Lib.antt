@@ -15,4 +15,3 @@ pub mod Outside
 pub mod KeptModel
 pub mod Begun
 pub mod CleanLaws
-pub mod Copied

@@ -16,7 +16,7 @@ ghost use mathlib.Core.Path.{_≡_};
 ghost use lib.ListN.{length};
 ghost use Rattle.cleaning.specs.Kept.{keptEntry};
 ghost use Rattle.cleaning.specs.Chosen.{ChosenFits, chosenEntry, chosenSlot, chosenPart, chosenBytes};
-ghost use Rattle.cleaning.specs.Copied.{Copied};
+ghost use Rattle.segment.specs.Copied.{Copied};
 
 // The bytes of an entry, if it is kept, from an offset of the work buffer on. Like the others here it answers the offset
 // behind what it copied.

@@ -44,7 +44,7 @@ use Rattle.starting.specs.Answer.{startedWith, refusedStart}
 use Rattle.cleaning.specs.Entries.{SplitFits}
 use Rattle.cleaning.specs.Marks.{isMarked, markOutside}
 use Rattle.cleaning.specs.KeptModel.{splitOf}
-use Rattle.cleaning.specs.Copied.{Copied}
+use Rattle.segment.specs.Copied.{Copied}
 use Rattle.cleaning.specs.declared.Split.{Split}
 use Rattle.writing.specs.Tests.{factsFor}
 use Rattle.writing.specs.Known.{genuine-facts}

@@ -18,7 +18,7 @@ use Rattle.index.specs.Build.{entriesAt}
 use Rattle.cleaning.specs.EntriesLaws.{Meets}
 use Rattle.cleaning.specs.Kept.{keptEntry}
 use Rattle.cleaning.specs.KeptLaws.{entry-short, partsFrom, parts-stop, parts-entry}
-use Rattle.cleaning.specs.Copied.{Copied, copied-none, Copying, copying-start, copying-next, copying-end}
+use Rattle.segment.specs.Copied.{Copied, copied-none, Copying, copying-start, copying-next, copying-end}
 use Rattle.forgetting.specs.Forgot.{deadBytes, forgotEntry, forgotSlot}
 use Rattle.forgetting.specs.declared.Live.{Live}
 

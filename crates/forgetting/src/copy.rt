@@ -16,7 +16,7 @@ ghost use mathlib.Core.Path.{_≡_};
 ghost use lib.ListN.{length};
 ghost use Rattle.segment.specs.Layout.{entrySize, digestSize};
 ghost use Rattle.cleaning.specs.Entries.{SplitFits};
-ghost use Rattle.cleaning.specs.Copied.{Copied};
+ghost use Rattle.segment.specs.Copied.{Copied};
 ghost use Rattle.forgetting.specs.Forgot.{deadBytes, forgotEntry, forgotSlot};
 
 // The tombstone, if it is needed, from an offset of the work buffer on. Like the others here it answers the offset behind what

@@ -8,7 +8,7 @@ use lib.Dec.{eqb}
 use Rattle.segment.specs.Choice.{pick}
 use Rattle.record.specs.Refusals.{numberOfRefusal}
 use Rattle.record.specs.declared.Refusal.{Refusal}
-use Rattle.record.specs.declared.Refusal.the-variants.{Geometry, Cells, WorkShort, BadRecord, Busy, NonePending, ValueLength, Absent, VersionsSpent, NumbersSpent, KeysFull, NoRoom, BadVictims, KeptTooLong, BadOrder, NoDigest, BadDigest, DamagedLog, SharedVersion, TooManyKeys, OtherVersion, OutsideTables, BadMap, MapNoDigest, NoPair, NotWhole, CountLost, MixedEditions}
+use Rattle.record.specs.declared.Refusal.the-variants.{Geometry, Cells, WorkShort, BadRecord, Busy, NonePending, ValueLength, Absent, VersionsSpent, NumbersSpent, KeysFull, NoRoom, BadVictims, KeptTooLong, BadOrder, NoDigest, BadDigest, DamagedLog, SharedVersion, TooManyKeys, OtherVersion, OutsideTables, BadMap, MapNoDigest, NoPair, NotWhole, CountLost, MixedEditions, SlotTooLong, VersionTooWide}
 use Rattle.model.specs.Causes.{Cause, firstCause}
 
 -- ---- no cause holds
@@ -134,6 +134,8 @@ refusal-number MapNoDigest = refl
 refusal-number NotWhole = refl
 refusal-number CountLost = refl
 refusal-number MixedEditions = refl
+refusal-number SlotTooLong = refl
+refusal-number VersionTooWide = refl
 
 -- ---- a number that no cause of a list has
 

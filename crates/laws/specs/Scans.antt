@@ -135,6 +135,25 @@ module _ {L : Layout} {s : List ℕ} where
   scans-total (more {is = is} x p r) =
       omega (arith, scans-total r, length-append (encoded L x) (allEncoded L (itemEntries is)), length-encoded L x)
 
+-- ---- one step of a walk
+
+module _ {L : Layout} {s : List ℕ} where
+  -- an entry that stands at the offset is the first of the items
+  pub scans-more : {at e : ℕ} {is : List Item} (x : Entry) → Scans L s at is e → entryAt L s at ≡ entry x
+      → (js : List Item) × (is ≡ itemAt at x ∷ js) × Scans L s (at + sizeOf L x) js e
+  scans-more x (done p) q = let z : _≡_ {A = ℕ} 0 1 = cc in absurd (omega arith)
+  scans-more x (more {at} {e} {is = js} y p r) q =
+      let same : y ≡ x = cc in
+      (js, ap (λ (z : Entry). itemAt at z ∷ js) same, subst (λ (z : Entry). Scans L s (at + sizeOf L z) js e) same r)
+
+  pub scans-stop : {at e : ℕ} {is : List Item} → Scans L s at is e → entryAt L s at ≡ end → is ≡ []
+  scans-stop (done p) q = refl
+  scans-stop (more x p r) q = let z : _≡_ {A = ℕ} 0 1 = cc in absurd (omega arith)
+
+  pub scans-sound : {at e : ℕ} {is : List Item} → Scans L s at is e → entryAt L s at ≡ damage → ⊥
+  scans-sound (done p) q = let z : _≡_ {A = ℕ} 0 1 = cc in omega arith
+  scans-sound (more x p r) q = let z : _≡_ {A = ℕ} 0 1 = cc in omega arith
+
 -- ---- on which bytes a scan depends
 
 module _ {L : Layout} {s : List ℕ} (t : List ℕ) (size : length t ≡ length s) where
@@ -168,6 +187,12 @@ module _ (L : Layout) where
   unfolding placedIn placedFrom itemsFrom
   placed-items i at [] = refl
   placed-items i at (x ∷ xs) = rw (placed-items i (at + sizeOf L x) xs)
+
+  -- where items stand follows from the entries before them
+  pub scans-items : {s : List ℕ} {at e : ℕ} {is : List Item} → Scans L s at is e → is ≡ itemsFrom L at (itemEntries is)
+  unfolding itemsFrom
+  scans-items (done p) = refl
+  scans-items (more {at} x p r) = ap (λ (js : List Item). itemAt at x ∷ js) (scans-items r)
 
   pub encoded-one : (x : Entry) → allEncoded L (x ∷ []) ≡ encoded L x
   unfolding allEncoded

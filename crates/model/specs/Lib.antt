@@ -25,3 +25,4 @@ pub mod DigestCases
 pub mod ScanCases
 pub mod EditionCases
 pub mod Joining
+pub mod Conversion

@@ -15,6 +15,7 @@ use Rattle.record.specs.declared.StartAnswer.{StartAnswer}
 use Rattle.record.specs.declared.StepAnswer.{StepAnswer}
 use Rattle.record.specs.declared.FewestAnswer.{FewestAnswer}
 use Rattle.record.specs.declared.TellAnswer.{TellAnswer}
+use Rattle.record.specs.declared.ConvertAnswer.{ConvertAnswer}
 use Rattle.record.specs.declared.Record.{Record}
 
 -- What an answer says: the number of the refusal, or 0 with the call's values.
@@ -83,6 +84,11 @@ fewestTold (FewestAnswer.Refused r) = []
 abbrev pub tellSaid : TellAnswer → Said
 tellSaid (TellAnswer.At place byte) = taken
 tellSaid (TellAnswer.Refused r) = refusal (numberOfRefusal r)
+
+-- accepted or its number; what it writes stands in the second buffer
+abbrev pub convertSaid : ConvertAnswer → Said
+convertSaid ConvertAnswer.Converted = taken
+convertSaid (ConvertAnswer.Refused r) = refusal (numberOfRefusal r)
 
 -- how many stores a pending operation has left; 0 where none is pending
 abbrev pub storesLeft : Pending → ℕ

@@ -1,7 +1,7 @@
 -- 01, "Refused calls": the number of each cause, and of those that 02 adds.
 use Prim.Native.Nat.{ℕ}
 use Rattle.record.specs.declared.Refusal.{Refusal}
-use Rattle.record.specs.declared.Refusal.the-variants.{Geometry, Cells, WorkShort, BadRecord, Busy, NonePending, ValueLength, Absent, VersionsSpent, NumbersSpent, KeysFull, NoRoom, BadVictims, KeptTooLong, BadOrder, NoDigest, BadDigest, DamagedLog, SharedVersion, TooManyKeys, OtherVersion, OutsideTables, NoPair, BadMap, MapNoDigest, NotWhole, CountLost, MixedEditions}
+use Rattle.record.specs.declared.Refusal.the-variants.{Geometry, Cells, WorkShort, BadRecord, Busy, NonePending, ValueLength, Absent, VersionsSpent, NumbersSpent, KeysFull, NoRoom, BadVictims, KeptTooLong, BadOrder, NoDigest, BadDigest, DamagedLog, SharedVersion, TooManyKeys, OtherVersion, OutsideTables, NoPair, BadMap, MapNoDigest, NotWhole, CountLost, MixedEditions, SlotTooLong, VersionTooWide}
 
 abbrev pub numberOfRefusal : Refusal → ℕ
 numberOfRefusal Geometry = 1
@@ -32,3 +32,5 @@ numberOfRefusal MapNoDigest = 25
 numberOfRefusal NotWhole = 26
 numberOfRefusal CountLost = 27
 numberOfRefusal MixedEditions = 28
+numberOfRefusal SlotTooLong = 29
+numberOfRefusal VersionTooWide = 30

@@ -98,6 +98,8 @@ pub enum Refusal {
     NotWhole,
     CountLost,
     MixedEditions,
+    SlotTooLong,
+    VersionTooWide,
 }
 
 // The tables that a caller may reach (02, R-2), from the first to the last, both included; none where the first is above the
@@ -195,6 +197,12 @@ pub struct Joined {
     pub rec: Record,
 }
 
+// An image in the other edition (02, R-12).
+pub enum ConvertAnswer {
+    Converted,
+    Refused(Refusal),
+}
+
 // The number of a cause.
 pub fn number(r: Refusal) -> u32
     ensures { λ n. ⌜ n ≡ numberOfRefusal r ⌝ }
@@ -228,6 +236,8 @@ pub fn number(r: Refusal) -> u32
         Refusal::NotWhole => 26,
         Refusal::CountLost => 27,
         Refusal::MixedEditions => 28,
+        Refusal::SlotTooLong => 29,
+        Refusal::VersionTooWide => 30,
     }
 }
 

@@ -91,6 +91,11 @@ sameLayout First Second = false
 sameLayout Second First = false
 sameLayout Second Second = true
 
+-- the other of the two (02, R-12)
+unfoldable pub otherLayout : Layout → Layout
+otherLayout First = edition2
+otherLayout Second = edition1
+
 -- the layout that a number names
 unfoldable pub layoutNumbered : ℕ → Option Layout
 layoutNumbered e = pick (eqb e 1) (some edition1) (pick (eqb e 2) (some edition2) none)

@@ -11,8 +11,8 @@ use lib.ListN.{getD}
 use borrow.Author.Tests.{eq-eqb, ne-eqb, eqb-true, eqb-false, ltb-true, lt-ltb, le-ltb, not-true}
 use Rattle.segment.specs.Digest.{layoutIn}
 use Rattle.segment.specs.declared.Edition.the-variants.{First, Second}
-use Rattle.segment.specs.Choice.{pick, pick-true, pick-false, both, both-left, both-right, both-true, both-false-left, both-false-right}
-use Rattle.segment.specs.Layout.{Layout, lookup, lookBack, isSome, soundObjects, valueLength, objectKind, isTombstoneKind, versionLimit, goodVersion, tombstone-not-end, tombstone-byte, edition1, edition2, sameLayout, layoutNumbered, numberOfLayout, table}
+use Rattle.segment.specs.Choice.{pick, pick-true, pick-false, both, both-left, both-right, both-true, both-false-left, both-false-right, isNone}
+use Rattle.segment.specs.Layout.{Layout, lookup, lookBack, isSome, soundObjects, valueLength, objectKind, isTombstoneKind, versionLimit, goodVersion, tombstone-not-end, tombstone-byte, edition1, edition2, otherLayout, sameLayout, layoutNumbered, numberOfLayout, table}
 
 -- ---- the table of objects
 
@@ -203,6 +203,29 @@ pub layout-same : (L : Layout) → sameLayout L L ≡ true
 unfolding sameLayout
 layout-same First = refl
 layout-same Second = refl
+
+-- the other of the other is the first
+pub other-other : (L : Layout) → otherLayout (otherLayout L) ≡ L
+unfolding otherLayout
+other-other First = refl
+other-other Second = refl
+
+-- every edition has objects of the same lengths
+some-or : (t : Bool) (a b : ℕ) (o u : Option ℕ) → isNone o ≡ isNone u → isNone (pick t (some a) o) ≡ isNone (pick t (some b) u)
+unfolding pick isNone
+some-or true a b o u e = refl
+some-or false a b o u e = e
+
+known-second : (n : ℕ) → isNone (objectKind edition1 n) ≡ isNone (objectKind edition2 n)
+unfolding table lookBack
+known-second n =
+    some-or (eqb n 8) 1 9 _ _ (some-or (eqb n 24) 2 10 _ _ (some-or (eqb n 56) 3 11 _ _ (some-or (eqb n 120) 7 12 none none refl)))
+
+pub known-either : (L K : Layout) (n : ℕ) → isNone (objectKind L n) ≡ isNone (objectKind K n)
+known-either First First n = refl
+known-either First Second n = known-second n
+known-either Second First n = sym (known-second n)
+known-either Second Second n = refl
 
 -- the number of a layout names it
 pub numbered-layout : (L : Layout) → layoutNumbered (numberOfLayout L) ≡ some L

@@ -15,3 +15,4 @@ pub mod ReaderLaws
 pub mod Area
 pub mod Entries
 pub mod Written
+pub mod Copied

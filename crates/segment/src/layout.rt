@@ -3,7 +3,7 @@
 use crate::Edition;
 use crate::Version;
 ghost use mathlib.Core.Path.{_≡_};
-ghost use Rattle.segment.specs.Layout.{edition1, edition2, table, entrySize, digestSize, versionLimit, objectKind, goodVersion};
+ghost use Rattle.segment.specs.Layout.{edition1, edition2, otherLayout, table, entrySize, digestSize, versionLimit, objectKind, goodVersion};
 ghost use Rattle.segment.specs.Choice.{orZero};
 ghost use Rattle.segment.specs.Kinds.{kindSize};
 
@@ -60,6 +60,16 @@ pub fn version_limit(edition: Edition) -> u64
     match edition {
         Edition::First => 4294967295,
         Edition::Second => 18446744073709551615,
+    }
+}
+
+// The other of the two editions.
+pub fn other(edition: Edition) -> Edition
+    ensures { λ r. ⌜ r ≡ otherLayout edition ⌝ }
+{
+    match edition {
+        Edition::First => Edition::Second,
+        Edition::Second => Edition::First,
     }
 }
 

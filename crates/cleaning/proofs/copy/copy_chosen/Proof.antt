@@ -5,7 +5,7 @@ use denote.Ref.{now}
 use borrow.Author.Needs.{needs}
 use borrow.Author.Tests.{not-true, not-false}
 use Rattle.cleaning.specs.ChosenLaws.{bytes-left, bytes-chosen}
-use Rattle.cleaning.specs.Copied.{copied-none, copied-part, part-room}
+use Rattle.segment.specs.Copied.{copied-none, copied-part, part-room}
 use Rattle.cleaning.specs.Chosen.{chosenEntry}
 use Rattle.cleaning.proofs.copy.copy_chosen.Statement.{statement}
 use Rattle.cleaning.proofs.copy.copy_chosen.Tie as tie

@@ -5,7 +5,7 @@ use denote.Ref.{now}
 use borrow.Author.Needs.{needs}
 use borrow.Author.Tests.{not-true, not-false}
 use Rattle.cleaning.specs.KeptLaws.{entry-dropped, entry-kept}
-use Rattle.cleaning.specs.Copied.{copied-none, copied-part, part-room}
+use Rattle.segment.specs.Copied.{copied-none, copied-part, part-room}
 use Rattle.cleaning.specs.Kept.{keptEntry}
 use Rattle.cleaning.proofs.copy.copy_entry.Statement.{statement}
 use Rattle.cleaning.proofs.copy.copy_entry.Tie as tie

@@ -6,7 +6,7 @@ use lib.ListN.{length}
 use denote.Ref.{now}
 use Rattle.cleaning.specs.Chosen.{chosenBelow}
 use Rattle.cleaning.specs.ChosenLaws.{chosen-none, chosen-more, chosen-room}
-use Rattle.cleaning.specs.Copied.{Copied, copied-none, copied-as, copied-then, copied-long}
+use Rattle.segment.specs.Copied.{Copied, copied-none, copied-as, copied-then, copied-long}
 use Rattle.cleaning.proofs.copy.copy_kept.Statement.{statement}
 use Rattle.cleaning.proofs.copy.copy_kept.Tie as tie
 

@@ -10,7 +10,7 @@ use Rattle.segment.specs.Layout.{entrySize}
 use Rattle.cleaning.specs.Chosen.{chosenSlot, chosenEntry}
 use Rattle.cleaning.specs.EntriesLaws.{Meets, meets, stops-end, stops-damage, tombstone-length, slot-lies, slot-long, entry-lies, place-short}
 use Rattle.cleaning.specs.ChosenLaws.{chosenFrom, chosen-whole, chosen-stop, chosen-entry}
-use Rattle.cleaning.specs.Copied.{Copying, copying-start, copying-room, copying-next, copying-end}
+use Rattle.segment.specs.Copied.{Copying, copying-start, copying-room, copying-next, copying-end}
 use Rattle.cleaning.proofs.copy.copy_slot.Statement.{statement}
 use Rattle.cleaning.proofs.copy.copy_slot.Tie as tie
 

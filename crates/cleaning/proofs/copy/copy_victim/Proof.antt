@@ -6,7 +6,7 @@ use denote.Ref.{now}
 use borrow.Author.Needs.{needs}
 use borrow.Author.Tests.{not-true, not-false}
 use Rattle.cleaning.specs.ChosenLaws.{chosen-victim, chosen-other}
-use Rattle.cleaning.specs.Copied.{copied-none, copied-as}
+use Rattle.segment.specs.Copied.{copied-none, copied-as}
 use Rattle.cleaning.proofs.copy.copy_victim.Statement.{statement}
 use Rattle.cleaning.proofs.copy.copy_victim.Tie as tie
 

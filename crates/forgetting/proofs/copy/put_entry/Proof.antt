@@ -4,7 +4,7 @@ use native.Mathlib.Omega.{arith}
 use denote.Ref.{now}
 use borrow.Author.Needs.{needs}
 use Rattle.cleaning.specs.KeptLaws.{entry-short}
-use Rattle.cleaning.specs.Copied.{copied-as}
+use Rattle.segment.specs.Copied.{copied-as}
 use Rattle.forgetting.specs.ForgotLaws.{entry-dead, entry-other}
 use Rattle.forgetting.proofs.copy.put_entry.Statement.{statement}
 use Rattle.forgetting.proofs.copy.put_entry.Tie as tie
