@@ -20,6 +20,9 @@ pub mod Counted
 pub mod Recounted
 pub mod RecoverLaws
 pub mod ScanLaws
+pub mod Moved
+pub mod ConvertedSlots
+pub mod Converted
 pub mod Appended
 pub mod Headed
 pub mod Cleaned

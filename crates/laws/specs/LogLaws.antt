@@ -76,7 +76,7 @@ unfolding both
 both-true-false true b e f = e
 both-true-false false b e f = cc
 
-both-of-true : (a b : Bool) → (a ≡ true → b ≡ false) → both a b ≡ false
+pub both-of-true : (a b : Bool) → (a ≡ true → b ≡ false) → both a b ≡ false
 unfolding both
 both-of-true true b f = f refl
 both-of-true false b f = refl

@@ -422,7 +422,7 @@ module _ (L : Layout) (n s m : ℕ) (area area′ : List ℕ) (same-length : len
 -- ---- what the bytes of the area add
 
 -- a digest that is found is the one that the segment's first bytes say
-digest-in : (L : Layout) (b : List ℕ) (d : Digest) → layoutIn b ≡ L → digestIn b ≡ some d → d ≡ digestOf L b
+pub digest-in : (L : Layout) (b : List ℕ) (d : Digest) → layoutIn b ≡ L → digestIn b ≡ some d → d ≡ digestOf L b
 unfolding digestIn pick
 digest-in L b d own e =
     go (eqb (getD b 0 0) (table L .digestKind))
@@ -432,13 +432,13 @@ digest-in L b d own e =
     go true q = cc
     go false q = let z : _≡_ {A = ℕ} 0 1 = cc in absurd (omega arith)
 
-segment-bytes : (area : List ℕ) (s i : ℕ) → Bytes area → Bytes (segmentOf area s i)
+pub segment-bytes : (area : List ℕ) (s i : ℕ) → Bytes area → Bytes (segmentOf area s i)
 segment-bytes area s i h = bytes-take s (drop (i * s) area) (bytes-drop (i * s) area h)
 
 -- ---- the slots of the log
 
 module _ (L : Layout) (n s m : ℕ) (area : List ℕ) (h : Head) (f : Sound L (viewsOf area s) n m h) where
-  head-slot : logSlots h (h .slot) ≡ true
+  pub head-slot : logSlots h (h .slot) ≡ true
   head-slot = map-in n (h .slot) (h .digest .map) (f .map-good) .head-named
 
   -- a log slot is of the store's edition, and its entries are read by it
