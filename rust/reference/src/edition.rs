@@ -92,6 +92,8 @@ pub const SECOND: Layout = Layout {
 /// A layout that code is compiled for.
 pub(crate) trait Fixed {
     const LAYOUT: Layout;
+    /// The one that there is besides.
+    type Other: Fixed;
 }
 
 /// The first edition.
@@ -99,6 +101,7 @@ pub(crate) struct First;
 
 impl Fixed for First {
     const LAYOUT: Layout = FIRST;
+    type Other = Second;
 }
 
 /// The second edition.
@@ -106,6 +109,7 @@ pub(crate) struct Second;
 
 impl Fixed for Second {
     const LAYOUT: Layout = SECOND;
+    type Other = First;
 }
 
 /// Compiles a call for both layouts and runs the one of this edition. Only a record that is out of

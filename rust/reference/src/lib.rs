@@ -14,6 +14,7 @@
 
 pub mod book;
 pub mod cleaning;
+pub mod conversion;
 pub mod counters;
 pub mod dump;
 pub mod edition;
@@ -40,6 +41,7 @@ pub mod testing;
 mod versions;
 
 pub use cleaning::clean;
+pub use conversion::convert;
 pub use counters::{DigestNumber, Version};
 pub use dump::dump;
 pub use edition::Edition;

@@ -221,7 +221,7 @@ pub(crate) struct Survey {
     /// Where the head's entries end.
     end: u32,
     /// The highest version of an entry; 0 if there is none.
-    highest: Version,
+    pub(crate) highest: Version,
 }
 
 /// Reads the whole log once and visits each entry with its place: refuses damage with 18 and then

@@ -29,7 +29,7 @@ causes! {
 #[derive(Clone, Copy, PartialEq, Eq, PartialOrd, Ord, Hash, Debug)]
 #[repr(u8)]
 pub enum Refusal {
-    /// N or S is out of its limits, the area has another length than N × S, or there is no such
+    /// N or S is out of its limits, an area has another length than N × S, or there is no such
     /// edition.
     Geometry = 1,
     /// The index has a length outside the limits of M.
@@ -88,12 +88,16 @@ pub enum Refusal {
     Count = 27,
     /// Slots of the log are of both editions.
     Editions = 28,
+    /// The entries of a slot, rewritten in the other edition, do not fit it.
+    SlotTooLong = 29,
+    /// A version or next version in the log is beyond those of the other edition.
+    VersionTooWide = 30,
 }
 }
 
 impl Refusal {
     /// All causes, by number.
-    pub const ALL: [Refusal; 28] = [
+    pub const ALL: [Refusal; 30] = [
         Refusal::Geometry,
         Refusal::IndexLength,
         Refusal::WorkLength,
@@ -122,6 +126,8 @@ impl Refusal {
         Refusal::Float,
         Refusal::Count,
         Refusal::Editions,
+        Refusal::SlotTooLong,
+        Refusal::VersionTooWide,
     ];
 
     /// The number in 01's table.

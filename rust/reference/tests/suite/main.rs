@@ -1,6 +1,7 @@
 //! Tests of the reference store against the cases, rules and demands of document 01.
 
 mod cases;
+mod conversion;
 mod damaged_images;
 mod dump;
 mod editions;

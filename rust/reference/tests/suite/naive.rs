@@ -186,14 +186,16 @@ fn head_of(slots: u32, slot_bytes: u32, area: &[u8]) -> Result<(u32, Numbers), u
     Ok((head, own))
 }
 
-/// What a scan for a key must tell of an image: version, kind, place and length of its value.
-pub fn scan(
-    slots: u32,
-    slot_bytes: u32,
-    area: &[u8],
-    tables: (u16, u16),
-    key: Key,
-) -> Result<(u64, u8, usize, usize), u32> {
+/// The log of an area.
+pub struct Log {
+    pub numbers: Numbers,
+    pub map: u32,
+    /// Ascending slot, then offset.
+    pub lines: Vec<Line>,
+}
+
+/// The log of an area, or what refuses it up to 19.
+pub fn log(slots: u32, slot_bytes: u32, area: &[u8]) -> Result<Log, u32> {
     check_geometry(slots, slot_bytes, area)?;
     let (head, numbers) = head_of(slots, slot_bytes, area)?;
     let map = number(area, (head * slot_bytes) as usize + 5, 4);
@@ -205,6 +207,24 @@ pub fn scan(
     if versions.len() != lines.len() {
         return Err(19);
     }
+    Ok(Log {
+        numbers,
+        map,
+        lines,
+    })
+}
+
+/// What a scan for a key must tell of an image: version, kind, place and length of its value.
+pub fn scan(
+    slots: u32,
+    slot_bytes: u32,
+    area: &[u8],
+    tables: (u16, u16),
+    key: Key,
+) -> Result<(u64, u8, usize, usize), u32> {
+    let Log {
+        numbers, mut lines, ..
+    } = log(slots, slot_bytes, area)?;
     if key.table < tables.0 || key.table > tables.1 {
         return Err(22);
     }
@@ -215,6 +235,57 @@ pub fn scan(
     let value = newest.bytes.len() - before;
     let (kind, place) = (newest.bytes[0], newest.place + before);
     Ok((newest.version, kind, place, value))
+}
+
+/// What a conversion must leave in a second buffer of so many bytes.
+pub fn convert(
+    slots: u32,
+    slot_bytes: u32,
+    source: &[u8],
+    target_bytes: usize,
+) -> Result<Vec<u8>, u32> {
+    check_geometry(slots, slot_bytes, source)?;
+    if target_bytes != source.len() {
+        return Err(1);
+    }
+    let log = log(slots, slot_bytes, source)?;
+    let other = EDITIONS[2 - log.numbers.edition as usize];
+    let mut wide = log.lines.iter().any(|line| line.version >= other.last_next);
+    let mut segments = vec![Vec::new(); slots as usize];
+    for slot in (0..slots).filter(|slot| log.map >> slot & 1 == 1) {
+        let digest = &source[(slot * slot_bytes) as usize..];
+        let next = wide_number(digest, 9, log.numbers.version_bytes);
+        wide |= next > other.last_next;
+        let bytes = &mut segments[slot as usize];
+        bytes.push(other.digest);
+        bytes.extend(&digest[1..9]);
+        bytes.extend(other.stored_version(next));
+        for line in log.lines.iter().filter(|line| line.slot == slot) {
+            bytes.extend(rewritten(line, log.numbers, other));
+        }
+    }
+    let room = slot_bytes as usize;
+    if segments.iter().any(|bytes| bytes.len() > room) {
+        return Err(29);
+    }
+    if wide {
+        return Err(30);
+    }
+    for bytes in &mut segments {
+        bytes.resize(room, 0);
+    }
+    Ok(segments.concat())
+}
+
+/// The bytes of an entry in the other edition.
+fn rewritten(line: &Line, own: Numbers, other: Numbers) -> Vec<u8> {
+    let value = &line.bytes[own.tombstone_bytes..];
+    let kind = match line.is_object() {
+        true => other.object(value.len()).expect("a value"),
+        false => other.tombstone,
+    };
+    let version = other.stored_version(line.version);
+    [&[kind], &line.bytes[1..7], &version, value].concat()
 }
 
 /// Refuses N, S or an area of another length with 1.

@@ -198,7 +198,7 @@ fn numbers_and_causes_agree() {
         assert_eq!(Refusal::from_number(place as u32 + 1), Some(refusal));
     }
     assert_eq!(Refusal::from_number(0), None);
-    assert_eq!(Refusal::from_number(29), None);
+    assert_eq!(Refusal::from_number(31), None);
 }
 
 #[test]
