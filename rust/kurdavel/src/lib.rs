@@ -58,6 +58,8 @@
 //! # Ok::<(), kurdavel::Refusal>(())
 //! ```
 //!
+//! [`convert`] rewrites a whole area in the other edition, for a bench that keeps images of both.
+//!
 //! # Rules of use
 //!
 //! The promise about cuts holds if
@@ -106,6 +108,7 @@
 #![deny(unsafe_code)]
 #![warn(missing_docs)]
 
+mod conversion;
 mod library;
 mod position;
 mod record;
@@ -114,6 +117,7 @@ pub mod slices;
 mod store;
 mod values;
 
+pub use conversion::convert;
 pub use position::{from_float, to_float};
 pub use record::{Fields, Pending, Record, WORDS};
 pub use refusal::Refusal;

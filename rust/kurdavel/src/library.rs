@@ -182,6 +182,15 @@ extern "C" {
         bytes: *mut u32,
     ) -> u32;
 
+    pub(crate) fn kurdavel_convert(
+        slots: u32,
+        slot_bytes: u32,
+        source: *const u8,
+        source_bytes: usize,
+        target: *mut u8,
+        target_bytes: usize,
+    ) -> u32;
+
     pub(crate) fn kurdavel_from_float(
         value: *const u8,
         value_bytes: usize,

@@ -6,7 +6,7 @@ use std::fmt;
 #[derive(Clone, Copy, PartialEq, Eq, PartialOrd, Ord, Hash, Debug)]
 #[repr(u8)]
 pub enum Refusal {
-    /// N or S is out of its limits, or the area is not N × S bytes long; or, at a format, there is no such edition.
+    /// N or S is out of its limits, or an area is not N × S bytes long; or, at a format, there is no such edition.
     Geometry = 1,
     /// The length of the index is out of its limits.
     Cells = 2,
@@ -68,11 +68,16 @@ pub enum Refusal {
     BadCount = 27,
     /// Slots of the log are of both editions.
     BothEditions = 28,
+    /// A slot's entries, rewritten in the second edition, are too long for it. Cleaning the slot before helps where some of
+    /// them no longer count.
+    SlotTooLong = 29,
+    /// A version or next version in the log is beyond those of the first edition.
+    VersionTooWide = 30,
 }
 
 impl Refusal {
     /// All causes, by number.
-    pub const ALL: [Refusal; 28] = [
+    pub const ALL: [Refusal; 30] = [
         Refusal::Geometry,
         Refusal::Cells,
         Refusal::WorkShort,
@@ -101,6 +106,8 @@ impl Refusal {
         Refusal::BadFloat,
         Refusal::BadCount,
         Refusal::BothEditions,
+        Refusal::SlotTooLong,
+        Refusal::VersionTooWide,
     ];
 
     /// The number of the cause.

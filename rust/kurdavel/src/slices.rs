@@ -412,6 +412,33 @@ pub fn scan_read_value(
     }
 }
 
+/// Rewrites the log of an area in the other edition into a second area, which is 0 everywhere else; the second area stays as
+/// it was where the call is refused.
+///
+/// ```
+/// use kurdavel::slices;
+/// let (mut area, mut converted) = ([0; 1024], [0xff; 1024]);
+/// assert_eq!(slices::format(4, 256, 1, &mut area), 0);
+/// assert_eq!(slices::convert(4, 256, &area, &mut converted[1..]), 1);
+/// assert_eq!(converted, [0xff; 1024]);
+/// assert_eq!(slices::convert(4, 256, &area, &mut converted), 0);
+/// assert_eq!(converted[..18], [8, 1, 0, 0, 0, 1, 0, 0, 0, 1, 0, 0, 0, 0, 0, 0, 0, 0]);
+/// ```
+#[inline]
+pub fn convert(slots: u32, slot_bytes: u32, source: &[u8], target: &mut [u8]) -> u32 {
+    // SAFETY: each pointer and length are those of one slice; `target` is exclusive.
+    unsafe {
+        kurdavel_convert(
+            slots,
+            slot_bytes,
+            source.as_ptr(),
+            source.len(),
+            target.as_mut_ptr(),
+            target.len(),
+        )
+    }
+}
+
 /// Converts a value whose first four bytes are a position as a float into one that has it as a count; all 0 where the call
 /// is refused.
 #[inline]
