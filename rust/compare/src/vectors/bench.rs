@@ -24,6 +24,8 @@ use super::words::LONGEST;
 const NEW_CELL: u32 = 0xDEAD_BEEF;
 /// By how much the work buffer is longer than it must be.
 const SPARE_WORK: usize = 3;
+/// What the second buffer of a conversion is full of before it.
+const TARGET_BYTE: u8 = 0xC9;
 
 /// What an event leaves to say: nothing, or the first field that is not as it should be.
 type Checked = Result<(), Difference>;
@@ -91,7 +93,8 @@ impl<S: Subject> Bench<S> {
         }
     }
 
-    /// The starts, the calls that choose slots, and the events that no implementation has a call for yet.
+    /// The starts, the calls that choose slots, those without a record, and the events that no implementation has a call
+    /// for yet.
     fn operation(&mut self, event: &Event, changes: &Changes) -> Checked {
         match event {
             Event::Write {
@@ -121,6 +124,8 @@ impl<S: Subject> Bench<S> {
                 let asked = self.name(*key, Some(*range));
                 self.scan_read(asked, owed, changes)
             }
+            Event::Convert { .. } => convert::<S>(event, changes),
+            Event::ConvertArea(owed) => self.convert_area(owed, changes),
             _ => Err(no_call("this event")),
         }
     }
@@ -182,7 +187,7 @@ impl<S: Subject> Bench<S> {
         let Some((fnv, ())) = settled(owed, answer)? else {
             return same_buffer("area", &lent, &area);
         };
-        same_fnv(*fnv, &area)?;
+        same_fnv("area", *fnv, &area)?;
         self.set_area(area);
         Ok(())
     }
@@ -336,7 +341,7 @@ impl<S: Subject> Bench<S> {
             let left = u64::from(owed.left) + u64::from(owed.count - done);
             self.one_of_steps(left, owed)?;
         }
-        same_fnv(owed.fnv, &self.memory()?.area)?;
+        same_fnv("area", owed.fnv, &self.memory()?.area)?;
         check_record::<S>(&owed.record, self.record()?)
     }
 
@@ -413,6 +418,18 @@ impl<S: Subject> Bench<S> {
         same_buffer("area", &lent, &area)
     }
 
+    /// The area as it stands, record or not, in the other edition.
+    fn convert_area(&self, owed: &Owed<u64>, changes: &Changes) -> Checked {
+        let memory = self.memory()?;
+        let target = target(memory.area.len(), changes);
+        let lent = lent_of(memory, changes).area;
+        let geometry = changes.geometry(self.geometry);
+        match converted::<S, _>(geometry, &lent, target, owed)? {
+            Some((fnv, target)) => same_fnv("target", *fnv, &target),
+            None => Ok(()),
+        }
+    }
+
     /// Reads every key that the line names, every key that the history has named, and every key whose six bytes stand
     /// anywhere in the area. A key with an entry in the log is among the last.
     fn present(&mut self, owed: &Owed<Vec<PresentKey>>, changes: &Changes) -> Checked {
@@ -437,7 +454,7 @@ impl<S: Subject> Bench<S> {
         if let Some(area) = area {
             same_buffer("area", area, found)?;
         }
-        same_fnv(fnv, found)
+        same_fnv("area", fnv, found)
     }
 }
 
@@ -512,10 +529,10 @@ fn intact<T: Copy + PartialEq>(buffer: &str, lent: &Guarded<T>) -> Checked {
     Err(Difference::new(field, "left alone", "changed"))
 }
 
-fn same_fnv(owed: u64, area: &[u8]) -> Checked {
-    let found = fnv1a(area);
+fn same_fnv(buffer: &str, owed: u64, bytes: &[u8]) -> Checked {
+    let found = fnv1a(bytes);
     same(
-        "FNV of the area",
+        &format!("FNV of the {buffer}"),
         format!("{owed:016x}"),
         format!("{found:016x}"),
     )
@@ -703,7 +720,54 @@ fn check_found(
     same("length", owed_length, length)
 }
 
-/// A conversion's eight bytes.
+/// The second buffer of a conversion: as long as the first, unless a `with` changes that.
+fn target(source_bytes: usize, changes: &Changes) -> Guarded<u8> {
+    let length = changes.lent(Buffer::Target).unwrap_or(source_bytes);
+    Guarded::new(&vec![TARGET_BYTE; length], 5)
+}
+
+/// A conversion of an area that the line gives.
+fn convert<S: Subject>(event: &Event, changes: &Changes) -> Checked {
+    let Event::Convert {
+        slots,
+        slot_bytes,
+        source,
+        owed,
+    } = event
+    else {
+        return Ok(());
+    };
+    let geometry = Geometry {
+        slots: *slots,
+        slot_bytes: *slot_bytes,
+        edition: None,
+    };
+    let lent = Guarded::new(source, 5);
+    match converted::<S, _>(geometry, &lent, target(source.len(), changes), owed)? {
+        Some((owed, target)) => same_buffer("target", owed, &target),
+        None => Ok(()),
+    }
+}
+
+/// What is owed and the target, if the conversion is accepted as it must be. A refused one leaves the target.
+fn converted<'a, S: Subject, T>(
+    geometry: Geometry,
+    lent: &Guarded<u8>,
+    mut target: Guarded<u8>,
+    owed: &'a Owed<T>,
+) -> Result<Option<(&'a T, Guarded<u8>)>, Difference> {
+    let (source, before) = (lent.clone(), target.clone());
+    let settled = settled(owed, S::convert(geometry, &source, &mut target))?;
+    intact("source", &source)?;
+    intact("target", &target)?;
+    same_buffer("source", lent, &source)?;
+    if settled.is_none() {
+        same_buffer("target", &before, &target)?;
+    }
+    Ok(settled.map(|(owed, ())| (owed, target)))
+}
+
+/// A position's eight bytes.
 fn check_converted(owed: &Owed<Vec<u8>>, answer: Answer<[u8; 8]>) -> Checked {
     match settled(owed, answer)? {
         Some((owed, converted)) => same_buffer("value", owed, &converted),

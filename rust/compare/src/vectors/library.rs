@@ -130,6 +130,11 @@ impl Subject for Library {
         kurdavel::to_float(value).map_err(refused)
     }
 
+    fn convert(geometry: Geometry, source: &[u8], target: &mut [u8]) -> Answer<()> {
+        let (slots, slot_bytes) = (geometry.slots, geometry.slot_bytes);
+        kurdavel::convert(slots, slot_bytes, source, target).map_err(refused)
+    }
+
     fn says(record: &kurdavel::Record) -> Option<Record> {
         let fields = record.fields()?;
         Some(Record {

@@ -140,6 +140,11 @@ impl Subject for Second {
         reference::to_float(value).map_err(refused)
     }
 
+    fn convert(geometry: Geometry, source: &[u8], target: &mut [u8]) -> Answer<()> {
+        let (slots, slot_bytes) = (geometry.slots, geometry.slot_bytes);
+        reference::convert(slots, slot_bytes, source, target).map_err(refused)
+    }
+
     fn says(record: &reference::Record) -> Option<Record> {
         Some(Record {
             slots: record.slots,

@@ -116,6 +116,9 @@ pub trait Subject {
     /// The value with its position as a float.
     fn to_float(value: &[u8]) -> Answer<[u8; 8]>;
 
+    /// An area in the other edition.
+    fn convert(geometry: Geometry, source: &[u8], target: &mut [u8]) -> Answer<()>;
+
     /// What a record says; none if it is not one that any call gives.
     fn says(record: &Self::Record) -> Option<Record>;
 

@@ -125,6 +125,7 @@ fn inputs_of(event: &Event, words: &[&str]) -> Vec<(usize, String)> {
         | Event::Read { owed: Ok(_), .. }
         | Event::ScanRead { owed: Ok(_), .. } => [others(&[1, 2]), other_tables(words, 3)].concat(),
         Event::Clean { owed: Ok(_), .. } => vec![(1, "0".into())],
+        Event::Convert { owed: Ok(_), .. } => others(&[1, 2]),
         Event::Steps(_) => others(&[1]),
         _ => Vec::new(),
     }
@@ -164,6 +165,7 @@ fn genuine(changes: &Changes, geometry: Geometry, record: Option<&Record>) -> Op
         (Buffer::Area, Some(area)),
         (Buffer::Work, Some(geometry.slot_bytes.into())),
         (Buffer::Index, record.map(|record| record.cells.into())),
+        (Buffer::Target, Some(area)),
     ];
     let lent = lent
         .iter()
@@ -198,6 +200,20 @@ fn field_of(field: Field, record: &Record) -> Option<u32> {
             let present = record.present_bytes.as_ref()?;
             Some(present.get(slot as usize).copied().unwrap_or(0))
         }
+        _ => None,
+    }
+}
+
+/// N and S that an event has besides those of its history.
+fn geometry_of(event: &Event) -> Option<Geometry> {
+    match *event {
+        Event::Convert {
+            slots, slot_bytes, ..
+        } => Some(Geometry {
+            slots,
+            slot_bytes,
+            edition: None,
+        }),
         _ => None,
     }
 }
@@ -239,18 +255,19 @@ impl Walk {
             return;
         }
         self.found.extend(changes_of(line, &event, text));
-        self.found.extend(self.change_of_with(line, text));
+        self.found.extend(self.change_of_with(line, &event, text));
         let changes = std::mem::take(&mut self.changes);
         self.library.replay(&event, &changes).unwrap();
         self.reference.replay(&event, &changes).unwrap();
     }
 
     /// A single `with` that is the cause of a refusal with 1, 3 or 4, changed to what the store has.
-    fn change_of_with(&self, line: usize, text: &str) -> Option<Change> {
+    fn change_of_with(&self, line: usize, event: &Event, text: &str) -> Option<Change> {
         let (_, refusal) = text.rsplit_once(" refused ")?;
         let single = self.changes.len() == 1 && ["1", "3", "4"].contains(&refusal);
         let record = self.reference.record_said();
-        let value = genuine(&self.changes, self.reference.geometry(), record.as_ref());
+        let geometry = geometry_of(event).unwrap_or(self.reference.geometry());
+        let value = genuine(&self.changes, geometry, record.as_ref());
         let value = value.filter(|_| single)?;
         let (start, _) = self.with.rsplit_once(' ')?;
         Some(Change {
@@ -322,7 +339,7 @@ fn named(text: &str) -> Vec<usize> {
 }
 
 /// What the changes must be about, at the least.
-const TRIED: [&str; 18] = [
+const TRIED: [&str; 20] = [
     "history",
     "format",
     "image",
@@ -340,6 +357,8 @@ const TRIED: [&str; 18] = [
     "scan_read",
     "from_float",
     "to_float",
+    "convert,",
+    "convert_area",
     "end",
 ];
 

@@ -28,6 +28,8 @@ const REFUSED_READ_GIVES_A_PART: u32 = 15;
 const ABSENT_KEYS_FOUND: u32 = 16;
 const NEXT_STORE_ONE_TOO_HIGH: u32 = 17;
 const NEXT_STORE_OF_AN_IDLE_RECORD: u32 = 18;
+const REFUSED_CONVERSION_STORES: u32 = 19;
+const CONVERSION_LEAVES_A_BYTE: u32 = 20;
 
 /// The reference with one fault.
 #[derive(Clone, Copy, Debug)]
@@ -150,6 +152,21 @@ impl<const FAULT: u32> Subject for Faulty<FAULT> {
         Second::to_float(value)
     }
 
+    fn convert(geometry: Geometry, source: &[u8], target: &mut [u8]) -> Answer<()> {
+        let last = target.last().copied();
+        let answer = Second::convert(geometry, source, target);
+        match (FAULT, &answer) {
+            (REFUSED_CONVERSION_STORES, Err(_)) => spoil(target),
+            (CONVERSION_LEAVES_A_BYTE, Ok(())) => {
+                if let (Some(byte), Some(last)) = (target.last_mut(), last) {
+                    *byte = last;
+                }
+            }
+            _ => {}
+        }
+        answer
+    }
+
     fn says(record: &reference::Record) -> Option<Record> {
         Second::says(record)
     }
@@ -215,4 +232,6 @@ fn faulty_implementations() {
     caught::<ABSENT_KEYS_FOUND>("answer");
     caught_as::<NEXT_STORE_ONE_TOO_HIGH>(&["place told before", "area after the store told"]);
     caught::<NEXT_STORE_OF_AN_IDLE_RECORD>("answer");
+    caught::<REFUSED_CONVERSION_STORES>("target at");
+    caught_as::<CONVERSION_LEAVES_A_BYTE>(&["target at", "FNV of the target"]);
 }

@@ -222,11 +222,35 @@ fn events_without_a_store() {
     }
 }
 
+/// A conversion of the area needs one; that of an area in the line does not, and may be lent any second buffer.
+#[test]
+fn conversions_without_a_store() {
+    let replayed = |events: &str| {
+        let text = format!("history h 4 256 1\n{events}\n");
+        let report = replay("text", at(12), text.as_bytes()).unwrap();
+        assert_eq!(report.lines.failures, 0, "{events}");
+        (report.library.failures, report.reference.failures)
+    };
+    assert_eq!(replayed("convert_area -> refused 16"), (1, 1));
+    let zeros = "00".repeat(1024);
+    assert_eq!(
+        replayed(&format!("convert 4 256 {zeros} -> refused 16")),
+        (0, 0)
+    );
+    for lent in [0, 1023, 1025] {
+        let event = format!("with target {lent}\nconvert 4 256 {zeros} -> refused 1");
+        assert_eq!(replayed(&event), (0, 0));
+    }
+    assert_eq!(
+        replayed("convert 4294967295 4294967295 - -> refused 1"),
+        (0, 0)
+    );
+}
+
 /// An event that needs a later request is a mismatch that says so.
 #[test]
 fn calls_that_are_not_there_yet() {
-    let text =
-        "history h 4 256 1\nswitch -> refused 4\nhistory h 4 256 1\nconvert_area -> refused 16\n";
+    let text = "history h 4 256 1\nswitch -> refused 4\nhistory h 4 256 1\nswitch -> refused 5\n";
     let report = replay("text", at(Level::LAST), text.as_bytes()).unwrap();
     assert_eq!((report.library.failures, report.reference.failures), (2, 2));
     for failure in report.failures() {
