@@ -505,6 +505,32 @@ pub fn scan(
     Ok((told, part))
 }
 
+/// What both make of an area in the other edition, in a second one of so many bytes: the answers and every byte are the same.
+pub fn convert(
+    slots: u32,
+    slot_bytes: u32,
+    source: &[u8],
+    target_bytes: usize,
+) -> Result<Result<Vec<u8>, u32>, Fault> {
+    let lent = Guarded::new(source, 5);
+    let mut proved = Guarded::new(&vec![LOST_BYTE; target_bytes], 5);
+    let mut reference = proved.to_vec();
+    let answer = kurdavel::convert(slots, slot_bytes, &lent, &mut proved);
+    let answer = translate::proved(answer);
+    let owed = reference::convert(slots, slot_bytes, source, &mut reference);
+    same!("conversion", answer, translate::reference(owed));
+    if let Some(place) = (0..target_bytes).find(|&place| proved[place] != reference[place]) {
+        return Err(format!("targets differ at {place}"));
+    }
+    if answer.is_err() && proved.iter().any(|&byte| byte != LOST_BYTE) {
+        return Err(format!("{answer:?} changes the target"));
+    }
+    if lent[..] != source[..] || !lent.is_intact() || !proved.is_intact() {
+        return Err("a conversion changes other memory".into());
+    }
+    Ok(answer.map(|()| reference))
+}
+
 fn named(operation: &Operation) -> String {
     match operation {
         Operation::Write(key, value) => {

@@ -1,5 +1,6 @@
 //! The proved store beside the reference. The tests print how much they ran.
 
+mod conversion;
 mod damaged_images;
 mod expected_versions;
 mod full_stores;
