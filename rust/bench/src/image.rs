@@ -98,7 +98,8 @@ pub fn lay_out(slots: usize, entry: impl Fn(At) -> Option<Entry>) -> Vec<u8> {
     lay_out_of(&FIRST, slots, entry)
 }
 
-fn lay_out_of(layout: &Layout, slots: usize, entry: impl Fn(At) -> Option<Entry>) -> Vec<u8> {
+/// The same in an edition.
+pub fn lay_out_of(layout: &Layout, slots: usize, entry: impl Fn(At) -> Option<Entry>) -> Vec<u8> {
     let mut area = vec![0; slots * SLOT_BYTES];
     let mut count: u32 = 0;
     let map = (1u32 << (slots - 1)) - 1;

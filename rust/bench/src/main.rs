@@ -5,6 +5,7 @@
 //! patterns of 32 bits, and does nothing else.
 
 mod calls;
+mod conversion;
 mod editions;
 mod history;
 mod image;
@@ -40,5 +41,6 @@ fn times() {
     calls::cases(&mut report);
     positions::cases(&mut report);
     editions::cases(&mut report);
+    conversion::cases(&mut report);
     report.worst_calls();
 }

@@ -35,10 +35,12 @@ pub enum Call {
     ScanRead,
     /// The conversion of a position.
     Position,
+    /// The conversion of an area.
+    Conversion,
 }
 
 impl Call {
-    const ALL: [(Call, &'static str); 15] = [
+    const ALL: [(Call, &'static str); 16] = [
         (Call::Read, "read"),
         (Call::WriteStart, "start of a write"),
         (Call::ConditionalWriteStart, "start of a conditional write"),
@@ -54,6 +56,7 @@ impl Call {
         (Call::Join, "two slots to join"),
         (Call::ScanRead, "read by a scan"),
         (Call::Position, "conversion of a position"),
+        (Call::Conversion, "conversion of an area"),
     ];
 }
 
