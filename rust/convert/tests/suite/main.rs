@@ -1,0 +1,3 @@
+//! Tests of the program.
+
+mod command_line;
