@@ -26,3 +26,4 @@ pub mod ScanCases
 pub mod EditionCases
 pub mod Joining
 pub mod Conversion
+pub mod ConversionCases
