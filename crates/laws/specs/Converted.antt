@@ -25,7 +25,7 @@ use Rattle.record.specs.declared.ConvertAnswer.{ConvertAnswer}
 use Rattle.record.specs.declared.Refusal.{Refusal}
 use Rattle.record.specs.declared.Refusal.the-variants.{Geometry}
 use Rattle.record.specs.declared.Record.{Record}
-use Rattle.model.specs.Log.{View, Head, Item, Placed, itemsOf, endOf, scanned, scan, segmentOf, viewsOf, headOf, isDamaged, keysOf, present}
+use Rattle.model.specs.Log.{View, Head, Item, Placed, itemsOf, endOf, scanned, scan, segmentOf, viewsOf, headOf, isDamaged, keysOf}
 use Rattle.model.specs.Causes.{Cause, when, firstCause}
 use Rattle.model.specs.Recovery.{geometryBad, headElse, logSlots, logUnder, imageLayout, imageCauses, keyCauses, recovered, recordUnder}
 use Rattle.model.specs.Operations.{logNow, allEncoded}
@@ -38,9 +38,10 @@ use Rattle.laws.specs.Scans.{Scans, done, more, itemsFrom, itemEntries, 
 use Rattle.laws.specs.NewHeadBytes.{length-headBytes}
 use Rattle.laws.specs.HeadLaws.{top-stays}
 use Rattle.laws.specs.LogLaws.{anyBelow, below-none, none-below, both-true-false, both-of-true, log-same, scan-whole}
-use Rattle.laws.specs.Moved.{Moved, moved-log, moved-keys, moved-shared, moved-highest, moved-present, entryIn}
+use Rattle.laws.specs.MapLaws.{valueAt}
+use Rattle.laws.specs.Moved.{Moved, moved-log, moved-keys, moved-shared, moved-highest, moved-present}
 use Rattle.laws.specs.RecoverLaws.{Sound, digest-in, segment-bytes, head-slot, log-whole, sound-clear, sound-head, clear-head, lent-clear, sound-recovered, recovered-facts}
-use Rattle.laws.specs.ConvertedSlots.{Convertible, rewritten-head, viewIn, convertible-short, short-slots, slots-short, length-slots, logged-view, free-view}
+use Rattle.laws.specs.ConvertedSlots.{Convertible, rewritten-head, viewIn, convertible-short, convertible-bytes, bytes-slots, short-slots, slots-short, length-slots, logged-view, free-view}
 
 -- ---- versions
 
@@ -245,6 +246,9 @@ module _ (K : Layout) (v : ℕ → View) (n s : ℕ) (some-byte : 0 < s) (h : He
   pub target-long : length target ≡ n * s
   target-long = length-slots K v picks s n all-short n (omega arith)
 
+  pub made-bytes : Bytes target
+  made-bytes = bytes-slots K v picks s n (λ i l q. convertible-bytes K s (v i) (digest i l q) (can i l q))
+
   -- Under the same head, the log is sound where it was.
   pub target-sound : (L : Layout) (m : ℕ) → Sound L v n m h → logSlots h (h .slot) ≡ true → Sound K w n m h
   unfolding isDamaged
@@ -320,13 +324,14 @@ module _ (L : Layout) (n s m : ℕ) (area : List ℕ) (h : Head) (f : Sound L (v
 pub record SameStore (K : Layout) (n s m : ℕ) (source target : List ℕ) (r : Record) : Type 0 where
   pub rec : Record
   pub recovers : recovered K n s m target ≡ some rec
+  pub target-bytes : Bytes target
   pub same-head : rec .head ≡ r .head
   pub same-number : rec .digest ≡ r .digest
-  pub same-map : rec .map ≡ r .map
+  pub same-slots : rec .map ≡ r .map
   pub same-next : rec .next ≡ r .next
   pub same-keys : rec .keys ≡ r .keys
   pub same-log : Moved (logNow source r) (logNow target rec)
-  pub same-present : (k : Key) → entryIn (present (logNow source r) k) ≡ entryIn (present (logNow target rec) k)
+  pub same-map : (k : Key) → valueAt (logNow source r) k ≡ valueAt (logNow target rec) k
 
 -- Two images have the same head, and each slot of its log the same digest and the same entries in their places; so the logs are one.
 pub record SameLog (n s : ℕ) (area back : List ℕ) : Type 0 where
@@ -383,13 +388,14 @@ module _ (L : Layout) (n s m : ℕ) (source : List ℕ) (bytes : Bytes source) (
               long = target-long K from n s some-byte h digest can;
               cells-good = cells;
             }) made-sound;
+        target-bytes = made-bytes K from n s some-byte h digest can;
         same-head = refl;
         same-number = refl;
-        same-map = refl;
+        same-slots = refl;
         same-next = λ i. record { 0 = max (h .digest .next .0) (sym (moved-highest same) i + 1) };
         same-keys = ap length (sym (moved-keys same));
         same-log = same;
-        same-present = moved-present same;
+        same-map = moved-present same;
       })
     where
       same : Moved (logUnder from n h) (logUnder into n h)

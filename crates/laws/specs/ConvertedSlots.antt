@@ -11,15 +11,19 @@ use lib.Dec.{ltb}
 use lib.ListN.{length, getD, take, drop, replicate, length-append, length-drop, length-replicate}
 use lib.Seq.{take-all, take-append-seam, take-append-le, drop-append-le, drop-at, getD-append-add}
 use borrow.Author.Tests.{ltb-false, le-ltb}
+use Rattle.word.specs.Number.{Bytes}
+use Rattle.word.specs.Laws.{bytes-append}
 use Rattle.segment.specs.Choice.{pick, pick-true, pick-false, both}
 use Rattle.segment.specs.Layout.{Layout, digestSize, table}
 use Rattle.segment.specs.Entry.{Entry, WellFormed}
+use Rattle.segment.specs.Digest.{encodedDigest}
+use Rattle.segment.specs.DigestLaws.{bytes-encodedDigest}
 use Rattle.segment.specs.declared.Digest.{Digest}
 use Rattle.model.specs.Log.{View, scanned, segmentOf, viewOf, viewsOf}
 use Rattle.model.specs.Operations.{allEncoded}
 use Rattle.model.specs.Conversion.{entriesIn, slotBytes, rewritten, filledTo, convertedSlot, convertedSlots, slotTooLong}
 use Rattle.laws.specs.Stores.{Written, slots-apart}
-use Rattle.laws.specs.Scans.{itemsFrom, no-digest}
+use Rattle.laws.specs.Scans.{itemsFrom, bytes-allEncoded, no-digest}
 use Rattle.laws.specs.NewHeadBytes.{headBytes, length-headBytes, head-view}
 use Rattle.laws.specs.LogLaws.{anyBelow, below-none, none-below, both-true-false, both-of-true}
 
@@ -29,6 +33,9 @@ zeros : (n i : ℕ) → _≡_ {A = ℕ} (getD (replicate n 0) i 0) 0
 zeros zero i = refl
 zeros (suc n) zero = refl
 zeros (suc n) (suc i) = zeros n i
+
+pub bytes-zeros : (n : ℕ) → Bytes (replicate n 0)
+bytes-zeros n i = omega (arith, zeros n i)
 
 module _ (S : ℕ) (bytes : List ℕ) where
   pub length-filled : length bytes ≤ S → length (filledTo S bytes) ≡ S
@@ -45,6 +52,9 @@ module _ (S : ℕ) (bytes : List ℕ) where
             ap (λ (k : ℕ). getD (filledTo S bytes) k 0) (omega arith) ∙ getD-append-add bytes (replicate (S - length bytes) 0) 0 0 ∙
             zeros (S - length bytes) 0;
       }
+
+  bytes-filled : Bytes bytes → Bytes (filledTo S bytes)
+  bytes-filled h = bytes-append bytes (replicate (S - length bytes) 0) h (bytes-zeros (S - length bytes))
 
 -- ---- one slot
 
@@ -70,6 +80,11 @@ module _ (K : Layout) (S : ℕ) (w : View) (d : Digest) (c : Convertible K S w d
   pub convertible-short : length (rewritten K w) ≤ S
   convertible-short =
       omega (arith, ap length (rewritten-head K w d (c .has-digest)), length-headBytes K d (entriesIn w), c .fits)
+
+  pub convertible-bytes : Bytes (rewritten K w)
+  convertible-bytes =
+      subst Bytes (sym (rewritten-head K w d (c .has-digest)))
+      (bytes-append (encodedDigest K d) (allEncoded K (entriesIn w)) (bytes-encodedDigest K d) (bytes-allEncoded K (entriesIn w) (c .formed)))
 
   pub rewritten-view : viewOf (filledTo S (rewritten K w)) ≡ viewIn K d (entriesIn w)
   rewritten-view =
@@ -103,6 +118,17 @@ module _ (K : Layout) (v : ℕ → View) (p : ℕ → Bool) (S : ℕ) where
       too-long-any K v p S n ∙
       none-below n (λ k. both (p k) (ltb S (length (rewritten K (v k)))))
       (λ i l. both-of-true (p i) (ltb S (length (rewritten K (v i)))) (λ q. le-ltb S (length (rewritten K (v i))) (f i l q)))
+
+  pub bytes-slots : (n : ℕ) → ((i : ℕ) → i < n → p i ≡ true → Bytes (rewritten K (v i))) → Bytes (convertedSlots K v p S n)
+  unfolding convertedSlots
+  bytes-slots zero f = λ i. omega arith
+  bytes-slots (suc n) f =
+      bytes-append (convertedSlots K v p S n) (convertedSlot K v p S n) (bytes-slots n (λ i l q. f i (omega arith) q))
+      (bytes-filled S (pick (p n) (rewritten K (v n)) []) (content (p n) refl))
+    where
+      content : (t : Bool) → p n ≡ t → Bytes (pick t (rewritten K (v n)) [])
+      content true q = unfold pick in f n (omega arith) q
+      content false q = unfold pick in λ i. omega arith
 
   module _ (n : ℕ) (short : slotTooLong K v p S n ≡ false) where
     content-short : (i : ℕ) → i < n → length (pick (p i) (rewritten K (v i)) []) ≤ S

@@ -10,6 +10,7 @@ use Rattle.segment.specs.Choice.{pick, either}
 use Rattle.segment.specs.Entry.{Entry, isTombstone, keyOf}
 use Rattle.segment.specs.declared.Key.{Key}
 use Rattle.model.specs.Log.{View, Item, Placed, itemsOf, placedIn, logOf, sameKey, laterOf, latest, objectOnly, present, hasKey, keysOf, hasVersion, versionShared, highest}
+use Rattle.laws.specs.MapLaws.{unplaced, valueAt, gives}
 use Rattle.laws.specs.Scans.{itemEntries}
 
 pub data Moved : List Placed → List Placed → Type 0 where
@@ -76,36 +77,31 @@ moved-highest (an-entry s e p) = λ i. max (e i .version) (moved-highest p i)
 
 -- ---- the map
 
--- an entry that was found, without its place
-unfoldable pub entryIn : Option Placed → Option Entry
-entryIn none = none
-entryIn (some x) = some (x .entry)
-
--- the newer of two entries, and an entry that is an object, without their places
+-- the newer of two entries, and what the latest gives its key, without their places
 unfoldable laterEntry : Entry → Option Entry → Option Entry
 laterEntry x none = some x
 laterEntry x (some y) = pick (ltb (x .version) (y .version)) (some y) (some x)
 
-unfoldable objectEntry : Option Entry → Option Entry
-objectEntry none = none
-objectEntry (some x) = pick (isTombstone x) none (some x)
+unfoldable given : Option Entry → Option Entry
+given none = none
+given (some x) = gives x
 
-pick-in : (t : Bool) (o u : Option Placed) → entryIn (pick t o u) ≡ pick t (entryIn o) (entryIn u)
+pick-in : (t : Bool) (o u : Option Placed) → unplaced (pick t o u) ≡ pick t (unplaced o) (unplaced u)
 unfolding pick
 pick-in true o u = refl
 pick-in false o u = refl
 
-later-in : (x : Placed) (o : Option Placed) → entryIn (laterOf x o) ≡ laterEntry (x .entry) (entryIn o)
-unfolding laterOf laterEntry entryIn
+later-in : (x : Placed) (o : Option Placed) → unplaced (laterOf x o) ≡ laterEntry (x .entry) (unplaced o)
+unfolding laterOf laterEntry unplaced
 later-in x none = refl
 later-in x (some y) = pick-in (ltb (x .entry .version) (y .entry .version)) (some y) (some x)
 
-object-in : (o : Option Placed) → entryIn (objectOnly o) ≡ objectEntry (entryIn o)
-unfolding objectOnly objectEntry entryIn
+object-in : (o : Option Placed) → unplaced (objectOnly o) ≡ given (unplaced o)
+unfolding objectOnly given gives unplaced
 object-in none = refl
 object-in (some x) = pick-in (isTombstone (x .entry)) none (some x)
 
-pub moved-latest : {a b : List Placed} → Moved a b → (k : Key) → entryIn (latest a k) ≡ entryIn (latest b k)
+pub moved-latest : {a b : List Placed} → Moved a b → (k : Key) → unplaced (latest a k) ≡ unplaced (latest b k)
 unfolding latest
 moved-latest no-entry k = refl
 moved-latest (an-entry {x} {y} {xs} {ys} s e p) k =
@@ -114,13 +110,13 @@ moved-latest (an-entry {x} {y} {xs} {ys} s e p) k =
     ∙ sym (first y ys)
   where
     first : (z : Placed) (zs : List Placed)
-        → entryIn (pick (sameKey k (z .entry)) (laterOf z (latest zs k)) (latest zs k))
-        ≡ pick (sameKey k (z .entry)) (laterEntry (z .entry) (entryIn (latest zs k))) (entryIn (latest zs k))
+        → unplaced (pick (sameKey k (z .entry)) (laterOf z (latest zs k)) (latest zs k))
+        ≡ pick (sameKey k (z .entry)) (laterEntry (z .entry) (unplaced (latest zs k))) (unplaced (latest zs k))
     first z zs =
         pick-in (sameKey k (z .entry)) (laterOf z (latest zs k)) (latest zs k)
-        ∙ ap (λ (o : Option Entry). pick (sameKey k (z .entry)) o (entryIn (latest zs k))) (later-in z (latest zs k))
+        ∙ ap (λ (o : Option Entry). pick (sameKey k (z .entry)) o (unplaced (latest zs k))) (later-in z (latest zs k))
 
 -- a key is present in both with the same version and value, or in neither
-pub moved-present : {a b : List Placed} → Moved a b → (k : Key) → entryIn (present a k) ≡ entryIn (present b k)
+pub moved-present : {a b : List Placed} → Moved a b → (k : Key) → valueAt a k ≡ valueAt b k
 unfolding present
-moved-present {a} {b} p k = object-in (latest a k) ∙ ap objectEntry (moved-latest p k) ∙ sym (object-in (latest b k))
+moved-present {a} {b} p k = object-in (latest a k) ∙ ap given (moved-latest p k) ∙ sym (object-in (latest b k))
