@@ -17,7 +17,8 @@ use Rattle.model.specs.Operations.{Operation, write, delete, clean}
 use Rattle.model.specs.Refused.{Lengths, Terms}
 
 -- A call that changes nothing: a read within some tables, a read of the value, what the next step will store, which slot has the
--- fewest present bytes (02, R-5), which two slots to join (02, R-7), and the two reads by scan with N and S (02, R-9).
+-- fewest present bytes (02, R-5), which two slots to join (02, R-7), the two reads by scan with N and S (02, R-9), and a conversion of
+-- the area with N and S into other memory (02, R-12).
 pub data Question : Type 0 where
   reads : Tables → Key → Question
   readsValue : Tables → Key → Question
@@ -26,6 +27,7 @@ pub data Question : Type 0 where
   joins : Question
   scans : ℕ → ℕ → Tables → Key → Question
   scansValue : ℕ → ℕ → Tables → Key → Question
+  converts : ℕ → ℕ → Question
 
 -- A call on the store with its arguments: a start (write, delete or clean) on some terms, a step, a question, a recovery with N, S
 -- and the order list.

@@ -1,12 +1,13 @@
 -- Demand 3, as one claim about a whole list of calls and cuts. Each phrase of the demand stands beside the part that renders it.
 use Prim.Native.Nat.{ℕ, _-_, _≤_, _<_}
 use mathlib.Core.Path.{_≡_}
-use mathlib.Core.Bool.{true, false}
+use mathlib.Core.Bool.{Bool, true, false}
 use mathlib.Core.List.{List, [], _∷_}
 use mathlib.Core.Option.{Option, none, some}
+use lib.Dec.{eqb}
 use lib.ListN.{length}
 use Rattle.word.specs.Number.{Bytes}
-use Rattle.segment.specs.Choice.{pick}
+use Rattle.segment.specs.Choice.{pick, either}
 use Rattle.segment.specs.Layout.{Layout, numberOfLayout}
 use Rattle.segment.specs.declared.Key.{Key}
 use Rattle.segment.specs.Entry.{kindFor}
@@ -27,7 +28,7 @@ use Rattle.model.specs.Operations.{Operation, write, delete, clean, TypedKey}
 use Rattle.model.specs.Recovery.{orderBad, imageLayout}
 use Rattle.model.specs.Refused.{Terms}
 use Rattle.model.specs.Promises.{FormatPromise, RecoverPromise, ReadPromise, Part, partOf, ValuePromise}
-use Rattle.history.specs.Book.{Question, reads, readsValue, tells, fewest, starts, steps, asks, recovers, Answer, saying, giving, Event, called, cut, accepted, Kept, Awaited, Book, bookVersion, freshBook, feed, bookOf, versionFor, highestTold, scans, scansValue, joins, pairing}
+use Rattle.history.specs.Book.{Question, reads, readsValue, tells, fewest, starts, steps, asks, recovers, Answer, saying, giving, Event, called, cut, accepted, Kept, Awaited, Book, bookVersion, freshBook, feed, bookOf, versionFor, highestTold, scans, scansValue, converts, joins, pairing}
 use Rattle.history.specs.Runs.{World, freshWorld, Run}
 
 -- "its index as large as at the last accepted one": within the limits, and no smaller; before the first, any within the limits
@@ -72,10 +73,15 @@ unfoldable pub TellAgrees : Answer → Option Awaited → Type 0
 TellAgrees a none = accepted a ≡ false
 TellAgrees a (some p) = a .said .refused ≡ 6 → ⊥
 
+-- What a conversion of the store's area answers. That area is always an image without a fault, so it is refused for nothing but the second
+-- buffer's length (1), a slot that no longer fits (29) or a version too wide (30), and by no number of a bad image (02, R-12).
+abbrev pub convertMayAnswer : ℕ → Bool
+convertMayAnswer x = either (either (eqb x 0) (eqb x 1)) (either (eqb x 29) (eqb x 30))
+
 -- A read answers version and kind of what the book holds of its key, or 8, and a read of the value that value; also while an
 -- operation is pending. A key whose table the caller may not reach is answered with 22 and no value, whatever the book holds (02, R-2). A
 -- read by scan answers the same at any moment (02, R-9). Of slots the book knows nothing; which one has the fewest present bytes is always
--- told, and while an operation is pending none are named to join (02, R-7).
+-- told, and while an operation is pending none are named to join (02, R-7). A conversion finds a good image at any moment.
 unfoldable pub QuestionAgrees : Layout → Book → Question → Answer → Type 0
 QuestionAgrees L b (reads t k) a = a ≡ saying (pick (holdsTable t (k .table)) (readSaid (bookAnswer L (b .keys k))) (refusal 22))
 QuestionAgrees L b (readsValue t k) a = a ≡ giving (pick (holdsTable t (k .table)) (bookValue (b .keys k)) [])
@@ -84,6 +90,7 @@ QuestionAgrees L b fewest a = accepted a ≡ true
 QuestionAgrees L b joins a = (x : Awaited) → b .pending ≡ some x → a ≡ pairing (noneSaid 5)
 QuestionAgrees L b (scans n s t k) a = a ≡ saying (pick (holdsTable t (k .table)) (readSaid (bookAnswer L (b .keys k))) (refusal 22))
 QuestionAgrees L b (scansValue n s t k) a = a ≡ giving (pick (holdsTable t (k .table)) (bookValue (b .keys k)) [])
+QuestionAgrees L b (converts n s) a = convertMayAnswer (a .said .refused) ≡ true
 
 -- 02, R-1: what a write expected of its key, where it was accepted, is the version that the book has of it.
 unfoldable pub Expects : Expected → ℕ → Type 0

@@ -1,6 +1,6 @@
 -- 01, "Rules of use, for the promise about cuts": the lists of calls and cuts that can happen on one store. Every transition is the
 -- promise of the call, so whatever is proved of runs is proved of what the contracts say. No call but the format is told the edition
--- (02, R-11): a call with a record goes by the record's, recovery and the reads by scan by that of the area's head.
+-- (02, R-11): a call with a record goes by the record's; recovery, the reads by scan and a conversion by that of the area's head.
 use Prim.Native.Nat.{ℕ}
 use mathlib.Core.Path.{_≡_}
 use mathlib.Core.Bool.{true}
@@ -10,7 +10,8 @@ use lib.Dec.{eqb}
 use lib.ListN.{length}
 use Rattle.segment.specs.Choice.{pick}
 use Rattle.segment.specs.declared.Key.{Key}
-use Rattle.record.specs.Answers.{recoverSaid, readSaid, startSaid, stepSaid}
+use Rattle.record.specs.Answers.{recoverSaid, readSaid, startSaid, stepSaid, convertSaid}
+use Rattle.record.specs.declared.ConvertAnswer.{ConvertAnswer}
 use Rattle.record.specs.declared.Foretold.{Foretold}
 use Rattle.record.specs.Pairs.{joinSaid}
 use Rattle.record.specs.declared.Record.{Record}
@@ -27,9 +28,10 @@ use Rattle.model.specs.Operations.{Operation, Typed, TypedKey}
 use Rattle.model.specs.Recovery.{imageLayout}
 use Rattle.model.specs.Refused.{Lengths, Terms, isPending}
 use Rattle.model.specs.Promises.{RecoverPromise, readLengths, ReadPromise, Part, partOf, ValuePromise, lentLengths, StartPromise, StepPromise, tellLengths, TellPromise}
-use Rattle.history.specs.Book.{Question, reads, readsValue, tells, fewest, starts, steps, asks, recovers, Answer, saying, giving, telling, naming, Event, called, cut, accepted, scans, scansValue, joins, pairing}
+use Rattle.history.specs.Book.{Question, reads, readsValue, tells, fewest, starts, steps, asks, recovers, Answer, saying, giving, telling, naming, Event, called, cut, accepted, scans, scansValue, converts, joins, pairing}
 use Rattle.model.specs.Scanned.{ScanPromise, ScanValue}
 use Rattle.model.specs.Joining.{JoinPromise}
+use Rattle.model.specs.Conversion.{ConvertPromise}
 
 -- What the firmware holds from an accepted recovery to the next cut: the newest record, the index of that recovery, and the work
 -- buffer that the last accepted start filled.
@@ -80,7 +82,9 @@ pub data Asked : World → Question → Lengths → Answer → Type 0 where
       {area : List ℕ} {h : Held} {m : Option ℕ} {a : Joined} → JoinPromise (h .rec .edition) (h .rec) area (h .cells) a →
       Asked (record { area = area; held = some h; cells = m }) joins (readLengths area (h .cells)) (pairing (joinSaid (a .answer)))
 
--- What a read by scan answers, by its promise. It gets N, S and the area alone, so nothing has to be held.
+-- What a read by scan or a conversion answers, by its promise. Of the store it gets N, S and the area alone, so nothing has to be held. The
+-- second buffer of a conversion is other memory: into the store's own area or work buffer it is outside the promise, as a format is. What
+-- that buffer holds and then holds is no part of the event, as with a start's work buffer; the promise fixes it.
 pub data Scanned (n s : ℕ) (area : List ℕ) : Question → Lengths → Answer → Type 0 where
   scan :
       {v : Tables} {k : Key} {a : ReadAnswer} → TypedKey k → ScanPromise (imageLayout n s area) n s area v k a →
@@ -88,6 +92,9 @@ pub data Scanned (n s : ℕ) (area : List ℕ) : Question → Lengths → Answer
   scanValue :
       {v : Tables} {k : Key} {p : Part} → TypedKey k → ScanValue (imageLayout n s area) n s area v k p →
       Scanned n s area (scansValue n s v k) (readLengths area []) (giving (partOf area p))
+  convert :
+      {target target′ : List ℕ} {a : ConvertAnswer} → ConvertPromise n s area target target′ a →
+      Scanned n s area (converts n s) (record { area = length area; index = 0; work = length target }) (saying (convertSaid a))
 
 -- One event. A cut takes what is held and leaves the area with the stores made so far. The stores of an operation are made one by
 -- one, each by a step, and no other call stores anything; so a cut during a call is one before it, or one after it once its store
@@ -110,7 +117,8 @@ pub data Moves (n s : ℕ) : World → Event → World → Type 0 where
       (record { area = area′; held = some (record { rec = a .rec; cells = cells′; work = h .work }); cells = m })
   -- a question, which leaves all as it was
   ask : {w : World} {q : Question} {lent : Lengths} {a : Answer} → Asked w q lent a → Moves n s w (called (asks q) lent a) w
-  -- a read by scan with the N and S of the format, which also leaves all as it was: before the first recovery, during an operation, after a cut
+  -- a read by scan or a conversion with the N and S of the format, which also leaves all as it was: before the first recovery, during an
+  -- operation, after a cut
   look : {w : World} {q : Question} {lent : Lengths} {a : Answer} → Scanned n s (w .area) q lent a → Moves n s w (called (asks q) lent a) w
   -- a recovery with the N and S of the format, any order list and any index, with or without a cut before it
   recover :
