@@ -9,6 +9,7 @@ pub mod PairSteps
 pub mod PairReads
 pub mod PairTells
 pub mod PairScans
+pub mod PairConversions
 pub mod PairRecoveries
 pub mod Theorem
 pub mod Lists

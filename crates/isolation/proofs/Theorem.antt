@@ -27,8 +27,8 @@ use Rattle.laws.specs.Starts.{StartInside, start-inside}
 use Rattle.laws.specs.Entering.{Roomy}
 use Rattle.laws.specs.Operated.{OperationLaws}
 use Rattle.laws.specs.OperationsKept.{operation-laws, edition-roomy}
-use Rattle.history.specs.Book.{Question, reads, readsValue, tells, fewest, telling, naming, Call, starts, steps, asks, recovers, Answer, saying, giving, Event, called, cut, Book, freshBook, feed, versionTold, scans, scansValue, joins, pairing}
-use Rattle.history.specs.Runs.{World, freshWorld, Asked, read, readValue, tell, least, Moves, start, step, ask, recover, cuts, Run, stop, go, Scanned, scan, scanValue, look, join}
+use Rattle.history.specs.Book.{Question, reads, readsValue, tells, fewest, telling, naming, Call, starts, steps, asks, recovers, Answer, saying, giving, Event, called, cut, Book, freshBook, feed, versionTold, scans, scansValue, converts, joins, pairing}
+use Rattle.history.specs.Runs.{World, freshWorld, Asked, read, readValue, tell, least, Moves, start, step, ask, recover, cuts, Run, stop, go, Scanned, scan, scanValue, convert, look, join}
 use Rattle.model.specs.Joining.{JoinPromise}
 use Rattle.history.proofs.Invariant.{Inv, HeldGood, baseCells, held-promise, area-promise}
 use Rattle.history.proofs.Theorem.{move-keeps, fresh}
@@ -40,6 +40,7 @@ use Rattle.isolation.proofs.Pair.{HeldBoth, Pair}
 use Rattle.isolation.proofs.PairStarts.{held-alike, start-both}
 use Rattle.isolation.proofs.PairSteps.{step-both}
 use Rattle.isolation.proofs.PairScans.{scan-inside, scan-both, scan-value-both}
+use Rattle.isolation.proofs.PairConversions.{convert-both}
 use Rattle.isolation.proofs.PairReads.{read-both, value-both, join-both}
 use Rattle.isolation.proofs.PairTells.{tell-both}
 use Rattle.isolation.proofs.PairRecoveries.{cut-both, recover-both}
@@ -90,6 +91,7 @@ answer-own servo (asks fewest) c′ l l′ a = refl
 answer-own servo (asks joins) c′ l l′ a = refl
 answer-own servo (asks (scans n s u k)) c′ l l′ a = refl
 answer-own servo (asks (scansValue n s u k)) c′ l l′ a = refl
+answer-own servo (asks (converts n s)) c′ l l′ a = refl
 answer-own servo (recovers n s order) c′ l l′ a = refl
 answer-own media c c′ l l′ a = refl
 
@@ -170,6 +172,7 @@ byScan fewest = false
 byScan joins = false
 byScan (scans n s u k) = true
 byScan (scansValue n s u k) = true
+byScan (converts n s) = true
 
 asked-by : {w : World} {q : Question} {l : Lengths} {a : Answer} → Asked w q l a → byScan q ≡ false
 unfolding byScan
@@ -183,6 +186,7 @@ scanned-by : {n s : ℕ} {area : List ℕ} {q : Question} {l : Lengths} {a : Ans
 unfolding byScan
 scanned-by (scan ty p) = refl
 scanned-by (scanValue ty p) = refl
+scanned-by (convert p) = refl
 
 module _ (L : Layout) (roomy : Roomy L) (n s : ℕ) (of : ℕ → Bool) where
   laws : OperationLaws L
@@ -281,9 +285,9 @@ module _ (L : Layout) (roomy : Roomy L) (n s : ℕ) (of : ℕ → Bool) where
 
   looked-both :
       {w w′ : World} {q q′ : Question} {l l′ : Lengths} {a a′ : Answer} (b b′ : Book) (t t′ : ℕ) (who : Owner) → Scanned n s (w .area) q l a →
-      Scanned n s (w′ .area) q′ l′ a′ → Inv L n s w b t → Inv L n s w′ b′ t′ → Pair of L n s w w′ → q ≡ q′ → Covers of who (called (asks q) l a) →
+      Scanned n s (w′ .area) q′ l′ a′ → Inv L n s w b t → Inv L n s w′ b′ t′ → Pair of L n s w w′ → q ≡ q′ → l ≡ l′ → Covers of who (called (asks q) l a) →
       SameAnswer who (called (asks q) l a) (called (asks q′) l′ a′)
-  looked-both {w} {w′} b b′ t t′ who (scan {v = u} {k} {a} ty p) (scan {v = u′} {k = k′} {a = a′} ty′ p′) inv inv′ pair e c =
+  looked-both {w} {w′} b b′ t t′ who (scan {v = u} {k} {a} ty p) (scan {v = u′} {k = k′} {a = a′} ty′ p′) inv inv′ pair e lent c =
       answer-same who _ _ _ _ _ _
       (ap saying
       (scan-both of L laws n s (baseCells (w .cells)) (baseCells (w′ .cells)) (w .area) (w′ .area) (inv .bytes) (inv′ .bytes) (inv .base) (inv′ .base)
@@ -298,7 +302,7 @@ module _ (L : Layout) (roomy : Roomy L) (n s : ℕ) (of : ℕ → Bool) where
 
       keys : k ≡ k′
       keys = cc
-  looked-both {w} {w′} b b′ t t′ who (scanValue {v = u} {k} {p} ty q) (scanValue {v = u′} {k = k′} {p = p′} ty′ q′) inv inv′ pair e c = by-owner who c
+  looked-both {w} {w′} b b′ t t′ who (scanValue {v = u} {k} {p} ty q) (scanValue {v = u′} {k = k′} {p = p′} ty′ q′) inv inv′ pair e lent c = by-owner who c
     where
       tables : u ≡ u′
       tables = cc
@@ -321,8 +325,17 @@ module _ (L : Layout) (roomy : Roomy L) (n s : ℕ) (of : ℕ → Bool) where
           (subst⁻¹ (λ (v : Tables). ScanValue L n s (w′ .area) v k p′) tables
           (subst⁻¹ (λ (j : Key). ScanValue L n s (w′ .area) u′ j p′) keys
           (area-promise L n s w′ b′ t′ inv′ (λ (K : Layout). ScanValue K n s (w′ .area) u′ k′ p′) q′))))
-  looked-both b b′ t t′ who (scan ty p) (scanValue ty′ q′) inv inv′ pair e c = let z : _≡_ {A = ℕ} 0 1 = cc in absurd (omega arith)
-  looked-both b b′ t t′ who (scanValue ty q) (scan ty′ p′) inv inv′ pair e c = let z : _≡_ {A = ℕ} 0 1 = cc in absurd (omega arith)
+  looked-both {w} {w′} b b′ t t′ who (convert {target} {target′ = target₁} {a} p) (convert {target = target′} {target′ = target₁′} {a = a′} p′) inv inv′ pair e lent c =
+      answer-same who _ _ _ _ _ _
+      (ap saying
+      (convert-both of L n s (baseCells (w .cells)) (baseCells (w′ .cells)) (w .area) (w′ .area) (inv .base) (inv′ .base) (pair .alike) target target′ target₁
+      target₁′ a a′ (ap (λ (x : Lengths). x .work) lent) p p′))
+  looked-both b b′ t t′ who (scan ty p) (scanValue ty′ q′) inv inv′ pair e lent c = let z : _≡_ {A = ℕ} 0 1 = cc in absurd (omega arith)
+  looked-both b b′ t t′ who (scan ty p) (convert p′) inv inv′ pair e lent c = let z : _≡_ {A = ℕ} 0 1 = cc in absurd (omega arith)
+  looked-both b b′ t t′ who (scanValue ty q) (convert p′) inv inv′ pair e lent c = let z : _≡_ {A = ℕ} 0 1 = cc in absurd (omega arith)
+  looked-both b b′ t t′ who (convert p) (scan ty′ p′) inv inv′ pair e lent c = let z : _≡_ {A = ℕ} 0 1 = cc in absurd (omega arith)
+  looked-both b b′ t t′ who (convert p) (scanValue ty′ q′) inv inv′ pair e lent c = let z : _≡_ {A = ℕ} 0 1 = cc in absurd (omega arith)
+  looked-both b b′ t t′ who (scanValue ty q) (scan ty′ p′) inv inv′ pair e lent c = let z : _≡_ {A = ℕ} 0 1 = cc in absurd (omega arith)
 
   abbrev Both : Owner → World → World → Event → Event → Type 0
   Both who x x′ e e′ = Pair of L n s x x′ × SameAnswer who e e′
@@ -379,7 +392,7 @@ module _ (L : Layout) (roomy : Roomy L) (n s : ℕ) (of : ℕ → Bool) where
   called-both b b′ t t′ who (both-ask q q′ e) (ask p) (ask p′) inv inv′ pair same lent c =
       (pair, asked-both b b′ t t′ who p p′ inv inv′ pair e lent c)
   called-both b b′ t t′ who (both-ask q q′ e) (look p) (look p′) inv inv′ pair same lent c =
-      (pair, looked-both b b′ t t′ who p p′ inv inv′ pair e c)
+      (pair, looked-both b b′ t t′ who p p′ inv inv′ pair e lent c)
   called-both b b′ t t′ who (both-ask q q′ e) (ask p) (look p′) inv inv′ pair same lent c =
       absurd (clash (byScan q) (ap byScan e ∙ scanned-by p′) (asked-by p))
   called-both b b′ t t′ who (both-ask q q′ e) (look p) (ask p′) inv inv′ pair same lent c =

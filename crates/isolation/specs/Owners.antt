@@ -11,7 +11,7 @@ use Rattle.record.specs.declared.Tables.{Tables}
 use Rattle.model.specs.Operations.{Operation, write, delete, clean}
 use Rattle.record.specs.Reach.{holdsTable}
 use Rattle.model.specs.Refused.{Terms}
-use Rattle.history.specs.Book.{reads, readsValue, tells, fewest, Call, starts, steps, asks, recovers, Answer, Event, called, cut, scans, scansValue, joins}
+use Rattle.history.specs.Book.{reads, readsValue, tells, fewest, Call, starts, steps, asks, recovers, Answer, Event, called, cut, scans, scansValue, converts, joins}
 
 -- Who made a call. Steps, cleanings, recoveries and cuts are common; it does not matter whose they are said to be.
 pub data Owner : Type 0 where
@@ -64,7 +64,8 @@ SameNumbers a a′ = numbersOf a ≡ numbersOf a′
 
 -- Servo gets the same answer, the value that it reads among it. What the next step will store is the one call whose bytes are nobody's
 -- answer: who drives the device makes it for both owners, and while a write of media's or a cleaning is pending the byte may be one of
--- media's values. Of it all numbers are the same.
+-- media's values. Of it all numbers are the same. A conversion answers its number alone; the image that it writes, with the values of both,
+-- goes into memory that is lent to it and is nobody's answer either (02, R-12).
 unfoldable pub SameToServo : Call → Answer → Answer → Type 0
 SameToServo (starts q o) a a′ = a ≡ a′
 SameToServo steps a a′ = a ≡ a′
@@ -75,6 +76,7 @@ SameToServo (asks fewest) a a′ = a ≡ a′
 SameToServo (asks joins) a a′ = a ≡ a′
 SameToServo (asks (scans n s t k)) a a′ = a ≡ a′
 SameToServo (asks (scansValue n s t k)) a a′ = a ≡ a′
+SameToServo (asks (converts n s)) a a′ = a ≡ a′
 SameToServo (recovers n s order) a a′ = a ≡ a′
 
 -- Of media's answers all numbers are the same.
@@ -116,6 +118,7 @@ rangeOf (called (asks tells) lent a) = none
 rangeOf (called (asks fewest) lent a) = none
 rangeOf (called (asks (scans n s given k)) lent a) = some given
 rangeOf (called (asks (scansValue n s given k)) lent a) = some given
+rangeOf (called (asks (converts n s)) lent a) = none
 rangeOf (called (asks joins) lent a) = none
 rangeOf (called (recovers n s order) lent a) = none
 rangeOf cut = none
