@@ -1,4 +1,4 @@
--- Every read, start and recovery can be made: for every input there is an answer that keeps the promise, as a total function.
+-- Every read, conversion, start and recovery can be made: for every input there is an answer that keeps the promise, as a total function.
 use Prim.Native.Nat.{ℕ}
 use mathlib.Core.Path.{_≡_, refl, sym, ap}
 use mathlib.Core.Bool.{Bool, true, false}
@@ -10,9 +10,10 @@ use lib.ListN.{length, replicate, length-replicate}
 use Rattle.segment.specs.Choice.{pick, isNone}
 use Rattle.segment.specs.Layout.{Layout}
 use Rattle.segment.specs.declared.Key.{Key}
-use Rattle.record.specs.Answers.{taken, saidBy, toldBy, fewestSaid, fewestTold}
+use Rattle.record.specs.Answers.{taken, saidBy, toldBy, fewestSaid, fewestTold, convertSaid}
 use Rattle.record.specs.RangeLaws.{between-low}
 use Rattle.record.specs.Refusals.{numberOfRefusal}
+use Rattle.record.specs.declared.ConvertAnswer.{ConvertAnswer}
 use Rattle.record.specs.declared.Fewest.{Fewest}
 use Rattle.record.specs.Pairs.{joinSaid}
 use Rattle.record.specs.declared.Joined.{Joined}
@@ -30,7 +31,8 @@ use Rattle.model.specs.Fewest.{fewestSlot, fewestCauses, fewestAnswer, FewestPr
 use Rattle.model.specs.Operations.{Operation, logNow}
 use Rattle.model.specs.Recovery.{recovery, recoveryFor, recoverCauses, recordFrom}
 use Rattle.model.specs.Refused.{Terms, reachCauses, readCauses, startCauses}
-use Rattle.model.specs.Promises.{IndexAfter, RecoverPromise, readAnswer, readLengths, ReadPromise, Part, valueAnswer, ValuePromise, Begun, begun, lentLengths, StartPromise}
+use Rattle.model.specs.Conversion.{convertCauses, convertedImage, convertAnswer, ConvertPromise}
+use Rattle.model.specs.Promises.{areaUnless, IndexAfter, RecoverPromise, readAnswer, readLengths, ReadPromise, Part, valueAnswer, ValuePromise, Begun, begun, lentLengths, StartPromise}
 use Rattle.model.specs.Scanned.{imageLog, scanCauses, ScanPromise, scannedPart, ScanValue}
 use Rattle.laws.specs.CauseLaws.{cause-first, first-some}
 use Rattle.laws.specs.SaidLaws.{recover-says, read-says, read-settled, start-settled}
@@ -109,6 +111,22 @@ module _ (L : Layout) (n s : ℕ) (area : List ℕ) (t : Tables) (k : Key) where
 
   pub scan-value-made : ScanValue L n s area t k (scannedPart L n s area t k)
   scan-value-made = record { exact = refl }
+
+-- ---- a conversion, and what the second buffer then holds
+
+abbrev pub convertedBy : ℕ → ℕ → List ℕ → List ℕ → ConvertAnswer
+convertedBy n s area target = convertAnswer (firstCause (convertCauses n s area (length target)))
+
+abbrev pub filledBy : ℕ → ℕ → List ℕ → List ℕ → List ℕ
+filledBy n s area target = areaUnless (firstCause (convertCauses n s area (length target))) (convertedImage n s area) target
+
+pub convert-made : (n s : ℕ) (area target : List ℕ) → ConvertPromise n s area target (filledBy n s area target) (convertedBy n s area target)
+unfolding convertAnswer saidBy
+convert-made n s area target = record { answers = refl; says = go (firstCause (convertCauses n s area (length target))); leaves = refl }
+  where
+    go : (c : Option Refusal) → convertSaid (convertAnswer c) ≡ saidBy c taken
+    go none = refl
+    go (some c) = refl
 
 -- ---- which two slots to join
 

@@ -10,7 +10,7 @@ use lib.ListN.{length, replicate}
 use Rattle.segment.specs.Choice.{both, pick-true, pick}
 use Rattle.segment.specs.Layout.{edition1, numberOfLayout}
 use Rattle.segment.specs.declared.Key.{Key}
-use Rattle.record.specs.Answers.{Said, readSaid, refusal, saidBy}
+use Rattle.record.specs.Answers.{Said, readSaid, refusal, saidBy, taken}
 use Rattle.record.specs.declared.FormatAnswer.{FormatAnswer}
 use Rattle.record.specs.declared.Reading.{Reading}
 use Rattle.record.specs.declared.ReadAnswer.{ReadAnswer}
@@ -34,7 +34,7 @@ use Rattle.history.specs.Finishing.{goesOn, allGoOn}
 use Rattle.history.proofs.Corollaries.{agree-at, agree-behind, told-below-next}
 use Rattle.history.proofs.Expecting.{expected-found, replaces-expected}
 use Rattle.witness.specs.Answers.{recoveredCells, recover-made}
-use Rattle.witness.specs.Example.{computing, booking, bytes-of, nine, nine-typed, ten, ten-typed, ones, twos, threes, expecting, told, lent, startedOn, started, stepped, recovered, readEvent, valueEvent, readsAs, leaving, begins, writes, idles, half, meanwhile, fails, others, deletes, cleans, ends, before, area₀, events, all, run, two, cleaned, foretold, scanEvent, scansAs}
+use Rattle.witness.specs.Example.{computing, booking, bytes-of, nine, nine-typed, ten, ten-typed, ones, twos, threes, expecting, told, lent, startedOn, started, stepped, recovered, readEvent, valueEvent, readsAs, leaving, begins, writes, idles, half, meanwhile, fails, others, deletes, cleans, ends, before, area₀, events, all, run, two, cleaned, foretold, scanEvent, scansAs, convertEvent, unheld}
 
 pub formats : FormatPromise (numberOfLayout edition1) 4 256 before area₀ FormatAnswer.Formatted
 unfolding opened numberOfLayout formattedAs formatAnswer areaUnless saidBy
@@ -156,9 +156,9 @@ read-agreed prior k a value after inside h =
     }
 
 -- on the fresh store, while the second write is pending, and after the recovery in the end
-pub read-fresh : ReadAgreed (bookOf (scansAs nine (refusal 8) [] ++ recovered ∷ [])) nine (refusal 8) []
+pub read-fresh : ReadAgreed (bookOf (unheld ++ recovered ∷ [])) nine (refusal 8) []
 unfolding holdsTable both
-read-fresh = read-agreed (scansAs nine (refusal 8) [] ++ recovered ∷ []) nine (refusal 8) [] (writes ++ rest) refl (demanded .agrees)
+read-fresh = read-agreed (unheld ++ recovered ∷ []) nine (refusal 8) [] (writes ++ rest) refl (demanded .agrees)
 
 pub read-meanwhile : ReadAgreed (bookOf (begins ++ (writes ++ (idles ++ half)))) nine (told 0 1 1) ones
 unfolding holdsTable both
@@ -169,11 +169,11 @@ read-meanwhile =
 -- after the cut, with no record held, a read by scan answered what the book has
 pub scan-unheld :
     told 0 1 1 ≡
-    readSaid (bookAnswer edition1 (bookOf (begins ++ (writes ++ (idles ++ (half ++ (meanwhile ++ (scansAs nine (told 0 1 1) ones ++ cut ∷ [])))))) .keys nine))
+    readSaid (bookAnswer edition1 (bookOf (begins ++ (writes ++ (idles ++ (half ++ (meanwhile ++ (scansAs nine (told 0 1 1) ones ++ convertEvent 1024 taken ∷ cut ∷ [])))))) .keys nine))
 unfolding EventAgrees QuestionAgrees pick holdsTable both
 scan-unheld =
     ap (λ (x : Answer). x .said)
-    (agree-at edition1 freshBook (begins ++ (writes ++ (idles ++ (half ++ (meanwhile ++ (scansAs nine (told 0 1 1) ones ++ cut ∷ []))))))
+    (agree-at edition1 freshBook (begins ++ (writes ++ (idles ++ (half ++ (meanwhile ++ (scansAs nine (told 0 1 1) ones ++ convertEvent 1024 taken ∷ cut ∷ []))))))
     (scanEvent nine (told 0 1 1))
     (called (asks (scansValue 4 256 allTables nine)) (record { area = 1024; index = 0; work = 0 }) (giving ones)
     ∷ recovered

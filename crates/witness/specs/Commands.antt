@@ -5,7 +5,7 @@ use mathlib.Core.Path.{refl}
 use mathlib.Core.List.{List, [], _∷_, _++_}
 use mathlib.Core.Option.{Option, none, some}
 use lib.ListN.{length}
-use Rattle.record.specs.Answers.{recoverSaid, readSaid, startSaid, stepSaid}
+use Rattle.record.specs.Answers.{recoverSaid, readSaid, startSaid, stepSaid, convertSaid}
 use Rattle.segment.specs.declared.Key.{Key}
 use Rattle.record.specs.Pairs.{joinSaid}
 use Rattle.record.specs.declared.Recovery.{Recovery}
@@ -19,12 +19,12 @@ use Rattle.model.specs.Fewest.{noLengths}
 use Rattle.model.specs.Scanned.{scannedPart}
 use Rattle.telling.specs.Told.{toldBy}
 use Rattle.telling.specs.ToldLaws.{told-promise}
-use Rattle.history.specs.Book.{Question, reads, readsValue, tells, fewest, scans, scansValue, starts, steps, asks, recovers, Answer, saying, giving, telling, naming, Event, called, cut, joins, pairing}
-use Rattle.history.specs.Runs.{Held, World, heldAfter, recoveredWorld, Asked, read, readValue, tell, least, scan, scanValue, Moves, start, step, ask, look, recover, cuts, Run, stop, go, join}
-use Rattle.witness.specs.Answers.{readBy, partBy, read-made, value-made, fewestBy, fewest-made, scanBy, scan-made, scan-value-made, startedBy, start-made, recoveredCells, recover-made, joinedBy, join-made}
+use Rattle.history.specs.Book.{Question, reads, readsValue, tells, fewest, scans, scansValue, converts, starts, steps, asks, recovers, Answer, saying, giving, telling, naming, Event, called, cut, joins, pairing}
+use Rattle.history.specs.Runs.{Held, World, heldAfter, recoveredWorld, Asked, read, readValue, tell, least, scan, scanValue, convert, Moves, start, step, ask, look, recover, cuts, Run, stop, go, join}
+use Rattle.witness.specs.Answers.{readBy, partBy, read-made, value-made, fewestBy, fewest-made, scanBy, scan-made, scan-value-made, convertedBy, convert-made, startedBy, start-made, recoveredCells, recover-made, joinedBy, join-made}
 use Rattle.witness.specs.Steps.{Moved, steppedBy, step-made}
 
--- A question's key, where it has one, is of its types. Those by scan need no record, and are commands of their own.
+-- A question's key, where it has one, is of its types. Those by scan and a conversion need no record, and are commands of their own.
 abbrev pub TypedQuestion : Question → Type 0
 TypedQuestion (reads t k) = TypedKey k
 TypedQuestion (readsValue t k) = TypedKey k
@@ -32,15 +32,18 @@ TypedQuestion tells = Unit
 TypedQuestion fewest = Unit
 TypedQuestion (scans n s t k) = ⊥
 TypedQuestion (scansValue n s t k) = ⊥
+TypedQuestion (converts n s) = ⊥
 TypedQuestion joins = Unit
 
--- Arguments are of their types. A start gets any terms and any work buffer, a recovery any order list and any index.
+-- Arguments are of their types. A start gets any terms and any work buffer, a recovery any order list and any index, a conversion any second
+-- buffer.
 pub data Command : Type 0 where
   operate : Terms → (o : Operation) → Typed o → List ℕ → Command
   advance : Command
   question : (q : Question) → TypedQuestion q → Command
   glance : Tables → (k : Key) → TypedKey k → Command
   glanceValue : Tables → (k : Key) → TypedKey k → Command
+  convertInto : List ℕ → Command
   restart : List ℕ → List ℕ → Command
   powerCut : Command
 
@@ -79,6 +82,7 @@ answerBy h area fewest = naming (fewestBy (h .rec .edition) (h .rec) .answer)
 answerBy h area joins = pairing (joinSaid (joinedBy (h .rec .edition) (h .rec) area (h .cells) .answer))
 answerBy h area (scans n s t k) = saying (readSaid (scanBy (imageLayout n s area) n s area t k))
 answerBy h area (scansValue n s t k) = giving (partOf area (scannedPart (imageLayout n s area) n s area t k))
+answerBy h area (converts n s) = saying (convertSaid (convertedBy n s area []))
 
 -- the lengths of what is lent with it: a read gets the index, and what the next step will store is asked with the step's work buffer
 unfoldable pub lentBy : Held → List ℕ → Question → Lengths
@@ -89,6 +93,7 @@ lentBy h area fewest = noLengths
 lentBy h area joins = readLengths area (h .cells)
 lentBy h area (scans n s t k) = readLengths area []
 lentBy h area (scansValue n s t k) = readLengths area []
+lentBy h area (converts n s) = readLengths area []
 
 abbrev pub askedWorld : World → Held → Question → Played
 askedWorld w h q =
@@ -109,6 +114,17 @@ glancedValue n s w t k =
       world = w;
     }
 
+-- a conversion of the area
+abbrev pub convertedInto : ℕ → ℕ → World → List ℕ → Played
+convertedInto n s w target =
+    record {
+      events =
+          called (asks (converts n s)) (record { area = length (w .area); index = 0; work = length target })
+          (saying (convertSaid (convertedBy n s (w .area) target)))
+          ∷ [];
+      world = w;
+    }
+
 abbrev pub restarted : ℕ → ℕ → World → List ℕ → List ℕ → Recovery → Played
 restarted n s w order cells r =
     record {
@@ -116,7 +132,8 @@ restarted n s w order cells r =
       world = recoveredWorld w (recoveredCells (imageLayout n s (w .area)) s order (w .area) cells r) r;
     }
 
--- Without a record only a recovery, a read by scan and a cut can happen: any other command does nothing. A step gets the work buffer of the start.
+-- Without a record only a recovery, a read by scan, a conversion and a cut can happen: any other command does nothing. A step gets the work
+-- buffer of the start.
 unfoldable pub played : ℕ → ℕ → World → Option Held → Command → Played
 played n s w (some h) (operate q o t work) = startedWorld w h q o work (startedBy (h .rec .edition) q o (h .rec) (w .area) (h .cells) work)
 played n s w (some h) advance = steppedWorld w h (steppedBy (h .rec .edition) (h .rec) (w .area) (h .cells) (h .work))
@@ -126,6 +143,7 @@ played n s w none advance = record { events = []; world = w }
 played n s w none (question q t) = record { events = []; world = w }
 played n s w held (glance t k ty) = glanced n s w t k
 played n s w held (glanceValue t k ty) = glancedValue n s w t k
+played n s w held (convertInto target) = convertedInto n s w target
 played n s w held (restart order cells) = restarted n s w order cells (recovery (imageLayout n s (w .area)) n s (length cells) order (w .area))
 played n s w held powerCut = record { events = cut ∷ []; world = record { area = w .area; held = none; cells = w .cells } }
 
@@ -163,6 +181,7 @@ module _ (n s : ℕ) where
   asked area m h fewest t = least (fewest-made (h .rec .edition) (h .rec))
   asked area m h (scans k j u i) t = absurd t
   asked area m h (scansValue k j u i) t = absurd t
+  asked area m h (converts k j) t = absurd t
   asked area m h joins t = join (join-made (h .rec .edition) (h .rec) area (h .cells))
 
   played-run : (area : List ℕ) (m : Option ℕ) (held : Option Held) (c : Command) →
@@ -178,6 +197,8 @@ module _ (n s : ℕ) where
   played-run area m none (glance u k t) = one (look (scan t (scan-made (imageLayout n s area) n s area u k)))
   played-run area m (some h) (glanceValue u k t) = one (look (scanValue t (scan-value-made (imageLayout n s area) n s area u k)))
   played-run area m none (glanceValue u k t) = one (look (scanValue t (scan-value-made (imageLayout n s area) n s area u k)))
+  played-run area m (some h) (convertInto target) = one (look (convert (convert-made n s area target)))
+  played-run area m none (convertInto target) = one (look (convert (convert-made n s area target)))
   played-run area m (some h) (restart order cells) = one (recover (recover-made (imageLayout n s area) n s order area cells))
   played-run area m none (restart order cells) = one (recover (recover-made (imageLayout n s area) n s order area cells))
   played-run area m (some h) powerCut = one cuts

@@ -1,5 +1,6 @@
 -- One run, computed: N 4, S 256, M 16; a write, a second write of the same key that is cut in its middle, a write of another key, a
--- delete, a cleaning, recoveries, reads before, during and after them, and reads by scan where no record is held and while one is.
+-- delete, a cleaning, recoveries, reads before, during and after them, and reads by scan and conversions where no record is held and while
+-- one is.
 use Prim.Native.Nat.{ℕ, zero, suc, _+_, _<_}
 use mathlib.Core.Path.{_≡_, refl, subst}
 use mathlib.Core.List.{List, [], _∷_, _++_}
@@ -9,11 +10,12 @@ use lib.ListN.{replicate}
 use Rattle.word.specs.Fnv.{fnvStep, fnvFrom}
 use Rattle.word.specs.Number.{Bytes}
 use Rattle.segment.specs.Choice.{pick, both}
-use Rattle.segment.specs.Layout.{edition1}
+use Rattle.segment.specs.Layout.{edition1, otherLayout}
 use Rattle.segment.specs.declared.Key.{Key}
 use Rattle.slot_map.specs.Bit.{withBit, less}
 use Rattle.record.specs.Answers.{Said, refusal, taken}
 use Rattle.model.specs.Log.{sameKeys}
+use Rattle.model.specs.Conversion.{slotBytes, convertedSlots, slotTooLong, versionTooWide, nextTooWide, slotTooWide, convertAnswer}
 use Rattle.model.specs.Index.{around}
 use Rattle.record.specs.declared.Expected.the-variants.{Only}
 use Rattle.model.specs.Operations.{Operation, write, delete, clean, Typed, TypedKey, formatted}
@@ -21,7 +23,7 @@ use Rattle.model.specs.Play.{opened, keyed}
 use Rattle.record.specs.Reach.{allTables}
 use Rattle.model.specs.Refused.{Lengths, Terms, freely}
 use Rattle.model.specs.Table.{failing}
-use Rattle.history.specs.Book.{reads, readsValue, tells, starts, steps, asks, recovers, Answer, saying, giving, telling, Event, called, cut, Kept, Awaited, Book, finish, oneOff, takeOne, feedCall, feed, bookAfter, bookOf, scans, scansValue}
+use Rattle.history.specs.Book.{reads, readsValue, tells, starts, steps, asks, recovers, Answer, saying, giving, telling, Event, called, cut, Kept, Awaited, Book, finish, oneOff, takeOne, feedCall, feed, bookAfter, bookOf, scans, scansValue, converts}
 use Rattle.history.specs.Runs.{freshWorld, Run}
 use Rattle.index.specs.Build as Build
 use Rattle.index.specs.Build.{entriesFrom, inLog, listed}
@@ -37,7 +39,7 @@ use Rattle.telling.specs.Next.{commitStore, fitsSlot, fitsLeft, slotStore, slot
 use Rattle.witness.specs.Answers.{cellsBy}
 use Rattle.witness.specs.Compared.{expectedNumber, callNumbers, eventNumbers, eventValue, compared, events-equal}
 use Rattle.witness.specs.Steps.{storedBy, steppedUnless}
-use Rattle.witness.specs.Commands.{Command, operate, advance, question, restart, powerCut, answerBy, lentBy, Played, played, playOn, playAll, commands-run, glance, glanceValue}
+use Rattle.witness.specs.Commands.{Command, operate, advance, question, restart, powerCut, answerBy, lentBy, Played, played, playOn, playAll, commands-run, glance, glanceValue, convertInto}
 
 -- ---- the commands
 
@@ -89,10 +91,16 @@ looking k t rest = question (reads allTables k) t ∷ question (readsValue allTa
 abbrev pub glancing : (k : Key) → TypedKey k → List Command → List Command
 glancing k t rest = glance allTables k t ∷ glanceValue allTables k t ∷ rest
 
+-- a conversion into other memory of so many bytes
+abbrev pub converting : ℕ → Command
+converting long = convertInto (replicate long 0x77)
+
 abbrev pub commands : List Command
 commands =
     glancing nine nine-typed
-    (recovering
+    (converting 1023
+    ∷ converting 1024
+    ∷ recovering
     ∷ looking nine nine-typed
     (starting (write nine ones) (nine-typed, bytes-of 8 0x11 (omega arith))
     ∷ replicate 20 advance ++ advance
@@ -103,7 +111,8 @@ commands =
     ∷ question tells tt
     ∷ replicate 7 advance ++ looking nine nine-typed
     (glancing nine nine-typed
-    (powerCut
+    (converting 1024
+    ∷ powerCut
     ∷ glancing nine nine-typed
     (recovering
     ∷ looking nine nine-typed
@@ -157,6 +166,10 @@ abbrev pub scansAs : Key → Said → List ℕ → List Event
 scansAs k a value =
     scanEvent k a ∷ called (asks (scansValue 4 256 allTables k)) (record { area = 1024; index = 0; work = 0 }) (giving value) ∷ []
 
+-- a conversion into memory of so many bytes that is answered so
+abbrev pub convertEvent : ℕ → Said → Event
+convertEvent long a = called (asks (converts 4 256)) (record { area = 1024; index = 0; work = long }) (saying a)
+
 -- f steps, one after the other, the last of which leaves k stores
 abbrev pub leaving : ℕ → ℕ → List Event
 leaving zero k = []
@@ -169,9 +182,13 @@ finishedOn q o n version = startedOn q o (n + 1) ∷ leaving n 1 ++ stepped (tol
 abbrev pub finished : Operation → ℕ → ℕ → List Event
 finished = finishedOn freely
 
--- The fresh store: a read answers 8, and the value is empty, by scan before the first recovery too.
+-- The fresh store: a read answers 8, and the value is empty, by scan before the first recovery too. Then it is converted already; a second
+-- buffer that is a byte too short is refused with 1.
+abbrev pub unheld : List Event
+unheld = scansAs nine (refusal 8) [] ++ convertEvent 1023 (refusal 1) ∷ convertEvent 1024 taken ∷ []
+
 abbrev pub begins : List Event
-begins = scansAs nine (refusal 8) [] ++ recovered ∷ readsAs nine (refusal 8) []
+begins = unheld ++ recovered ∷ readsAs nine (refusal 8) []
 
 -- The first write is version 1, of kind 1; a step too many is refused with 6, and so is who asks for the store of a further step.
 abbrev pub writes : List Event
@@ -193,9 +210,10 @@ half =
 abbrev pub meanwhile : List Event
 meanwhile = readsAs nine (told 0 1 1) ones
 
--- The cut in it, and what is left; a scan shows the same during the write, and after the cut without a record.
+-- The cut in it, and what is left; a scan shows the same during the write, where the area is converted too, and after the cut without a
+-- record.
 abbrev pub fails : List Event
-fails = scansAs nine (told 0 1 1) ones ++ cut ∷ scansAs nine (told 0 1 1) ones ++ recovered ∷ readsAs nine (told 0 1 1) ones
+fails = scansAs nine (told 0 1 1) ones ++ convertEvent 1024 taken ∷ cut ∷ scansAs nine (told 0 1 1) ones ++ recovered ∷ readsAs nine (told 0 1 1) ones
 
 -- The write of the other key, which is expected to be absent, takes the version that the cut write did not get, and the delete the one
 -- after.
@@ -232,7 +250,8 @@ unfoldable pub computing : Unit {0}
 unfolding opened fnvStep fnvFrom withBit less around entriesFrom inLog listed Build.finished insertedAt tallied insertNext insertAll probe searchFor hasKeyAt
     keysAfter answeredWith foundBytes lostAt lostBy renewedAt foundIn finishEntry finishAppend finishHead upFrom finishClean finishForget oneLess finishWith advanced
     entryAgrees slotAgrees victimsAgree agreesWith testedStore
-    commitStores commitStore fitsSlot fitsLeft slotStore slotNext pendingNext cellsBy storedBy steppedUnless toldStore toldUnless answerBy lentBy played playOn compared expectedNumber callNumbers eventNumbers eventValue
+    commitStores commitStore fitsSlot fitsLeft slotStore slotNext pendingNext cellsBy storedBy steppedUnless toldStore toldUnless
+    otherLayout slotBytes convertedSlots slotTooLong versionTooWide nextTooWide slotTooWide convertAnswer answerBy lentBy played playOn compared expectedNumber callNumbers eventNumbers eventValue
 computing = tt
 
 computed : failing (compared (all .events) events) ≡ []

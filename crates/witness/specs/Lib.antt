@@ -6,4 +6,5 @@ pub mod Compared
 pub mod Example
 pub mod Applied
 pub mod Second
+pub mod Carried
 pub mod Owners

@@ -1,5 +1,5 @@
 -- One run of a store of edition 2 (02, R-11), computed: N 4, S 256, M 16; a write, a second write of the same key that is cut in its middle,
--- a write of another key, a delete, a cleaning, recoveries, reads and reads by scan. Entries and digests are four bytes longer than in
+-- a write of another key, a delete, a cleaning, recoveries, reads, reads by scan and a conversion. Entries and digests are four bytes longer than in
 -- edition 1, so every operation has that many more stores. Demand 3 speaks about it as it does about the run of edition 1.
 use Prim.Native.Nat.{ℕ}
 use mathlib.Core.Path.{_≡_, refl, _∙_, ap, subst, subst⁻¹}
@@ -10,7 +10,7 @@ use native.Mathlib.Omega.{arith}
 use lib.ListN.{length, getD, replicate}
 use Rattle.segment.specs.Choice.{both}
 use Rattle.segment.specs.Layout.{edition2, numberOfLayout}
-use Rattle.record.specs.Answers.{refusal, saidBy}
+use Rattle.record.specs.Answers.{refusal, saidBy, taken}
 use Rattle.record.specs.Reach.{holdsTable, allTables}
 use Rattle.record.specs.declared.FormatAnswer.{FormatAnswer}
 use Rattle.record.specs.declared.Reading.{Reading}
@@ -30,7 +30,7 @@ use Rattle.history.proofs.Theorem.{demand-3}
 use Rattle.witness.specs.Answers.{recoveredCells, recover-made}
 use Rattle.witness.specs.Commands.{Command, advance, powerCut, Played, playAll, commands-run}
 use Rattle.witness.specs.Compared.{compared, events-equal}
-use Rattle.witness.specs.Example.{computing, booking, bytes-of, nine, nine-typed, ten, ten-typed, ones, twos, threes, starting, recovering, looking, glancing, told, started, recovered, readsAs, scansAs, leaving, finished, before, Page, two}
+use Rattle.witness.specs.Example.{computing, booking, bytes-of, nine, nine-typed, ten, ten-typed, ones, twos, threes, starting, recovering, looking, glancing, converting, told, started, recovered, readsAs, scansAs, convertEvent, leaving, finished, before, Page, two}
 
 -- ---- the commands and the events
 
@@ -41,7 +41,8 @@ commands =
     ∷ starting (write nine ones) (nine-typed, bytes-of 8 0x11 (omega arith))
     ∷ replicate 24 advance ++ looking nine nine-typed
     (starting (write nine twos) (nine-typed, bytes-of 8 0x22 (omega arith))
-    ∷ replicate 7 advance ++ powerCut
+    ∷ replicate 7 advance ++ converting 1024
+    ∷ powerCut
     ∷ glancing nine nine-typed
     (recovering
     ∷ looking nine nine-typed
@@ -59,11 +60,11 @@ begins = scansAs nine (refusal 8) [] ++ recovered ∷ []
 abbrev pub writes : List Event
 writes = finished (write nine ones) 23 1 ++ readsAs nine (told 0 1 9) ones
 
--- The second one is cut after 7 of its 24 stores; what is left is the first.
+-- The second one is cut after 7 of its 24 stores, where the area is converted down; what is left is the first.
 abbrev pub fails : List Event
 fails =
     started (write nine twos) 24
-    ∷ leaving 7 17 ++ cut ∷ scansAs nine (told 0 1 9) ones ++ recovered ∷ readsAs nine (told 0 1 9) ones
+    ∷ leaving 7 17 ++ convertEvent 1024 taken ∷ cut ∷ scansAs nine (told 0 1 9) ones ++ recovered ∷ readsAs nine (told 0 1 9) ones
 
 -- An entry of 39 bytes, a tombstone of 15, and a new head with a digest of 17 and the entry that is kept.
 abbrev pub others : List Event
