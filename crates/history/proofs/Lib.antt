@@ -8,6 +8,7 @@ pub mod Readings
 pub mod Scannings
 pub mod Recoveries
 pub mod Theorem
+pub mod Conversions
 pub mod Counting
 pub mod Device
 pub mod Books

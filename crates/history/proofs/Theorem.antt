@@ -108,7 +108,7 @@ module _ (L : Layout) (laws : OperationLaws L) (n s : ℕ) where
       go′ none e h = laws .more-cells n s 16 m (w .area) e h (leb-true 16 m (both-left (leb 16 m) (leb m 4096) h))
       go′ (some c) e h = laws .more-cells n s c m (w .area) e (h .0) (h .1)
 
-  gives-book :
+  pub gives-book :
       (w : World) (b : Book) (t : ℕ) → Inv L n s w b t → (order cells cells′ : List ℕ) (r : Recovery) → orderBad n order ≡ false →
       LargeEnough (w .cells) (length cells) → RecoverPromise (imageLayout n s (w .area)) n s order (w .area) cells cells′ r →
       GivesBook L (w .area) cells′ r b

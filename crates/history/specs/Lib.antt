@@ -2,5 +2,6 @@
 pub mod Book
 pub mod Runs
 pub mod Demand3
+pub mod Conversions
 pub mod Device
 pub mod Finishing
