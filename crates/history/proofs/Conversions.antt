@@ -1,19 +1,14 @@
 -- A converted area has the book of the store that it was converted from, by the invariant of demand 3 (02, R-12).
 use Prim.Native.Nat.{ℕ, max}
 use native.Mathlib.Omega.{arith}
-use mathlib.Core.Path.{_≡_, ap, _∙_}
+use mathlib.Core.Path.{sym, ap, _∙_}
 use mathlib.Core.List.{List}
 use mathlib.Core.Option.{none, some}
-use Rattle.word.specs.Number.{Bytes}
 use Rattle.segment.specs.Layout.{Layout, otherLayout}
-use Rattle.segment.specs.declared.Key.{Key}
-use Rattle.record.specs.declared.ConvertAnswer.{ConvertAnswer}
-use Rattle.record.specs.declared.Record.{Record}
-use Rattle.model.specs.Conversion.{ConvertPromise}
 use Rattle.model.specs.Log.{Placed}
-use Rattle.model.specs.Operations.{logNow}
-use Rattle.model.specs.Recovery.{recovered, recordFrom}
+use Rattle.model.specs.Recovery.{recordFrom}
 use Rattle.laws.specs.MapLaws.{valueAt}
+use Rattle.laws.specs.Converted.{SameStore, conversion-same}
 use Rattle.laws.specs.Operated.{OperationLaws}
 use Rattle.laws.specs.OperationsKept.{edition-laws}
 use Rattle.history.specs.Book.{Book, bookAfter, freshBook, bookOf, highestTold}
@@ -22,37 +17,24 @@ use Rattle.history.specs.Conversions.{StoreWith, ConversionKeepsBook}
 use Rattle.history.proofs.Invariant.{Inv, HeldGood, baseCells, recovered-is, next-of, log-of}
 use Rattle.history.proofs.Theorem.{run-keeps, gives-book, fresh}
 
--- What is asked of a converted area: it recovers, with the same next version and the same map.
-pub record Carried (K : Layout) (n s m : ℕ) (source target : List ℕ) (r : Record) : Type 0 where
-  pub bytes : Bytes target
-  pub rec : Record
-  pub recovers : recovered K n s m target ≡ some rec
-  pub same-next : rec .next ≡ r .next
-  pub same-map : (k : Key) → valueAt (logNow target rec) k ≡ valueAt (logNow source r) k
-
-abbrev pub Carries : Layout → Type 0
-Carries L =
-    (n s m : ℕ) (source target target′ : List ℕ) → Bytes source → ConvertPromise n s source target target′ ConvertAnswer.Converted → (r : Record) →
-    recovered L n s m source ≡ some r → Carried (otherLayout L) n s m source target′ r
-
 -- the invariant of the converted area, of which nothing is held
 abbrev pub carriedWorld : World → List ℕ → World
 carriedWorld w target = record { area = target; held = none; cells = w .cells }
 
 carried-inv :
     (L K : Layout) (n s : ℕ) (w : World) (b : Book) (t : ℕ) (target : List ℕ) → Inv L n s w b t →
-    Carried K n s (baseCells (w .cells)) (w .area) target (recordFrom L n s (baseCells (w .cells)) (w .area)) → Inv K n s (carriedWorld w target) b t
+    SameStore K n s (baseCells (w .cells)) (w .area) target (recordFrom L n s (baseCells (w .cells)) (w .area)) → Inv K n s (carriedWorld w target) b t
 unfolding HeldGood
 carried-inv L K n s w b t target inv c =
     record {
-      bytes = c .bytes;
+      bytes = c .target-bytes;
       base = c .recovers ∙ ap some (recovered-is K n s m target (c .rec) (c .recovers));
       agrees =
           record {
             next-same = next-of K n s m target (c .rec) (c .recovers) ∙ ap (λ v. v .0) (c .same-next) ∙ inv .agrees .next-same;
             map-same =
                 λ k.
-                ap (λ (log : List Placed). valueAt log k) (log-of K n s m target (c .rec) (c .recovers)) ∙ c .same-map k ∙ inv .agrees .map-same k;
+                ap (λ (log : List Placed). valueAt log k) (log-of K n s m target (c .rec) (c .recovers)) ∙ sym (c .same-map k) ∙ inv .agrees .map-same k;
           };
       below = inv .below;
       held = tt;
@@ -71,14 +53,14 @@ inv-store L laws n s w b t inv =
       agrees = λ es x r. run-keeps L laws n s b t r inv .1;
     }
 
--- A conversion keeps the book wherever a converted area recovers to the same.
-pub conversion-keeps-for : (L : Layout) → Carries L → ConversionKeepsBook L
-conversion-keeps-for L carries n s area₀ area ab p es w r target target′ q =
+-- For a store of either edition.
+pub conversion-keeps-book : (L : Layout) → ConversionKeepsBook L
+conversion-keeps-book L n s area₀ area ab p es w r target target′ q =
     let inv = run-keeps L (edition-laws L) n s freshBook 0 r (fresh L (edition-laws L) n s area₀ area ab p) .0 in
     let m = baseCells (w .cells) in
     inv-store (otherLayout L) (edition-laws (otherLayout L)) n s (carriedWorld w target′) (bookOf es) (highestTold es)
     (carried-inv L (otherLayout L) n s w (bookOf es) (highestTold es) target′ (told inv)
-    (carries n s m (w .area) target target′ (inv .bytes) q (recordFrom L n s m (w .area)) (inv .base)))
+    (conversion-same L n s m (w .area) target target′ (inv .bytes) q (recordFrom L n s m (w .area)) (inv .base)))
   where
     told : Inv L n s w (bookOf es) (max 0 (highestTold es)) → Inv L n s w (bookOf es) (highestTold es)
     told inv = record { bytes = inv .bytes; base = inv .base; agrees = inv .agrees; below = omega (arith, inv .below); held = inv .held }

@@ -26,6 +26,7 @@ use Rattle.model.specs.Causes.{firstCause}
 use Rattle.model.specs.Recovery.{imageLayout, recovered, recovery, recordFrom, geometryBad}
 use Rattle.model.specs.Refused.{Terms, freely, reaching}
 use Rattle.model.specs.Promises.{FormatPromise, areaUnless, RecoverPromise, StartPromise}
+use Rattle.laws.specs.ConvertedSlots.{bytes-zeros}
 use Rattle.laws.specs.OperationsKept.{edition-laws}
 use Rattle.laws.specs.RecoverLaws.{recovered-recovery}
 use Rattle.laws.specs.Operated.{planAt}
@@ -279,11 +280,6 @@ start-clean l place r area cells work work′ a e p = subst (λ (x : Letter). St
 abbrev pub freshArea : List ℕ
 freshArea = formatted edition1 4 256 (replicate 1024 0)
 
-zero-bytes : (n : ℕ) → Bytes (replicate n 0)
-zero-bytes zero i = omega arith
-zero-bytes (suc n) zero = omega arith
-zero-bytes (suc n) (suc i) = zero-bytes n i
-
 pub format-fresh : (area′ : List ℕ) (a : FormatAnswer) → FormatPromise 1 4 256 (replicate 1024 0) area′ a → area′ ≡ freshArea
 unfolding areaUnless firstCause pick between both either isNone layoutNumbered formattedAs
 format-fresh area′ a p = p .leaves
@@ -292,7 +288,7 @@ pub fresh-ready : (area cells cells′ : List ℕ) (r : Recovery) → area ≡ f
     → RecoverPromise (imageLayout 4 256 area) 4 256 (0 ∷ 1 ∷ 2 ∷ 3 ∷ []) area cells cells′ r → Ready area (r .rec) cells′
 fresh-ready area cells cells′ r e long p =
     recovered-ready (0 ∷ 1 ∷ 2 ∷ 3 ∷ []) area cells cells′ r order-up long p
-    (subst Bytes (sym e) (edition-laws edition1 .format-bytes 4 256 (replicate 1024 0) (zero-bytes 1024)))
+    (subst Bytes (sym e) (edition-laws edition1 .format-bytes 4 256 (replicate 1024 0) (bytes-zeros 1024)))
     (ap (λ (x : Recovery). x .answer)
     (p .answers
     ∙ ap (λ (m : ℕ). recovery (imageLayout 4 256 area) 4 256 m (0 ∷ 1 ∷ 2 ∷ 3 ∷ []) area) long
