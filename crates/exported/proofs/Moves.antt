@@ -8,12 +8,13 @@ use lib.Dec.{eqb}
 use lib.ListN.{length, take, drop}
 use Rattle.segment.specs.Choice.{pick, pick-false}
 use Rattle.segment.specs.declared.Key.{Key}
-use Rattle.record.specs.Answers.{Said, refusal, taken, takenWith, recoverSaid, readSaid, startSaid, stepSaid, tellSaid, fewestSaid}
+use Rattle.record.specs.Answers.{Said, refusal, taken, takenWith, recoverSaid, readSaid, startSaid, stepSaid, tellSaid, fewestSaid, convertSaid}
 use Rattle.record.specs.Range.{fitsLent}
 use Rattle.record.specs.RangeLaws.{blank-unfit}
 use Rattle.record.specs.Refusals.{numberOfRefusal}
 use Rattle.record.specs.declared.Record.{Record}
 use Rattle.record.specs.declared.ReadAnswer.{ReadAnswer}
+use Rattle.record.specs.declared.ConvertAnswer.{ConvertAnswer}
 use Rattle.record.specs.declared.RecoverAnswer.{RecoverAnswer}
 use Rattle.record.specs.declared.Refusal.{Refusal}
 use Rattle.record.specs.declared.Refusal.the-variants.{BadRecord}
@@ -34,12 +35,12 @@ use Rattle.laws.specs.CauseLaws.{cause-first, refusal-number}
 use Rattle.words.specs.Words.{recordWords, isRecord, decoded}
 use Rattle.words.specs.WordLaws.{record-long, decoded-record, decoded-none, decode-encode}
 use Rattle.words.specs.declared.Decoded.{Decoded}
-use Rattle.history.specs.Book.{reads, readsValue, tells, fewest, starts, steps, asks, recovers, Answer, saying, giving, telling, naming, Event, called, scans, scansValue, joins, pairing}
+use Rattle.history.specs.Book.{reads, readsValue, tells, fewest, starts, steps, asks, recovers, Answer, saying, giving, telling, naming, Event, called, scans, scansValue, converts, joins, pairing}
 use Rattle.history.specs.Runs as Store
 use Rattle.history.specs.Runs.{World, recoveredWorld, Run}
-use Rattle.kurdavel.specs.Crossing.{keptWords, wordsAfter, RecoverCrossed, ReadCrossed, ValueCrossed, storesAfter, StartCrossed, leftTold, toldAfter, StepCrossed, placeTold, byteTold, TellCrossed, FewestCrossed, ScanCrossed, ScanValueCrossed}
+use Rattle.kurdavel.specs.Crossing.{keptWords, wordsAfter, RecoverCrossed, ReadCrossed, ValueCrossed, storesAfter, StartCrossed, leftTold, toldAfter, StepCrossed, placeTold, byteTold, TellCrossed, FewestCrossed, ScanCrossed, ScanValueCrossed, ConvertCrossed}
 use Rattle.kurdavel.specs.Crossing as Crossing
-use Rattle.exported.specs.Runs.{HeldWords, Memory, heldBy, worldOf, KeyArgument, Arguments, numberSaid, stepTold, readTold, storeTold, slotTold, recoveredMemory, Exports, start, step, read, readValue, tell, least, recover, short, cuts, ExportedRun, stop, go, scan, scanValue, join}
+use Rattle.exported.specs.Runs.{HeldWords, Memory, heldBy, worldOf, KeyArgument, Arguments, numberSaid, stepTold, readTold, storeTold, slotTold, recoveredMemory, Exports, start, step, read, readValue, tell, least, recover, short, cuts, ExportedRun, stop, go, scan, scanValue, convert, join}
 use Rattle.kurdavel.specs.Joining.{JoinCrossed}
 
 -- ---- arguments: whatever has its C type is typed
@@ -102,6 +103,10 @@ slot-told (FewestAnswer.Slot i) slot number e f = λ j. slotTold (sym e j) (sym 
 slot-told (FewestAnswer.Refused c) slot number e f =
     sym (pick-false (eqb (numberOfRefusal c) 0) (record { said = taken; value = slot ∷ []; place = 0 }) (saying (refusal (numberOfRefusal c))) (refusal-number c)) ∙
     ap (λ (k : ℕ). slotTold k slot) (sym e)
+
+convert-said : (a : ConvertAnswer) (number : ℕ) → number ≡ convertSaid a .refused → convertSaid a ≡ numberSaid number taken
+convert-said ConvertAnswer.Converted number e = taken-said number taken e
+convert-said (ConvertAnswer.Refused c) number e = refused-said c number taken e
 
 recover-said : (a : RecoverAnswer) (number : ℕ) → number ≡ recoverSaid a .refused → recoverSaid a ≡ numberSaid number taken
 recover-said RecoverAnswer.Recovered number e = taken-said number taken e
@@ -270,6 +275,18 @@ module _ (n s : ℕ) where
       Store.go (Store.look {w = worldOf m} (Store.scan typed (c .promised)))
       (Store.go (Store.look {w = worldOf m} (Store.scanValue typed (c .value))) Store.stop)
 
+  convert-runs :
+      (m : Memory) (target target′ : List ℕ) (number : ℕ) → ConvertCrossed n s (m .area) target target′ number →
+      Runs (worldOf m)
+      (called (asks (converts n s)) (record { area = length (m .area); index = 0; work = length target }) (saying (numberSaid number taken)) ∷ [])
+      (worldOf m)
+  convert-runs m target target′ number c =
+      subst
+      (λ (a : Said).
+      Runs (worldOf m) (called (asks (converts n s)) (record { area = length (m .area); index = 0; work = length target }) (saying a) ∷ [])
+      (worldOf m)) (convert-said (c .answer) number (c .numbered))
+      (Store.go (Store.look {w = worldOf m} (Store.convert (c .promised))) Store.stop)
+
   join-runs :
       (area : List ℕ) (h : HeldWords) (m : Option ℕ) (first second number : ℕ) → JoinCrossed (h .words) area (h .cells) first second number →
       Runs (worldOf (record { area = area; held = some h; cells = m }))
@@ -338,6 +355,7 @@ module _ (n s : ℕ) where
   exports-run (least {area} {h} {m} {slot} {number} c) = fewest-runs area h m slot number c
   exports-run (scan {m} {v} {k} {version} {kind} {number} p c) = scan-runs m v k version kind number p c
   exports-run (scanValue {m} {v} {k} {place} {bytes} {number} p c) = scan-value-runs m v k place bytes number p c
+  exports-run (convert {m} {target} {target′} {number} c) = convert-runs m target target′ number c
   exports-run (join {area} {h} {m} {first} {second} {number} c) = join-runs area h m first second number c
   exports-run (recover {m} {order} {cells} {cells′} {words} {words′} {number} long c) =
       recover-runs m order cells cells′ words words′ number long c

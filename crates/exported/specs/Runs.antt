@@ -18,9 +18,9 @@ use Rattle.record.specs.declared.Tables.{Tables}
 use Rattle.model.specs.Refused.{Terms, isPending}
 use Rattle.model.specs.Promises.{readLengths, lentLengths, tellLengths}
 use Rattle.words.specs.Words.{recordWords, decoded}
-use Rattle.history.specs.Book.{reads, readsValue, tells, fewest, starts, steps, asks, recovers, Answer, saying, giving, Event, called, cut, scans, scansValue, joins, pairing}
+use Rattle.history.specs.Book.{reads, readsValue, tells, fewest, starts, steps, asks, recovers, Answer, saying, giving, Event, called, cut, scans, scansValue, converts, joins, pairing}
 use Rattle.history.specs.Runs.{Held, World}
-use Rattle.kurdavel.specs.Crossing.{RecoverCrossed, ReadCrossed, ValueCrossed, StartCrossed, StepCrossed, TellCrossed, FewestCrossed, ScanCrossed, ScanValueCrossed}
+use Rattle.kurdavel.specs.Crossing.{RecoverCrossed, ReadCrossed, ValueCrossed, StartCrossed, StepCrossed, TellCrossed, FewestCrossed, ScanCrossed, ScanValueCrossed, ConvertCrossed}
 use Rattle.kurdavel.specs.Joining.{JoinCrossed}
 
 -- ---- what is held
@@ -150,6 +150,11 @@ pub data Exports (n s : ℕ) : Memory → List Event → Memory → Type 0 where
       ∷ called (asks (scansValue n s v k)) (readLengths (m .area) []) (giving (take bytes (drop place (m .area))))
       ∷ [])
       m
+  -- kurdavel_convert of the area with the N and S of the format, into other memory; whether anything is held or not
+  convert :
+      {m : Memory} {target target′ : List ℕ} {number : ℕ} → ConvertCrossed n s (m .area) target target′ number →
+      Exports n s m
+      (called (asks (converts n s)) (record { area = length (m .area); index = 0; work = length target }) (saying (numberSaid number taken)) ∷ []) m
   -- kurdavel_join, which tells its slots through pointers whether it is refused or not
   join :
       {area : List ℕ} {h : HeldWords} {m : Option ℕ} {first second number : ℕ} → JoinCrossed (h .words) area (h .cells) first second number →
