@@ -13,7 +13,7 @@ entries-size-requires : tie.Need-entries-size-requires
 entries-size-requires c κs = search needs
 
 add-result : tie.Need-add-result
-add-result c = omega (arith, c .entries-size .ensures .1, c .before .digest-size .ensures, width-high (c .before .before .before .args .to))
+add-result c = omega (arith, c .entries-size .ensures .1, c .before .digest-size .ensures, width-high (c .before .before .before .args .from), width-high (c .before .before .before .args .to))
 
 returns : tie.Need-returns
 returns c = let a = c .before .before .before .args in omega (arith, c .entries-size .ensures .0, c .before .digest-size .ensures, length-partBytes (a .from) (a .to) (a .part .now))
