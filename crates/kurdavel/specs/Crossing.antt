@@ -8,9 +8,10 @@ use mathlib.Core.List.{List}
 use lib.ListN.{length}
 use lib.Seq.{sets}
 use Rattle.segment.specs.declared.Key.{Key}
-use Rattle.record.specs.Answers.{formatSaid, recoverSaid, readSaid, startSaid, stepSaid, tellSaid, fewestSaid}
+use Rattle.record.specs.Answers.{formatSaid, recoverSaid, readSaid, startSaid, stepSaid, tellSaid, fewestSaid, convertSaid}
 use Rattle.record.specs.declared.Record.{Record}
 use Rattle.record.specs.declared.FormatAnswer.{FormatAnswer}
+use Rattle.record.specs.declared.ConvertAnswer.{ConvertAnswer}
 use Rattle.record.specs.declared.Recovery.{Recovery}
 use Rattle.record.specs.declared.RecoverAnswer.{RecoverAnswer}
 use Rattle.record.specs.declared.Reading.{Reading}
@@ -24,6 +25,7 @@ use Rattle.record.specs.declared.FewestAnswer.{FewestAnswer}
 use Rattle.record.specs.declared.Foretold.{Foretold}
 use Rattle.record.specs.declared.TellAnswer.{TellAnswer}
 use Rattle.model.specs.Recovery.{imageLayout}
+use Rattle.model.specs.Conversion.{ConvertPromise}
 use Rattle.model.specs.Fewest.{FewestPromise}
 use Rattle.model.specs.Operations.{Operation}
 use Rattle.record.specs.declared.Tables.{Tables}
@@ -106,6 +108,13 @@ pub record ScanValueCrossed (n s : ℕ) (area : List ℕ) (t : Tables) (k : Key)
   pub value : ScanValue (imageLayout n s area) n s area t k (record { place = place; bytes = bytes })
   pub inside : place + bytes ≤ length area
   pub nowhere : (number ≡ 0 → ⊥) → (place ≡ 0) × (bytes ≡ 0)
+
+-- ---- conversion, which takes no record (02, R-12)
+
+pub record ConvertCrossed (n s : ℕ) (source target target′ : List ℕ) (number : ℕ) : Type 0 where
+  pub answer : ConvertAnswer
+  pub promised : ConvertPromise n s source target target′ answer
+  pub numbered : number ≡ convertSaid answer .refused
 
 -- ---- write, delete and clean
 

@@ -13,13 +13,14 @@ use Rattle.segment.specs.Choice.{both, both-true}
 use Rattle.segment.specs.Layout.{Layout}
 use Rattle.segment.specs.declared.Key.{Key}
 use Rattle.segment.specs.declared.Version.{Version}
-use Rattle.record.specs.Answers.{bare, formatSaid, recoverSaid, readSaid, startSaid, stepSaid}
+use Rattle.record.specs.Answers.{bare, formatSaid, recoverSaid, readSaid, startSaid, stepSaid, convertSaid}
 use Rattle.record.specs.Range.{inRange, lengthsOwn, fitsLent}
 use Rattle.record.specs.RangeLaws.{Lent, lent, blank-out}
 use Rattle.record.specs.declared.Refusal.{Refusal}
 use Rattle.record.specs.declared.Refusal.the-variants.{BadRecord}
 use Rattle.record.specs.declared.Record.{Record}
 use Rattle.record.specs.declared.FormatAnswer.{FormatAnswer}
+use Rattle.record.specs.declared.ConvertAnswer.{ConvertAnswer}
 use Rattle.record.specs.declared.Recovery.{Recovery}
 use Rattle.record.specs.declared.RecoverAnswer.{RecoverAnswer}
 use Rattle.record.specs.declared.ReadAnswer.{ReadAnswer}
@@ -46,8 +47,9 @@ use Rattle.recovery.specs.declared.Lookup.{Lookup}
 use Rattle.words.specs.Words.{recordWords, wordsOf, word, countsIn, recordIn, isRecord, decoded, editionOf}
 use Rattle.words.specs.WordLaws.{record-long, counts-long, decoded-record, decoded-none, too-short, none-unfit, encode-decode, fits-record, fits-decoded}
 use Rattle.words.specs.declared.Decoded.{Decoded}
-use Rattle.kurdavel.specs.Crossing.{FormatCrossed, RecoverCrossed, wordsAfter, ReadCrossed, ValueCrossed, Handed, storesAfter, StartCrossed, keptWords, StepCrossed, leftTold, toldAfter, slotTold, FewestCrossed, ScanCrossed, ScanValueCrossed}
+use Rattle.kurdavel.specs.Crossing.{FormatCrossed, RecoverCrossed, wordsAfter, ReadCrossed, ValueCrossed, Handed, storesAfter, StartCrossed, keptWords, StepCrossed, leftTold, toldAfter, slotTold, FewestCrossed, ScanCrossed, ScanValueCrossed, ConvertCrossed}
 use Rattle.model.specs.Scanned.{ScanValue}
+use Rattle.model.specs.Conversion.{ConvertPromise}
 use Rattle.scanning.specs.Seeking.{sought, answerOf, partFor}
 use Rattle.scanning.specs.SeekingLaws.{scan-promise, scan-value}
 use Rattle.scanning.specs.declared.Sought.{Sought}
@@ -256,6 +258,12 @@ module _ {n s : ℕ} {area : List ℕ} {t : Tables} {k : Key} {number : ℕ} {x 
         inside = i;
         nowhere = w;
       }
+
+-- ---- conversion
+
+pub convert-crossed : {n s : ℕ} {source target target′ : List ℕ} {a b : ConvertAnswer} {number : ℕ} → ConvertPromise n s source target target′ a → a ≡ b
+    → number ≡ convertSaid b .refused → ConvertCrossed n s source target target′ number
+convert-crossed {a = a} p q m = record { answer = a; promised = p; numbered = m ∙ ap (λ (x : ConvertAnswer). convertSaid x .refused) (sym q) }
 
 -- ---- write, delete and clean
 

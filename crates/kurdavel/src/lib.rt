@@ -53,6 +53,7 @@ ghost use Rattle.words.specs.Words.{recordWords};
 ghost use Rattle.kurdavel.specs.Crossing.{FormatCrossed, RecoverCrossed, ReadCrossed, ValueCrossed, StartCrossed, keptWords, Handed};
 ghost use Rattle.kurdavel.specs.Joining.{JoinCrossed};
 
+pub mod convert;
 pub mod fewest;
 pub mod scan;
 pub mod step;

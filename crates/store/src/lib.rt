@@ -21,6 +21,11 @@ pub use recovery::read::read_value;
 pub use scanning::read::scan_read;
 pub use scanning::read::scan_read_value;
 
+// Puts an image of one edition into the other, from an area into a second buffer of the same length: the same log and the same digests,
+// and every other byte 0 (02, R-12). Like format outside the promise about cuts. Refused with 1, 16, 17, 24, 25, 28, 18, 19, 29 or
+// 30, it changes nothing.
+pub use converting::convert::convert;
+
 // Starts a write: checks, fills the work buffer, and answers the number of stores to come. Nothing is stored in the area.
 // Refused with 4, 22, 3, 5, 7, 9, 11, 12 or 10, it changes nothing.
 pub use writing::start::write;
