@@ -51,6 +51,7 @@
  *     bytes of a slot's digest        13                        17
  *   All else is the same for both. Edition 2 is for a store that would use up the versions, of which every write and every
  *   delete takes one; edition 1 has room for more entries. Slots of both editions in one log are damage (28).
+ *   kurdavel_convert makes an image of the one edition from an image of the other.
  *
  * HOW THE CALLS GO TOGETHER
  *   kurdavel_format once, for a new area. After that, and after each cut, kurdavel_recover: it gives the record and
@@ -91,7 +92,8 @@
  *   at each entry of the log (at most (N - 1) * ((S - 13) / 11) of them, in edition 2 (N - 1) * ((S - 17) / 15)), with a
  *   search for each; recovery and these last steps also write all M words of the index. kurdavel_join takes no more than
  *   one and a half times as long as the starts of a cleaning of each slot of the log, one after another.
- *   kurdavel_scan_read looks at each entry of the log as recovery does, without the index, and takes no longer. A search
+ *   kurdavel_scan_read looks at each entry of the log as recovery does, without the index, and takes no longer.
+ *   kurdavel_convert makes the same checks, looks at each entry three times more and writes all N * S bytes. A search
  *   looks at few words while M is well above the number of keys, and never at more than the keys and one more.
  *   docs/PERFORMANCE.md has bounds and measured worst cases.
  *
@@ -142,7 +144,8 @@
  *   One call at a time for each store, but reads, which change nothing, may overlap one another. A read from an
  *   interrupt or another task is allowed between two steps, not while a call that changes the record, the index or the
  *   area is under way. The same holds for kurdavel_scan_read, kurdavel_scan_read_value, kurdavel_next_store,
- *   kurdavel_fewest and kurdavel_join, which change nothing either.
+ *   kurdavel_fewest and kurdavel_join, which change nothing either, and for kurdavel_convert from the area of a store,
+ *   which changes the target alone.
  *
  * CHOOSING M, AND ROOM
  *   Every key with an entry in the log has one cell, and M - 1 keys is the most. A deleted key counts until no entry
@@ -161,7 +164,7 @@
  *
  *   What helps after a refusal
  *    9  Only a format, which empties the store: no version is left. Reads and cleanings go on. A store of
- *       edition 1 may be formatted in edition 2, which has versions enough.
+ *       edition 1 may be formatted in edition 2, which has versions enough, or its image converted (kurdavel_convert).
  *   10  Only a format, which empties the store: no digest number is left. Reads go on, and so do writes and deletes
  *       whose entry fits the head.
  *   11  Clean the slots that hold entries of deleted keys, objects and tombstone of a key together or the objects
@@ -178,6 +181,9 @@
  *       of its entries that no longer count; or delete.
  *   26  The record is damaged, or its position has a fraction: measure the position anew.
  *   27  Keep the count: no float holds it, or it is no position.
+ *   29  Clean the slots that are too full before the conversion, or delete: an entry takes 4 bytes more in edition 2, and so
+ *       does a digest.
+ *   30  Nothing: edition 1 has no such version.
  */
 #ifndef KURDAVEL_H
 #define KURDAVEL_H
@@ -194,7 +200,7 @@ extern "C" {
  * written by an earlier one may be refused; MINOR when something is added.
  */
 #define KURDAVEL_VERSION_MAJOR 6u
-#define KURDAVEL_VERSION_MINOR 0u
+#define KURDAVEL_VERSION_MINOR 1u
 #define KURDAVEL_VERSION (KURDAVEL_VERSION_MAJOR * 1000u + KURDAVEL_VERSION_MINOR)
 
 /* Sizes. */
@@ -227,6 +233,7 @@ extern "C" {
 #define KURDAVEL_STACK_JOIN 8960u
 #define KURDAVEL_STACK_SCAN_READ 4608u
 #define KURDAVEL_STACK_SCAN_READ_VALUE 4608u
+#define KURDAVEL_STACK_CONVERT 4608u
 #define KURDAVEL_STACK_FROM_FLOAT 64u
 #define KURDAVEL_STACK_TO_FLOAT 64u
 
@@ -306,7 +313,11 @@ enum kurdavel_answer {
     KURDAVEL_REFUSED_BAD_FLOAT = 26,       /* the float is no whole number from 0 to 67,108,864, or its sign bit is
                                               set */
     KURDAVEL_REFUSED_BAD_COUNT = 27,       /* the count is above 67,108,864, or no float holds it */
-    KURDAVEL_REFUSED_BOTH_EDITIONS = 28    /* slots of the log are of both editions */
+    KURDAVEL_REFUSED_BOTH_EDITIONS = 28,   /* slots of the log are of both editions */
+    KURDAVEL_REFUSED_SLOT_TOO_LONG = 29,   /* a conversion: digest and entries of a slot of the log would take more than
+                                              S bytes */
+    KURDAVEL_REFUSED_VERSION_TOO_WIDE = 30 /* a conversion: a version or a next version in the log that edition 1 does
+                                              not have */
 };
 
 /*
@@ -444,6 +455,23 @@ uint32_t kurdavel_scan_read(uint32_t slots, uint32_t slot_bytes, const uint8_t *
 uint32_t kurdavel_scan_read_value(uint32_t slots, uint32_t slot_bytes, const uint8_t *area, size_t area_bytes,
                                   uint16_t first, uint16_t last, uint16_t table, uint32_t key, uint32_t *place,
                                   uint32_t *bytes);
+
+/*
+ * Converts the image of a whole store to the other edition: that of edition 1 in `source` to one of edition 2 in `target`,
+ * that of edition 2 to one of edition 1, as the head of the source tells. No record, no index and no work buffer are needed.
+ * The target gets the slots of the log with the same numbers, digest numbers, maps and next versions, and in each the same
+ * entries in the same order, objects and tombstones; every other byte of it becomes 0. A recovery of it gives the same keys
+ * with the same values and versions and the same next version, and the conversion back gives the same log. The source is
+ * only read.
+ * Refused: 1, 16, 17, 24, 25, 28, 18, 19, 29, 30, in this order. 1 is for either buffer, both of which are N * S bytes long;
+ * those from 16 to 19 are recovery's, and there may be more keys than any index takes. 29 can only come up on the way to
+ * edition 2, whose entries are longer, and 30 only on the way to edition 1. All is tested before the first byte is written:
+ * a refusal leaves the target as it was.
+ * The two buffers may not overlap. A cut during this call is not covered: like a format, a conversion into the area or the
+ * work buffer of a store is outside the promise about cuts. Convert again, and recover before any other call.
+ */
+uint32_t kurdavel_convert(uint32_t slots, uint32_t slot_bytes, const uint8_t *source, size_t source_bytes,
+                          uint8_t *target, size_t target_bytes);
 
 /*
  * Converts a value of 8 bytes whose first four are a head position as a float into one that has there the same position as
@@ -615,6 +643,11 @@ static inline uint32_t kurdavel_store_scan_read_value(const struct kurdavel_area
                                                tables.last, key.table, key.key, &place, &value->length);
     value->bytes = area->bytes + place;
     return answer;
+}
+
+/* The target is as long as the source's area, and no part of it. */
+static inline uint32_t kurdavel_store_convert(const struct kurdavel_area *source, uint8_t *target, size_t target_bytes) {
+    return kurdavel_convert(source->slots, source->slot_bytes, source->bytes, source->length, target, target_bytes);
 }
 
 #ifdef __cplusplus
