@@ -15,7 +15,7 @@ use Rattle.record.specs.Answers.{taken, saidBy, convertSaid}
 use Rattle.record.specs.declared.ConvertAnswer.{ConvertAnswer}
 use Rattle.record.specs.declared.Refusal.{Refusal}
 use Rattle.record.specs.declared.Refusal.the-variants.{Geometry, SlotTooLong, VersionTooWide}
-use Rattle.model.specs.Log.{View, Head, viewsOf, headOf}
+use Rattle.model.specs.Log.{View, Head, viewsOf, headOf, logOf, highest}
 use Rattle.model.specs.Causes.{Cause, when, firstCause}
 use Rattle.model.specs.Recovery.{geometryBad, headElse, logSlots, namesNoDigest, imageLayout, imageCauses}
 use Rattle.model.specs.Conversion.{slotTooLong, slotTooWide, convertedSlots, convertedImage, targetLayout, imageSlots, fitCauses, convertCauses, convertAnswer, ConvertPromise}
@@ -152,6 +152,9 @@ module _ (n s : ℕ) (source target : List ℕ) where
                 (subst (λ (x : Head). namesNoDigest v (logSlots x) n ≡ false) (one .head) (image-passed L v n (headOf v n) (one .clear) .all-digests));
             scans = image-scans L v n i d top one;
           }
+
+      pub sound-top : top .0 ≡ highest (logOf v (named (d .map)) n)
+      sound-top = ap (λ (x : Version). x .0) (one .top-is)
 
       pub convert-sound : (a : ConvertAnswer) (target′ : List ℕ) → LogConverted L v (named (d .map)) s n target target′ a → ConvertPromise n s source target target′ a
       convert-sound a target′ r = promised a target′ (r .answers ∙ ap convertAnswer (sym first-is)) (r .leaves ∙ left)

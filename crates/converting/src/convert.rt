@@ -8,12 +8,13 @@ use recovery::Image;
 use recovery::format::geometry_bad;
 use recovery::recover::look_at;
 use segment::Edition;
+use segment::Version;
 use segment::layout::other;
 ghost use Prim.Native.Nat.{_*_};
 ghost use mathlib.Core.Path.{_≡_};
 ghost use lib.ListN.{length};
 ghost use Rattle.slot_map.specs.Bit.{named};
-ghost use Rattle.model.specs.Log.{viewsOf};
+ghost use Rattle.model.specs.Log.{viewsOf, logOf, highest};
 ghost use Rattle.model.specs.Conversion.{ConvertPromise};
 ghost use Rattle.log.specs.Shape.{Shape};
 ghost use Rattle.converting.specs.Parts.{LogOf};
@@ -26,10 +27,11 @@ fn convert_log(
     s: usize,
     source: &[u8],
     map: u32,
+    top: Version,
     target: &mut [u8],
 ) -> ConvertAnswer
     requires { ⌜ Shape n s (now source) × LogOf from (viewsOf (now source) s) (named map) n ⌝ }
-    requires { ⌜ length (now target) ≡ n * s ⌝ }
+    requires { ⌜ (top .0 ≡ highest (logOf (viewsOf (now source) s) (named map) n)) × (length (now target) ≡ n * s) ⌝ }
     ensures { λ r.
         ⌜ LogConverted from (viewsOf (now (source .entry)) s) (named map) s n (now (target .entry)) (now (target .exit)) r ⌝ }
 {
@@ -37,7 +39,7 @@ fn convert_log(
     if too_long(from, to, n, s, source, map) {
         return ConvertAnswer::Refused(Refusal::SlotTooLong);
     }
-    if too_wide(from, to, n, s, source, map) {
+    if too_wide(from, to, n, s, source, map, top) {
         return ConvertAnswer::Refused(Refusal::VersionTooWide);
     }
     put_log(from, to, n, s, source, map, target);
@@ -60,7 +62,15 @@ pub fn convert(n: u32, s: u32, source: &[u8], target: &mut [u8]) -> ConvertAnswe
             edition,
             slot: _,
             digest,
-            highest: _,
-        } => convert_log(edition, n as usize, s as usize, source, digest.map, target),
+            highest,
+        } => convert_log(
+            edition,
+            n as usize,
+            s as usize,
+            source,
+            digest.map,
+            highest,
+            target,
+        ),
     }
 }

@@ -7,7 +7,7 @@ use Rattle.model.specs.Log.{viewsOf}
 use Rattle.model.specs.Recovery.{geometryBad}
 use Rattle.recovery.specs.Recovering.{imageOf}
 use Rattle.recovery.specs.declared.Image.{Image}
-use Rattle.converting.specs.ConvertLaws.{area-shape, convert-source, convert-target, convert-refused, sound-log, convert-sound}
+use Rattle.converting.specs.ConvertLaws.{area-shape, convert-source, convert-target, convert-refused, sound-log, sound-top, convert-sound}
 use Rattle.converting.proofs.convert.convert.Statement.{statement}
 use Rattle.converting.proofs.convert.convert.Tie as tie
 
@@ -53,7 +53,7 @@ convert-log-requires c κs =
     let e = c .before .before .before .before .before in
     let a = c .before .before .before .before .before .before .before .before .before .before .before .args in (
       (area-shape (a .n) (a .s) (a .source .now) (source-fits e), sound-log (a .n) (a .s) (a .source .now) (a .target .now) (source-fits e) (target-fits e) _ _ _ _ (found (c .before .before))),
-      area-shape (a .n) (a .s) (a .target .now) (target-fits e) .whole,
+      (sound-top (a .n) (a .s) (a .source .now) (a .target .now) (source-fits e) (target-fits e) _ _ _ _ (found (c .before .before)), area-shape (a .n) (a .s) (a .target .now) (target-fits e) .whole),
     )
 
 returns-3 : tie.Need-returns-3

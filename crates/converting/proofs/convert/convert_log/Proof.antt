@@ -28,7 +28,7 @@ returns-2 c =
     (c .before .before .if1 .left) _ (c .before .too-wide .ensures) (c .if2 .taken)
 
 put-log-requires : tie.Need-put-log-requires
-put-log-requires c κs = (c .before .before .before .before .before .before .before .before .pre .0, (sym (c .before .before .before .before .too-long .ensures) ∙ c .before .before .before .if1 .left, c .before .before .before .before .before .before .before .before .pre .1))
+put-log-requires c κs = (c .before .before .before .before .before .before .before .before .pre .0, (sym (c .before .before .before .before .too-long .ensures) ∙ c .before .before .before .if1 .left, c .before .before .before .before .before .before .before .before .pre .1 .1))
 
 same-length : tie.Need-same-length
 same-length c = search needs
