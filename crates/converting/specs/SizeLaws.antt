@@ -1,5 +1,5 @@
 -- The bytes of a slot in another layout, and whether they fit (29).
-use Prim.Native.Nat.{ℕ, suc, _+_, _*_, _-_, _≤_, _<_}
+use Prim.Native.Nat.{ℕ, zero, suc, _+_, _*_, _-_, _≤_, _<_}
 use mathlib.Core.Path.{_≡_, refl, _∙_, ap}
 use mathlib.Core.Bool.{Bool, true, false}
 use mathlib.Core.List.{List, [], _∷_}
@@ -7,7 +7,7 @@ use native.Mathlib.Omega.{arith}
 use lib.Dec.{ltb}
 use lib.ListN.{length, length-append}
 use borrow.Author.Tests.{lt-ltb, le-ltb, ltb-false}
-use Rattle.segment.specs.Choice.{both, either}
+use Rattle.segment.specs.Choice.{both, both-false-left, both-false-right, either, either-false}
 use Rattle.segment.specs.Layout.{Layout, digestSize, entrySize}
 use Rattle.segment.specs.LayoutLaws.{width-low, width-high}
 use Rattle.segment.specs.Entry.{Entry, encoded, sizeOf}
@@ -15,11 +15,14 @@ use Rattle.segment.specs.EntryLaws.{length-encoded}
 use Rattle.segment.specs.Digest.{digestOf, encodedDigest}
 use Rattle.segment.specs.DigestLaws.{length-encodedDigest}
 use Rattle.segment.specs.declared.Header.{Header}
-use Rattle.model.specs.Log.{View, scan, isDamaged}
+use Rattle.model.specs.Log.{View, scan, isDamaged, segmentOf, viewsOf}
 use Rattle.model.specs.Operations.{allEncoded}
 use Rattle.model.specs.Conversion.{slotBytes, rewritten, slotTooLong}
-use Rattle.converting.specs.Parts.{entriesOf, partBytes}
-use Rattle.converting.specs.PartLaws.{Left, More, left-start, left-inside, PartOf, part-rewritten, any-skip, any-turn, any-found, any-none}
+use Rattle.laws.specs.Scans.{scans-high, scans-total}
+use Rattle.laws.specs.Stores.{length-segment}
+use Rattle.log.specs.Shape.{Shape, inside}
+use Rattle.converting.specs.Parts.{entriesOf, partBytes, LogOf}
+use Rattle.converting.specs.PartLaws.{Left, More, left-start, left-inside, PartOf, part-of, part-rewritten, any-skip, any-turn, any-found, any-none}
 
 -- ---- the entries of a segment
 
@@ -63,6 +66,28 @@ module _ (L K : Layout) (s : List ℕ) where
       length-append (encodedDigest K (digestOf L s)) (allEncoded K (entriesOf L s)) ∙
       ap (λ (m : ℕ). m + length (allEncoded K (entriesOf L s))) (length-encodedDigest K (digestOf L s))
 
+-- ---- a layout with no longer entries
+
+module _ (L K : Layout) (less : entrySize K 0 ≤ entrySize L 0) where
+  encoded-less : (es : List Entry) → length (allEncoded K es) ≤ length (allEncoded L es)
+  unfolding allEncoded
+  encoded-less [] = omega arith
+  encoded-less (x ∷ es) = omega (arith, encoded-less es, length-first K x es, length-first L x es)
+
+  -- a slot has no more bytes than before
+  rewritten-less : {w : View} {part : List ℕ} → PartOf L w part → length (rewritten K w) ≤ length part
+  rewritten-less {part = part} o =
+      let l = left-start L part (o .sound) in
+      omega (
+        arith,
+        ap length (part-rewritten K o),
+        length-partBytes L K part,
+        encoded-less (entriesOf L part),
+        scans-total (l .scans),
+        ap (λ (es : List Entry). length (allEncoded L es)) (l .same),
+        scans-high (l .scans),
+      )
+
 -- ---- the slots of a log
 
 module _ (K : Layout) (v : ℕ → View) (p : ℕ → Bool) (S : ℕ) where
@@ -76,6 +101,16 @@ module _ (K : Layout) (v : ℕ → View) (p : ℕ → Bool) (S : ℕ) where
   pub long-none : slotTooLong K v p S 0 ≡ false
   unfolding slotTooLong
   long-none = refl
+
+  long-short : (n : ℕ) → ((i : ℕ) → i < n → p i ≡ true → length (rewritten K (v i)) ≤ S) → slotTooLong K v p S n ≡ false
+  long-short zero f = long-none
+  long-short (suc n) f =
+      long-step n ∙
+      either-false (slotTooLong K v p S n) (both (p n) (tooLong n)) (long-short n (λ i h q. f i (omega arith) q)) (own (p n) refl)
+    where
+      own : (b : Bool) → p n ≡ b → both (p n) (tooLong n) ≡ false
+      own true q = both-false-right (p n) (tooLong n) (le-ltb S (length (rewritten K (v n))) (f n (omega arith) q))
+      own false q = both-false-left (p n) (tooLong n) q
 
   module _ (i : ℕ) where
     pub long-skip : p i ≡ false → slotTooLong K v p S i ≡ false → slotTooLong K v p S (i + 1) ≡ false
@@ -102,3 +137,15 @@ module _ (K : Layout) (v : ℕ → View) (p : ℕ → Bool) (S : ℕ) where
             ltb-false S (length (rewritten K (v i))) (any-none (slotTooLong K v p S) p tooLong long-step i n e h q),
             its-length,
           )
+
+-- no slot of an area is too long in a layout with no longer entries
+pub none-long : (L K : Layout) (n S : ℕ) (area : List ℕ) (p : ℕ → Bool) → Shape n S area → LogOf L (viewsOf area S) p n → entrySize K 0 ≤ entrySize L 0
+    → slotTooLong K (viewsOf area S) p S n ≡ false
+none-long L K n S area p shape log less =
+    long-short K (viewsOf area S) p S n
+    (λ i h q.
+    omega (
+      arith,
+      rewritten-less L K less (part-of area S log i h q (segmentOf area S i) refl),
+      length-segment area S i (inside shape i h),
+    ))
