@@ -1,6 +1,6 @@
 /*
  * A firmware and its store: format, power on, write, a power cut in the middle of a write, power on, read. The same twice,
- * with a store of each edition: nothing but the format is told which.
+ * with a store of each edition: nothing but the format is told which. Between them the first one's image is converted.
  * Prints what happens; `store.stdout` beside this file is what it must print. With the names of two files it writes there
  * the images that the two stores leave, as the program `dump` reads them: N (1 byte), S (2 bytes) and the area.
  */
@@ -135,8 +135,21 @@ static void live(enum kurdavel_edition edition, const char *file) {
     if (file != NULL) save(file);
 }
 
+/* On the bench: the image that a store has left, put into the other edition. It holds the same keys, versions and values. */
+static void convert(void) {
+    static uint8_t converted[sizeof medium];
+    struct kurdavel_store store;
+    struct kurdavel_key key = {7, 9};
+    expect_accepted("convert", kurdavel_convert(SLOTS, SLOT_BYTES, medium, sizeof medium, converted, sizeof converted));
+    printf("converted\n");
+    memcpy(medium, converted, sizeof medium);
+    power_on(&store);
+    show(&store, key);
+}
+
 int main(int count, char **arguments) {
     live(KURDAVEL_EDITION_1, count > 1 ? arguments[1] : NULL);
+    convert();
     live(KURDAVEL_EDITION_2, count > 2 ? arguments[2] : NULL);
     return 0;
 }
