@@ -93,8 +93,9 @@
  *   search for each; recovery and these last steps also write all M words of the index. kurdavel_join takes no more than
  *   one and a half times as long as the starts of a cleaning of each slot of the log, one after another.
  *   kurdavel_scan_read looks at each entry of the log as recovery does, without the index, and takes no longer.
- *   kurdavel_convert makes the same checks, looks at each entry three times more and writes all N * S bytes. A search
- *   looks at few words while M is well above the number of keys, and never at more than the keys and one more.
+ *   kurdavel_convert makes the same checks, looks at each entry once more, twice where it converts to edition 2, and
+ *   writes all N * S bytes. A search looks at few words while M is well above the number of keys, and never at more
+ *   than the keys and one more.
  *   docs/PERFORMANCE.md has bounds and measured worst cases.
  *
  * THE PROMISE ABOUT CUTS, AND THE RULES OF USE THAT IT RESTS ON
