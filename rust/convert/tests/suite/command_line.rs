@@ -6,6 +6,7 @@ use std::path::PathBuf;
 
 use convert::run::{run, Outcome};
 use kurdavel::{format, recover, Edition, Key, Tables};
+use reference::testing::images::many_tombstones;
 
 const SIZE: [&str; 4] = ["--slots", "4", "--size", "256"];
 
@@ -221,31 +222,7 @@ fn refusals() {
 /// More keys than any index takes are converted all the same.
 #[test]
 fn too_many_keys() {
-    let mut area = vec![0; 32 * 2048];
-    for slot in 0..31u32 {
-        let mut bytes = vec![
-            5,
-            slot as u8 + 1,
-            0,
-            0,
-            0,
-            0xFF,
-            0xFF,
-            0xFF,
-            0x7F,
-            1,
-            0,
-            0,
-            0,
-        ];
-        for place in 0..135 {
-            let key = slot * 135 + place;
-            bytes.extend([4, 1, 0]);
-            bytes.extend(key.to_le_bytes());
-            bytes.extend((key + 1).to_le_bytes());
-        }
-        area[slot as usize * 2048..][..bytes.len()].copy_from_slice(&bytes);
-    }
+    let area = many_tombstones(135);
     let (source, target) = (file("many.1", &area), free("many.2"));
     let outcome = runs(&[&source, &target, "--slots", "32", "--size", "2048"]);
     assert_eq!((outcome.status, outcome.error.as_str()), (0, ""));

@@ -270,3 +270,24 @@ impl Image {
         };
     }
 }
+
+/// An area of 32 slots of 2,048 bytes in edition 1 whose log is the first 31, each with so many tombstones of keys of table 1; keys and
+/// versions count from 1 on. From 133 tombstones a slot on no index takes all its keys.
+pub fn many_tombstones(each: u32) -> Vec<u8> {
+    let mut area = vec![0; 32 * 2048];
+    let mut last: u32 = 0;
+    for (slot, segment) in (1..=31u32).zip(area.chunks_exact_mut(2048)) {
+        let mut bytes = vec![5];
+        for field in [slot, 0x7FFF_FFFF, 1] {
+            bytes.extend(field.to_le_bytes());
+        }
+        for _ in 0..each {
+            last += 1;
+            bytes.extend([4, 1, 0]);
+            bytes.extend(last.to_le_bytes());
+            bytes.extend(last.to_le_bytes());
+        }
+        segment[..bytes.len()].copy_from_slice(&bytes);
+    }
+    area
+}

@@ -3,7 +3,7 @@
 use reference::rng::Rng;
 use reference::rules::AsWritten;
 use reference::testing::calls;
-use reference::testing::images::{Image, Shape};
+use reference::testing::images::{many_tombstones, Image, Shape};
 use reference::{convert, read, read_value, recover, Edition, Key, Record, Refusal, Tables};
 
 use crate::naive::{self, log};
@@ -386,30 +386,7 @@ fn geometry() {
 /// What 20 would say does not matter: more keys than any index takes are converted.
 #[test]
 fn more_keys_than_cells() {
-    let mut source = vec![0; 32 * 2048];
-    for slot in 0..31 {
-        let mut bytes = vec![
-            5,
-            slot as u8 + 1,
-            0,
-            0,
-            0,
-            0xFF,
-            0xFF,
-            0xFF,
-            0x7F,
-            1,
-            0,
-            0,
-            0,
-        ];
-        for place in 0..135 {
-            let key = slot * 135 + place;
-            let version = u64::from(key) + 1;
-            bytes.extend(entry(1, Key { table: 1, key }, version, 0));
-        }
-        source[slot as usize * 2048..][..bytes.len()].copy_from_slice(&bytes);
-    }
+    let source = many_tombstones(135);
     let target = told(32, 2048, &source, source.len()).unwrap();
     let order: Vec<u8> = (0..32).collect();
     for area in [&source, &target] {

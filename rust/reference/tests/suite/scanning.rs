@@ -2,7 +2,7 @@
 
 use reference::rng::Rng;
 use reference::testing::calls;
-use reference::testing::images::{Image, Shape};
+use reference::testing::images::{many_tombstones, Image, Shape};
 use reference::{
     read, read_value, recover, scan_read, scan_read_value, Edition, Key, Refusal, Tables, Version,
 };
@@ -126,34 +126,7 @@ fn causes_in_order() {
 /// An image with more keys than any index takes is read all the same.
 #[test]
 fn more_keys_than_cells() {
-    let mut area = vec![0; 32 * 2048];
-    let mut version: u32 = 0;
-    for slot in 0..31 {
-        let mut bytes = vec![
-            5,
-            slot as u8 + 1,
-            0,
-            0,
-            0,
-            0xFF,
-            0xFF,
-            0xFF,
-            0x7F,
-            1,
-            0,
-            0,
-            0,
-        ];
-        for _ in 0..185 {
-            version += 1;
-            let key = Key {
-                table: 1,
-                key: version,
-            };
-            bytes.extend(entry(4, key, version, 0));
-        }
-        area[slot * 2048..][..bytes.len()].copy_from_slice(&bytes);
-    }
+    let mut area = many_tombstones(185);
     let last = 30 * 2048 + 13;
     area[last..last + 19].copy_from_slice(&entry(1, KEY, 1 << 20, 0x77));
     area[last + 19] = 0;
