@@ -25,12 +25,12 @@ alone slot = slot ++ vacant ++ vacant ++ vacant
 
 -- The head is slot 1, and slot 0 is in its log; a free slot has a digest.
 abbrev two : List ℕ
-two = seg 1 1 5 (small a 1 ∷ tombstone b 2 ∷ []) ++ seg 3 3 1 (large c 3 ∷ []) ++ bare 2 ++ vacant
+two = seg 2 1 5 (small a 1 ∷ tombstone b 2 ∷ []) ++ seg 7 3 1 (large c 3 ∷ []) ++ bare 4 ++ vacant
 
 -- slot 0 of it in edition 2
 abbrev raised : List ℕ
 raised =
-    8 ∷ 1 ∷ 0 ∷ 0 ∷ 0 ∷ 1 ∷ 0 ∷ 0 ∷ 0 ∷ 5 ∷ replicate 7 0 ++ 9 ∷ 1 ∷ 0 ∷ 1 ∷ 0 ∷ 0 ∷ 0 ∷ 1 ∷ replicate 7 0 ++ replicate 8 1 ++
+    8 ∷ 2 ∷ 0 ∷ 0 ∷ 0 ∷ 1 ∷ 0 ∷ 0 ∷ 0 ∷ 5 ∷ replicate 7 0 ++ 9 ∷ 1 ∷ 0 ∷ 1 ∷ 0 ∷ 0 ∷ 0 ∷ 1 ∷ replicate 7 0 ++ replicate 8 1 ++
     13 ∷ 1 ∷ 0 ∷ 2 ∷ 0 ∷ 0 ∷ 0 ∷ 2 ∷ replicate 7 0 ++ replicate 201 0
 
 -- entries that fill a slot of edition 2 exactly: 17, 71, 39, three times 23 and four times 15 bytes
@@ -45,7 +45,7 @@ rows =
     -- up: each log slot with its own digest's fields and its entries in order; every other byte is 0
     row 1201 (take 256 (convertedImage 4 256 two)) raised
     ∷ row 1201 (drop 512 (convertedImage 4 256 two)) (replicate 512 0)
-    ∷ row 1201 (recovers (convertedImage 4 256 two)) (gives (record { head = 1; end = 88; digest = 3; map = 3; next = 4; keys = 3; left = 0 }))
+    ∷ row 1201 (recovers (convertedImage 4 256 two)) (gives (record { head = 1; end = 88; digest = 7; map = 3; next = 4; keys = 3; left = 0 }))
     -- down again: the bytes that the log had, and 0 behind them
     ∷ row 1202 (take 43 (convertedImage 4 256 (convertedImage 4 256 two))) (take 43 two)
     ∷ row 1202 (take 80 (drop 256 (convertedImage 4 256 (convertedImage 4 256 two)))) (take 80 (drop 256 two))
