@@ -48,7 +48,8 @@ fn part_size(from: Edition, to: Edition, part: &[u8]) -> usize
     digest_size(to) + entries_size(from, to, part)
 }
 
-// Whether a slot of the log has more than S bytes in another edition. Where the other's entries are no longer, no slot has more, so that none is walked.
+// Whether a slot of the log has more than S bytes in another edition. Where the other's entries are no longer, no slot has more,
+// so that none is walked.
 pub fn too_long(from: Edition, to: Edition, n: usize, s: usize, source: &[u8], map: u32) -> bool
     requires { ⌜ Shape n s (now source) × LogOf from (viewsOf (now source) s) (named map) n ⌝ }
     ensures { λ r. ⌜ r ≡ slotTooLong to (viewsOf (now (source .entry)) s) (named map) s n ⌝ }

@@ -27,7 +27,8 @@ fn digest_too_wide(from: Edition, to: Edition, part: &[u8]) -> bool
     version_limit(to) < next.0
 }
 
-// Whether a slot of the log has a version or a next version that is none of the other edition. The highest version tells of all entries, so that only the digests are read.
+// Whether a slot of the log has a version or a next version that is none of the other edition. The highest version tells of all
+// entries, so that only the digests are read.
 pub fn too_wide(
     from: Edition,
     to: Edition,
