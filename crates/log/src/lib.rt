@@ -5,6 +5,7 @@ use segment::Version;
 
 mod filter;
 pub mod head;
+mod hits;
 mod marks;
 pub mod scan;
 pub mod slots;

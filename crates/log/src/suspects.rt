@@ -1,22 +1,17 @@
 // The suspects of the search for equal versions: those whose bit in the filter was set already. One walk over the log looks at all
 // suspects: each is the version of an entry, so two entries share one exactly if more entries than suspects have one. They are
 // looked at when the table is full, so that there is one walk for every 192 entries at most, and at the end.
-use crate::marks::is_suspect;
+use crate::hits::count_in;
 use crate::marks::mark_all;
 use crate::slots::is_named;
 use crate::table::VACANT;
 use crate::table::clear;
 use crate::table::insert;
 use crate::table::occupied;
-use crate::table::one;
 use crate::table::search;
 use crate::table::stands_at;
-use segment::Edition;
-use segment::Next;
 use segment::Version;
 use segment::area::cut;
-use segment::entries::next;
-use segment::layout::digest_size;
 use segment::reader::edition_of;
 ghost use Prim.Native.Nat.{_≤_};
 ghost use mathlib.Core.Path.{_≡_};
@@ -29,32 +24,6 @@ ghost use Rattle.log.specs.Shape.{Shape};
 ghost use Rattle.log.specs.Tables.{occupied, Sorted};
 ghost use Rattle.log.specs.Marks.{Marked};
 ghost use Rattle.log.specs.Suspects.{hits, Suspects, Suspecting};
-ghost use Rattle.log.specs.Counts.{CountIn};
-
-// How many entries of a segment have a suspect's version; 0 where it is damaged.
-fn count_in(edition: Edition, part: &[u8], marks: &[u32], table: &[u64]) -> usize
-    requires { ⌜ Sorted (now table) ⌝ }
-    requires { ⌜ Marked (now marks) (now table) ⌝ }
-    ensures { λ r. ⌜ CountIn edition (now (part .entry)) (now (table .entry)) r ⌝ }
-{
-    let mut at = digest_size(edition);
-    let mut count = 0;
-    loop {
-        match next(edition, part, at) {
-            Next::Entry(header) => {
-                let version = header.version;
-                at += header.length;
-                count += one(is_suspect(marks, table, version));
-            }
-            Next::End => {
-                return count;
-            }
-            Next::Damage => {
-                return 0;
-            }
-        }
-    }
-}
 
 // How many entries of the log have a suspect's version.
 fn count(n: usize, s: usize, area: &[u8], map: u32, marks: &[u32], table: &[u64]) -> usize

@@ -1,20 +1,21 @@
--- `log::suspects::count_in` meets its contract. The invariant: counting on from here gives the whole count.
+-- `log::hits::count_second` meets its contract. The invariant: counting on from here gives the whole count.
 use Prim.Native.Nat.{ℕ, _+_, _-_}
 use mathlib.Core.Path.{_∙_, ap}
 use native.Mathlib.Omega.{arith}
 use borrow.Author.Needs.{needs}
 use lib.ListN.{length}
+use Rattle.segment.specs.Layout.{edition2}
 use Rattle.segment.specs.Entries.{next-end, next-damage}
 use Rattle.log.specs.Extents.{Meets, meets, restOf, rest-whole}
 use Rattle.log.specs.Counts.{countFrom, Counting, count-turn, count-end, count-damage}
-use Rattle.log.proofs.suspects.count_in.Statement.{statement}
-use Rattle.log.proofs.suspects.count_in.Tie as tie
+use Rattle.log.proofs.hits.count_second.Statement.{statement}
+use Rattle.log.proofs.hits.count_second.Tie as tie
 
 abbrev Inv-loop : tie.InvT-loop
-Inv-loop edition part marks table at₀ count₀ at count = Counting edition part table at count
+Inv-loop part marks table at₀ count₀ at count = Counting edition2 part table at count
 
 abbrev μ-loop : tie.MeasureT-loop
-μ-loop edition part marks table at₀ count₀ at count = length part - at
+μ-loop part marks table at₀ count₀ at count = length part - at
 
 digest-size-requires : tie.Need-digest-size-requires Inv-loop μ-loop
 digest-size-requires c κs = search needs
@@ -30,7 +31,7 @@ enum-known-header c = search needs
 
 -- the entry that the turn passes
 met : (c : tie.After-header Inv-loop μ-loop)
-    → Meets (c .before .before .before .before .before .before .before .before .args .edition) (c .before .before .before .before .before .before .before .before .args .part .now) (c .before .before .before .loop .at) (c .header .given .0 .0 .version .0) (c .header .given .0 .0 .length)
+    → Meets edition2 (c .before .before .before .before .before .before .before .before .args .part .now) (c .before .before .before .loop .at) (c .header .given .0 .0 .version .0) (c .header .given .0 .0 .length)
 met c = meets _ _ _ _ (c .before .before .next .ensures) _ (c .header .given .1)
 
 add-at : tie.Need-add-at Inv-loop μ-loop
@@ -44,7 +45,7 @@ one-requires c κs = search needs
 
 -- the count with it
 turned : (c : tie.After-one Inv-loop μ-loop)
-    → Counting (c .before .before .before .before .before .before .before .before .before .before .before .before .before .args .edition) (c .before .before .before .before .before .before .before .before .before .before .before .before .before .args .part .now) (c .before .before .before .before .before .before .before .before .before .before .before .before .before .args .table .now) (c .before .before .before .before .before .before .before .before .loop .at + c .before .before .before .before .before .header .given .0 .0 .length)
+    → Counting edition2 (c .before .before .before .before .before .before .before .before .before .before .before .before .before .args .part .now) (c .before .before .before .before .before .before .before .before .before .before .before .before .before .args .table .now) (c .before .before .before .before .before .before .before .before .loop .at + c .before .before .before .before .before .header .given .0 .0 .length)
     (c .before .before .before .before .before .before .before .before .loop .count + c .one .result)
 turned c = count-turn _ _ _ _ _ (c .before .before .before .before .before .before .before .before .loop .inv) (met (c .before .before .before .before .before)) _ (c .before .is-suspect .ensures) _ (c .one .ensures)
 
@@ -69,8 +70,8 @@ enum-told-2 c = search needs
 returns-2 : tie.Need-returns-2 Inv-loop μ-loop
 returns-2 c = count-damage _ _ _ _ _ (c .before .before .before .loop .inv) (next-damage _ _ _ _ (c .before .before .next .ensures) (c .enum-told2 .given .1))
 
-pub count-in-spec : {M : Type 1} → statement M
-count-in-spec =
+pub count-second-spec : {M : Type 1} → statement M
+count-second-spec =
     tie.close
     (tie.spec
     Inv-loop
