@@ -1,13 +1,13 @@
 -- What a walk of the log tells: damage, the highest version, and whether the filter tells all versions apart.
 use Prim.Native.Nat.{ℕ, _+_, _≤_, _<_, max}
 use mathlib.Core.Path.{_≡_, refl, sym, _∙_, ap, subst}
-use mathlib.Core.Bool.{Bool, true, false, not}
+use mathlib.Core.Bool.{Bool, true, false}
 use mathlib.Core.List.{List, [], _∷_, _++_, append-nil, append-assoc}
 use native.Mathlib.Omega.{arith}
 use native.Mathlib.Decide.{decLe}
 use lib.Dec.{eqb}
 use lib.ListN.{length}
-use borrow.Author.Tests.{eqb-true, not-true}
+use borrow.Author.Tests.{eqb-true}
 use Rattle.segment.specs.Choice.{pick, both-false-left, both-false-right}
 use Rattle.segment.specs.Layout.{Layout, digestSize}
 use Rattle.segment.specs.Entry.{end, damage, entryAt}
@@ -40,14 +40,24 @@ pub record MarkedApart (filter : List ℕ) (w : ℕ) (apart still : Bool) (filte
   pub unset : still ≡ true → isMarked filter w ≡ false
   pub marked : still ≡ true → filter₁ ≡ markedWith filter w
 
-pub apart-no-more : (filter : List ℕ) (w : ℕ) (apart : Bool) → MarkedApart filter w apart false filter
-apart-no-more filter w apart =
-    record { size = refl; was = λ e. absurd (clash false e refl); unset = λ e. absurd (clash false e refl); marked = λ e. absurd (clash false e refl) }
+module _ (filter : List ℕ) (w : ℕ) (apart : Bool) (r : Bool) (was-set : r ≡ isMarked filter w) (filter₁ : List ℕ) (now-set : filter₁ ≡ markedWith filter w) where
+  pub apart-lost : MarkedApart filter w apart false filter₁
+  apart-lost =
+      record {
+        size = ap length now-set ∙ length-marked filter w;
+        was = λ q. absurd (clash false q refl);
+        unset = λ q. absurd (clash false q refl);
+        marked = λ q. absurd (clash false q refl);
+      }
 
-pub apart-marked : (filter : List ℕ) (w : ℕ) (apart : Bool) → apart ≡ true → (r : Bool) → r ≡ isMarked filter w → (filter₁ : List ℕ) → filter₁ ≡ markedWith filter w
-    → MarkedApart filter w apart (not r) filter₁
-apart-marked filter w apart a r e filter₁ f =
-    record { size = ap length f ∙ length-marked filter w; was = λ q. a; unset = λ q. sym e ∙ not-true r q; marked = λ q. f }
+  pub apart-kept : r ≡ false → MarkedApart filter w apart apart filter₁
+  apart-kept e =
+      record {
+        size = ap length now-set ∙ length-marked filter w;
+        was = λ q. q;
+        unset = λ q. sym was-set ∙ e;
+        marked = λ q. now-set;
+      }
 
 -- one entry more
 module _ (log : List Placed) (x : Placed) (top : ℕ) (apart : Bool) (filter : List ℕ) (so-far : Told log top apart filter) where
@@ -109,78 +119,100 @@ unfolding after itemFirst
 after-first is x damaged = refl
 after-first is x (scanned js e) = ap (λ (l : List Item). scanned l e) (sym (append-assoc is (x ∷ []) js))
 
--- Between two entries of the slot i whose bytes are s, after the entries of the log before it.
-pub record Telling (L : Layout) (s : List ℕ) (i : ℕ) (before : List Placed) (at top : ℕ) (apart : Bool) (filter : List ℕ) : Type 0 where
+-- What the answer after the segment s means: where it is undamaged, the same is told with its entries as was told before, whatever log
+-- stands before it.
+pub record PartTold (L : Layout) (s : List ℕ) (top₀ : ℕ) (apart₀ : Bool) (filter₀ : List ℕ) (sound : Bool) (top : ℕ) (apart : Bool) (filter : List ℕ) : Type 0 where
+  pub damage : sound ≡ false → isDamaged (scan L s) ≡ true
+  pub undamaged : sound ≡ true → isDamaged (scan L s) ≡ false
+  pub told : sound ≡ true → (i : ℕ) (before : List Placed) → Told before top₀ apart₀ filter₀ → Told (before ++ placedIn i (itemsOf (scan L s))) top apart filter
+
+-- Between two of its entries.
+pub record Telling (L : Layout) (s : List ℕ) (top₀ : ℕ) (apart₀ : Bool) (filter₀ : List ℕ) (at top : ℕ) (apart : Bool) (filter : List ℕ) : Type 0 where
+  pub size : length filter ≡ 512
   pub items : List Item
   pub splits : scan L s ≡ after items (restOf L s at)
-  pub told : Told (before ++ placedIn i items) top apart filter
+  pub told : (i : ℕ) (before : List Placed) → Told before top₀ apart₀ filter₀ → Told (before ++ placedIn i items) top apart filter
 
--- What the answer after them means.
-pub record SlotTold (v : ℕ → View) (p : ℕ → Bool) (i : ℕ) (sound : Bool) (top : ℕ) (apart : Bool) (filter : List ℕ) : Type 0 where
-  pub damage : sound ≡ false → isDamaged (v i .scan) ≡ true
-  pub undamaged : sound ≡ true → isDamaged (v i .scan) ≡ false
-  pub told : sound ≡ true → Told (logOf v p (i + 1)) top apart filter
-
-module _ (L : Layout) (s : List ℕ) (i : ℕ) (before : List Placed) where
-  pub telling-start : (top : ℕ) (apart : Bool) (filter : List ℕ) → Told before top apart filter → Telling L s i before (digestSize L) top apart filter
+module _ (L : Layout) (s : List ℕ) (top₀ : ℕ) (apart₀ : Bool) (filter₀ : List ℕ) where
+  pub telling-start : length filter₀ ≡ 512 → Telling L s top₀ apart₀ filter₀ (digestSize L) top₀ apart₀ filter₀
   unfolding placedIn
-  telling-start top apart filter h =
+  telling-start size =
       record {
+        size = size;
         items = [];
         splits = sym (after-none (restOf L s (digestSize L)) ∙ rest-whole L s);
-        told = subst (λ (l : List Placed). Told l top apart filter) (sym (append-nil before)) h;
+        told = λ i before h. subst (λ (l : List Placed). Told l top₀ apart₀ filter₀) (sym (append-nil before)) h;
       }
 
-  module _ (at top : ℕ) (apart : Bool) (filter : List ℕ) (so-far : Telling L s i before at top apart filter) where
+  module _ (at top : ℕ) (apart : Bool) (filter : List ℕ) (so-far : Telling L s top₀ apart₀ filter₀ at top apart filter) where
     pub telling-turn : {w len : ℕ} → Meets L s at w len → (top₁ : ℕ) → top₁ ≡ max top w → (apart₁ : Bool) (filter₁ : List ℕ)
-        → MarkedApart filter w apart apart₁ filter₁ → Telling L s i before (at + len) top₁ apart₁ filter₁
+        → MarkedApart filter w apart apart₁ filter₁ → Telling L s top₀ apart₀ filter₀ (at + len) top₁ apart₁ filter₁
     unfolding placedIn
     telling-turn {w} {len} m top₁ t apart₁ filter₁ a =
         record {
+          size = a .size ∙ so-far .size;
           items = so-far .items ++ (itemAt at (m .met) ∷ []);
           splits =
               so-far .splits ∙ ap (after (so-far .items)) (rest-entry L s at m)
               ∙ after-first (so-far .items) (itemAt at (m .met)) (restOf L s (at + len));
           told =
-              subst (λ (l : List Placed). Told l top₁ apart₁ filter₁) (sym longer)
-              (told-more (before ++ placedIn i (so-far .items)) (placedAt i (itemAt at (m .met))) top apart filter (so-far .told) w
+              λ i before h.
+              subst (λ (l : List Placed). Told l top₁ apart₁ filter₁) (sym (longer i before))
+              (told-more (before ++ placedIn i (so-far .items)) (placedAt i (itemAt at (m .met))) top apart filter (so-far .told i before h) w
               (m .its-version) top₁ t apart₁ filter₁ a);
         }
       where
-        longer : before ++ placedIn i (so-far .items ++ (itemAt at (m .met) ∷ []))
+        longer : (i : ℕ) (before : List Placed) → before ++ placedIn i (so-far .items ++ (itemAt at (m .met) ∷ []))
             ≡ (before ++ placedIn i (so-far .items)) ++ (placedAt i (itemAt at (m .met)) ∷ [])
-        longer =
+        longer i before =
             ap (λ (l : List Placed). before ++ l) (placed-append i (so-far .items) (itemAt at (m .met) ∷ []))
             ∙ sym (append-assoc before (placedIn i (so-far .items)) (placedAt i (itemAt at (m .met)) ∷ []))
 
-    pub telling-end : (v : ℕ → View) (p : ℕ → Bool) → v i .scan ≡ scan L s → before ≡ logOf v p i → p i ≡ true → entryAt L s at ≡ end
-        → SlotTold v p i true top apart filter
+    pub telling-end : entryAt L s at ≡ end → PartTold L s top₀ apart₀ filter₀ true top apart filter
     unfolding after isDamaged itemsOf
-    telling-end v p own log picked e =
+    telling-end e =
         record {
           damage = λ q. absurd (clash true refl q);
           undamaged = λ q. ap isDamaged whole;
-          told = λ q. subst (λ (l : List Placed). Told l top apart filter) (sym all) (so-far .told);
+          told =
+              λ q i before h.
+              subst (λ (r : Scan). Told (before ++ placedIn i (itemsOf r)) top apart filter) (sym whole) (so-far .told i before h);
         }
       where
-        whole : v i .scan ≡ scanned (so-far .items) at
+        whole : scan L s ≡ scanned (so-far .items) at
         whole =
-            own ∙ so-far .splits ∙ ap (after (so-far .items)) (rest-end L s at e)
+            so-far .splits ∙ ap (after (so-far .items)) (rest-end L s at e)
             ∙ ap (λ (l : List Item). scanned l at) (append-nil (so-far .items))
 
-        all : logOf v p (i + 1) ≡ before ++ placedIn i (so-far .items)
-        all =
-            log-take v p i picked ∙ ap (λ (l : List Placed). l ++ placedIn i (itemsOf (v i .scan))) (sym log)
-            ∙ ap (λ (r : Scan). before ++ placedIn i (itemsOf r)) whole
-
-    pub telling-damage : (v : ℕ → View) (p : ℕ → Bool) → v i .scan ≡ scan L s → entryAt L s at ≡ damage → SlotTold v p i false top apart filter
+    pub telling-damage : entryAt L s at ≡ damage → PartTold L s top₀ apart₀ filter₀ false top apart filter
     unfolding after isDamaged
-    telling-damage v p own e =
+    telling-damage e =
         record {
-          damage = λ q. ap isDamaged (own ∙ so-far .splits ∙ ap (after (so-far .items)) (rest-damage L s at e));
+          damage = λ q. ap isDamaged (so-far .splits ∙ ap (after (so-far .items)) (rest-damage L s at e));
           undamaged = λ q. absurd (clash false q refl);
           told = λ q. absurd (clash false q refl);
         }
+
+-- What the answer after the slot i of a log means.
+pub record SlotTold (v : ℕ → View) (p : ℕ → Bool) (i : ℕ) (sound : Bool) (top : ℕ) (apart : Bool) (filter : List ℕ) : Type 0 where
+  pub damage : sound ≡ false → isDamaged (v i .scan) ≡ true
+  pub undamaged : sound ≡ true → isDamaged (v i .scan) ≡ false
+  pub told : sound ≡ true → Told (logOf v p (i + 1)) top apart filter
+
+-- the answer after its bytes is one, where the slots before it were told
+pub slot-told : (v : ℕ → View) (p : ℕ → Bool) (i : ℕ) (L : Layout) (s : List ℕ) → v i .scan ≡ scan L s → p i ≡ true
+    → (top₀ : ℕ) (apart₀ : Bool) (filter₀ : List ℕ) → Told (logOf v p i) top₀ apart₀ filter₀
+    → (sound : Bool) (top : ℕ) (apart : Bool) (filter : List ℕ) → PartTold L s top₀ apart₀ filter₀ sound top apart filter
+    → SlotTold v p i sound top apart filter
+slot-told v p i L s own picked top₀ apart₀ filter₀ before sound top apart filter part =
+    record {
+      damage = λ q. ap isDamaged own ∙ part .damage q;
+      undamaged = λ q. ap isDamaged own ∙ part .undamaged q;
+      told = λ q. subst (λ (l : List Placed). Told l top apart filter) (sym all) (part .told q i (logOf v p i) before);
+    }
+  where
+    all : logOf v p (i + 1) ≡ logOf v p i ++ placedIn i (itemsOf (scan L s))
+    all = log-take v p i picked ∙ ap (λ (r : Scan). logOf v p i ++ placedIn i (itemsOf r)) own
 
 -- ---- the log
 

@@ -7,6 +7,7 @@ mod filter;
 pub mod head;
 mod hits;
 mod marks;
+mod parts;
 pub mod scan;
 pub mod slots;
 pub mod survey;
