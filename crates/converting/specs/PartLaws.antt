@@ -3,15 +3,17 @@ use Prim.Native.Nat.{ℕ, suc, _+_, _≤_, _<_}
 use mathlib.Core.Path.{_≡_, refl, sym, _∙_, ap, subst}
 use mathlib.Core.Bool.{Bool, true, false}
 use mathlib.Core.List.{List, [], _∷_}
-use mathlib.Core.Option.{none, some}
+use mathlib.Core.Option.{Option, none, some}
 use native.Mathlib.Numerals.{add-one}
 use native.Mathlib.Omega.{arith}
-use lib.ListN.{length}
+use lib.ListN.{length, getD}
 use Rattle.segment.specs.Choice.{pick-true, pick-false, both, both-true, both-false-left, both-false-right, either, either-false, either-true-left, either-true-right}
-use Rattle.segment.specs.Layout.{Layout, edition2, digestSize, entrySize, table}
+use Rattle.segment.specs.Layout.{Layout, edition2, digestSize, entrySize, table, valueLength}
 use Rattle.segment.specs.declared.Edition.the-variants.{First, Second}
 use Rattle.segment.specs.Entry.{Entry, entry, end, entryAt, sizeOf}
-use Rattle.segment.specs.EntryLaws.{found-fits}
+use Rattle.segment.specs.EntryLaws.{found-fits, at-end, Reading, is-entry, is-end, is-damage, reading}
+use Rattle.segment.specs.LayoutLaws.{entry-not-end}
+use Rattle.segment.specs.Kinds.{sizeOrZero, kindSize, has-size}
 use Rattle.segment.specs.Entries.{headerOf, nextOf, next-entry, next-end, next-damage}
 use Rattle.segment.specs.Digest.{layoutIn, isDigest, digestOf}
 use Rattle.segment.specs.declared.Digest.{Digest}
@@ -82,6 +84,55 @@ module _ {L : Layout} {s : List ℕ} {at : ℕ} {es : List Entry} (l : Left L s 
 
     pub left-sound : next ≡ N.Damage → ⊥
     left-sound form = scans-sound (l .scans) (next-damage L s at next given form)
+
+-- ---- the same walk, by the kinds alone
+
+-- An entry stands there that is so long, and these are left behind it.
+pub record Sized (L : Layout) (s : List ℕ) (at : ℕ) (es : List Entry) (len : ℕ) : Type 0 where
+  pub header : Header
+  pub more : More L s at es header
+  pub its-length : header .length ≡ len
+
+pub no-size-of-end : (L : Layout) → 0 ≡ kindSize L 0
+unfolding sizeOrZero
+no-size-of-end L = go (valueLength L 0) refl
+  where
+    go : (o : Option ℕ) → valueLength L 0 ≡ o → 0 ≡ kindSize L 0
+    go none p = sym (ap (sizeOrZero L) p)
+    go (some n) p = absurd (entry-not-end L 0 n p refl)
+
+module _ {L : Layout} {s : List ℕ} {at : ℕ} {es : List Entry} (l : Left L s at es) where
+  none-left : entryAt L s at ≡ end → es ≡ []
+  none-left e = sym (l .same) ∙ ap itemEntries (scans-stop (l .scans) e)
+
+  pub left-past : length s ≤ at → es ≡ []
+  left-past h = none-left (at-end L s at (omega (arith, left-inside l)))
+
+  module _ (len : ℕ) (its : len ≡ kindSize L (getD s at 0)) where
+    pub left-sized : (len ≡ 0 → ⊥) → Sized L s at es len
+    unfolding sizeOrZero nextOf
+    left-sized long = go (reading L s at)
+      where
+        go : Reading L s at (entryAt L s at) → Sized L s at es len
+        go (is-entry x q a) =
+            record {
+              header = headerOf L x;
+              more = left-more l (nextOf L (entryAt L s at)) refl (headerOf L x) (ap (nextOf L) q);
+              its-length = sym (its ∙ ap (sizeOrZero L) (a .known));
+            }
+        go (is-end q h z) =
+            let w = has-size L (getD s at 0) (λ n. long (its ∙ n)) in
+            absurd (entry-not-end L (getD s at 0) (w .0) (w .1 .known) z)
+        go (is-damage q) = absurd (scans-sound (l .scans) q)
+
+    pub left-unsized : len ≡ 0 → es ≡ []
+    unfolding sizeOrZero
+    left-unsized e = go (reading L s at)
+      where
+        go : Reading L s at (entryAt L s at) → es ≡ []
+        go (is-entry x q a) = let size : sizeOf L x ≡ 0 = sym (sym e ∙ its ∙ ap (sizeOrZero L) (a .known)) in absurd (omega arith)
+        go (is-end q h z) = none-left q
+        go (is-damage q) = absurd (scans-sound (l .scans) q)
 
 -- ---- the bytes of a slot of the log
 

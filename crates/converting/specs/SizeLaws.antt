@@ -1,6 +1,6 @@
 -- The bytes of a slot in another layout, and whether they fit (29).
 use Prim.Native.Nat.{ℕ, zero, suc, _+_, _*_, _-_, _≤_, _<_}
-use mathlib.Core.Path.{_≡_, refl, _∙_, ap}
+use mathlib.Core.Path.{_≡_, refl, _∙_, ap, subst}
 use mathlib.Core.Bool.{Bool, true, false}
 use mathlib.Core.List.{List, [], _∷_}
 use native.Mathlib.Omega.{arith}
@@ -22,7 +22,7 @@ use Rattle.laws.specs.Scans.{scans-high, scans-total}
 use Rattle.laws.specs.Stores.{length-segment}
 use Rattle.log.specs.Shape.{Shape, inside}
 use Rattle.converting.specs.Parts.{entriesOf, partBytes, LogOf}
-use Rattle.converting.specs.PartLaws.{Left, More, left-start, left-inside, PartOf, part-of, part-rewritten, any-skip, any-turn, any-found, any-none}
+use Rattle.converting.specs.PartLaws.{Left, More, Sized, left-start, left-inside, PartOf, part-of, part-rewritten, any-skip, any-turn, any-found, any-none}
 
 -- ---- the entries of a segment
 
@@ -51,6 +51,11 @@ module _ (L K : Layout) (s : List ℕ) where
               omega (arith, c .counts, ap (λ (l : List Entry). length (allEncoded K l)) (m .all), length-first K (m .first) (m .rest), m .size);
           small = omega (arith, c .small, m .long, width-low L, width-high K);
         }
+
+    -- by its kind alone
+    pub count-sized : {len : ℕ} → Sized L s at (c .entries) len → Counting L K s (at + len) (total + (len - entrySize L 0 + entrySize K 0))
+    count-sized z =
+        subst (λ (k : ℕ). Counting L K s (at + k) (total + (k - entrySize L 0 + entrySize K 0))) (z .its-length) (count-turn (z .more))
 
     pub count-end : c .entries ≡ [] → total ≡ length (allEncoded K (entriesOf L s))
     unfolding allEncoded

@@ -1,15 +1,15 @@
 // Whether the slots of a log still fit their bytes in another edition (29).
 use log::slots::is_named;
 use segment::Edition;
-use segment::Next;
 use segment::area::cut;
-use segment::entries::next;
 use segment::layout::digest_size;
 use segment::layout::head_size;
+use segment::layout::kind_size;
 ghost use Prim.Native.Nat.{_≤_};
 ghost use mathlib.Core.Path.{_≡_};
 ghost use mathlib.Core.Bool.{false};
 ghost use lib.ListN.{length};
+ghost use Rattle.segment.specs.Kinds.{kindSize};
 ghost use Rattle.slot_map.specs.Bit.{named};
 ghost use Rattle.model.specs.Log.{viewsOf, scan, isDamaged};
 ghost use Rattle.model.specs.Operations.{allEncoded};
@@ -17,27 +17,39 @@ ghost use Rattle.model.specs.Conversion.{slotTooLong};
 ghost use Rattle.log.specs.Shape.{Shape};
 ghost use Rattle.converting.specs.Parts.{entriesOf, partBytes, LogOf};
 
-// Bytes of the entries of an undamaged segment in another edition: the bytes before a value are of another number.
+// The length of an entry of a kind, where that of the last one's is known. Entries of one kind stand in a row often, and a
+// processor that foresees this goes on to the next one without waiting for the length.
+fn size_after(edition: Edition, last: u8, length: usize, kind: u8) -> usize
+    requires { ⌜ length ≡ kindSize edition last ⌝ }
+    ensures { λ r. ⌜ r ≡ kindSize edition kind ⌝ }
+{
+    if kind == last {
+        return length;
+    }
+    kind_size(edition, kind)
+}
+
+// Bytes of the entries of an undamaged segment in another edition: the bytes before a value are of another number. No more is read
+// of an entry than its kind; what has no length is the end.
 fn entries_size(from: Edition, to: Edition, part: &[u8]) -> usize
     requires { ⌜ (isDamaged (scan from (now part)) ≡ false) × (length (now part) ≤ 2048) ⌝ }
     ensures { λ r. ⌜ (r ≡ length (allEncoded to (entriesOf from (now (part .entry))))) × (r ≤ 4096) ⌝ }
 {
     let mut at = digest_size(from);
     let mut total = 0;
-    loop {
-        match next(from, part, at) {
-            Next::Entry(header) => {
-                total += header.length - head_size(from) + head_size(to);
-                at += header.length;
-            }
-            Next::End => {
-                return total;
-            }
-            Next::Damage => {
-                return total;
-            }
+    let mut last = 0;
+    let mut length = 0;
+    while at < part.len() {
+        let kind = part[at];
+        length = size_after(from, last, length, kind);
+        if length == 0 {
+            return total;
         }
+        last = kind;
+        total += length - head_size(from) + head_size(to);
+        at += length;
     }
+    total
 }
 
 // Bytes of its digest and its entries.
