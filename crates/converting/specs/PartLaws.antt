@@ -3,12 +3,12 @@ use Prim.Native.Nat.{ℕ, suc, _+_, _≤_, _<_}
 use mathlib.Core.Path.{_≡_, refl, sym, _∙_, ap, subst}
 use mathlib.Core.Bool.{Bool, true, false}
 use mathlib.Core.List.{List, [], _∷_}
-use mathlib.Core.Option.{Option, none, some}
+use mathlib.Core.Option.{none, some}
 use native.Mathlib.Numerals.{add-one}
 use native.Mathlib.Omega.{arith}
 use lib.ListN.{length, getD}
 use Rattle.segment.specs.Choice.{pick-true, pick-false, both, both-true, both-false-left, both-false-right, either, either-false, either-true-left, either-true-right}
-use Rattle.segment.specs.Layout.{Layout, edition2, digestSize, entrySize, table, valueLength}
+use Rattle.segment.specs.Layout.{Layout, edition2, digestSize, entrySize, table}
 use Rattle.segment.specs.declared.Edition.the-variants.{First, Second}
 use Rattle.segment.specs.Entry.{Entry, entry, end, entryAt, sizeOf}
 use Rattle.segment.specs.EntryLaws.{found-fits, at-end, Reading, is-entry, is-end, is-damage, reading}
@@ -92,14 +92,6 @@ pub record Sized (L : Layout) (s : List ℕ) (at : ℕ) (es : List Entry) (len :
   pub header : Header
   pub more : More L s at es header
   pub its-length : header .length ≡ len
-
-pub no-size-of-end : (L : Layout) → 0 ≡ kindSize L 0
-unfolding sizeOrZero
-no-size-of-end L = go (valueLength L 0) refl
-  where
-    go : (o : Option ℕ) → valueLength L 0 ≡ o → 0 ≡ kindSize L 0
-    go none p = sym (ap (sizeOrZero L) p)
-    go (some n) p = absurd (entry-not-end L 0 n p refl)
 
 module _ {L : Layout} {s : List ℕ} {at : ℕ} {es : List Entry} (l : Left L s at es) where
   none-left : entryAt L s at ≡ end → es ≡ []

@@ -1,33 +1,20 @@
 // Whether the slots of a log still fit their bytes in another edition (29).
+use log::lengths::size_after;
 use log::slots::is_named;
 use segment::Edition;
 use segment::area::cut;
 use segment::layout::digest_size;
 use segment::layout::head_size;
-use segment::layout::kind_size;
 ghost use Prim.Native.Nat.{_≤_};
 ghost use mathlib.Core.Path.{_≡_};
 ghost use mathlib.Core.Bool.{false};
 ghost use lib.ListN.{length};
-ghost use Rattle.segment.specs.Kinds.{kindSize};
 ghost use Rattle.slot_map.specs.Bit.{named};
 ghost use Rattle.model.specs.Log.{viewsOf, scan, isDamaged};
 ghost use Rattle.model.specs.Operations.{allEncoded};
 ghost use Rattle.model.specs.Conversion.{slotTooLong};
 ghost use Rattle.log.specs.Shape.{Shape};
 ghost use Rattle.converting.specs.Parts.{entriesOf, partBytes, LogOf};
-
-// The length of an entry of a kind, where that of the last one's is known. Entries of one kind stand in a row often, and a
-// processor that foresees this goes on to the next one without waiting for the length.
-fn size_after(edition: Edition, last: u8, length: usize, kind: u8) -> usize
-    requires { ⌜ length ≡ kindSize edition last ⌝ }
-    ensures { λ r. ⌜ r ≡ kindSize edition kind ⌝ }
-{
-    if kind == last {
-        return length;
-    }
-    kind_size(edition, kind)
-}
 
 // Bytes of the entries of an undamaged segment in another edition: the bytes before a value are of another number. No more is read
 // of an entry than its kind; what has no length is the end.

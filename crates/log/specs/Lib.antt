@@ -3,6 +3,7 @@ pub mod Shape
 pub mod Heads
 pub mod Extents
 pub mod Tables
+pub mod Lengths
 pub mod Marks
 pub mod Suspects
 pub mod Counts

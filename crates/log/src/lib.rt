@@ -6,6 +6,7 @@ use segment::Version;
 mod filter;
 pub mod head;
 mod hits;
+pub mod lengths;
 mod marks;
 mod parts;
 pub mod scan;

@@ -138,7 +138,7 @@ damaged-first x damaged = refl
 damaged-first x (scanned is e) = refl
 
 module _ (L : Layout) (s : List ℕ) (at : ℕ) (sound : isDamaged (restOf L s at) ≡ false) where
-  no-damage : entryAt L s at ≡ damage → ⊥
+  pub no-damage : entryAt L s at ≡ damage → ⊥
   unfolding isDamaged
   no-damage e = clash (isDamaged (restOf L s at)) (ap isDamaged (rest-damage L s at e)) sound
 
@@ -171,6 +171,28 @@ module _ (L : Layout) (s : List ℕ) (at : ℕ) (sound : isDamaged (restOf L s a
   pub sound-on : {v len : ℕ} → Meets L s at v len → isDamaged (restOf L s (at + len)) ≡ false
   sound-on {v} {len} m =
       sym (damaged-first (itemAt at (m .met)) (restOf L s (at + len))) ∙ ap isDamaged (sym (rest-entry L s at m)) ∙ sound
+
+-- What it means that no entry from an offset of an undamaged segment up to another is of the key k: what is seen stays.
+pub record Skipped (L : Layout) (s : List ℕ) (k : Key) (start at : ℕ) : Type 0 where
+  pub sound : isDamaged (restOf L s at) ≡ false
+  pub upward : start ≤ at
+  pub seen : (S i : ℕ) (before now : Seen) → Seeing L s S i k before start now → Seeing L s S i k before at now
+
+module _ (L : Layout) (s : List ℕ) (k : Key) (start : ℕ) where
+  pub skip-none : isDamaged (restOf L s start) ≡ false → Skipped L s k start start
+  skip-none sound = record { sound = sound; upward = omega arith; seen = λ S i before now h. h }
+
+  -- x is the number in the last four bytes of the entry's key
+  pub skip-turn : {at v len : ℕ} → Skipped L s k start at → Meets L s at v len → (x : ℕ) → x ≡ numberOf (take 4 (drop (at + 3) s)) → (x ≡ k .key → ⊥)
+      → Skipped L s k start (at + len)
+  skip-turn {at} h m x e n =
+      record {
+        sound = sound-on L s at (h .sound) m;
+        upward = omega (arith, h .upward);
+        seen =
+            λ S i before now z.
+            see-turn L s S i k before at now (h .seen S i before now z) m now (seen-other L s at k now (i * S + at) x e n);
+      }
 
 pub sound-start : (L : Layout) (s bytes : List ℕ) → s ≡ bytes → isDamaged (scan L bytes) ≡ false → isDamaged (restOf L s (digestSize L)) ≡ false
 sound-start L s bytes e h = ap isDamaged (rest-whole L s ∙ ap (scan L) e) ∙ h

@@ -1,5 +1,6 @@
 // The walk over the log that keeps the newest entry of one key.
 use crate::Seen;
+use log::lengths::size_after;
 use log::slots::is_named;
 use segment::Edition;
 use segment::Header;
@@ -9,7 +10,6 @@ use segment::Version;
 use segment::area::cut;
 use segment::entries::next;
 use segment::layout::digest_size;
-use segment::layout::kind_size;
 use segment::reader::edition_of;
 use word::number::read32;
 ghost use Prim.Native.Nat.{_+_, _*_, _≤_};
@@ -18,13 +18,13 @@ ghost use mathlib.Core.Bool.{false};
 ghost use mathlib.Core.Option.{none};
 ghost use lib.Dec.{ltb};
 ghost use lib.ListN.{length};
-ghost use Rattle.segment.specs.Entry.{entryAt};
-ghost use Rattle.segment.specs.Entries.{nextOf};
 ghost use Rattle.slot_map.specs.Bit.{named};
 ghost use Rattle.model.specs.Log.{viewsOf, itemsOf, isDamaged, placedIn, logOf, sameKeys};
 ghost use Rattle.laws.specs.LogLaws.{AllScanned};
 ghost use Rattle.log.specs.Shape.{Shape};
-ghost use Rattle.scanning.specs.Seeing.{seenWith, seenNext, seenIn, seenOf};
+ghost use Rattle.log.specs.Extents.{restOf};
+ghost use Rattle.scanning.specs.Seeing.{seenWith, seenIn, seenOf};
+ghost use Rattle.scanning.specs.SeeingLaws.{Skipped};
 
 // Whether an entry is of a key, an object or a tombstone.
 fn is_of(key: Key, header: Header) -> bool
@@ -55,23 +55,31 @@ fn see(seen: Seen, key: Key, header: Header, place: usize) -> Seen
     seen
 }
 
-// What is seen after the entry at an offset of a segment. No more is read of one that has another key's last four bytes.
-fn see_at(edition: Edition, part: &[u8], at: usize, key: Key, place: usize, seen: Seen) -> Seen
-    requires { ⌜ at + 7 ≤ length (now part) ⌝ }
-    ensures { λ r.
-        ⌜ r ≡ seenNext key seen (nextOf edition (entryAt edition (now (part .entry)) at)) place ⌝ }
+// The first entry from an offset of an undamaged segment on whose key may be a key, or the end: no more is read of one that has
+// another key's last four bytes.
+fn skip_others(edition: Edition, part: &[u8], start: usize, key: Key) -> usize
+    requires { ⌜ isDamaged (restOf edition (now part) start) ≡ false ⌝ }
+    ensures { λ r. ⌜ Skipped edition (now (part .entry)) key start r ⌝ }
 {
-    if read32(part, at + 3) != key.key {
-        return seen;
+    let mut at = start;
+    let mut last = 0;
+    let mut length = 0;
+    while at < part.len() {
+        let kind = part[at];
+        length = size_after(edition, last, length, kind);
+        if length == 0 {
+            return at;
+        }
+        if read32(part, at + 3) == key.key {
+            return at;
+        }
+        last = kind;
+        at += length;
     }
-    match next(edition, part, at) {
-        Next::Entry(header) => see(seen, key, header, place),
-        Next::End => seen,
-        Next::Damage => seen,
-    }
+    at
 }
 
-// What is seen after the entries of an undamaged slot, in which an entry's kind tells its length.
+// What is seen after the entries of an undamaged slot.
 fn see_slot(s: usize, area: &[u8], slot: usize, key: Key, before: Seen) -> Seen
     requires { ⌜ slot * s + s ≤ length (now area) ⌝ }
     requires { ⌜ isDamaged (viewsOf (now area) s slot .scan) ≡ false ⌝ }
@@ -83,19 +91,21 @@ fn see_slot(s: usize, area: &[u8], slot: usize, key: Key, before: Seen) -> Seen
     let edition = edition_of(part);
     let mut at = digest_size(edition);
     let mut seen = before;
-    while at < part.len() {
-        let kind = part[at];
-        if kind == 0 {
-            return seen;
+    loop {
+        at = skip_others(edition, part, at, key);
+        match next(edition, part, at) {
+            Next::Entry(header) => {
+                seen = see(seen, key, header, start + at);
+                at += header.length;
+            }
+            Next::End => {
+                return seen;
+            }
+            Next::Damage => {
+                return before;
+            }
         }
-        let length = kind_size(edition, kind);
-        if length == 0 {
-            return before;
-        }
-        seen = see_at(edition, part, at, key, start + at, seen);
-        at += length;
     }
-    seen
 }
 
 // The newest entry of a key in the undamaged log of a map.

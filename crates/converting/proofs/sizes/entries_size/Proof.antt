@@ -7,7 +7,8 @@ use lib.ListN.{length}
 use borrow.Author.Needs.{needs}
 use Rattle.segment.specs.LayoutLaws.{width-high}
 use Rattle.segment.specs.Kinds.{kindSize}
-use Rattle.converting.specs.PartLaws.{Sized, left-sized, left-unsized, left-past, no-size-of-end}
+use Rattle.log.specs.Lengths.{no-size-of-end}
+use Rattle.converting.specs.PartLaws.{Sized, left-sized, left-unsized, left-past}
 use Rattle.converting.specs.SizeLaws.{Counting, count-start, count-sized, count-end, count-small}
 use Rattle.converting.proofs.sizes.entries_size.Statement.{statement}
 use Rattle.converting.proofs.sizes.entries_size.Tie as tie

@@ -5,13 +5,13 @@ use mathlib.Core.Path.{_≡_, refl, _∙_, ap}
 use native.Mathlib.Omega.{arith}
 use borrow.Author.Needs.{needs}
 use lib.ListN.{length}
-use Rattle.segment.specs.EntryLaws.{kind-end}
+use Rattle.segment.specs.Entries.{next-end, next-damage}
 use Rattle.model.specs.Log.{Scan, itemsOf, isDamaged, placedIn}
 use Rattle.laws.specs.Stores.{length-segment}
 use Rattle.log.specs.Shape.{own-scan}
-use Rattle.log.specs.Extents.{Meets, restOf}
-use Rattle.scanning.specs.Seeing.{seenIn}
-use Rattle.scanning.specs.SeeingLaws.{Seeing, see-start, see-turn, see-end, sound-start, sound-on, past-all, kind-none, kind-meets}
+use Rattle.log.specs.Extents.{Meets, meets, restOf}
+use Rattle.scanning.specs.Seeing.{seenIn, seenNext}
+use Rattle.scanning.specs.SeeingLaws.{Seeing, see-start, see-turn, see-end, seen-read, sound-start, sound-on, no-damage}
 use Rattle.scanning.proofs.newest.see_slot.Statement.{statement}
 use Rattle.scanning.proofs.newest.see_slot.Tie as tie
 
@@ -43,59 +43,65 @@ loop-holds c =
           ∙ c .before .before .before .before .pre .1),
     )
 
-shared-slice-read-kind : tie.Need-shared-slice-read-kind Inv-loop μ-loop
-shared-slice-read-kind c = search needs
+skip-others-requires : tie.Need-skip-others-requires Inv-loop μ-loop
+skip-others-requires c κs = c .loop .inv .1
 
-returns : tie.Need-returns Inv-loop μ-loop
-returns c =
-    let a = c .before .before .before .before .before .before .before .before .args in
-    see-end _ _ _ _ _ _ _ _ (c .before .before .before .loop .inv .0) (kind-end _ _ _ (c .before .before .loop-test .taken) (c .if1 .taken)) ∙
-    ap (λ (r : Scan). seenIn (a .s) (a .key) (a .before) (placedIn (a .slot) (itemsOf r)))
-    (own-scan (a .area .now) (a .s) (a .slot) _ (c .before .before .before .before .before .before .cut .ensures) _ (c .before .before .before .before .before .edition-of .ensures))
+next-requires : tie.Need-next-requires Inv-loop μ-loop
+next-requires c κs = search needs
 
-kind-size-requires : tie.Need-kind-size-requires Inv-loop μ-loop
-kind-size-requires c κs = search needs
-
-returns-2 : tie.Need-returns-2 Inv-loop μ-loop
-returns-2 c = absurd (kind-none _ _ _ (c .before .before .before .before .before .loop .inv .1) (c .before .before .before .before .loop-test .taken) (c .before .before .if1 .left) _ (c .before .kind-size .ensures) (c .if2 .taken))
+enum-known-header : tie.Need-enum-known-header Inv-loop μ-loop
+enum-known-header c = search needs
 
 -- the entry that the turn passes
-met : (c : tie.Else2 Inv-loop μ-loop) → (v : ℕ) × Meets (c .before .before .before .before .before .before .before .edition-of .result) (c .before .before .before .before .before .before .before .before .cut .result .now) (c .before .before .before .before .before .loop .at) v (c .before .kind-size .result)
-met c = kind-meets _ _ _ (c .before .before .before .before .before .loop .inv .1) _ (c .before .kind-size .ensures) (c .if2 .left)
+met : (c : tie.After-header Inv-loop μ-loop)
+    → Meets (c .before .before .before .before .before .before .edition-of .result) (c .before .before .before .before .before .before .before .cut .result .now) (c .before .before .before .skip-others .result) (c .header .given .0 .0 .version .0) (c .header .given .0 .0 .length)
+met c = meets _ _ _ _ (c .before .before .next .ensures) _ (c .header .given .1)
 
-add-see-at : tie.Need-add-see-at Inv-loop μ-loop
-add-see-at c =
+add-see : tie.Need-add-see Inv-loop μ-loop
+add-see c =
     let a = c .before .before .before .before .before .before .before .before .before .before .args in
     let p = c .before .before .before .before .before .before .before .before .before .before .pre .0 in
     omega (
       arith,
-      c .before .before .before .before .loop-test .taken,
+      met (c .before) .fits,
       p,
       ap length (c .before .before .before .before .before .before .before .before .cut .ensures),
       length-segment (a .area .now) (a .s) (a .slot) p,
     )
 
-see-at-requires : tie.Need-see-at-requires Inv-loop μ-loop
-see-at-requires c κs = omega (arith, met c .1 .its-size, met c .1 .fits)
+see-requires : tie.Need-see-requires Inv-loop μ-loop
+see-requires c κs = search needs
 
 add-at : tie.Need-add-at Inv-loop μ-loop
-add-at c = omega (arith, met (c .before) .1 .fits)
+add-at c = omega (arith, met (c .before .before .before) .fits)
 
 loop-less : tie.Need-loop-less Inv-loop μ-loop
-loop-less c = omega (arith, met (c .before) .1 .fits, met (c .before) .1 .some-byte)
+loop-less c = omega (arith, met (c .before .before .before) .fits, met (c .before .before .before) .some-byte, c .before .before .before .before .before .before .skip-others .ensures .upward)
 
 loop-again : tie.Need-loop-again Inv-loop μ-loop
-loop-again c = (
-  see-turn _ _ _ _ _ _ _ _ (c .before .before .before .before .before .before .loop .inv .0) (met (c .before) .1) _ (c .see-at .ensures),
-  sound-on _ _ _ (c .before .before .before .before .before .before .loop .inv .1) (met (c .before) .1),
-)
+unfolding seenNext
+loop-again c =
+    let skipped = c .before .before .before .before .before .before .skip-others .ensures in (
+      see-turn _ _ _ _ _ _ _ _ (skipped .seen _ _ _ _ (c .before .before .before .before .before .before .before .loop .inv .0)) (met (c .before .before .before)) _
+          (c .before .see .ensures ∙ seen-read _ _ _ _ _ _ _ (c .before .before .before .before .before .next .ensures) _ (c .before .before .before .header .given .1)),
+      sound-on _ _ _ (skipped .sound) (met (c .before .before .before)),
+    )
 
-returns-3 : tie.Need-returns-3 Inv-loop μ-loop
-returns-3 c =
-    let a = c .before .before .before .before .before .before .args in
-    see-end _ _ _ _ _ _ _ _ (c .before .loop .inv .0) (past-all _ _ _ (c .before .loop .inv .1) (c .loop-test .left)) ∙
+enum-told : tie.Need-enum-told Inv-loop μ-loop
+enum-told c = search needs
+
+returns : tie.Need-returns Inv-loop μ-loop
+returns c =
+    let a = c .before .before .before .before .before .before .before .before .before .args in
+    see-end _ _ _ _ _ _ _ _ (c .before .before .before .skip-others .ensures .seen _ _ _ _ (c .before .before .before .before .loop .inv .0)) (next-end _ _ _ _ (c .before .before .next .ensures) (c .enum-told .given .1)) ∙
     ap (λ (r : Scan). seenIn (a .s) (a .key) (a .before) (placedIn (a .slot) (itemsOf r)))
-    (own-scan (a .area .now) (a .s) (a .slot) _ (c .before .before .before .before .cut .ensures) _ (c .before .before .before .edition-of .ensures))
+    (own-scan (a .area .now) (a .s) (a .slot) _ (c .before .before .before .before .before .before .before .cut .ensures) _ (c .before .before .before .before .before .before .edition-of .ensures))
+
+enum-told-2 : tie.Need-enum-told-2 Inv-loop μ-loop
+enum-told-2 c = search needs
+
+returns-2 : tie.Need-returns-2 Inv-loop μ-loop
+returns-2 c = absurd (no-damage _ _ _ (c .before .before .before .skip-others .ensures .sound) (next-damage _ _ _ _ (c .before .before .next .ensures) (c .enum-told2 .given .1)))
 
 pub see-slot-spec : {M : Type 1} → statement M
 see-slot-spec =
@@ -108,13 +114,15 @@ see-slot-spec =
     edition-of-requires
     digest-size-requires
     loop-holds
-    shared-slice-read-kind
-    returns
-    kind-size-requires
-    returns-2
-    add-see-at
-    see-at-requires
+    skip-others-requires
+    next-requires
+    enum-known-header
+    add-see
+    see-requires
     add-at
     loop-less
     loop-again
-    returns-3)
+    enum-told
+    returns
+    enum-told-2
+    returns-2)

@@ -1,9 +1,9 @@
--- `converting::sizes::size_after` meets its contract.
+-- `log::lengths::size_after` meets its contract.
 use mathlib.Core.Path.{sym, _∙_, ap}
 use borrow.Author.Needs.{needs}
 use Rattle.segment.specs.Kinds.{kindSize}
-use Rattle.converting.proofs.sizes.size_after.Statement.{statement}
-use Rattle.converting.proofs.sizes.size_after.Tie as tie
+use Rattle.log.proofs.lengths.size_after.Statement.{statement}
+use Rattle.log.proofs.lengths.size_after.Tie as tie
 
 returns : tie.Need-returns
 returns c = c .before .pre ∙ ap (kindSize (c .before .args .edition)) (sym (c .if1 .taken))
