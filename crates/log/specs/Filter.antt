@@ -26,24 +26,24 @@ use Rattle.log.specs.Suspects.{hits, log-below, Suspects, suspects-none,
 -- ---- the bit of a version
 
 unfoldable pub isMarked : List ℕ → ℕ → Bool
-isMarked filter v = bitIn filter (v / 32 % 512) (v % 32)
+isMarked filter v = bitIn filter (v % 512) (v / 512 % 32)
 
 unfoldable pub markedWith : List ℕ → ℕ → List ℕ
-markedWith filter v = setIn filter (v / 32 % 512) (v % 32)
+markedWith filter v = setIn filter (v % 512) (v / 512 % 32)
 
 module _ (filter : List ℕ) (v : ℕ) where
   pub length-marked : length (markedWith filter v) ≡ length filter
   unfolding markedWith
-  length-marked = length-set filter (v / 32 % 512) (withBit (getD filter (v / 32 % 512) 0) (v % 32))
+  length-marked = length-set filter (v % 512) (withBit (getD filter (v % 512) 0) (v / 512 % 32))
 
 module _ (filter : List ℕ) (size : length filter ≡ 512) (v : ℕ) where
   pub mark-own : isMarked (markedWith filter v) v ≡ true
   unfolding isMarked markedWith
-  mark-own = set-own filter (v / 32 % 512) (v % 32) (omega arith)
+  mark-own = set-own filter (v % 512) (v / 512 % 32) (omega arith)
 
   pub mark-keeps : (u : ℕ) → isMarked filter u ≡ true → isMarked (markedWith filter v) u ≡ true
   unfolding isMarked markedWith
-  mark-keeps u e = set-keeps filter (v / 32 % 512) (v % 32) (omega arith) (u / 32 % 512) (u % 32) e
+  mark-keeps u e = set-keeps filter (v % 512) (v / 512 % 32) (omega arith) (u % 512) (u / 512 % 32) e
 
 -- ---- what has passed
 

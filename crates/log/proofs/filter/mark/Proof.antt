@@ -1,5 +1,5 @@
 -- `log::filter::mark` meets its contract.
-use Prim.Native.Nat.{_/_, _%_}
+use Prim.Native.Nat.{_%_}
 use mathlib.Core.Path.{ap}
 use borrow.Author.Needs.{needs}
 use lib.ListN.{set}
@@ -35,7 +35,7 @@ returns : tie.Need-returns
 unfolding isMarked markedWith
 returns c =
     let a = c .before .before .before .before .before .before .args in
-    (c .has-slot .ensures, ap (set (a .filter .now) (a .version .0 / 32 % 512)) (c .before .with-slot .ensures))
+    (c .has-slot .ensures, ap (set (a .filter .now) (a .version .0 % 512)) (c .before .with-slot .ensures))
 
 pub mark-spec : {M : Type 1} → statement M
 mark-spec =
