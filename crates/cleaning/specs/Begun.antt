@@ -37,7 +37,7 @@ use Rattle.cleaning.specs.Entries.{SplitFits}
 use Rattle.cleaning.specs.Marks.{marksOf}
 use Rattle.cleaning.specs.Kept.{keptBytes}
 use Rattle.cleaning.specs.Chosen.{ChosenFits, chosenBytes}
-use Rattle.cleaning.specs.KeptModel.{splitOf, bytes-kept}
+use Rattle.cleaning.specs.KeptModel.{splitOf, genuine-indexed, bytes-kept}
 use Rattle.cleaning.specs.declared.Split.{Split}
 
 -- ---- what the parts of a start ask
@@ -150,7 +150,7 @@ module _ (L : Layout) (area cells : List ℕ) (r : Record) (victims : ℕ) (work
   lengths = lentLengths area cells work
 
   abbrev code-bytes : List ℕ
-  code-bytes = keptBytes L area cells (marksOf L area cells (splitOf r victims)) (splitOf r victims)
+  code-bytes = keptBytes L area cells (marksOf area cells (splitOf r victims)) (splitOf r victims)
 
   abbrev its-bytes : List ℕ
   its-bytes = allEncoded L (kept victims (logNow area r))
@@ -167,8 +167,8 @@ module _ (L : Layout) (area cells : List ℕ) (r : Record) (victims : ℕ) (work
       go false fit false good =
           let f = lent L r (length area) (length cells) (not-false (fitsLent L r (length area) (length cells)) fit) in
           ap (cleanedWith L r victims lengths work)
-          (bytes-kept L area cells r g victims (not-false _ (either-false-right (eqb victims 0) (not (within victims (r .map))) good))
-          (omega (arith, f .cells-high, f .index-own)) bytes)
+          (bytes-kept area cells r (genuine-indexed L area cells r g) victims (not-false _ (either-false-right (eqb victims 0) (not (within victims (r .map))) good))
+          (omega (arith, f .cells-high, f .index-own)) bytes L)
 
   pub cleaned-promise : Bytes area → record { start = a; work = work′ } ≡ cleanedWith L r victims lengths work code-bytes →
       StartPromise L freely (clean victims) r area cells work work′ a

@@ -4,15 +4,14 @@ use Prim.Native.Nat.{ℕ, zero, suc, _/_, _%_}
 use mathlib.Core.Path.{_≡_}
 use mathlib.Core.Bool.{Bool}
 use mathlib.Core.List.{List, [], _∷_, _++_}
-use lib.ListN.{length, getD, set, take, drop}
+use lib.ListN.{length, getD, set}
 use Rattle.segment.specs.Choice.{pick}
 use Rattle.segment.specs.Layout.{Layout}
-use Rattle.segment.specs.Entries.{headerOf}
 use Rattle.segment.specs.declared.Header.{Header}
 use Rattle.slot_map.specs.Bit.{named, withBit}
 use Rattle.model.specs.Log.{Placed, placeOf, placedIn}
-use Rattle.cleaning.specs.Entries.{SlotsFit, slotItems}
-use Rattle.cleaning.specs.Kept.{gatherBy}
+use Rattle.cleaning.specs.Entries.{SlotsFit, itemsIn, slotLayout, placedHeader}
+use Rattle.cleaning.specs.Kept.{movedBytes, gatherBy}
 use Rattle.cleaning.specs.declared.Split.{Split}
 
 -- The slots of an area, and 256 words of bits.
@@ -41,38 +40,41 @@ Test = Header → ℕ → Bool
 unfoldable pub chooseEntry : Test → List ℕ → Header → ℕ → List ℕ
 chooseEntry test chosen h place = pick (test h place) (chosenWith chosen place) chosen
 
-unfoldable pub choosePlaced : Layout → Test → ℕ → List ℕ → List Placed → List ℕ
-choosePlaced L test S chosen [] = chosen
-choosePlaced L test S chosen (x ∷ xs) = choosePlaced L test S (chooseEntry test chosen (headerOf L (x .entry)) (placeOf S x)) xs
+unfoldable pub choosePlaced : Test → ℕ → List ℕ → List Placed → List ℕ
+choosePlaced test S chosen [] = chosen
+choosePlaced test S chosen (x ∷ xs) = choosePlaced test S (chooseEntry test chosen (placedHeader x) (placeOf S x)) xs
 
--- a slot; nothing where it is no victim; and the slots below n
+-- a slot read in the layout K
 abbrev pub chooseSlot : Layout → Test → List ℕ → ℕ → List ℕ → ℕ → List ℕ
-chooseSlot L test area S chosen i = choosePlaced L test S chosen (placedIn i (slotItems L area S i))
+chooseSlot K test area S chosen i = choosePlaced test S chosen (placedIn K i (itemsIn K area S i))
 
-unfoldable pub choosePart : Layout → Test → List ℕ → Split → List ℕ → ℕ → List ℕ
-choosePart L test area split chosen i = pick (named (split .victims) i) (chooseSlot L test area (split .size) chosen i) chosen
+-- in its own edition, nothing where it is no victim; and the slots below n
+unfoldable pub choosePart : Test → List ℕ → Split → List ℕ → ℕ → List ℕ
+choosePart test area split chosen i =
+    pick (named (split .victims) i) (chooseSlot (slotLayout area (split .size) i) test area (split .size) chosen i) chosen
 
-unfoldable pub chooseBelow : Layout → Test → List ℕ → Split → List ℕ → ℕ → List ℕ
-chooseBelow L test area split chosen zero = chosen
-chooseBelow L test area split chosen (suc n) = choosePart L test area split (chooseBelow L test area split chosen n) n
+unfoldable pub chooseBelow : Test → List ℕ → Split → List ℕ → ℕ → List ℕ
+chooseBelow test area split chosen zero = chosen
+chooseBelow test area split chosen (suc n) = choosePart test area split (chooseBelow test area split chosen n) n
 
-abbrev pub chooseVictims : Layout → Test → List ℕ → Split → List ℕ → List ℕ
-chooseVictims L test area split chosen = chooseBelow L test area split chosen (split .slots)
+abbrev pub chooseVictims : Test → List ℕ → Split → List ℕ → List ℕ
+chooseVictims test area split chosen = chooseBelow test area split chosen (split .slots)
 
--- ---- the bytes of what is chosen
+-- ---- the bytes of what is chosen, in the layout W of the new head
 
-abbrev pub chosenEntry : List ℕ → List ℕ → Header → ℕ → List ℕ
-chosenEntry area chosen h place = pick (isChosen chosen place) (take (h .length) (drop place area)) []
+abbrev pub chosenEntry : Layout → List ℕ → List ℕ → Layout → Header → ℕ → List ℕ
+chosenEntry W area chosen K h place = pick (isChosen chosen place) (movedBytes W area K h place) []
 
-abbrev pub chosenSlot : Layout → List ℕ → List ℕ → ℕ → ℕ → List ℕ
-chosenSlot L area chosen S i = gatherBy L (chosenEntry area chosen) S (placedIn i (slotItems L area S i))
+abbrev pub chosenSlot : Layout → Layout → List ℕ → List ℕ → ℕ → ℕ → List ℕ
+chosenSlot K W area chosen S i = gatherBy (chosenEntry W area chosen) S (placedIn K i (itemsIn K area S i))
 
 unfoldable pub chosenPart : Layout → List ℕ → List ℕ → Split → ℕ → List ℕ
-chosenPart L area chosen split i = pick (named (split .victims) i) (chosenSlot L area chosen (split .size) i) []
+chosenPart W area chosen split i =
+    pick (named (split .victims) i) (chosenSlot (slotLayout area (split .size) i) W area chosen (split .size) i) []
 
 unfoldable pub chosenBelow : Layout → List ℕ → List ℕ → Split → ℕ → List ℕ
-chosenBelow L area chosen split zero = []
-chosenBelow L area chosen split (suc n) = chosenBelow L area chosen split n ++ chosenPart L area chosen split n
+chosenBelow W area chosen split zero = []
+chosenBelow W area chosen split (suc n) = chosenBelow W area chosen split n ++ chosenPart W area chosen split n
 
 abbrev pub chosenBytes : Layout → List ℕ → List ℕ → Split → List ℕ
-chosenBytes L area chosen split = chosenBelow L area chosen split (split .slots)
+chosenBytes W area chosen split = chosenBelow W area chosen split (split .slots)

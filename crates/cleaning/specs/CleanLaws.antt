@@ -3,8 +3,8 @@
 use Prim.Native.Nat.{ℕ, _+_, _≤_, _<_}
 use mathlib.Core.Path.{_≡_, sym, _∙_, ap, subst}
 use mathlib.Core.Bool.{Bool, true, false, not}
-use mathlib.Core.Option.{Option, none}
-use mathlib.Core.List.{List, [], _∷_, _++_}
+use mathlib.Core.Option.{none}
+use mathlib.Core.List.{List, _++_}
 use native.Mathlib.Nat.{zero-add}
 use native.Mathlib.Omega.{arith}
 use lib.Dec.{eqb}
@@ -183,9 +183,9 @@ module _ (L : Layout) (area cells : List ℕ) (r : Record) (victims : ℕ) (work
   front-refused bytes c e a is =
       cleaned-promise L area cells r victims work work a bytes
       (ap (λ (s : Start). record { start = s; work = work }) is
-      ∙ ap (begunWith L r victims work (keptBytes L area cells (marksOf L area cells (splitOf r victims)) (splitOf r victims)))
+      ∙ ap (begunWith L r victims work (keptBytes L area cells (marksOf area cells (splitOf r victims)) (splitOf r victims)))
       (sym
-      (first-some front (keptCauses L r (length (keptBytes L area cells (marksOf L area cells (splitOf r victims)) (splitOf r victims)))) c
+      (first-some front (keptCauses L r (length (keptBytes L area cells (marksOf area cells (splitOf r victims)) (splitOf r victims)))) c
       (checked-some (firstCause front) c e))))
 
   module _ (e : Check.Passed ≡ checked (firstCause front)) where
@@ -207,7 +207,7 @@ module _ (L : Layout) (area cells : List ℕ) (r : Record) (victims : ℕ) (work
           long = ltb-false (length work) (r .size) (t .work-long);
         }
 
-    pub marked-promise : Bytes area → (marks : List ℕ) (split : Split) → split ≡ splitOf r victims → marks ≡ siftNeeded L area cells split (replicate 128 0) →
+    pub marked-promise : Bytes area → (marks : List ℕ) (split : Split) → split ≡ splitOf r victims → marks ≡ siftNeeded area cells split (replicate 128 0) →
         (work′ : List ℕ) (a : Start) → record { start = a; work = work′ } ≡ markedWith L r victims work (keptBytes L area cells marks split) →
         StartPromise L freely (clean victims) r area cells work work′ a
     unfolding causesWith frontCauses keptCauses idleCauses markedWith
@@ -215,11 +215,11 @@ module _ (L : Layout) (area cells : List ℕ) (r : Record) (victims : ℕ) (work
         cleaned-promise L area cells r victims work work′ a bytes
         (h
         ∙ ap (λ (l : List ℕ). markedWith L r victims work (keptBytes L area cells l split)) its
-        ∙ ap (markedWith L r victims work) (needed-bytes L area cells split)
-        ∙ ap (λ (s : Split). markedWith L r victims work (keptBytes L area cells (marksOf L area cells s) s)) is
-        ∙ ap (begunWith L r victims work (keptBytes L area cells (marksOf L area cells (splitOf r victims)) (splitOf r victims)))
+        ∙ ap (markedWith L r victims work) (needed-bytes area cells split L)
+        ∙ ap (λ (s : Split). markedWith L r victims work (keptBytes L area cells (marksOf area cells s) s)) is
+        ∙ ap (begunWith L r victims work (keptBytes L area cells (marksOf area cells (splitOf r victims)) (splitOf r victims)))
         (sym
-        (first-none front (keptCauses L r (length (keptBytes L area cells (marksOf L area cells (splitOf r victims)) (splitOf r victims))))
+        (first-none front (keptCauses L r (length (keptBytes L area cells (marksOf area cells (splitOf r victims)) (splitOf r victims))))
         (checked-none (firstCause front) e))))
 
 -- ---- the work buffer filled and the answer

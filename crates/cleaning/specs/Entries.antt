@@ -7,11 +7,12 @@ use lib.Dec.{eqb}
 use lib.ListN.{length}
 use Rattle.segment.specs.Choice.{both, either}
 use Rattle.segment.specs.Layout.{Layout, digestSize}
+use Rattle.segment.specs.Digest.{layoutIn}
 use Rattle.segment.specs.Entries.{headerOf}
 use Rattle.segment.specs.declared.Header.{Header}
 use Rattle.segment.specs.declared.Key.{Key}
 use Rattle.slot_map.specs.Bit.{named}
-use Rattle.model.specs.Log.{Item, segmentOf}
+use Rattle.model.specs.Log.{Item, Placed, segmentOf}
 use Rattle.laws.specs.LogLaws.{anyBelow}
 use Rattle.index.specs.Build.{entriesAt}
 use Rattle.cleaning.specs.declared.Split.{Split}
@@ -30,9 +31,20 @@ pub record SplitFits (split : Split) (area marks : List ℕ) : Type 0 where
   pub slots : SlotsFit split area
   pub marks-long : length marks ≡ 128
 
--- the entries of a slot
-abbrev pub slotItems : Layout → List ℕ → ℕ → ℕ → List Item
-slotItems L area S i = entriesAt L (segmentOf area S i) (digestSize L)
+-- the entries of a slot read in a layout
+abbrev pub itemsIn : Layout → List ℕ → ℕ → ℕ → List Item
+itemsIn L area S i = entriesAt L (segmentOf area S i) (digestSize L)
+
+-- and in its own edition (02, R-11)
+abbrev pub slotLayout : List ℕ → ℕ → ℕ → Layout
+slotLayout area S i = layoutIn (segmentOf area S i)
+
+abbrev pub slotItems : List ℕ → ℕ → ℕ → List Item
+slotItems area S i = itemsIn (slotLayout area S i) area S i
+
+-- the header of an entry of the log
+abbrev pub placedHeader : Placed → Header
+placedHeader x = headerOf (x .layout) (x .entry)
 
 -- ---- an object of a key
 
@@ -49,8 +61,9 @@ objectIn L k [] = false
 objectIn L k (x ∷ xs) = either (isObject k (headerOf L (x .entry))) (objectIn L k xs)
 
 -- A log slot outside the victims holds an object of that key.
-abbrev pub slotHolds : Layout → List ℕ → Split → Key → ℕ → Bool
-slotHolds L area split k i = both (named (split .outside) i) (objectIn L k (slotItems L area (split .size) i))
+abbrev pub slotHolds : List ℕ → Split → Key → ℕ → Bool
+slotHolds area split k i =
+    both (named (split .outside) i) (objectIn (slotLayout area (split .size) i) k (slotItems area (split .size) i))
 
-abbrev pub objectBelow : Layout → List ℕ → Split → Key → Bool
-objectBelow L area split k = anyBelow (slotHolds L area split k) (split .slots)
+abbrev pub objectBelow : List ℕ → Split → Key → Bool
+objectBelow area split k = anyBelow (slotHolds area split k) (split .slots)

@@ -78,6 +78,10 @@ entries-meets L s at {h} m =
     entries-entry L s at (m .met) (m .is)
     ∙ ap (λ (n : ℕ). itemAt at (m .met) ∷ entriesAt L s (at + n)) (ap (λ (g : Header). g .length) (m .its))
 
+-- an entry that a walk meets has a head at least
+pub meets-long : (L : Layout) (s : List ℕ) (at : ℕ) {h : Header} → Meets L s at h → entrySize L 0 ≤ h .length
+meets-long L s at m = omega (arith, ap (λ (g : Header). g .length) (m .its))
+
 -- a tombstone is as long as the shortest entry
 pub tombstone-length : (L : Layout) (s : List ℕ) (at : ℕ) {h : Header} → Meets L s at h → h .tombstone ≡ true → h .length ≡ entrySize L 0
 unfolding isNone bytesIn

@@ -8,7 +8,6 @@ use lib.Bits.{bitXor}
 use lib.ListN.{replicate}
 use Rattle.word.specs.Fnv.{wrapped}
 use Rattle.segment.specs.Choice.{pick}
-use Rattle.segment.specs.Layout.{Layout}
 use Rattle.segment.specs.declared.Header.{Header}
 use Rattle.segment.specs.declared.Key.{Key}
 use Rattle.index.specs.Search.{searchFor}
@@ -36,21 +35,21 @@ filterWith filter k = markedWith filter (spread k)
 unfoldable pub noteEntry : List ℕ → Header → List ℕ
 noteEntry filter h = pick (h .tombstone) (filterWith filter (h .key)) filter
 
-abbrev pub noteVictims : Layout → List ℕ → Split → List ℕ → List ℕ
-noteVictims L area split filter = walkBelow L noteEntry area (split .size) (split .victims) filter (split .slots)
+abbrev pub noteVictims : List ℕ → Split → List ℕ → List ℕ
+noteVictims area split filter = walkBelow noteEntry area (split .size) (split .victims) filter (split .slots)
 
 -- ---- the walk outside the victims
 
 -- the cell of an object's key, where the filter has the key
-unfoldable pub siftEntry : Layout → List ℕ → List ℕ → List ℕ → List ℕ → Header → List ℕ
-siftEntry L area cells filter marks h =
-    pick (h .tombstone) marks (pick (filterHas filter (h .key)) (markFound marks (searchFor L area cells (h .key))) marks)
+unfoldable pub siftEntry : List ℕ → List ℕ → List ℕ → List ℕ → Header → List ℕ
+siftEntry area cells filter marks h =
+    pick (h .tombstone) marks (pick (filterHas filter (h .key)) (markFound marks (searchFor area cells (h .key))) marks)
 
-abbrev pub siftOutside : Layout → List ℕ → List ℕ → List ℕ → Split → List ℕ → List ℕ
-siftOutside L area cells filter split marks =
-    walkBelow L (siftEntry L area cells filter) area (split .size) (split .outside) marks (split .slots)
+abbrev pub siftOutside : List ℕ → List ℕ → List ℕ → Split → List ℕ → List ℕ
+siftOutside area cells filter split marks =
+    walkBelow (siftEntry area cells filter) area (split .size) (split .outside) marks (split .slots)
 
 -- It is made only where a victim holds a tombstone.
-unfoldable pub siftNeeded : Layout → List ℕ → List ℕ → Split → List ℕ → List ℕ
-siftNeeded L area cells split marks =
-    pick (anyTombstone L area split) (siftOutside L area cells (noteVictims L area split (replicate 128 0)) split marks) marks
+unfoldable pub siftNeeded : List ℕ → List ℕ → Split → List ℕ → List ℕ
+siftNeeded area cells split marks =
+    pick (anyTombstone area split) (siftOutside area cells (noteVictims area split (replicate 128 0)) split marks) marks

@@ -1,4 +1,4 @@
--- On a genuine store the bytes that the code gathers are those of the entries that the model keeps.
+-- On an undamaged store the bytes that the code gathers are those of the entries that the model keeps.
 use Prim.Native.Nat.{ℕ, zero, suc, _+_, _*_, _≤_, _<_}
 use mathlib.Core.Path.{_≡_, refl, sym, _∙_, ap, subst}
 use mathlib.Core.Bool.{Bool, true, false, not}
@@ -12,36 +12,38 @@ use borrow.Author.Tests.{eq-eqb, ne-eqb, eqb-true, eqb-false, ltb-true, ltb-fals
 use Rattle.word.specs.Number.{Bytes}
 use Rattle.word.specs.Laws.{bytes-take, bytes-drop}
 use Rattle.segment.specs.Choice.{pick, pick-true, pick-false, both, both-left, either}
-use Rattle.segment.specs.Layout.{Layout}
+use Rattle.segment.specs.Layout.{Layout, sameLayout}
+use Rattle.segment.specs.LayoutLaws.{same-layout}
 use Rattle.segment.specs.Entries.{headerOf}
 use Rattle.segment.specs.Packed.{field-at}
-use Rattle.segment.specs.Entry.{Entry, entry, entryAt, encoded, sizeOf, keyOf, isTombstone}
+use Rattle.segment.specs.Entry.{Entry, entry, entryAt, encoded, keyOf, isTombstone}
 use Rattle.segment.specs.EntryLaws.{found-fits, found-stands}
+use Rattle.segment.specs.Rewritten.{entry-own, bytes-around}
 use Rattle.segment.specs.declared.Key.{Key}
 use Rattle.slot_map.specs.Bit.{named, within, less}
 use Rattle.slot_map.specs.BitLaws.{bit-le, within-le, named-true, set-named}
 use Rattle.record.specs.Answers.{withPending}
 use Rattle.record.specs.declared.Pending.the-variants.{Idle}
 use Rattle.record.specs.declared.Record.{Record}
-use Rattle.model.specs.Log.{View, Item, Placed, placeOf, segmentOf, viewsOf, scan, itemsOf, placedIn, logOf, sameKeys, sameKey, latest}
-use Rattle.model.specs.Index.{HasCell}
+use Rattle.model.specs.Log.{View, Item, Placed, placeOf, placedSize, segmentOf, viewsOf, itemsOf, placedIn, logOf, sameKeys, sameKey, latest, versionShared}
+use Rattle.model.specs.Index.{HasCell, IndexRule}
 use Rattle.model.specs.Operations.{logNow, isVersion, isHighest, objectOutside, isKept, keptOf, kept, allEncoded}
 use Rattle.model.specs.Promises.{Genuine}
 use Rattle.laws.specs.Members.{clash, In, first, Within}
 use Rattle.laws.specs.Latest.{Apart, own-key, same-key, latest-some, latest-none}
-use Rattle.laws.specs.LogLaws.{AllOf, AllScanned, partOf, part-picked, part-passed, itemOf, placedAt, mem-placed, in-log, log-in, scan-whole}
-use Rattle.laws.specs.Scans.{scan-scans, scans-found}
+use Rattle.laws.specs.LogLaws.{AllScanned, InLog, partOf, part-picked, part-passed, itemOf, placedAt, mem-placed, in-log, log-in}
+use Rattle.laws.specs.Versions.{shared-apart}
 use Rattle.laws.specs.Stores.{slots-apart, slot-inside, length-segment}
-use Rattle.laws.specs.RecoverLaws.{recovered-case, recovered-apart, recovered-lent}
+use Rattle.laws.specs.RecoverLaws.{recovered-case, recovered-versions, recovered-lent}
 use Rattle.index.specs.Search.{cellHas, searchFor}
 use Rattle.index.specs.SearchLaws.{search-within}
 use Rattle.index.specs.Finds.{search-known}
-use Rattle.index.specs.Area.{AllIn, area-picks}
-use Rattle.index.specs.BuildLaws.{log-in-area}
+use Rattle.index.specs.Area.{area-picks}
+use Rattle.index.specs.BuildLaws.{log-reads, log-in-area}
 use Rattle.index.specs.declared.Found.{Found}
-use Rattle.cleaning.specs.Entries.{slotItems}
-use Rattle.cleaning.specs.Kept.{cellKept, keptAt, keptTest, keptEntry, gatherBy, gathered, keptPart, keptBelow, keptBytes}
-use Rattle.cleaning.specs.KeptLaws.{part-victim, part-other}
+use Rattle.cleaning.specs.Entries.{slotLayout, slotItems, placedHeader}
+use Rattle.cleaning.specs.Kept.{cellKept, keptAt, keptTest, movedBytes, keptEntry, gatherBy, gathered, keptPart, keptBelow, keptBytes}
+use Rattle.cleaning.specs.KeptLaws.{moved-same, moved-other, part-victim, part-other}
 use Rattle.cleaning.specs.Tombstones.{anyTombstone, no-tombstone}
 use Rattle.cleaning.specs.Marks.{isMarked, markOutside, markNeeded, marksOf, clear-marks}
 use Rattle.cleaning.specs.MarksLaws.{Tells, below-mark}
@@ -54,95 +56,112 @@ splitOf r victims = record { slots = r .slots; size = r .size; victims = victims
 
 -- ---- what is kept, and its bytes, part by part
 
-module _ (L : Layout) where
-  pub encoded-append : (a b : List Entry) → allEncoded L (a ++ b) ≡ allEncoded L a ++ allEncoded L b
-  unfolding allEncoded
-  encoded-append [] b = refl
-  encoded-append (x ∷ a) b = ap (λ (l : List ℕ). encoded L x ++ l) (encoded-append a b) ∙ sym (append-assoc (encoded L x) (allEncoded L a) (allEncoded L b))
+pub encoded-append : (W : Layout) (a b : List Entry) → allEncoded W (a ++ b) ≡ allEncoded W a ++ allEncoded W b
+unfolding allEncoded
+encoded-append W [] b = refl
+encoded-append W (x ∷ a) b =
+    ap (λ (l : List ℕ). encoded W x ++ l) (encoded-append W a b) ∙ sym (append-assoc (encoded W x) (allEncoded W a) (allEncoded W b))
 
-  module _ (victims : ℕ) (log : List Placed) where
-    pub kept-front : (x : Placed) (xs : List Placed) → isKept victims log x ≡ true → keptOf victims log (x ∷ xs) ≡ x .entry ∷ keptOf victims log xs
-    unfolding keptOf
-    kept-front x xs e = pick-true (isKept victims log x) (x .entry ∷ keptOf victims log xs) (keptOf victims log xs) e
+module _ (victims : ℕ) (log : List Placed) where
+  pub kept-front : (x : Placed) (xs : List Placed) → isKept victims log x ≡ true → keptOf victims log (x ∷ xs) ≡ x .entry ∷ keptOf victims log xs
+  unfolding keptOf
+  kept-front x xs e = pick-true (isKept victims log x) (x .entry ∷ keptOf victims log xs) (keptOf victims log xs) e
 
-    pub kept-behind : (x : Placed) (xs : List Placed) → isKept victims log x ≡ false → keptOf victims log (x ∷ xs) ≡ keptOf victims log xs
-    unfolding keptOf
-    kept-behind x xs e = pick-false (isKept victims log x) (x .entry ∷ keptOf victims log xs) (keptOf victims log xs) e
+  pub kept-behind : (x : Placed) (xs : List Placed) → isKept victims log x ≡ false → keptOf victims log (x ∷ xs) ≡ keptOf victims log xs
+  unfolding keptOf
+  kept-behind x xs e = pick-false (isKept victims log x) (x .entry ∷ keptOf victims log xs) (keptOf victims log xs) e
 
-    pub kept-append : (a b : List Placed) → keptOf victims log (a ++ b) ≡ keptOf victims log a ++ keptOf victims log b
-    unfolding keptOf
-    kept-append [] b = refl
-    kept-append (x ∷ a) b = go (isKept victims log x) refl (kept-append a b)
-      where
-        go : (t : Bool) → isKept victims log x ≡ t → keptOf victims log (a ++ b) ≡ keptOf victims log a ++ keptOf victims log b →
-            keptOf victims log (x ∷ (a ++ b)) ≡ keptOf victims log (x ∷ a) ++ keptOf victims log b
-        go true e ih =
-            kept-front x (a ++ b) e
-            ∙ ap (λ (l : List Entry). x .entry ∷ l) ih
-            ∙ ap (λ (l : List Entry). l ++ keptOf victims log b) (sym (kept-front x a e))
-        go false e ih = kept-behind x (a ++ b) e ∙ ih ∙ ap (λ (l : List Entry). l ++ keptOf victims log b) (sym (kept-behind x a e))
+  pub kept-append : (a b : List Placed) → keptOf victims log (a ++ b) ≡ keptOf victims log a ++ keptOf victims log b
+  unfolding keptOf
+  kept-append [] b = refl
+  kept-append (x ∷ a) b = go (isKept victims log x) refl (kept-append a b)
+    where
+      go : (t : Bool) → isKept victims log x ≡ t → keptOf victims log (a ++ b) ≡ keptOf victims log a ++ keptOf victims log b →
+          keptOf victims log (x ∷ (a ++ b)) ≡ keptOf victims log (x ∷ a) ++ keptOf victims log b
+      go true e ih =
+          kept-front x (a ++ b) e
+          ∙ ap (λ (l : List Entry). x .entry ∷ l) ih
+          ∙ ap (λ (l : List Entry). l ++ keptOf victims log b) (sym (kept-front x a e))
+      go false e ih = kept-behind x (a ++ b) e ∙ ih ∙ ap (λ (l : List Entry). l ++ keptOf victims log b) (sym (kept-behind x a e))
 
-    -- of slots that are no victims nothing is kept
-    pub kept-none : (xs : List Placed) → ((x : Placed) → In x xs → named victims (x .slot) ≡ false) → keptOf victims log xs ≡ []
-    unfolding keptOf both
-    kept-none [] f = refl
-    kept-none (x ∷ xs) f = kept-behind x xs (rw (f x first)) ∙ kept-none xs (λ y m. f y (List·Memᴰ·tail m))
+  -- of slots that are no victims nothing is kept
+  pub kept-none : (xs : List Placed) → ((x : Placed) → In x xs → named victims (x .slot) ≡ false) → keptOf victims log xs ≡ []
+  unfolding keptOf both
+  kept-none [] f = refl
+  kept-none (x ∷ xs) f = kept-behind x xs (rw (f x first)) ∙ kept-none xs (λ y m. f y (List·Memᴰ·tail m))
 
--- ---- a genuine store
+-- ---- a store
 
-module _ (L : Layout) (area cells : List ℕ) (r : Record) (g : Genuine L area r cells) where
+-- What is asked of a store, whatever the editions of its slots (02, R-13): the area is N slots of S bytes long, the entries of the log's slots can
+-- all be read, no two of them have one version, and the index has its rule.
+pub record Indexed (area : List ℕ) (r : Record) (cells : List ℕ) : Type 0 where
+  pub long : length area ≡ r .slots * r .size
+  pub scans : AllScanned (viewsOf area (r .size)) (named (r .map)) (r .slots)
+  pub versions : versionShared (logNow area r) ≡ false
+  pub rule : IndexRule (r .size) (logNow area r) cells
+
+pub genuine-indexed : (L : Layout) (area cells : List ℕ) (r : Record) → Genuine L area r cells → Indexed area r cells
+genuine-indexed L area cells r g =
+    record {
+      long = recovered-lent L (r .slots) (r .size) (r .cells) area (withPending r Idle) (g .recovers) .long;
+      scans =
+          recovered-case L (r .slots) (r .size) (r .cells) area (λ (k : Record). AllScanned (viewsOf area (r .size)) (named (k .map)) (r .slots)) (λ h l f. f .scans)
+          (withPending r Idle) (g .recovers);
+      versions = recovered-versions L (r .slots) (r .size) (r .cells) area (withPending r Idle) (g .recovers);
+      rule = g .rule;
+    }
+
+module _ (area cells : List ℕ) (r : Record) (g : Indexed area r cells) where
   abbrev v : ℕ → View
   v = viewsOf area (r .size)
 
   abbrev log : List Placed
   log = logNow area r
 
-  pub editions : AllOf L v (named (r .map)) (r .slots)
-  editions =
-      recovered-case L (r .slots) (r .size) (r .cells) area (λ (k : Record). AllOf L v (named (k .map)) (r .slots)) (λ h l f. f .editions)
-      (withPending r Idle) (g .recovers)
-
-  pub scans : AllScanned v (named (r .map)) (r .slots)
-  scans =
-      recovered-case L (r .slots) (r .size) (r .cells) area (λ (k : Record). AllScanned v (named (k .map)) (r .slots)) (λ h l f. f .scans)
-      (withPending r Idle) (g .recovers)
-
   apart : Apart log
-  apart = recovered-apart L (r .slots) (r .size) (r .cells) area (withPending r Idle) (g .recovers)
+  apart = shared-apart log (g .versions)
 
-  pub long : length area ≡ r .slots * r .size
-  long = recovered-lent L (r .slots) (r .size) (r .cells) area (withPending r Idle) (g .recovers) .long
-
-  all-in : AllIn L area (r .size) log
-  all-in = log-in-area L area (r .size) (named (r .map)) (r .slots) editions scans
+  -- the entries of a log slot
+  own-items : (i : ℕ) → i < r .slots → named (r .map) i ≡ true → slotItems area (r .size) i ≡ itemsOf (v i .scan)
+  own-items = slot-items area (r .size) (r .map) (r .slots) (g .scans)
 
   -- ---- an entry of the log, and its place
 
   module _ (x : Placed) (m : In x log) where
-    below : x .slot < r .slots
-    below = log-in v (named (r .map)) (r .slots) x m .below
+    stands : InLog v (named (r .map)) (r .slots) x
+    stands = log-in v (named (r .map)) (r .slots) x m
 
-    found : entryAt L (segmentOf area (r .size) (x .slot)) (x .offset) ≡ entry (x .entry)
-    found =
-        let w = log-in v (named (r .map)) (r .slots) x m in
-        let s : List ℕ = segmentOf area (r .size) (x .slot) in
-        let whole = scan-whole (v (x .slot) .scan) (scans (x .slot) (w .below) (w .picked)) in
-        let own = ap (λ (K : Layout). scan K s) (editions (x .slot) (w .below) (w .picked)) in
-        scans-found (scan-scans L s (sym own ∙ whole)) (w .item)
+    found : entryAt (x .layout) (segmentOf area (r .size) (x .slot)) (x .offset) ≡ entry (x .entry)
+    found = log-reads area (r .size) (named (r .map)) (r .slots) (g .scans) x m
 
-    pub inside : x .offset + sizeOf L (x .entry) ≤ r .size
+    pub inside : x .offset + placedSize x ≤ r .size
     inside =
         omega (
           arith,
-          found-fits L (segmentOf area (r .size) (x .slot)) (x .offset) (x .entry) found,
-          length-segment area (r .size) (x .slot) (slot-inside area (r .slots) (r .size) (x .slot) long below),
+          found-fits (x .layout) (segmentOf area (r .size) (x .slot)) (x .offset) (x .entry) found,
+          length-segment area (r .size) (x .slot) (slot-inside area (r .slots) (r .size) (x .slot) (g .long) (stands .below)),
         )
 
-    -- its own bytes in the area
-    pub own-part : Bytes area → take (sizeOf L (x .entry)) (drop (placeOf (r .size) x) area) ≡ encoded L (x .entry)
-    own-part bytes =
-        sym (field-at (sizeOf L (x .entry)) (x .offset) (r .size) (x .slot * r .size) area inside)
-        ∙ found-stands L (segmentOf area (r .size) (x .slot)) (x .offset) (x .entry) found (bytes-take (r .size) _ (bytes-drop (x .slot * r .size) area bytes)) .same
+    module _ (bytes : Bytes area) where
+      own-part : take (placedSize x) (drop (placeOf (r .size) x) area) ≡ encoded (x .layout) (x .entry)
+      own-part =
+          sym (field-at (placedSize x) (x .offset) (r .size) (x .slot * r .size) area inside)
+          ∙ found-stands (x .layout) (segmentOf area (r .size) (x .slot)) (x .offset) (x .entry) found
+          (bytes-take (r .size) _ (bytes-drop (x .slot * r .size) area bytes)) .same
+
+      -- moved to a head of the layout W, its bytes are the entry's there
+      pub own-moved : (W : Layout) → movedBytes W area (x .layout) (placedHeader x) (placeOf (r .size) x) ≡ encoded W (x .entry)
+      own-moved W = go (sameLayout (x .layout) W) refl
+        where
+          go : (t : Bool) → sameLayout (x .layout) W ≡ t → movedBytes W area (x .layout) (placedHeader x) (placeOf (r .size) x) ≡ encoded W (x .entry)
+          go true e =
+              moved-same W area (x .layout) (placedHeader x) (placeOf (r .size) x) e
+              ∙ own-part
+              ∙ ap (λ (M : Layout). encoded M (x .entry)) (same-layout (x .layout) W e)
+          go false e =
+              moved-other W area (x .layout) (placedHeader x) (placeOf (r .size) x) e
+              ∙ bytes-around (x .layout) W area (x .slot * r .size) (r .size) (x .offset) (placedHeader x) (omega arith) inside
+              ∙ entry-own (x .layout) W (segmentOf area (r .size) (x .slot)) (x .offset) (x .entry) found refl
 
   -- entries of one place are one
   pub place-one : (x y : Placed) → In x log → In y log → placeOf (r .size) x ≡ placeOf (r .size) y → x ≡ y
@@ -157,11 +176,13 @@ module _ (L : Layout) (area cells : List ℕ) (r : Record) (g : Genuine L area r
       go : Dec (x .slot ≡ y .slot) → x ≡ y
       go (yes s) =
           let o : x .offset ≡ y .offset = omega (arith, ap (λ (k : ℕ). k * r .size) s) in
-          let there : entryAt L (segmentOf area (r .size) (x .slot)) (x .offset) ≡ entryAt L (segmentOf area (r .size) (y .slot)) (y .offset) =
-          λ i. entryAt L (segmentOf area (r .size) (s i)) (o i) in
+          let l : x .layout ≡ y .layout = stands x mx .layout ∙ ap (λ (k : ℕ). v k .layout) s ∙ sym (stands y my .layout) in
+          let there :
+          entryAt (x .layout) (segmentOf area (r .size) (x .slot)) (x .offset) ≡ entryAt (y .layout) (segmentOf area (r .size) (y .slot)) (y .offset) =
+          λ i. entryAt (l i) (segmentOf area (r .size) (s i)) (o i) in
           let both : entry (x .entry) ≡ entry (y .entry) = sym (found x mx) ∙ there ∙ found y my in
           let own : x .entry ≡ y .entry = cc in
-          λ i. record { slot = s i; offset = o i; entry = own i }
+          λ i. record { slot = s i; layout = l i; offset = o i; entry = own i }
       go (no n) = absurd (apart-slots (ltb (x .slot) (y .slot)) refl)
         where
           apart-slots : (t : Bool) → ltb (x .slot) (y .slot) ≡ t → ⊥
@@ -175,7 +196,7 @@ module _ (L : Layout) (area cells : List ℕ) (r : Record) (g : Genuine L area r
     pub top : Placed
     pub is : latest log k ≡ some top
     pub cell : HasCell (r .size) cells top
-    pub finds : searchFor L area cells k ≡ Found.At (cell .cell)
+    pub finds : searchFor area cells k ≡ Found.At (cell .cell)
 
   pub key-cell : length cells ≤ 4096 → (x : Placed) → In x log → KeyCell (keyOf (x .entry))
   key-cell few x m = go (latest log (keyOf (x .entry))) refl
@@ -184,8 +205,9 @@ module _ (L : Layout) (area cells : List ℕ) (r : Record) (g : Genuine L area r
       go none e = absurd (clash _ (own-key (x .entry)) (latest-none log (keyOf (x .entry)) e x m))
       go (some y) e =
           let (c, s) =
-          search-known (r .size) log cells (g .rule) (cellHas L area (keyOf (x .entry))) (keyOf (x .entry)) (area-picks L area (r .size) log (keyOf (x .entry)) all-in) y e in
-          record { top = y; is = e; cell = c; finds = search-within L area cells (keyOf (x .entry)) few ∙ s }
+          search-known (r .size) log cells (g .rule) (cellHas area (keyOf (x .entry))) (keyOf (x .entry))
+          (area-picks area (r .size) log (keyOf (x .entry)) (log-in-area area (r .size) (named (r .map)) (r .slots) (g .scans))) y e in
+          record { top = y; is = e; cell = c; finds = search-within area cells (keyOf (x .entry)) few ∙ s }
 
   -- keys with one cell are one
   one-cell : (j k : Key) (a : KeyCell j) (b : KeyCell k) → a .cell .cell ≡ b .cell .cell → j ≡ k
@@ -219,11 +241,11 @@ module _ (L : Layout) (area cells : List ℕ) (r : Record) (g : Genuine L area r
 
   -- the search for the key of an entry of a log slot tells it from another key
   pub tells-in : length cells ≤ 4096 → (k : Key) (c : KeyCell k) (i : ℕ) → i < r .slots → named (r .map) i ≡ true → (y : Item) →
-      In y (slotItems L area (r .size) i) → Tells L area cells k (c .cell .cell) (headerOf L (y .entry))
+      In y (slotItems area (r .size) i) → Tells area cells k (c .cell .cell) (headerOf (slotLayout area (r .size) i) (y .entry))
   unfolding sameKey sameKeys
   tells-in few k c i h in-map y m =
       record {
-        own = λ e. sym (ap (searchFor L area cells) (same-key k (y .entry) e)) ∙ c .finds;
+        own = λ e. sym (ap (searchFor area cells) (same-key k (y .entry) e)) ∙ c .finds;
         other =
             λ e. (
               own .cell .cell,
@@ -235,42 +257,38 @@ module _ (L : Layout) (area cells : List ℕ) (r : Record) (g : Genuine L area r
     where
       own : KeyCell (keyOf (y .entry))
       own =
-          key-cell few (placedAt i y)
-          (in-log v (named (r .map)) (r .slots) (placedAt i y)
-          (record {
-            below = h;
-            picked = in-map;
-            item = subst (λ (is : List Item). In y is) (slot-items L area (r .size) (r .map) (r .slots) editions scans i h in-map) m;
-          }))
+          key-cell few (placedAt (v i .layout) i y)
+          (in-log v (named (r .map)) (r .slots) (placedAt (v i .layout) i y)
+          (record { below = h; picked = in-map; layout = refl; item = subst (λ (is : List Item). In y is) (own-items i h in-map) m }))
 
   -- ---- a cleaning
 
   module _ (victims : ℕ) (sub : within victims (r .map) ≡ true) (few : length cells ≤ 4096) where
     abbrev marks : List ℕ
-    marks = marksOf L area cells (splitOf r victims)
+    marks = marksOf area cells (splitOf r victims)
 
     -- the search for the key of an entry of a slot outside the victims tells it from another key
     tells : (k : Key) (c : KeyCell k) (i : ℕ) → i < r .slots → named (less (r .map) victims) i ≡ true → (y : Item) →
-        In y (slotItems L area (r .size) i) → Tells L area cells k (c .cell .cell) (headerOf L (y .entry))
+        In y (slotItems area (r .size) i) → Tells area cells k (c .cell .cell) (headerOf (slotLayout area (r .size) i) (y .entry))
     tells k c i h out =
         tells-in few k c i h (both-left (named (r .map) i) (not (named victims i)) (sym (outside-named (r .map) victims i) ∙ out))
 
     -- a key's cell is marked exactly if an object of the key stands outside the victims, once the walk is made
     abbrev pub walked : List ℕ
-    walked = markOutside L area cells (splitOf r victims) (replicate 128 0)
+    walked = markOutside area cells (splitOf r victims) (replicate 128 0)
 
     pub marked-outside : (k : Key) (c : KeyCell k) → isMarked walked (c .cell .cell) ≡ objectOutside victims log k
     marked-outside k c =
-        below-mark L area cells k (c .cell .cell) (omega (arith, c .cell .below)) (splitOf r victims) (replicate 128 0) (length-replicate {A = ℕ} 128 0)
+        below-mark area cells k (c .cell .cell) (omega (arith, c .cell .below)) (splitOf r victims) (replicate 128 0) (length-replicate {A = ℕ} 128 0)
         (clear-marks (c .cell .cell)) (tells k c) (r .slots) (omega arith)
-        ∙ object-same L area (r .size) (r .map) victims (r .slots) editions scans k
+        ∙ object-same area (r .size) (r .map) victims (r .slots) (g .scans) k
 
     -- where it is not made, no victim's entry is a tombstone
-    no-dead : anyTombstone L area (splitOf r victims) ≡ false → (x : Placed) → In x log → named victims (x .slot) ≡ true → isTombstone (x .entry) ≡ false
+    no-dead : anyTombstone area (splitOf r victims) ≡ false → (x : Placed) → In x log → named victims (x .slot) ≡ true → isTombstone (x .entry) ≡ false
     no-dead e x m n =
-        let w = log-in v (named (r .map)) (r .slots) x m in
-        no-tombstone L area (splitOf r victims) e (x .slot) (w .below) n (itemOf x)
-        (subst (λ (is : List Item). In (itemOf x) is) (sym (slot-items L area (r .size) (r .map) (r .slots) editions scans (x .slot) (w .below) (w .picked))) (w .item))
+        let w = stands x m in
+        no-tombstone area (splitOf r victims) e (x .slot) (w .below) n (itemOf x)
+        (subst (λ (is : List Item). In (itemOf x) is) (sym (own-items (x .slot) (w .below) (w .picked))) (w .item))
 
     -- marks by which a victim's tombstones are kept as the model keeps them
     abbrev pub MarksTell : List ℕ → Type 0
@@ -284,16 +302,16 @@ module _ (L : Layout) (area cells : List ℕ) (r : Record) (g : Genuine L area r
 
     needed-same : MarksTell marks
     unfolding markNeeded pick either
-    needed-same x m n c = go (anyTombstone L area (splitOf r victims)) refl
+    needed-same x m n c = go (anyTombstone area (splitOf r victims)) refl
       where
-        go : (t : Bool) → anyTombstone L area (splitOf r victims) ≡ t →
+        go : (t : Bool) → anyTombstone area (splitOf r victims) ≡ t →
             either (not (isTombstone (x .entry))) (isMarked (pick t walked (replicate 128 0)) (c .cell .cell)) ≡
             either (not (isTombstone (x .entry))) (objectOutside victims log (keyOf (x .entry)))
         go true e = ap (either (not (isTombstone (x .entry)))) (marked-outside (keyOf (x .entry)) c)
         go false e = rw (no-dead e x m n)
 
     pub kept-same : (ms : List ℕ) → MarksTell ms → (x : Placed) → In x log → named victims (x .slot) ≡ true →
-        keptTest L area cells ms (headerOf L (x .entry)) (placeOf (r .size) x) ≡ isKept victims log x
+        keptTest area cells ms (placedHeader x) (placeOf (r .size) x) ≡ isKept victims log x
     unfolding keptAt cellKept both
     kept-same ms tell x m e =
         let c = key-cell few x m in
@@ -302,29 +320,29 @@ module _ (L : Layout) (area cells : List ℕ) (r : Record) (g : Genuine L area r
         ∙ ap (both (isHighest log (x .entry))) (tell x m e c)
         ∙ sym (ap (λ (b : Bool). both b (both (isHighest log (x .entry)) (either (not (isTombstone (x .entry))) (objectOutside victims log (keyOf (x .entry)))))) e)
 
-    module _ (bytes : Bytes area) where
+    module _ (bytes : Bytes area) (W : Layout) where
       gathered-kept : (xs : List Placed) → Within xs log → ((x : Placed) → In x xs → named victims (x .slot) ≡ true) →
-          gathered L area cells marks (r .size) xs ≡ allEncoded L (keptOf victims log xs)
+          gathered W area cells marks (r .size) xs ≡ allEncoded W (keptOf victims log xs)
       unfolding gatherBy allEncoded keptOf
       gathered-kept [] w f = refl
       gathered-kept (x ∷ xs) w f = go (isKept victims log x) refl (gathered-kept xs (λ y m. w y (List·Memᴰ·tail m)) (λ y m. f y (List·Memᴰ·tail m)))
         where
           entry-part : List ℕ
-          entry-part = keptEntry L area cells marks (headerOf L (x .entry)) (placeOf (r .size) x)
+          entry-part = keptEntry W area cells marks (x .layout) (placedHeader x) (placeOf (r .size) x)
 
-          same : (t : Bool) → isKept victims log x ≡ t → keptTest L area cells marks (headerOf L (x .entry)) (placeOf (r .size) x) ≡ t
+          same : (t : Bool) → isKept victims log x ≡ t → keptTest area cells marks (placedHeader x) (placeOf (r .size) x) ≡ t
           same t e = kept-same marks needed-same x (w x first) (f x first) ∙ e
 
-          go : (t : Bool) → isKept victims log x ≡ t → gathered L area cells marks (r .size) xs ≡ allEncoded L (keptOf victims log xs) →
-              entry-part ++ gathered L area cells marks (r .size) xs ≡ allEncoded L (keptOf victims log (x ∷ xs))
+          go : (t : Bool) → isKept victims log x ≡ t → gathered W area cells marks (r .size) xs ≡ allEncoded W (keptOf victims log xs) →
+              entry-part ++ gathered W area cells marks (r .size) xs ≡ allEncoded W (keptOf victims log (x ∷ xs))
           go true e ih =
-              ap (λ (l : List ℕ). l ++ gathered L area cells marks (r .size) xs) (pick-true _ _ _ (same true e) ∙ own-part x (w x first) bytes)
-              ∙ ap (λ (l : List ℕ). encoded L (x .entry) ++ l) ih
-              ∙ ap (allEncoded L) (sym (kept-front L victims log x xs e))
+              ap (λ (l : List ℕ). l ++ gathered W area cells marks (r .size) xs) (pick-true _ _ _ (same true e) ∙ own-moved x (w x first) bytes W)
+              ∙ ap (λ (l : List ℕ). encoded W (x .entry) ++ l) ih
+              ∙ ap (allEncoded W) (sym (kept-front victims log x xs e))
           go false e ih =
-              ap (λ (l : List ℕ). l ++ gathered L area cells marks (r .size) xs) (pick-false _ _ _ (same false e))
+              ap (λ (l : List ℕ). l ++ gathered W area cells marks (r .size) xs) (pick-false _ _ _ (same false e))
               ∙ ih
-              ∙ ap (allEncoded L) (sym (kept-behind L victims log x xs e))
+              ∙ ap (allEncoded W) (sym (kept-behind victims log x xs e))
 
       -- the part of the log that one slot is
       part-in : (i : ℕ) → i < r .slots → Within (partOf v (named (r .map)) i) log
@@ -332,12 +350,13 @@ module _ (L : Layout) (area cells : List ℕ) (r : Record) (g : Genuine L area r
         where
           go : (t : Bool) → named (r .map) i ≡ t → In x log
           go true e =
-              let w = mem-placed i x (itemsOf (v i .scan)) (rw (part-picked v (named (r .map)) i e) at m) in
+              let w = mem-placed (v i .layout) i x (itemsOf (v i .scan)) (rw (part-picked v (named (r .map)) i e) at m) in
               in-log v (named (r .map)) (r .slots) x
               (record {
-                below = omega (arith, w .0);
-                picked = ap (named (r .map)) (w .0) ∙ e;
-                item = subst (λ (j : ℕ). In (itemOf x) (itemsOf (v j .scan))) (sym (w .0)) (w .1);
+                below = omega (arith, w .slot);
+                picked = ap (named (r .map)) (w .slot) ∙ e;
+                layout = w .layout ∙ ap (λ (j : ℕ). v j .layout) (sym (w .slot));
+                item = subst (λ (j : ℕ). In (itemOf x) (itemsOf (v j .scan))) (sym (w .slot)) (w .item);
               })
           go false e = absurd (List·Memᴰ·not-nil (rw (part-passed v (named (r .map)) i e) at m))
 
@@ -345,37 +364,36 @@ module _ (L : Layout) (area cells : List ℕ) (r : Record) (g : Genuine L area r
       part-slot i x m = go (named (r .map) i) refl
         where
           go : (t : Bool) → named (r .map) i ≡ t → x .slot ≡ i
-          go true e = mem-placed i x (itemsOf (v i .scan)) (rw (part-picked v (named (r .map)) i e) at m) .0
+          go true e = mem-placed (v i .layout) i x (itemsOf (v i .scan)) (rw (part-picked v (named (r .map)) i e) at m) .slot
           go false e = absurd (List·Memᴰ·not-nil (rw (part-passed v (named (r .map)) i e) at m))
 
       part-kept : (i : ℕ) → i < r .slots →
-          keptPart L area cells marks (splitOf r victims) i ≡ allEncoded L (keptOf victims log (partOf v (named (r .map)) i))
+          keptPart W area cells marks (splitOf r victims) i ≡ allEncoded W (keptOf victims log (partOf v (named (r .map)) i))
       unfolding allEncoded
       part-kept i h = go (named victims i) refl
         where
           go : (t : Bool) → named victims i ≡ t →
-              keptPart L area cells marks (splitOf r victims) i ≡ allEncoded L (keptOf victims log (partOf v (named (r .map)) i))
+              keptPart W area cells marks (splitOf r victims) i ≡ allEncoded W (keptOf victims log (partOf v (named (r .map)) i))
           go true e =
               let in-map : named (r .map) i ≡ true =
               set-named (r .map) i (omega (arith, within-le victims (r .map) sub i, named-true victims i e, bit-le (r .map) i)) in
-              let whole : placedIn i (slotItems L area (r .size) i) ≡ partOf v (named (r .map)) i =
-              ap (placedIn i) (slot-items L area (r .size) (r .map) (r .slots) editions scans i h in-map)
-              ∙ sym (part-picked v (named (r .map)) i in-map) in
-              sym (part-victim L area cells marks (splitOf r victims) i e)
-              ∙ ap (gathered L area cells marks (r .size)) whole
+              let whole : placedIn (v i .layout) i (slotItems area (r .size) i) ≡ partOf v (named (r .map)) i =
+              ap (placedIn (v i .layout) i) (own-items i h in-map) ∙ sym (part-picked v (named (r .map)) i in-map) in
+              sym (part-victim W area cells marks (splitOf r victims) i (v i .layout) refl e)
+              ∙ ap (gathered W area cells marks (r .size)) whole
               ∙ gathered-kept (partOf v (named (r .map)) i) (part-in i h) (λ x m. ap (named victims) (part-slot i x m) ∙ e)
           go false e =
-              part-other L area cells marks (splitOf r victims) i e
-              ∙ sym (ap (allEncoded L) (kept-none L victims log (partOf v (named (r .map)) i) (λ x m. ap (named victims) (part-slot i x m) ∙ e)))
+              part-other W area cells marks (splitOf r victims) i e
+              ∙ sym (ap (allEncoded W) (kept-none victims log (partOf v (named (r .map)) i) (λ x m. ap (named victims) (part-slot i x m) ∙ e)))
 
       below-kept : (n : ℕ) → n ≤ r .slots →
-          keptBelow L area cells marks (splitOf r victims) n ≡ allEncoded L (keptOf victims log (logOf v (named (r .map)) n))
+          keptBelow W area cells marks (splitOf r victims) n ≡ allEncoded W (keptOf victims log (logOf v (named (r .map)) n))
       unfolding keptBelow logOf keptOf allEncoded
       below-kept zero h = refl
       below-kept (suc n) h =
           (λ i. below-kept n (omega arith) i ++ part-kept n h i)
-          ∙ sym (encoded-append L (keptOf victims log (logOf v (named (r .map)) n)) (keptOf victims log (partOf v (named (r .map)) n)))
-          ∙ ap (allEncoded L) (sym (kept-append L victims log (logOf v (named (r .map)) n) (partOf v (named (r .map)) n)))
+          ∙ sym (encoded-append W (keptOf victims log (logOf v (named (r .map)) n)) (keptOf victims log (partOf v (named (r .map)) n)))
+          ∙ ap (allEncoded W) (sym (kept-append victims log (logOf v (named (r .map)) n) (partOf v (named (r .map)) n)))
 
-      pub bytes-kept : keptBytes L area cells marks (splitOf r victims) ≡ allEncoded L (kept victims log)
+      pub bytes-kept : keptBytes W area cells marks (splitOf r victims) ≡ allEncoded W (kept victims log)
       bytes-kept = below-kept (r .slots) (omega arith)

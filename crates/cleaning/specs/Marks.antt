@@ -17,7 +17,7 @@ use Rattle.slot_map.specs.BitLaws.{bit-of-zero, bit-with-same, bit-with-other, 
 use Rattle.model.specs.Log.{Item}
 use Rattle.index.specs.Search.{searchFor}
 use Rattle.index.specs.declared.Found.{Found}
-use Rattle.cleaning.specs.Entries.{slotItems}
+use Rattle.cleaning.specs.Entries.{slotLayout, slotItems}
 use Rattle.cleaning.specs.Tombstones.{anyTombstone}
 use Rattle.cleaning.specs.declared.Split.{Split}
 
@@ -77,34 +77,34 @@ markFound marks (Found.Free i) = marks
 markFound marks Found.Full = marks
 
 -- the cell of an object's key; a tombstone marks nothing
-unfoldable pub markEntry : Layout → List ℕ → List ℕ → List ℕ → Header → List ℕ
-markEntry L area cells marks h = pick (h .tombstone) marks (markFound marks (searchFor L area cells (h .key)))
+unfoldable pub markEntry : List ℕ → List ℕ → List ℕ → Header → List ℕ
+markEntry area cells marks h = pick (h .tombstone) marks (markFound marks (searchFor area cells (h .key)))
 
 unfoldable pub markItems : Layout → List ℕ → List ℕ → List ℕ → List Item → List ℕ
 markItems L area cells marks [] = marks
-markItems L area cells marks (x ∷ xs) = markItems L area cells (markEntry L area cells marks (headerOf L (x .entry))) xs
+markItems L area cells marks (x ∷ xs) = markItems L area cells (markEntry area cells marks (headerOf L (x .entry))) xs
 
--- a slot; nothing where it is not outside the victims; and the slots below n
-abbrev pub markSlot : Layout → List ℕ → List ℕ → Split → List ℕ → ℕ → List ℕ
-markSlot L area cells split marks i = markItems L area cells marks (slotItems L area (split .size) i)
+-- a slot in its own edition; nothing where it is not outside the victims; and the slots below n
+abbrev pub markSlot : List ℕ → List ℕ → Split → List ℕ → ℕ → List ℕ
+markSlot area cells split marks i = markItems (slotLayout area (split .size) i) area cells marks (slotItems area (split .size) i)
 
-unfoldable pub markPart : Layout → List ℕ → List ℕ → Split → List ℕ → ℕ → List ℕ
-markPart L area cells split marks i = pick (named (split .outside) i) (markSlot L area cells split marks i) marks
+unfoldable pub markPart : List ℕ → List ℕ → Split → List ℕ → ℕ → List ℕ
+markPart area cells split marks i = pick (named (split .outside) i) (markSlot area cells split marks i) marks
 
-unfoldable pub markBelow : Layout → List ℕ → List ℕ → Split → List ℕ → ℕ → List ℕ
-markBelow L area cells split marks zero = marks
-markBelow L area cells split marks (suc n) = markPart L area cells split (markBelow L area cells split marks n) n
+unfoldable pub markBelow : List ℕ → List ℕ → Split → List ℕ → ℕ → List ℕ
+markBelow area cells split marks zero = marks
+markBelow area cells split marks (suc n) = markPart area cells split (markBelow area cells split marks n) n
 
-abbrev pub markOutside : Layout → List ℕ → List ℕ → Split → List ℕ → List ℕ
-markOutside L area cells split marks = markBelow L area cells split marks (split .slots)
+abbrev pub markOutside : List ℕ → List ℕ → Split → List ℕ → List ℕ
+markOutside area cells split marks = markBelow area cells split marks (split .slots)
 
 -- The walk is made only where a victim holds a tombstone.
-unfoldable pub markNeeded : Layout → List ℕ → List ℕ → Split → List ℕ → List ℕ
-markNeeded L area cells split marks = pick (anyTombstone L area split) (markOutside L area cells split marks) marks
+unfoldable pub markNeeded : List ℕ → List ℕ → Split → List ℕ → List ℕ
+markNeeded area cells split marks = pick (anyTombstone area split) (markOutside area cells split marks) marks
 
 -- from no marks
-abbrev pub marksOf : Layout → List ℕ → List ℕ → Split → List ℕ
-marksOf L area cells split = markNeeded L area cells split (replicate 128 0)
+abbrev pub marksOf : List ℕ → List ℕ → Split → List ℕ
+marksOf area cells split = markNeeded area cells split (replicate 128 0)
 
 pub clear-marks : (c : ℕ) → isMarked (replicate 128 0) c ≡ false
 unfolding isMarked

@@ -12,12 +12,12 @@ use Rattle.segment.specs.declared.Key.{Key}
 use Rattle.segment.specs.Entry.{isTombstone}
 use Rattle.slot_map.specs.Bit.{bit, named, less}
 use Rattle.slot_map.specs.BitLaws.{bit-cases, bit-less}
-use Rattle.model.specs.Log.{Item, Placed, segmentOf, viewsOf, scan, itemsOf, isDamaged, logOf, sameKeys, sameKey}
+use Rattle.model.specs.Log.{Item, Placed, segmentOf, viewsOf, itemsOf, logOf, sameKeys, sameKey}
 use Rattle.model.specs.Operations.{objectOutside}
 use Rattle.laws.specs.Members.{fail-together, clash, In, first}
-use Rattle.laws.specs.LogLaws.{AllOf, AllScanned, InLog, itemOf, placedAt, in-log, log-in, none-below, below-none}
+use Rattle.laws.specs.LogLaws.{AllScanned, InLog, itemOf, placedAt, in-log, log-in, none-below, below-none}
 use Rattle.index.specs.Entries.{entries-scan}
-use Rattle.cleaning.specs.Entries.{slotItems, isObject, objectIn, slotHolds, objectBelow}
+use Rattle.cleaning.specs.Entries.{slotLayout, slotItems, isObject, objectIn, slotHolds, objectBelow}
 use Rattle.cleaning.specs.declared.Split.{Split}
 
 -- ---- no object of a key among entries
@@ -36,6 +36,7 @@ module _ (L : Layout) (k : Key) where
   none-items (x ∷ xs) e y (List·Memᴰ·tail m) =
       none-items xs (either-false-right (isObject k (headerOf L (x .entry))) (objectIn L k xs) e) y m
 
+module _ (k : Key) where
   module _ (victims : ℕ) where
     -- the model's test of one entry
     abbrev seen : Placed → Bool
@@ -56,9 +57,9 @@ module _ (L : Layout) (k : Key) where
     seen-victim x e =
         both-false-left (both (not (named victims (x .slot))) (sameKey k (x .entry))) _ (both-false-left (not (named victims (x .slot))) _ (ap not e))
 
-    seen-object : (x : Placed) → named victims (x .slot) ≡ false → seen x ≡ isObject k (headerOf L (x .entry))
+    seen-object : (L : Layout) (x : Placed) → named victims (x .slot) ≡ false → seen x ≡ isObject k (headerOf L (x .entry))
     unfolding isObject sameKey sameKeys both
-    seen-object x e =
+    seen-object L x e =
         rw e
         (go (eqb (k .table) (x .entry .table)) (eqb (k .key) (x .entry .key)) (not (isTombstone (x .entry))))
       where
@@ -90,53 +91,50 @@ outside-named map victims i = go (bit-cases map i) (bit-cases victims i)
 
 -- ---- the two tests of a key agree
 
--- the entries of a log slot, read by the layout that all log slots are of
-pub slot-items : (L : Layout) (area : List ℕ) (S map n : ℕ) → AllOf L (viewsOf area S) (named map) n → AllScanned (viewsOf area S) (named map) n →
-    (i : ℕ) → i < n → named map i ≡ true → slotItems L area S i ≡ itemsOf (viewsOf area S i .scan)
-slot-items L area S map n editions scans i h e =
-    let own : viewsOf area S i .scan ≡ scan L (segmentOf area S i) = ap (λ (K : Layout). scan K (segmentOf area S i)) (editions i h e) in
-    entries-scan L (segmentOf area S i) (ap isDamaged (sym own) ∙ scans i h e) ∙ ap itemsOf (sym own)
+-- the entries of a log slot
+pub slot-items : (area : List ℕ) (S map n : ℕ) → AllScanned (viewsOf area S) (named map) n →
+    (i : ℕ) → i < n → named map i ≡ true → slotItems area S i ≡ itemsOf (viewsOf area S i .scan)
+slot-items area S map n scans i h e = entries-scan (slotLayout area S i) (segmentOf area S i) (scans i h e)
 
-module _ (L : Layout) (area : List ℕ) (S map victims n : ℕ) (editions : AllOf L (viewsOf area S) (named map) n)
-    (scans : AllScanned (viewsOf area S) (named map) n) (k : Key) where
+module _ (area : List ℕ) (S map victims n : ℕ) (scans : AllScanned (viewsOf area S) (named map) n) (k : Key) where
   abbrev log : List Placed
   log = logOf (viewsOf area S) (named map) n
 
   abbrev split : Split
   split = record { slots = n; size = S; victims = victims; outside = less map victims }
 
-  to-model : objectBelow L area split k ≡ false → objectOutside victims log k ≡ false
-  to-model e = outside-none L k victims log (λ x m. go x (log-in (viewsOf area S) (named map) n x m) (named victims (x .slot)) refl)
+  to-model : objectBelow area split k ≡ false → objectOutside victims log k ≡ false
+  to-model e = outside-none k victims log (λ x m. go x (log-in (viewsOf area S) (named map) n x m) (named victims (x .slot)) refl)
     where
-      go : (x : Placed) → InLog (viewsOf area S) (named map) n x → (t : Bool) → named victims (x .slot) ≡ t → seen L k victims x ≡ false
-      go x w true v = seen-victim L k victims x v
+      go : (x : Placed) → InLog (viewsOf area S) (named map) n x → (t : Bool) → named victims (x .slot) ≡ t → seen k victims x ≡ false
+      go x w true v = seen-victim k victims x v
       go x w false v =
           let out : named (less map victims) (x .slot) ≡ true =
           outside-named map victims (x .slot) ∙ both-true (named map (x .slot)) (not (named victims (x .slot))) (w .picked) (ap not v) in
-          seen-object L k victims x v
-          ∙ none-items L k (slotItems L area S (x .slot)) (both-rest (named (less map victims) (x .slot)) out (below-none n (slotHolds L area split k) e (x .slot) (w .below))) (itemOf x)
-          (subst (λ (is : List Item). In (itemOf x) is) (sym (slot-items L area S map n editions scans (x .slot) (w .below) (w .picked))) (w .item))
+          seen-object k victims (slotLayout area S (x .slot)) x v
+          ∙ none-items (slotLayout area S (x .slot)) k (slotItems area S (x .slot)) (both-rest (named (less map victims) (x .slot)) out (below-none n (slotHolds area split k) e (x .slot) (w .below))) (itemOf x)
+          (subst (λ (is : List Item). In (itemOf x) is) (sym (slot-items area S map n scans (x .slot) (w .below) (w .picked))) (w .item))
 
-  from-model : objectOutside victims log k ≡ false → objectBelow L area split k ≡ false
-  from-model e = none-below n (slotHolds L area split k) (λ i h. go i h (named (less map victims) i) refl)
+  from-model : objectOutside victims log k ≡ false → objectBelow area split k ≡ false
+  from-model e = none-below n (slotHolds area split k) (λ i h. go i h (named (less map victims) i) refl)
     where
-      go : (i : ℕ) → i < n → (t : Bool) → named (less map victims) i ≡ t → slotHolds L area split k i ≡ false
+      go : (i : ℕ) → i < n → (t : Bool) → named (less map victims) i ≡ t → slotHolds area split k i ≡ false
       go i h false v = both-false-left (named (less map victims) i) _ v
       go i h true v =
           let both-parts : both (named map i) (not (named victims i)) ≡ true = sym (outside-named map victims i) ∙ v in
           let in-map = both-left (named map i) (not (named victims i)) both-parts in
           let no-victim = not-of (named victims i) (both-right (named map i) (not (named victims i)) both-parts) in
           both-false-right (named (less map victims) i) _
-          (items-none L k (slotItems L area S i)
+          (items-none (slotLayout area S i) k (slotItems area S i)
           (λ y m.
-          sym (seen-object L k victims (placedAt i y) no-victim)
-          ∙ none-outside L k victims log e (placedAt i y)
-          (in-log (viewsOf area S) (named map) n (placedAt i y)
-          (record { below = h; picked = in-map; item = subst (λ (is : List Item). In y is) (slot-items L area S map n editions scans i h in-map) m }))))
+          sym (seen-object k victims (slotLayout area S i) (placedAt (slotLayout area S i) i y) no-victim)
+          ∙ none-outside k victims log e (placedAt (slotLayout area S i) i y)
+          (in-log (viewsOf area S) (named map) n (placedAt (slotLayout area S i) i y)
+          (record { below = h; picked = in-map; layout = refl; item = subst (λ (is : List Item). In y is) (slot-items area S map n scans i h in-map) m }))))
         where
           not-of : (t : Bool) → not t ≡ true → t ≡ false
           not-of true p = sym p
           not-of false p = refl
 
-  pub object-same : objectBelow L area split k ≡ objectOutside victims log k
-  object-same = fail-together (objectBelow L area split k) (objectOutside victims log k) to-model from-model
+  pub object-same : objectBelow area split k ≡ objectOutside victims log k
+  object-same = fail-together (objectBelow area split k) (objectOutside victims log k) to-model from-model

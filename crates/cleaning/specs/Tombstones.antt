@@ -6,10 +6,11 @@ use mathlib.Core.List.{List, [], _∷_, List·Memᴰ·head, List·Memᴰ·tail}
 use native.Mathlib.Numerals.{add-one}
 use native.Mathlib.Omega.{arith}
 use Rattle.segment.specs.Choice.{both, either, either-false, either-false-left, either-false-right, either-true-left}
-use Rattle.segment.specs.Layout.{Layout}
+use Rattle.segment.specs.Layout.{Layout, digestSize}
+use Rattle.segment.specs.Digest.{layoutIn}
 use Rattle.segment.specs.Entry.{isTombstone}
 use Rattle.slot_map.specs.Bit.{named}
-use Rattle.model.specs.Log.{Item}
+use Rattle.model.specs.Log.{Item, segmentOf}
 use Rattle.laws.specs.Members.{In, clash}
 use Rattle.laws.specs.LogLaws.{anyBelow, below-none}
 use Rattle.index.specs.Build.{entriesAt}
@@ -22,11 +23,11 @@ unfoldable pub tombstoneIn : List Item → Bool
 tombstoneIn [] = false
 tombstoneIn (x ∷ xs) = either (isTombstone (x .entry)) (tombstoneIn xs)
 
-unfoldable pub victimHolds : Layout → List ℕ → Split → ℕ → Bool
-victimHolds L area split i = both (named (split .victims) i) (tombstoneIn (slotItems L area (split .size) i))
+unfoldable pub victimHolds : List ℕ → Split → ℕ → Bool
+victimHolds area split i = both (named (split .victims) i) (tombstoneIn (slotItems area (split .size) i))
 
-abbrev pub anyTombstone : Layout → List ℕ → Split → Bool
-anyTombstone L area split = anyBelow (victimHolds L area split) (split .slots)
+abbrev pub anyTombstone : List ℕ → Split → Bool
+anyTombstone area split = anyBelow (victimHolds area split) (split .slots)
 
 -- ---- at each test of the code
 
@@ -54,14 +55,20 @@ module _ (L : Layout) (s : List ℕ) (at : ℕ) (whole : Bool) (from : tombstone
         ap (λ (n : ℕ). tombstoneIn (entriesAt L s n)) b ∙ sym (ap tombstoneIn (entries-meets L s at m) ∙ rw passed) ∙ from
 
 -- a slot, and a turn of a loop over the slots
-module _ (L : Layout) (area : List ℕ) (split : Split) (i : ℕ) where
-  pub victim-none : named (split .victims) i ≡ false → false ≡ victimHolds L area split i
+module _ (area : List ℕ) (split : Split) (i : ℕ) where
+  pub victim-none : named (split .victims) i ≡ false → false ≡ victimHolds area split i
   unfolding victimHolds both
   victim-none e = rw e
 
-  pub victim-goes : {r : Bool} → named (split .victims) i ≡ true → r ≡ tombstoneIn (slotItems L area (split .size) i) → r ≡ victimHolds L area split i
+  -- s is the slot's segment, and K its edition
+  pub victim-goes : {r : Bool} (s : List ℕ) (K : Layout) → s ≡ segmentOf area (split .size) i → K ≡ layoutIn s → named (split .victims) i ≡ true →
+      r ≡ tombstoneIn (entriesAt K s (digestSize K)) → r ≡ victimHolds area split i
   unfolding victimHolds both
-  victim-goes e h = rw e h
+  victim-goes s K own is e h =
+      rw e
+      (h
+      ∙ ap (λ (M : Layout). tombstoneIn (entriesAt M s (digestSize M))) is
+      ∙ ap (λ (t : List ℕ). tombstoneIn (entriesAt (layoutIn t) t (digestSize (layoutIn t)))) own)
 
 module _ (g : ℕ → Bool) (i n : ℕ) where
   pub any-found : i < n → g i ≡ true → true ≡ anyBelow g n
@@ -86,8 +93,8 @@ none-in (x ∷ xs) e y (List·Memᴰ·head q) =
     ap (λ (z : Item). isTombstone (z .entry)) q ∙ either-false-left (isTombstone (x .entry)) (tombstoneIn xs) e
 none-in (x ∷ xs) e y (List·Memᴰ·tail m) = none-in xs (either-false-right (isTombstone (x .entry)) (tombstoneIn xs) e) y m
 
-pub no-tombstone : (L : Layout) (area : List ℕ) (split : Split) → anyTombstone L area split ≡ false → (i : ℕ) → i < split .slots →
-    named (split .victims) i ≡ true → (y : Item) → In y (slotItems L area (split .size) i) → isTombstone (y .entry) ≡ false
+pub no-tombstone : (area : List ℕ) (split : Split) → anyTombstone area split ≡ false → (i : ℕ) → i < split .slots →
+    named (split .victims) i ≡ true → (y : Item) → In y (slotItems area (split .size) i) → isTombstone (y .entry) ≡ false
 unfolding victimHolds both
-no-tombstone L area split e i h v y m =
-    none-in (slotItems L area (split .size) i) (rw v at (below-none (split .slots) (victimHolds L area split) e i h)) y m
+no-tombstone area split e i h v y m =
+    none-in (slotItems area (split .size) i) (rw v at (below-none (split .slots) (victimHolds area split) e i h)) y m

@@ -75,7 +75,7 @@ fn check_victims(rec: Record, area: usize, index: usize, work: usize, victims: u
 
 // The last tests, for so many bytes kept: 14, 10.
 fn check_kept(rec: Record, count: usize) -> Check
-    requires { ⌜ count ≤ 65536 ⌝ }
+    requires { ⌜ count ≤ 131072 ⌝ }
     ensures { λ r. ⌜ r ≡ checked (firstCause (keptCauses (rec .edition) rec count)) ⌝ }
 {
     let edition = rec.edition;
@@ -157,13 +157,12 @@ pub fn clean(rec: Record, area: &[u8], index: &[u32], work: &mut [u8], victims: 
         StartPromise (rec .edition) freely (Operation.clean victims) rec (now (area .entry)) (now (index .entry)) (now (work .entry)) (now (work .exit)) r
         ⌝ }
 {
-    let edition = rec.edition;
     match check_victims(rec, area.len(), index.len(), work.len(), victims) {
         Check::Refused(c) => refused(rec, c),
         Check::Passed => {
             let split = split_of(rec, victims);
             let mut marks = [0u32; 128];
-            mark_needed(edition, area, index, &mut marks, split);
+            mark_needed(area, index, &mut marks, split);
             clean_marked(rec, area, index, &marks, work, victims, split)
         }
     }

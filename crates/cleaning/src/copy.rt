@@ -3,6 +3,7 @@ use crate::Split;
 use crate::behind::behind;
 use crate::chosen::is_chosen;
 use crate::kept::is_kept;
+use log::head::same_edition;
 use log::slots::is_named;
 use segment::Edition;
 use segment::Header;
@@ -10,18 +11,46 @@ use segment::Next;
 use segment::area::cut;
 use segment::entries::next;
 use segment::layout::digest_size;
+use segment::reader::edition_of;
+use segment::rewrite::put_entry;
 use segment::writer::copy_into;
 ghost use Prim.Native.Nat.{_+_, _≤_, _<_};
 ghost use mathlib.Core.Path.{_≡_};
 ghost use lib.ListN.{length};
-ghost use Rattle.cleaning.specs.Kept.{keptEntry};
+ghost use Rattle.segment.specs.Layout.{entrySize};
+ghost use Rattle.cleaning.specs.Kept.{movedBytes, keptEntry};
 ghost use Rattle.cleaning.specs.Chosen.{ChosenFits, chosenEntry, chosenSlot, chosenPart, chosenBytes};
 ghost use Rattle.segment.specs.Copied.{Copied};
 
-// The bytes of an entry, if it is kept, from an offset of the work buffer on. Like the others here it answers the offset
-// behind what it copied.
+// The bytes of an entry of a slot in the edition of the new head, from an offset of the work buffer on: as they stand where the slot
+// is of that edition, and else written anew (02, R-13). Like the others here it answers the offset behind what it copied.
+fn move_entry(
+    edition: Edition,
+    into: Edition,
+    area: &[u8],
+    header: Header,
+    place: usize,
+    work: &mut [u8],
+    to: usize,
+) -> usize
+    requires { ⌜ place + header .length ≤ length (now area) ⌝ }
+    requires { ⌜ entrySize edition 0 ≤ header .length ⌝ }
+    requires { ⌜ to + length (movedBytes into (now area) edition header place) ≤ length (now work) ⌝ }
+    ensures { λ r.
+        ⌜ Copied (movedBytes into (now (area .entry)) edition header place) (now (work .entry)) to (now (work .exit)) r ⌝ }
+{
+    if !same_edition(edition, into) {
+        return put_entry(edition, into, area, place, header, work, to);
+    }
+    let end = place + header.length;
+    copy_into(work, to, &area[place..end]);
+    to + header.length
+}
+
+// The bytes of an entry, if it is kept.
 pub fn copy_entry(
     edition: Edition,
+    into: Edition,
     area: &[u8],
     cells: &[u32],
     marks: &[u32],
@@ -33,22 +62,24 @@ pub fn copy_entry(
     requires { ⌜ length (now marks) ≡ 128 ⌝ }
     requires { ⌜ place + header .length ≤ length (now area) ⌝ }
     requires { ⌜ place < 65536 ⌝ }
-    requires { ⌜ to + length (keptEntry edition (now area) (now cells) (now marks) header place) ≤ length (now work) ⌝ }
+    requires { ⌜ entrySize edition 0 ≤ header .length ⌝ }
+    requires { ⌜ to + length (keptEntry into (now area) (now cells) (now marks) edition header place) ≤ length (now work) ⌝ }
     ensures { λ r.
         ⌜
-        Copied (keptEntry edition (now (area .entry)) (now (cells .entry)) (now (marks .entry)) header place) (now (work .entry)) to (now (work .exit)) r
+        Copied (keptEntry into (now (area .entry)) (now (cells .entry)) (now (marks .entry)) edition header place)
+        (now (work .entry)) to (now (work .exit)) r
         ⌝ }
 {
-    if !is_kept(edition, area, cells, marks, header, place) {
+    if !is_kept(area, cells, marks, header, place) {
         return to;
     }
-    let end = place + header.length;
-    copy_into(work, to, &area[place..end]);
-    to + header.length
+    move_entry(edition, into, area, header, place, work, to)
 }
 
 // The bytes of an entry, if it is chosen.
 fn copy_chosen(
+    edition: Edition,
+    into: Edition,
     area: &[u8],
     chosen: &[u32],
     header: Header,
@@ -58,21 +89,24 @@ fn copy_chosen(
 ) -> usize
     requires { ⌜ length (now chosen) ≡ 256 ⌝ }
     requires { ⌜ place + header .length ≤ length (now area) ⌝ }
-    requires { ⌜ to + length (chosenEntry (now area) (now chosen) header place) ≤ length (now work) ⌝ }
+    requires { ⌜ entrySize edition 0 ≤ header .length ⌝ }
+    requires { ⌜ to + length (chosenEntry into (now area) (now chosen) edition header place) ≤ length (now work) ⌝ }
     ensures { λ r.
-        ⌜ Copied (chosenEntry (now (area .entry)) (now (chosen .entry)) header place) (now (work .entry)) to (now (work .exit)) r ⌝ }
+        ⌜
+        Copied (chosenEntry into (now (area .entry)) (now (chosen .entry)) edition header place)
+        (now (work .entry)) to (now (work .exit)) r
+        ⌝ }
 {
     if !is_chosen(chosen, place) {
         return to;
     }
-    let end = place + header.length;
-    copy_into(work, to, &area[place..end]);
-    to + header.length
+    move_entry(edition, into, area, header, place, work, to)
 }
 
-// What is chosen of a slot. Damage, which no log of ours has, ends a segment too.
+// What is chosen of a slot, read in an edition. Damage, which no log of ours has, ends a segment too.
 fn copy_slot(
     edition: Edition,
+    into: Edition,
     area: &[u8],
     chosen: &[u32],
     split: Split,
@@ -82,9 +116,9 @@ fn copy_slot(
 ) -> usize
     requires { ⌜ ChosenFits split (now area) (now chosen) ⌝ }
     requires { ⌜ slot < split .slots ⌝ }
-    requires { ⌜ from + length (chosenSlot edition (now area) (now chosen) (split .size) slot) ≤ length (now work) ⌝ }
+    requires { ⌜ from + length (chosenSlot edition into (now area) (now chosen) (split .size) slot) ≤ length (now work) ⌝ }
     ensures { λ r.
-        ⌜ Copied (chosenSlot edition (now (area .entry)) (now (chosen .entry)) (split .size) slot) (now (work .entry)) from (now (work .exit)) r ⌝ }
+        ⌜ Copied (chosenSlot edition into (now (area .entry)) (now (chosen .entry)) (split .size) slot) (now (work .entry)) from (now (work .exit)) r ⌝ }
 {
     let size = split.size;
     let s = cut(size, area, slot);
@@ -93,7 +127,16 @@ fn copy_slot(
     loop {
         match next(edition, s, at) {
             Next::Entry(header) => {
-                to = copy_chosen(area, chosen, header, slot * size + at, work, to);
+                to = copy_chosen(
+                    edition,
+                    into,
+                    area,
+                    chosen,
+                    header,
+                    slot * size + at,
+                    work,
+                    to,
+                );
                 at = behind(edition, at, header);
             }
             Next::End => {
@@ -106,9 +149,9 @@ fn copy_slot(
     }
 }
 
-// The same, nothing where the slot is no victim.
+// The same in the slot's own edition, nothing where it is no victim.
 fn copy_victim(
-    edition: Edition,
+    into: Edition,
     area: &[u8],
     chosen: &[u32],
     split: Split,
@@ -118,19 +161,20 @@ fn copy_victim(
 ) -> usize
     requires { ⌜ ChosenFits split (now area) (now chosen) ⌝ }
     requires { ⌜ slot < split .slots ⌝ }
-    requires { ⌜ to + length (chosenPart edition (now area) (now chosen) split slot) ≤ length (now work) ⌝ }
+    requires { ⌜ to + length (chosenPart into (now area) (now chosen) split slot) ≤ length (now work) ⌝ }
     ensures { λ r.
-        ⌜ Copied (chosenPart edition (now (area .entry)) (now (chosen .entry)) split slot) (now (work .entry)) to (now (work .exit)) r ⌝ }
+        ⌜ Copied (chosenPart into (now (area .entry)) (now (chosen .entry)) split slot) (now (work .entry)) to (now (work .exit)) r ⌝ }
 {
     if !is_named(split.victims, slot) {
         return to;
     }
-    copy_slot(edition, area, chosen, split, slot, work, to)
+    let edition = edition_of(cut(split.size, area, slot));
+    copy_slot(edition, into, area, chosen, split, slot, work, to)
 }
 
-// All that is chosen, by ascending slot and then offset.
+// All that is chosen in the edition of the new head, by ascending slot and then offset.
 pub fn copy_kept(
-    edition: Edition,
+    into: Edition,
     area: &[u8],
     chosen: &[u32],
     split: Split,
@@ -138,14 +182,14 @@ pub fn copy_kept(
     from: usize,
 ) -> usize
     requires { ⌜ ChosenFits split (now area) (now chosen) ⌝ }
-    requires { ⌜ from + length (chosenBytes edition (now area) (now chosen) split) ≤ length (now work) ⌝ }
+    requires { ⌜ from + length (chosenBytes into (now area) (now chosen) split) ≤ length (now work) ⌝ }
     ensures { λ r.
-        ⌜ Copied (chosenBytes edition (now (area .entry)) (now (chosen .entry)) split) (now (work .entry)) from (now (work .exit)) r ⌝ }
+        ⌜ Copied (chosenBytes into (now (area .entry)) (now (chosen .entry)) split) (now (work .entry)) from (now (work .exit)) r ⌝ }
 {
     let mut to = from;
     let mut i = 0;
     while i < split.slots {
-        to = copy_victim(edition, area, chosen, split, i, work, to);
+        to = copy_victim(into, area, chosen, split, i, work, to);
         i += 1;
     }
     to

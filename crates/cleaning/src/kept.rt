@@ -12,29 +12,25 @@ use segment::Next;
 use segment::area::cut;
 use segment::entries::next;
 use segment::layout::digest_size;
-ghost use Prim.Native.Nat.{_+_, _*_, _≤_, _<_};
+use segment::layout::head_size;
+use segment::reader::edition_of;
+ghost use Prim.Native.Nat.{_+_, _*_, _-_, _≤_, _<_};
 ghost use mathlib.Core.Path.{_≡_};
 ghost use lib.ListN.{length};
+ghost use Rattle.segment.specs.Layout.{entrySize};
 ghost use Rattle.cleaning.specs.Entries.{SplitFits};
 ghost use Rattle.cleaning.specs.Kept.{keptTest, keptEntry, keptSlot, keptPart, keptBytes};
 ghost use Rattle.cleaning.specs.Chosen.{chooseEntry, chooseSlot, choosePart, chooseVictims};
 
 // Whether a victim's entry at a place is kept: it is its key's highest version, and a tombstone only where the key's cell is
 // marked, as an object of the key stands outside the victims.
-pub fn is_kept(
-    edition: Edition,
-    area: &[u8],
-    cells: &[u32],
-    marks: &[u32],
-    header: Header,
-    place: usize,
-) -> bool
+pub fn is_kept(area: &[u8], cells: &[u32], marks: &[u32], header: Header, place: usize) -> bool
     requires { ⌜ length (now marks) ≡ 128 ⌝ }
     requires { ⌜ place < 65536 ⌝ }
-    ensures { λ r. ⌜ r ≡ keptTest edition (now (area .entry)) (now (cells .entry)) (now (marks .entry)) header place ⌝ }
+    ensures { λ r. ⌜ r ≡ keptTest (now (area .entry)) (now (cells .entry)) (now (marks .entry)) header place ⌝ }
 {
     let key = header.key;
-    match search(edition, area, cells, key) {
+    match search(area, cells, key) {
         Found::At(i) => {
             if cells[i] as usize != place + 1 {
                 return false;
@@ -49,9 +45,18 @@ pub fn is_kept(
     }
 }
 
-// The length of an entry that is kept, which is then chosen; 0 of one that is not.
+// How long an entry is in the edition of the new head: only what stands before its value takes other bytes there (02, R-13).
+pub fn moved_length(edition: Edition, into: Edition, header: Header) -> usize
+    requires { ⌜ (entrySize edition 0 ≤ header .length) × (header .length ≤ 65536) ⌝ }
+    ensures { λ r. ⌜ r ≡ header .length - entrySize edition 0 + entrySize into 0 ⌝ }
+{
+    header.length - head_size(edition) + head_size(into)
+}
+
+// The length in the edition of the new head of an entry that is kept, which is then chosen; 0 of one that is not.
 fn choose_kept(
     edition: Edition,
+    into: Edition,
     area: &[u8],
     cells: &[u32],
     marks: &[u32],
@@ -60,25 +65,27 @@ fn choose_kept(
     place: usize,
 ) -> usize
     requires { ⌜ (length (now marks) ≡ 128) × (length (now chosen) ≡ 256) ⌝ }
-    requires { ⌜ place + header .length ≤ length (now area) ⌝ }
+    requires { ⌜ (place + header .length ≤ length (now area)) × (length (now area) ≤ 65536) ⌝ }
     requires { ⌜ place < 65536 ⌝ }
+    requires { ⌜ entrySize edition 0 ≤ header .length ⌝ }
     ensures { λ r.
         ⌜
-        (r ≡ length (keptEntry edition (now (area .entry)) (now (cells .entry)) (now (marks .entry)) header place))
+        (r ≡ length (keptEntry into (now (area .entry)) (now (cells .entry)) (now (marks .entry)) edition header place))
         × (now (chosen .exit)
-        ≡ chooseEntry (keptTest edition (now (area .entry)) (now (cells .entry)) (now (marks .entry))) (now (chosen .entry)) header place)
+        ≡ chooseEntry (keptTest (now (area .entry)) (now (cells .entry)) (now (marks .entry))) (now (chosen .entry)) header place)
         ⌝ }
 {
-    if !is_kept(edition, area, cells, marks, header, place) {
+    if !is_kept(area, cells, marks, header, place) {
         return 0;
     }
     choose(chosen, place);
-    header.length
+    moved_length(edition, into, header)
 }
 
-// How long what is kept of a slot is; it is chosen. Damage ends a segment too.
+// How long what is kept of a slot, read in an edition, is in that of the new head; it is chosen. Damage ends a segment too.
 fn measure_slot(
     edition: Edition,
+    into: Edition,
     area: &[u8],
     cells: &[u32],
     marks: &[u32],
@@ -90,10 +97,10 @@ fn measure_slot(
     requires { ⌜ slot < split .slots ⌝ }
     ensures { λ r.
         ⌜
-        (r ≡ length (keptSlot edition (now (area .entry)) (now (cells .entry)) (now (marks .entry)) (split .size) slot))
-        × (r ≤ 2048)
+        (r ≡ length (keptSlot edition into (now (area .entry)) (now (cells .entry)) (now (marks .entry)) (split .size) slot))
+        × (r ≤ 4096)
         × (now (chosen .exit)
-        ≡ chooseSlot edition (keptTest edition (now (area .entry)) (now (cells .entry)) (now (marks .entry))) (now (area .entry))
+        ≡ chooseSlot edition (keptTest (now (area .entry)) (now (cells .entry)) (now (marks .entry))) (now (area .entry))
         (split .size) (now (chosen .entry)) slot)
         ⌝ }
 {
@@ -106,6 +113,7 @@ fn measure_slot(
             Next::Entry(header) => {
                 total += choose_kept(
                     edition,
+                    into,
                     area,
                     cells,
                     marks,
@@ -125,9 +133,9 @@ fn measure_slot(
     }
 }
 
-// The same, 0 and nothing chosen where the slot is no victim.
+// The same in the slot's own edition, 0 and nothing chosen where it is no victim.
 fn measure_victim(
-    edition: Edition,
+    into: Edition,
     area: &[u8],
     cells: &[u32],
     marks: &[u32],
@@ -139,22 +147,23 @@ fn measure_victim(
     requires { ⌜ slot < split .slots ⌝ }
     ensures { λ r.
         ⌜
-        (r ≡ length (keptPart edition (now (area .entry)) (now (cells .entry)) (now (marks .entry)) split slot))
-        × (r ≤ 2048)
+        (r ≡ length (keptPart into (now (area .entry)) (now (cells .entry)) (now (marks .entry)) split slot))
+        × (r ≤ 4096)
         × (now (chosen .exit)
-        ≡ choosePart edition (keptTest edition (now (area .entry)) (now (cells .entry)) (now (marks .entry))) (now (area .entry)) split
+        ≡ choosePart (keptTest (now (area .entry)) (now (cells .entry)) (now (marks .entry))) (now (area .entry)) split
         (now (chosen .entry)) slot)
         ⌝ }
 {
     if !is_named(split.victims, slot) {
         return 0;
     }
-    measure_slot(edition, area, cells, marks, chosen, split, slot)
+    let edition = edition_of(cut(split.size, area, slot));
+    measure_slot(edition, into, area, cells, marks, chosen, split, slot)
 }
 
-// How long all that is kept is; it is chosen.
+// How long all that is kept is in the edition of the new head; it is chosen.
 pub fn measure(
-    edition: Edition,
+    into: Edition,
     area: &[u8],
     cells: &[u32],
     marks: &[u32],
@@ -164,17 +173,17 @@ pub fn measure(
     requires { ⌜ SplitFits split (now area) (now marks) × (length (now chosen) ≡ 256) ⌝ }
     ensures { λ r.
         ⌜
-        (r ≡ length (keptBytes edition (now (area .entry)) (now (cells .entry)) (now (marks .entry)) split))
-        × (r ≤ 65536)
+        (r ≡ length (keptBytes into (now (area .entry)) (now (cells .entry)) (now (marks .entry)) split))
+        × (r ≤ 131072)
         × (now (chosen .exit)
-        ≡ chooseVictims edition (keptTest edition (now (area .entry)) (now (cells .entry)) (now (marks .entry))) (now (area .entry)) split
+        ≡ chooseVictims (keptTest (now (area .entry)) (now (cells .entry)) (now (marks .entry))) (now (area .entry)) split
         (now (chosen .entry)))
         ⌝ }
 {
     let mut total = 0;
     let mut i = 0;
     while i < split.slots {
-        total += measure_victim(edition, area, cells, marks, chosen, split, i);
+        total += measure_victim(into, area, cells, marks, chosen, split, i);
         i += 1;
     }
     total

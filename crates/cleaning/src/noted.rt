@@ -9,6 +9,7 @@ use segment::Next;
 use segment::area::cut;
 use segment::entries::next;
 use segment::layout::digest_size;
+use segment::reader::edition_of;
 ghost use Prim.Native.Nat.{_<_};
 ghost use mathlib.Core.Path.{_≡_};
 ghost use lib.ListN.{length};
@@ -27,7 +28,7 @@ fn note_entry(filter: &mut [u32], header: Header)
     put(filter, header.key);
 }
 
-// Those of a slot. Damage ends a segment too.
+// Those of a slot, read in an edition. Damage ends a segment too.
 fn note_slot(edition: Edition, area: &[u8], filter: &mut [u32], split: Split, slot: usize)
     requires { ⌜ SplitFits split (now area) (now filter) ⌝ }
     requires { ⌜ slot < split .slots ⌝ }
@@ -51,29 +52,30 @@ fn note_slot(edition: Edition, area: &[u8], filter: &mut [u32], split: Split, sl
     }
 }
 
-// The same, nothing where the slot is no victim.
-fn note_part(edition: Edition, area: &[u8], filter: &mut [u32], split: Split, slot: usize)
+// The same in the slot's own edition, nothing where it is no victim.
+fn note_part(area: &[u8], filter: &mut [u32], split: Split, slot: usize)
     requires { ⌜ SplitFits split (now area) (now filter) ⌝ }
     requires { ⌜ slot < split .slots ⌝ }
     ensures { λ _.
         ⌜
-        now (filter .exit) ≡ walkPart edition noteEntry (now (area .entry)) (split .size) (split .victims) (now (filter .entry)) slot
+        now (filter .exit) ≡ walkPart noteEntry (now (area .entry)) (split .size) (split .victims) (now (filter .entry)) slot
         ⌝ }
 {
     if !is_named(split.victims, slot) {
         return;
     }
+    let edition = edition_of(cut(split.size, area, slot));
     note_slot(edition, area, filter, split, slot);
 }
 
 // Those of all victims.
-pub fn note_victims(edition: Edition, area: &[u8], filter: &mut [u32], split: Split)
+pub fn note_victims(area: &[u8], filter: &mut [u32], split: Split)
     requires { ⌜ SplitFits split (now area) (now filter) ⌝ }
-    ensures { λ _. ⌜ now (filter .exit) ≡ noteVictims edition (now (area .entry)) split (now (filter .entry)) ⌝ }
+    ensures { λ _. ⌜ now (filter .exit) ≡ noteVictims (now (area .entry)) split (now (filter .entry)) ⌝ }
 {
     let mut i = 0;
     while i < split.slots {
-        note_part(edition, area, filter, split, i);
+        note_part(area, filter, split, i);
         i += 1;
     }
 }

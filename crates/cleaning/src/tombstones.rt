@@ -7,6 +7,7 @@ use segment::Next;
 use segment::area::cut;
 use segment::entries::next;
 use segment::layout::digest_size;
+use segment::reader::edition_of;
 ghost use Prim.Native.Nat.{_≤_, _<_};
 ghost use mathlib.Core.Path.{_≡_};
 ghost use lib.ListN.{length};
@@ -15,7 +16,7 @@ ghost use Rattle.index.specs.Build.{entriesAt};
 ghost use Rattle.cleaning.specs.Entries.{SlotsFit};
 ghost use Rattle.cleaning.specs.Tombstones.{tombstoneIn, victimHolds, anyTombstone};
 
-// Whether a tombstone stands in a segment. Damage ends a segment too.
+// Whether a tombstone stands in a segment, read in an edition. Damage ends a segment too.
 fn holds_tombstone(edition: Edition, s: &[u8]) -> bool
     requires { ⌜ length (now s) ≤ 2048 ⌝ }
     ensures { λ r. ⌜ r ≡ tombstoneIn (entriesAt edition (now (s .entry)) (digestSize edition)) ⌝ }
@@ -40,25 +41,26 @@ fn holds_tombstone(edition: Edition, s: &[u8]) -> bool
 }
 
 // Whether a slot is a victim and holds a tombstone.
-fn slot_holds(edition: Edition, area: &[u8], split: Split, slot: usize) -> bool
+fn slot_holds(area: &[u8], split: Split, slot: usize) -> bool
     requires { ⌜ SlotsFit split (now area) ⌝ }
     requires { ⌜ slot < split .slots ⌝ }
-    ensures { λ r. ⌜ r ≡ victimHolds edition (now (area .entry)) split slot ⌝ }
+    ensures { λ r. ⌜ r ≡ victimHolds (now (area .entry)) split slot ⌝ }
 {
     if !is_named(split.victims, slot) {
         return false;
     }
-    holds_tombstone(edition, cut(split.size, area, slot))
+    let s = cut(split.size, area, slot);
+    holds_tombstone(edition_of(s), s)
 }
 
 // Whether one of the victims holds a tombstone.
-pub fn any_tombstone(edition: Edition, area: &[u8], split: Split) -> bool
+pub fn any_tombstone(area: &[u8], split: Split) -> bool
     requires { ⌜ SlotsFit split (now area) ⌝ }
-    ensures { λ r. ⌜ r ≡ anyTombstone edition (now (area .entry)) split ⌝ }
+    ensures { λ r. ⌜ r ≡ anyTombstone (now (area .entry)) split ⌝ }
 {
     let mut i = 0;
     while i < split.slots {
-        if slot_holds(edition, area, split, i) {
+        if slot_holds(area, split, i) {
             return true;
         }
         i += 1;

@@ -2,101 +2,28 @@
 use Prim.Native.Nat.{ℕ, suc, _+_, _*_, _-_, _≤_, _<_}
 use mathlib.Core.Path.{_≡_, refl, sym, _∙_, ap, subst}
 use mathlib.Core.Bool.{Bool, true, false}
-use mathlib.Core.List.{List, [], _∷_, _++_, append-assoc, append-nil}
-use mathlib.Core.Option.{Option, none, some}
+use mathlib.Core.List.{List, [], _∷_, _++_, append-nil}
 use native.Mathlib.Nat.{suc-mul}
 use native.Mathlib.Numerals.{add-one}
 use native.Mathlib.Omega.{arith}
-use lib.ListN.{length, take, drop, set, replicate, length-append, length-drop, drop-of-length-le}
-use lib.Seq.{sets, sets-eq, take-all, length-sets}
-use Rattle.segment.specs.Choice.{pick, pick-true, pick-false, isNone, orZero}
+use lib.ListN.{length, set, replicate, drop-of-length-le}
+use lib.Seq.{sets, sets-eq, length-sets}
+use Rattle.segment.specs.Choice.{pick-true, pick-false}
 use Rattle.segment.specs.Copied.{Copied, copied-as, copied-then, copied-long, Copying, copying-start, copying-next, copying-room, copying-end}
-use Rattle.segment.specs.Layout.{Layout, digestSize, entrySize, objectKind, table}
-use Rattle.segment.specs.Entry.{Entry, bytesIn, kindFor, kindOf, encoded, sizeOf, keyOf, entry}
-use Rattle.segment.specs.EntryLaws.{length-encoded, found-bytes}
-use Rattle.segment.specs.Packed.{field-at, length-part}
+use Rattle.segment.specs.Layout.{Layout, digestSize, entrySize}
+use Rattle.segment.specs.Entry.{Entry, encoded}
+use Rattle.segment.specs.EntryLaws.{length-encoded}
 use Rattle.segment.specs.Digest.{digestOf, encodedDigest}
 use Rattle.segment.specs.DigestLaws.{length-encodedDigest}
-use Rattle.segment.specs.Written.{encodedHead, encodedAs, length-encodedHead}
+use Rattle.segment.specs.Rewritten.{entryBytes, entry-own}
 use Rattle.segment.specs.declared.Digest.{Digest}
 use Rattle.segment.specs.declared.Header.{Header}
 use Rattle.model.specs.Log.{View, scan, isDamaged}
 use Rattle.model.specs.Operations.{allEncoded}
 use Rattle.model.specs.Conversion.{slotBytes, rewritten, filledTo, convertedSlot, convertedSlots}
-use Rattle.converting.specs.Parts.{entriesOf, partBytes, kindAs, valueAt, entryBytes}
+use Rattle.converting.specs.Parts.{entriesOf, partBytes}
 use Rattle.converting.specs.PartLaws.{Left, More, left-start, PartOf, part-rewritten}
 use Rattle.converting.specs.SizeLaws.{length-partBytes}
-
--- ---- one entry
-
-module _ (K : Layout) (n : ℕ) where
-  pub kind-tombstone : (t : Bool) → t ≡ true → table K .tombstoneKind ≡ kindAs K t n
-  unfolding kindAs
-  kind-tombstone t e = sym (pick-true t (table K .tombstoneKind) (orZero (objectKind K n)) e)
-
-  pub kind-object : (t : Bool) → t ≡ false → orZero (objectKind K n) ≡ kindAs K t n
-  unfolding kindAs
-  kind-object t e = sym (pick-false t (table K .tombstoneKind) (orZero (objectKind K n)) e)
-
--- the kind is told by whether there is a value, and by its length
-kind-said : (K : Layout) (o : Option (List ℕ)) → kindAs K (isNone o) (length (bytesIn o)) ≡ kindFor K o
-unfolding kindAs pick isNone bytesIn kindFor
-kind-said K none = refl
-kind-said K (some v) = refl
-
-module _ (L K : Layout) (s : List ℕ) (at : ℕ) where
-  -- the value as the code cuts it
-  pub cut-value : (h : Header) → entrySize L 0 ≤ h .length → take (at + h .length - (at + entrySize L 0)) (drop (at + entrySize L 0) s) ≡ valueAt L s at h
-  cut-value h low =
-      let same : at + h .length - (at + entrySize L 0) ≡ h .length - entrySize L 0 = omega arith in
-      ap (λ (k : ℕ). take k (drop (at + entrySize L 0) s)) same
-
-  pub length-value : (h : Header) → entrySize L 0 ≤ h .length → at + h .length ≤ length s → length (valueAt L s at h) ≡ h .length - entrySize L 0
-  length-value h low fits = length-part (h .length - entrySize L 0) (at + entrySize L 0) s (omega arith)
-
-  -- an entry as the code writes it
-  module _ (h : Header) (value target target′ : List ℕ) (place kind : ℕ) (is : value ≡ valueAt L s at h) where
-    pub entry-put : kind ≡ kindAs K (h .tombstone) (length value) → target′ ≡ sets target place (encodedAs K kind (h .key) (h .version) value)
-        → Copied (entryBytes L K s at h) target place target′ (place + entrySize K 0 + length value)
-    entry-put k e =
-        record {
-          stored = e ∙ ap (sets target place) (whole);
-          behind =
-              omega (
-                arith,
-                length-append (encodedHead K kind (h .key) (h .version)) value,
-                length-encodedHead K kind (h .key) (h .version),
-                ap length whole,
-              );
-        }
-      where
-        whole : encodedAs K kind (h .key) (h .version) value ≡ entryBytes L K s at h
-        whole =
-            ap (λ (j : ℕ). encodedAs K j (h .key) (h .version) value) k ∙
-            ap (λ (l : List ℕ). encodedAs K (kindAs K (h .tombstone) (length l)) (h .key) (h .version) l) is
-
-  -- what is written is the entry that stands there
-  module _ {es : List Entry} {h : Header} (m : More L s at es h) where
-    value-own : valueAt L s at h ≡ bytesIn (m .first .value)
-    value-own =
-        let size = m .size in
-        let head : entrySize L 0 ≡ 7 + table L .width = omega arith in
-        ap (λ (k : ℕ). take (k - entrySize L 0) (drop (at + entrySize L 0) s)) (sym size) ∙
-        sym (field-at (sizeOf L (m .first) - entrySize L 0) (entrySize L 0) (sizeOf L (m .first)) at s (omega arith)) ∙
-        take-all (sizeOf L (m .first) - entrySize L 0) (drop (entrySize L 0) (take (sizeOf L (m .first)) (drop at s)))
-        (simp length-drop (omega (arith, length-part (sizeOf L (m .first)) at s (omega (arith, m .fits))))) ∙
-        ap (λ (k : ℕ). drop k (take (sizeOf L (m .first)) (drop at s))) head ∙ found-bytes L s at (m .first) (m .is)
-
-    pub entry-own : entryBytes L K s at h ≡ encoded K (m .first)
-    entry-own =
-        ap (λ (l : List ℕ). encodedAs K (kindAs K (h .tombstone) (length l)) (h .key) (h .version) l) value-own ∙
-        ap (λ (w : Header). encodedAs K (kindAs K (w .tombstone) (length (bytesIn (m .first .value)))) (w .key) (w .version) (bytesIn (m .first .value)))
-        (sym (m .its)) ∙
-        ap (λ (k : ℕ). encodedAs K k (keyOf (m .first)) (record { 0 = m .first .version }) (bytesIn (m .first .value))) (kind-said K (m .first .value)) ∙
-        joined
-      where
-        joined : encodedAs K (kindOf K (m .first)) (keyOf (m .first)) (record { 0 = m .first .version }) (bytesIn (m .first .value)) ≡ encoded K (m .first)
-        joined = simp append-assoc
 
 -- ---- the entries of a segment
 
@@ -135,7 +62,7 @@ module _ (L K : Layout) (s target₀ : List ℕ) (start : ℕ) where
           record {
             entries = m .rest;
             left = m .left;
-            copying = copying-next (c .copying) (encoded K (m .first)) (allEncoded K (m .rest)) target′ r next-bytes (copied-as (entry-own L K s at m) p);
+            copying = copying-next (c .copying) (encoded K (m .first)) (allEncoded K (m .rest)) target′ r next-bytes (copied-as (entry-own L K s at (m .first) (m .is) (m .its)) p);
           }
 
     pub put-end : c .entries ≡ [] → Copied (allEncoded K (entriesOf L s)) target₀ start target place

@@ -33,20 +33,20 @@ unfolding table
 limit-positive First = omega arith
 limit-positive Second = omega arith
 
-module _ (K : Layout) (i : ℕ) where
-  items-narrow : (xs : List Item) → highest (placedIn i xs) < versionLimit K → versionTooWide K (itemEntries xs) ≡ false
+module _ (K L : Layout) (i : ℕ) where
+  items-narrow : (xs : List Item) → highest (placedIn L i xs) < versionLimit K → versionTooWide K (itemEntries xs) ≡ false
   unfolding highest placedIn versionTooWide
   items-narrow [] h = refl
   items-narrow (x ∷ xs) h =
       either-false (not (ltb (x .entry .version) (versionLimit K))) (versionTooWide K (itemEntries xs))
       (ap not (lt-ltb (x .entry .version) (versionLimit K) (omega arith))) (items-narrow xs (omega arith))
 
-  items-wide : (xs : List Item) → versionLimit K ≤ highest (placedIn i xs) → versionTooWide K (itemEntries xs) ≡ true
+  items-wide : (xs : List Item) → versionLimit K ≤ highest (placedIn L i xs) → versionTooWide K (itemEntries xs) ≡ true
   unfolding highest placedIn versionTooWide
   items-wide [] h = absurd (omega (arith, limit-positive K))
   items-wide (x ∷ xs) h = go (decLe (versionLimit K) (x .entry .version)) (λ l. items-wide xs l)
     where
-      go : Dec (versionLimit K ≤ x .entry .version) → (versionLimit K ≤ highest (placedIn i xs) → versionTooWide K (itemEntries xs) ≡ true)
+      go : Dec (versionLimit K ≤ x .entry .version) → (versionLimit K ≤ highest (placedIn L i xs) → versionTooWide K (itemEntries xs) ≡ true)
           → either (not (ltb (x .entry .version) (versionLimit K))) (versionTooWide K (itemEntries xs)) ≡ true
       go (yes l) below =
           either-true-left (not (ltb (x .entry .version) (versionLimit K))) (versionTooWide K (itemEntries xs))
@@ -55,7 +55,7 @@ module _ (K : Layout) (i : ℕ) where
           either-true-right (not (ltb (x .entry .version) (versionLimit K))) (versionTooWide K (itemEntries xs)) (below (omega arith))
 
 -- a slot of the log has no version above the log's highest
-part-below : (v : ℕ → View) (p : ℕ → Bool) (n i : ℕ) → i < n → p i ≡ true → highest (placedIn i (itemsOf (v i .scan))) ≤ highest (logOf v p n)
+part-below : (v : ℕ → View) (p : ℕ → Bool) (n i : ℕ) → i < n → p i ≡ true → highest (placedIn (v i .layout) i (itemsOf (v i .scan))) ≤ highest (logOf v p n)
 unfolding logOf
 part-below v p zero i h q = absurd (omega arith)
 part-below v p (suc n) i h q = go (ℕ-discrete i n) (λ k. part-below v p n i k q)
@@ -63,10 +63,10 @@ part-below v p (suc n) i h q = go (ℕ-discrete i n) (λ k. part-below v p n i k
     both-high : highest (logOf v p n ++ partOf v p n) ≡ max (highest (logOf v p n)) (highest (partOf v p n))
     both-high = highest-append (logOf v p n) (partOf v p n)
 
-    go : Dec (i ≡ n) → (i < n → highest (placedIn i (itemsOf (v i .scan))) ≤ highest (logOf v p n))
-        → highest (placedIn i (itemsOf (v i .scan))) ≤ highest (logOf v p n ++ partOf v p n)
+    go : Dec (i ≡ n) → (i < n → highest (placedIn (v i .layout) i (itemsOf (v i .scan))) ≤ highest (logOf v p n))
+        → highest (placedIn (v i .layout) i (itemsOf (v i .scan))) ≤ highest (logOf v p n ++ partOf v p n)
     go (yes e) below =
-        let own : highest (placedIn i (itemsOf (v i .scan))) ≡ highest (partOf v p n) =
+        let own : highest (placedIn (v i .layout) i (itemsOf (v i .scan))) ≡ highest (partOf v p n) =
         ap highest (sym (part-picked v p i q)) ∙ ap (λ (k : ℕ). highest (partOf v p k)) e in
         omega (arith, both-high, own)
     go (no e) below = omega (arith, both-high, below (omega arith))
@@ -93,7 +93,7 @@ module _ (K : Layout) (v : ℕ → View) (p : ℕ → Bool) where
     module _ (n : ℕ) (below : highest (logOf v p n) < versionLimit K) (in-log : i < n) (picked : p i ≡ true) {L : Layout} {part : List ℕ}
         (o : PartOf L (v i) part) (t : Bool) (is : t ≡ nextTooWide K (some (digestOf L part))) where
       narrow : versionTooWide K (entriesIn (v i)) ≡ false
-      narrow = items-narrow K i (itemsOf (v i .scan)) (omega (arith, part-below v p n i in-log picked))
+      narrow = items-narrow K (v i .layout) i (itemsOf (v i .scan)) (omega (arith, part-below v p n i in-log picked))
 
       its-digest : nextTooWide K (v i .digest) ≡ t
       its-digest = ap (nextTooWide K) (o .digest) ∙ sym is
@@ -121,7 +121,7 @@ module _ (K : Layout) (v : ℕ → View) (p : ℕ → Bool) where
       own true q l =
           both-true (p n) (tooWide n) q
           (either-true-right (nextTooWide K (v n .digest)) (versionTooWide K (entriesIn (v n)))
-          (items-wide K n (itemsOf (v n .scan)) (omega (arith, ap highest (part-picked v p n q)))))
+          (items-wide K (v n .layout) n (itemsOf (v n .scan)) (omega (arith, ap highest (part-picked v p n q)))))
       own false q l = absurd (omega (arith, ap highest (part-passed v p n q), limit-positive K))
 
       go : Dec (versionLimit K ≤ highest (logOf v p n)) → (versionLimit K ≤ highest (logOf v p n) → slotTooWide K v p n ≡ true)

@@ -1,65 +1,27 @@
 // The slots of a log, written in another edition.
 use log::slots::is_named;
 use segment::Edition;
-use segment::Header;
 use segment::Next;
 use segment::area::cut;
 use segment::entries::next;
 use segment::layout::digest_size;
-use segment::layout::head_size;
-use segment::layout::object_kind;
-use segment::layout::tombstone_kind;
 use segment::reader::digest;
+use segment::rewrite::put_entry;
 use segment::writer::write_digest;
-use segment::writer::write_entry;
 ghost use Prim.Native.Nat.{_+_, _*_, _-_, _≤_};
 ghost use mathlib.Core.Path.{_≡_};
 ghost use mathlib.Core.Bool.{false};
 ghost use lib.ListN.{length, replicate};
 ghost use Rattle.segment.specs.Copied.{Copied};
-ghost use Rattle.segment.specs.Layout.{edition2, entrySize, digestSize};
+ghost use Rattle.segment.specs.Layout.{edition2, digestSize};
 ghost use Rattle.slot_map.specs.Bit.{named};
 ghost use Rattle.model.specs.Log.{viewsOf, scan, isDamaged};
 ghost use Rattle.model.specs.Operations.{allEncoded};
 ghost use Rattle.model.specs.Conversion.{filledTo, slotTooLong, convertedSlots};
 ghost use Rattle.log.specs.Shape.{Shape};
-ghost use Rattle.converting.specs.Parts.{entriesOf, partBytes, kindAs, entryBytes, LogOf};
+ghost use Rattle.converting.specs.Parts.{entriesOf, partBytes, LogOf};
 
-// The kind of a tombstone, or of an object whose value is `length` bytes long.
-fn kind_as(edition: Edition, tombstone: bool, length: usize) -> u8
-    ensures { λ r. ⌜ r ≡ kindAs edition tombstone length ⌝ }
-{
-    if tombstone {
-        return tombstone_kind(edition);
-    }
-    object_kind(edition, length)
-}
-
-// The entry at an offset of a segment, from a place of the target on. Like the next one it answers the place behind what it put
-// there.
-fn put_entry(
-    from: Edition,
-    to: Edition,
-    part: &[u8],
-    at: usize,
-    header: Header,
-    target: &mut [u8],
-    place: usize,
-) -> usize
-    requires { ⌜ at + header .length ≤ length (now part) ⌝ }
-    requires { ⌜ entrySize from 0 ≤ header .length ⌝ }
-    requires { ⌜ place + entrySize to (header .length - entrySize from 0) ≤ length (now target) ⌝ }
-    ensures { λ r.
-        ⌜ Copied (entryBytes from to (now (part .entry)) at header) (now (target .entry)) place (now (target .exit)) r ⌝ }
-{
-    let length = header.length;
-    let value = &part[at + head_size(from)..at + length];
-    let kind = kind_as(to, header.tombstone, value.len());
-    write_entry(to, target, place, kind, header.key, header.version, value);
-    place + head_size(to) + value.len()
-}
-
-// The entries of an undamaged segment.
+// The entries of an undamaged segment. It answers the place behind what it put there.
 fn put_entries(from: Edition, to: Edition, part: &[u8], target: &mut [u8], start: usize) -> usize
     requires { ⌜ isDamaged (scan from (now part)) ≡ false ⌝ }
     requires { ⌜ start + length (allEncoded to (entriesOf from (now part))) ≤ length (now target) ⌝ }

@@ -2,9 +2,10 @@
 use Prim.Native.Nat.{ℕ, _/_}
 use mathlib.Core.List.{List}
 use lib.ListN.{set}
-use Rattle.segment.specs.Area.{segmentOf, foundAt}
+use Rattle.segment.specs.Area.{segmentOf, layoutAt, foundAt}
 use Rattle.segment.specs.Choice.{pick}
 use Rattle.segment.specs.Layout.{Layout, digestSize}
+use Rattle.segment.specs.Digest.{layoutIn}
 use Rattle.segment.specs.Entry.{Found, entry, end, damage}
 use Rattle.segment.specs.declared.Header.{Header}
 use Rattle.model.specs.Counts.{fewerBytes, objectSize, objectBytes, withoutVictims}
@@ -18,8 +19,8 @@ foundBytes L end = 0
 foundBytes L damage = 0
 
 -- The object at a place counts no longer.
-unfoldable pub lostAt : Layout → ℕ → List ℕ → ℕ → List ℕ → List ℕ
-lostAt L S area place c = fewerBytes (place / S) (foundBytes L (foundAt L S area place)) c
+unfoldable pub lostAt : ℕ → List ℕ → ℕ → List ℕ → List ℕ
+lostAt S area place c = fewerBytes (place / S) (foundBytes (layoutAt S area place) (foundAt S area place)) c
 
 abbrev pub headerBytes : Header → ℕ
 headerBytes h = pick (h .tombstone) 0 (h .length)
@@ -31,6 +32,10 @@ bytesFrom L s at = objectBytes L (itemEntries (entriesAt L s at))
 abbrev pub segmentBytes : Layout → List ℕ → ℕ
 segmentBytes L s = bytesFrom L s (digestSize L)
 
+-- the same by the segment's own edition
+abbrev pub ownBytes : List ℕ → ℕ
+ownBytes s = segmentBytes (layoutIn s) s
+
 -- The victims have no present bytes, and the slot of the new head has those of the objects in its segment.
-unfoldable pub renewedAt : Layout → ℕ → List ℕ → ℕ → ℕ → List ℕ → List ℕ
-renewedAt L S area slot victims c = set (withoutVictims victims 0 c) slot (segmentBytes L (segmentOf area S slot))
+unfoldable pub renewedAt : ℕ → List ℕ → ℕ → ℕ → List ℕ → List ℕ
+renewedAt S area slot victims c = set (withoutVictims victims 0 c) slot (ownBytes (segmentOf area S slot))

@@ -1,5 +1,5 @@
 -- The numbers at each test of the code, and what they are on a recovered log.
-use Prim.Native.Nat.{ℕ, suc, _+_, _-_, _*_, _/_, _%_, _≤_, _<_}
+use Prim.Native.Nat.{ℕ, _+_, _-_, _*_, _≤_, _<_}
 use mathlib.Core.Path.{_≡_, refl, sym, _∙_, ap, ap₂}
 use mathlib.Core.Bool.{Bool, true, false}
 use mathlib.Core.List.{List, [], _∷_}
@@ -7,16 +7,15 @@ use mathlib.Core.Option.{Option, none, some}
 use native.Mathlib.Decide.{ℕ-discrete}
 use native.Mathlib.Nat.{zero-add, sub-zero}
 use native.Mathlib.Omega.{arith}
-use native.Mathlib.Numerals.{add-one}
-use lib.Dec.{ltb}
-use lib.ListN.{length, getD, set, take, drop, length-set, length-take}
+use lib.ListN.{length, getD, set, drop, length-take}
 use lib.Seq.{set-getD, ext-getD, getD-set-same, getD-set-other}
 use Rattle.segment.specs.Choice.{pick, pick-true, pick-false}
-use Rattle.segment.specs.Area.{segmentOf, foundAt, place-slot, found-place}
+use Rattle.segment.specs.Area.{segmentOf, foundAt, place-slot, found-place, place-layout}
 use Rattle.segment.specs.AnswerLaws.{tells-object, tells-tombstone, tells-end, tells-damage}
 use Rattle.segment.specs.Layout.{Layout, digestSize}
-use Rattle.segment.specs.Entry.{Entry, Found, entry, end, damage, entryAt, isTombstone, sizeOf, answer}
-use Rattle.segment.specs.Entries.{headerOf, nextOf, next-entry, next-fits, next-end, next-damage}
+use Rattle.segment.specs.Digest.{layoutIn}
+use Rattle.segment.specs.Entry.{Entry, Found, entry, entryAt, isTombstone, sizeOf, answer}
+use Rattle.segment.specs.Entries.{nextOf, next-entry, next-end, next-damage}
 use Rattle.segment.specs.declared.Header.{Header}
 use Rattle.segment.specs.declared.Key.{Key}
 use Rattle.segment.specs.declared.Next.{Next}
@@ -24,14 +23,13 @@ use Rattle.segment.specs.declared.Next.the-variants as N
 use Rattle.segment.specs.declared.Read.{Read}
 use Rattle.segment.specs.declared.Version.{Version}
 use Rattle.slot_map.specs.Bit.{named}
-use Rattle.model.specs.Log.{Item, Placed, placeOf, scan, scanned, latest, objectOnly, present}
-use Rattle.model.specs.Counts.{fewerBytes, moreBytes, objectSize, objectBytes, withoutLive, withoutVictims}
-use Rattle.laws.specs.Scans.{itemEntries, itemAt, itemsFrom}
+use Rattle.model.specs.Log.{Item, Placed, placeOf, scan, scanned, latest, objectOnly, present, placedSize}
+use Rattle.model.specs.Counts.{fewerBytes, objectBytes, withoutLive, withoutVictims}
+use Rattle.laws.specs.Scans.{itemEntries, itemsFrom}
 use Rattle.laws.specs.LogLaws.{scanned-undamaged, items-scanned}
 use Rattle.laws.specs.Recounted.{length-without, without-at}
-use Rattle.index.specs.Build.{entriesAt}
 use Rattle.index.specs.Entries.{entries-entry, entries-end, entries-damage, entries-scan}
-use Rattle.counting.specs.Counting.{foundBytes, lostAt, headerBytes, bytesFrom, segmentBytes}
+use Rattle.counting.specs.Counting.{foundBytes, lostAt, headerBytes, bytesFrom, segmentBytes, ownBytes}
 
 -- ---- what stands at a place
 
@@ -124,9 +122,10 @@ items-entries L at [] = refl
 items-entries L at (e ∷ es) = ap (λ (l : List Entry). e ∷ l) (items-entries L (at + sizeOf L e) es)
 
 -- a segment that holds these entries has the bytes of the objects among them
-pub segment-new : (L : Layout) (s : List ℕ) (es : List Entry) (k : ℕ) → scan L s ≡ scanned (itemsFrom L (digestSize L) es) k → segmentBytes L s ≡ objectBytes L es
-segment-new L s es k e =
-    ap (λ (is : List Item). objectBytes L (itemEntries is)) (entries-scan L s (scanned-undamaged (scan L s) e) ∙ items-scanned (scan L s) e)
+pub segment-new : (L : Layout) (s : List ℕ) (es : List Entry) (k : ℕ) → layoutIn s ≡ L → scan L s ≡ scanned (itemsFrom L (digestSize L) es) k → ownBytes s ≡ objectBytes L es
+segment-new L s es k of e =
+    ap (λ (K : Layout). segmentBytes K s) of
+    ∙ ap (λ (is : List Item). objectBytes L (itemEntries is)) (entries-scan L s (scanned-undamaged (scan L s) e) ∙ items-scanned (scan L s) e)
     ∙ ap (objectBytes L) (items-entries L (digestSize L) es)
 
 -- ---- the object that an entry of the log is
@@ -136,15 +135,15 @@ fewer-none : (i : ℕ) (c : List ℕ) → fewerBytes i 0 c ≡ c
 fewer-none i c = ap (set c i) (sub-zero (getD c i 0)) ∙ set-getD c i 0
 
 -- At the place of a key's latest entry stands what the key loses.
-pub lost-latest : (L : Layout) (S : ℕ) (area : List ℕ) (log : List Placed) (k : Key) (z : Placed) (c : List ℕ) → latest log k ≡ some z → z .offset < S
-    → entryAt L (segmentOf area S (z .slot)) (z .offset) ≡ entry (z .entry) → lostAt L S area (placeOf S z) c ≡ withoutLive L (present log k) c
+pub lost-latest : (S : ℕ) (area : List ℕ) (log : List Placed) (k : Key) (z : Placed) (c : List ℕ) → latest log k ≡ some z → z .offset < S
+    → entryAt (z .layout) (segmentOf area S (z .slot)) (z .offset) ≡ entry (z .entry)
+    → lostAt S area (placeOf S z) c ≡ withoutLive (present log k) c
 unfolding lostAt foundBytes present objectOnly
-lost-latest L S area log k z c is inside stands =
-    ap₂ (λ (i : ℕ) (f : Found). fewerBytes i (foundBytes L f) c) (place-slot S (z .slot) (z .offset) inside)
-    (found-place L S area (z .slot) (z .offset) inside ∙ stands)
+lost-latest S area log k z c is inside stands =
+    (λ i. fewerBytes (place-slot S (z .slot) (z .offset) inside i) (foundBytes (place-layout S area (z .slot) (z .offset) inside (z .layout) (z .entry) stands i) (found-place S area (z .slot) (z .offset) inside (z .layout) (z .entry) stands i)) c)
     ∙ go (isTombstone (z .entry))
-    ∙ ap (λ (o : Option Placed). withoutLive L (objectOnly o) c) (sym is)
+    ∙ ap (λ (o : Option Placed). withoutLive (objectOnly o) c) (sym is)
   where
-    go : (t : Bool) → fewerBytes (z .slot) (pick t 0 (sizeOf L (z .entry))) c ≡ withoutLive L (pick t none (some z)) c
+    go : (t : Bool) → fewerBytes (z .slot) (pick t 0 (placedSize z)) c ≡ withoutLive (pick t none (some z)) c
     go true = unfold pick withoutLive in fewer-none (z .slot) c
     go false = unfold pick withoutLive in refl

@@ -7,11 +7,12 @@ use segment::area::cut;
 use segment::area::entry_at;
 use segment::entries::next;
 use segment::layout::digest_size;
+use segment::reader::edition_of;
 use slot_map::has_slot;
 ghost use Prim.Native.Nat.{_+_, _*_, _-_, _≤_, _<_};
 ghost use mathlib.Core.Path.{_≡_};
 ghost use lib.ListN.{length, getD};
-ghost use Rattle.segment.specs.Area.{segmentOf, foundAt};
+ghost use Rattle.segment.specs.Area.{layoutAt, foundAt};
 ghost use Rattle.segment.specs.Choice.{pick};
 ghost use Rattle.slot_map.specs.Bit.{named};
 ghost use Rattle.model.specs.Counts.{fewerBytes, moreBytes, withoutVictims};
@@ -47,11 +48,11 @@ pub fn more(counts: &mut [u32], slot: usize, bytes: usize)
 }
 
 // The bytes of the object that stands at a place, 0 where none does.
-fn object_at(edition: Edition, size: usize, area: &[u8], place: usize) -> usize
+fn object_at(size: usize, area: &[u8], place: usize) -> usize
     requires { ⌜ (0 < size) × (size < 4294967296) × (place < 4294967296) ⌝ }
-    ensures { λ r. ⌜ r ≡ foundBytes edition (foundAt edition size (now (area .entry)) place) ⌝ }
+    ensures { λ r. ⌜ r ≡ foundBytes (layoutAt size (now (area .entry)) place) (foundAt size (now (area .entry)) place) ⌝ }
 {
-    match entry_at(edition, size, area, place) {
+    match entry_at(size, area, place) {
         Read::Object {
             key: _,
             version: _,
@@ -69,11 +70,11 @@ fn object_at(edition: Edition, size: usize, area: &[u8], place: usize) -> usize
 }
 
 // The object at a place counts no longer.
-pub fn lost_at(edition: Edition, counts: &mut [u32], size: usize, area: &[u8], place: usize)
+pub fn lost_at(counts: &mut [u32], size: usize, area: &[u8], place: usize)
     requires { ⌜ (0 < size) × (size < 4294967296) × (place < 4294967296) ⌝ }
-    ensures { λ _. ⌜ now (counts .exit) ≡ lostAt edition size (now (area .entry)) place (now (counts .entry)) ⌝ }
+    ensures { λ _. ⌜ now (counts .exit) ≡ lostAt size (now (area .entry)) place (now (counts .entry)) ⌝ }
 {
-    fewer(counts, place / size, object_at(edition, size, area, place));
+    fewer(counts, place / size, object_at(size, area, place));
 }
 
 // The bytes of an object, 0 for a tombstone.
@@ -86,7 +87,7 @@ fn object_bytes(header: Header) -> usize
     header.length
 }
 
-// The bytes of the objects of a segment.
+// The bytes of the objects of a segment, read in an edition.
 fn bytes_in(edition: Edition, s: &[u8]) -> usize
     requires { ⌜ length (now s) ≤ 2048 ⌝ }
     ensures { λ r. ⌜ (r ≡ segmentBytes edition (now (s .entry))) × (r ≤ 4096) ⌝ }
@@ -133,23 +134,17 @@ fn clear(counts: &mut [u32], victims: u32)
 }
 
 // A new head in a slot has taken over what it holds, and the victims hold nothing.
-pub fn renew(
-    edition: Edition,
-    counts: &mut [u32],
-    size: usize,
-    area: &[u8],
-    slot: usize,
-    victims: u32,
-)
+pub fn renew(counts: &mut [u32], size: usize, area: &[u8], slot: usize, victims: u32)
     requires { ⌜
         (length (now counts) ≡ 32)
         × (slot < 32)
         × (size ≤ 2048)
         × (slot * size + size ≤ length (now area))
         ⌝ }
-    ensures { λ _. ⌜ now (counts .exit) ≡ renewedAt edition size (now (area .entry)) slot victims (now (counts .entry)) ⌝ }
+    ensures { λ _. ⌜ now (counts .exit) ≡ renewedAt size (now (area .entry)) slot victims (now (counts .entry)) ⌝ }
 {
     clear(counts, victims);
-    let bytes = bytes_in(edition, cut(size, area, slot));
+    let s = cut(size, area, slot);
+    let bytes = bytes_in(edition_of(s), s);
     counts[slot] = bytes as u32;
 }

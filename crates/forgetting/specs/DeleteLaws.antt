@@ -3,13 +3,13 @@ use Prim.Native.Nat.{ℕ, _+_, _*_, _-_, _/_, _^_, _≤_, _<_}
 use mathlib.Core.Path.{_≡_, refl, sym, _∙_, ap, subst}
 use mathlib.Core.Bool.{Bool, true, false, not}
 use mathlib.Core.Option.{Option, none, some}
-use mathlib.Core.List.{List, [], _∷_, _++_}
+use mathlib.Core.List.{List, _++_}
 use native.Mathlib.Nat.{zero-add}
 use native.Mathlib.Omega.{arith}
-use lib.Dec.{eqb, ltb, leb}
-use lib.ListN.{length, getD, replicate, length-append}
+use lib.Dec.{ltb, leb}
+use lib.ListN.{length, replicate, length-append}
 use lib.Seq.{sets, length-sets}
-use borrow.Author.Tests.{lt-ltb, le-ltb, not-true, not-false, eqb-false, ltb-false, ltb-true}
+use borrow.Author.Tests.{lt-ltb, le-ltb, le-leb, leb-true, not-false, eqb-false, ltb-false, ltb-true}
 use Rattle.word.specs.Number.{Bytes}
 use Rattle.word.specs.Laws.{sets-append}
 use Rattle.segment.specs.Choice.{pick, pick-true, pick-false, both, both-left, both-right, both-false-left, isNone}
@@ -23,35 +23,35 @@ use Rattle.slot_map.specs.Count.{free}
 use Rattle.slot_map.specs.BitLaws.{named-true, set-named, bit-of-zero, bit-pow-same, with-clear, within-pow}
 use Rattle.record.specs.Range.{fitsLent}
 use Rattle.record.specs.RangeLaws.{Lent, lent, lent-next}
-use Rattle.record.specs.declared.Pending.the-variants.{Forget}
-use Rattle.record.specs.declared.Refusal.the-variants.{BadRecord}
+use Rattle.record.specs.Answers.{withPending}
+use Rattle.record.specs.declared.Pending.the-variants.{Idle, Forget}
+use Rattle.record.specs.declared.Refusal.the-variants.{BadRecord, NoRoom}
 use Rattle.record.specs.declared.Start.{Start}
 use Rattle.record.specs.declared.Record.{Record}
 use Rattle.record.specs.declared.Tables.{Tables}
-use Rattle.model.specs.Log.{Placed, placeOf, present}
-use Rattle.model.specs.Causes.{firstCause}
-use Rattle.model.specs.Operations.{delete, logNow, noRoom, newSlot, digestWith, nextAfter, slotOf, allEncoded, forgetVictim, forgetKept, forgetDigest, Laid, laid, laidEntry, laidForget, laidDelete, tombstoneEntry, planOf}
-use Rattle.model.specs.Refused.{Lengths, reaching, KeyFacts, keyFacts, deleteCauses}
+use Rattle.model.specs.Log.{Placed, placeOf, present, highest}
+use Rattle.model.specs.Operations.{delete, logNow, noRoom, newSlot, digestWith, nextAfter, slotOf, allEncoded, forgetVictim, forgetKept, forgetDigest, Laid, laid, laidForget, planOf}
+use Rattle.model.specs.Refused.{reaching, KeyFacts}
 use Rattle.model.specs.Promises.{Genuine, Begun, lentLengths, StartPromise}
 use Rattle.laws.specs.Passed.{DeletePassed}
+use Rattle.laws.specs.RecoverLaws.{recovered-highest}
+use Rattle.laws.specs.Room.{full-delete-fits}
 use Rattle.index.specs.Search.{searchFor}
 use Rattle.index.specs.declared.Found.{Found}
 use Rattle.starting.specs.declared.Check.{Check}
-use Rattle.starting.specs.Checks.{checked}
 use Rattle.starting.specs.Stores.{headStores, head-stores}
-use Rattle.starting.specs.NewHead.{NumberLeft}
 use Rattle.starting.specs.Answer.{startedWith, refusedStart}
-use Rattle.cleaning.specs.Entries.{SplitFits}
+use Rattle.cleaning.specs.Entries.{SplitFits, slotLayout}
 use Rattle.cleaning.specs.Marks.{isMarked, markOutside}
-use Rattle.cleaning.specs.KeptModel.{splitOf}
+use Rattle.cleaning.specs.KeptModel.{splitOf, Indexed, genuine-indexed}
 use Rattle.segment.specs.Copied.{Copied}
 use Rattle.cleaning.specs.declared.Split.{Split}
 use Rattle.writing.specs.Tests.{factsFor}
 use Rattle.writing.specs.Known.{genuine-facts}
 use Rattle.writing.specs.Laying.{laidBegun}
 use Rattle.writing.specs.StartLaws.{deletes, deleteTests, delete-causes, deleted, start-laid}
-use Rattle.forgetting.specs.Forgot.{forgotSlot}
-use Rattle.forgetting.specs.Forgetting.{ForgetReady, VictimReady, inLog, forgettingWith, forgotBegun, unfit, outsideMarks, liveAt, forgotIn, forgotAt, forgotFound, forgotFor}
+use Rattle.forgetting.specs.Forgot.{forgotSlot, forgotOwn, fitsSegment}
+use Rattle.forgetting.specs.Forgetting.{ForgetReady, VictimReady, inLog, forgettingWith, forgotBegun, forgotFitting, unfit, outsideMarks, liveAt, forgotIn, forgotAt, forgotFound, forgotFor}
 use Rattle.forgetting.specs.Sifted.{siftedMarks, needed-alike, forgot-alike}
 use Rattle.forgetting.specs.declared.Live.{Live}
 use Rattle.forgetting.specs.ForgotModel.{live-found, live-place, live-slot, live-in, bytes-forgot}
@@ -128,6 +128,57 @@ forgot-filled L r victims work bytes d work₁ work₂ n slot left a de e₁ p s
         (sym (zero-add _ ∙ length-encodedDigest L (digestWith r victims (nextAfter r))))
         ∙ sym (sets-append work 0 (encodedDigest L (digestWith r victims (nextAfter r))) bytes)
 
+-- ---- what comes of the victim is held against a segment
+
+module _ (W : Layout) (S : ℕ) (bytes : List ℕ) where
+  pub fits-room : fitsSegment W S bytes ≡ true → digestSize W + length bytes ≤ S
+  unfolding fitsSegment
+  fits-room e = leb-true (digestSize W + length bytes) S e
+
+  room-fits : digestSize W + length bytes ≤ S → fitsSegment W S bytes ≡ true
+  unfolding fitsSegment
+  room-fits h = le-leb (digestSize W + length bytes) S h
+
+module _ (W : Layout) (r : Record) (victims : ℕ) (work bytes : List ℕ) where
+  fitting-begun : fitsSegment W (r .size) bytes ≡ true → forgotFitting W r victims work bytes ≡ forgotBegun W r victims work bytes
+  unfolding forgotFitting
+  fitting-begun e = pick-true (fitsSegment W (r .size) bytes) _ _ e
+
+  fitting-refused : fitsSegment W (r .size) bytes ≡ false → forgotFitting W r victims work bytes ≡ record { start = refusedStart r NoRoom; work = work }
+  unfolding forgotFitting
+  fitting-refused e = pick-false (fitsSegment W (r .size) bytes) _ _ e
+
+  fitting-long : length (forgotFitting W r victims work bytes .work) ≡ length work
+  unfolding forgotFitting forgotBegun pick
+  fitting-long = go (fitsSegment W (r .size) bytes)
+    where
+      go : (t : Bool) →
+          length (pick t (forgotBegun W r victims work bytes) (record { start = refusedStart r NoRoom; work = work }) .work) ≡ length work
+      go true = length-sets work 0 (encodedDigest W (digestWith r victims (nextAfter r)) ++ bytes)
+      go false = refl
+
+-- t is what the code finds, for the slot's own edition K
+module _ {W : Layout} {r : Record} {area marks work : List ℕ} {split : Split} {slot : ℕ} (v : VictimReady W r area marks work split slot) (cells : List ℕ)
+    (live : Live) (K : Layout) (own : K ≡ slotLayout area (split .size) slot) {t : Bool}
+    (e : t ≡ fitsSegment W (split .size) (forgotSlot K W area cells marks live (split .size) slot)) where
+  same-bytes : forgotSlot K W area cells marks live (split .size) slot ≡ forgotOwn W area cells marks live (split .size) slot
+  same-bytes = ap (λ (M : Layout). forgotSlot M W area cells marks live (split .size) slot) own
+
+  told : fitsSegment W (r .size) (forgotOwn W area cells marks live (split .size) slot) ≡ t
+  told = sym (e ∙ (λ i. fitsSegment W (victim-size v i) (same-bytes i)))
+
+  pub live-begun : t ≡ true → {b : Begun} → b ≡ forgotBegun W r (split .victims) work (forgotSlot K W area cells marks live (split .size) slot) →
+      b ≡ forgotFitting W r (split .victims) work (forgotOwn W area cells marks live (split .size) slot)
+  live-begun p h =
+      h ∙ ap (forgotBegun W r (split .victims) work) same-bytes
+      ∙ sym (fitting-begun W r (split .victims) work (forgotOwn W area cells marks live (split .size) slot) (told ∙ p))
+
+  pub live-refused : t ≡ false → (a : Start) → a ≡ refusedStart r NoRoom →
+      record { start = a; work = work } ≡ forgotFitting W r (split .victims) work (forgotOwn W area cells marks live (split .size) slot)
+  live-refused p a is =
+      ap (λ (s : Start). record { start = s; work = work }) is
+      ∙ sym (fitting-refused W r (split .victims) work (forgotOwn W area cells marks live (split .size) slot) (told ∙ p))
+
 -- the victim is known: w is its map, as the code makes it
 module _ (L : Layout) (r : Record) (slot w : ℕ) (ew : w ≡ withBit 0 slot) (split : Split) (es : split ≡ splitOf r w) (in-log : inLog r slot ≡ true) where
   victim-parted : split ≡ splitOf r (2 ^ slot)
@@ -150,30 +201,30 @@ module _ (L : Layout) (r : Record) (slot w : ℕ) (ew : w ≡ withBit 0 slot) (s
   -- what the code makes of it
   pub victim-begun :
       (area cells : List ℕ) (k : Key) (work : List ℕ) (cell place : ℕ) (marks : List ℕ) (needed : Bool) {b : Begun} →
-      searchFor L area cells k ≡ Found.At cell → marks ≡ siftedMarks L area cells split k (replicate 128 0) → needed ≡ isMarked marks cell →
-      b ≡ forgotBegun L r (split .victims) work
-      (forgotSlot L area cells marks (record { place = place; needed = needed; key = k; version = r .next }) (split .size) slot) →
+      searchFor area cells k ≡ Found.At cell → marks ≡ siftedMarks area cells split k (replicate 128 0) → needed ≡ isMarked marks cell →
+      b ≡ forgotFitting L r (split .victims) work
+      (forgotOwn L area cells marks (record { place = place; needed = needed; key = k; version = r .next }) (split .size) slot) →
       b ≡ forgotIn L r area cells k work cell place slot
   unfolding forgotIn
   victim-begun area cells k work cell place marks needed at em en h =
-      h ∙ (λ i. forgotBegun L r (split .victims) work (forgotSlot L area cells (em i) (going (told i)) (split .size) slot))
-      ∙ ap (forgotBegun L r (split .victims) work) (forgot-alike L area cells split k (going (isMarked all cell)) slot below own)
+      h ∙ (λ i. forgotFitting L r (split .victims) work (forgotOwn L area cells (em i) (going (told i)) (split .size) slot))
+      ∙ ap (forgotFitting L r (split .victims) work) (forgot-alike area cells split k L (going (isMarked all cell)) slot below own)
       ∙ (λ i.
-      forgotBegun L r (victim-parted i .victims) work
-      (forgotSlot L area cells (all-marks i) (going (isMarked (all-marks i) cell)) (victim-parted i .size) slot))
+      forgotFitting L r (victim-parted i .victims) work
+      (forgotOwn L area cells (all-marks i) (going (isMarked (all-marks i) cell)) (victim-parted i .size) slot))
       ∙ sym (pick-true (inLog r slot) _ _ in-log)
     where
       going : Bool → Live
       going t = record { place = place; needed = t; key = k; version = r .next }
 
       all : List ℕ
-      all = markOutside L area cells split (replicate 128 0)
+      all = markOutside area cells split (replicate 128 0)
 
-      all-marks : all ≡ outsideMarks L r area cells slot
-      all-marks = ap (λ (s : Split). markOutside L area cells s (replicate 128 0)) victim-parted
+      all-marks : all ≡ outsideMarks r area cells slot
+      all-marks = ap (λ (s : Split). markOutside area cells s (replicate 128 0)) victim-parted
 
       told : needed ≡ isMarked all cell
-      told = en ∙ ap (λ (l : List ℕ). isMarked l cell) em ∙ needed-alike L area cells split k cell at
+      told = en ∙ ap (λ (l : List ℕ). isMarked l cell) em ∙ needed-alike area cells split k cell at
 
       below : slot < split .slots
       below = omega (arith, in-log-below r slot in-log, ap (λ (s : Split). s .slots) victim-parted)
@@ -189,31 +240,30 @@ module _ (L : Layout) (r : Record) (area cells : List ℕ) (k : Key) (work : Lis
     forgot-outside e a is = ap (λ (s : Start). record { start = s; work = work }) is ∙ sym (pick-false (inLog r slot) _ _ e)
 
     in-long : length (forgotIn L r area cells k work cell place slot .work) ≡ length work
-    unfolding forgotIn pick forgotBegun
+    unfolding forgotIn pick
     in-long = go (inLog r slot)
       where
         go : (t : Bool) →
             length
             (pick t
-            (forgotBegun L r (2 ^ slot) work
-            (forgotSlot L area cells (outsideMarks L r area cells slot) (liveAt L r area cells k cell place slot) (r .size) slot))
+            (forgotFitting L r (2 ^ slot) work
+            (forgotOwn L area cells (outsideMarks r area cells slot) (liveAt r area cells k cell place slot) (r .size) slot))
             (unfit r work) .work) ≡ length work
         go true =
-            length-sets work 0
-            (encodedDigest L (digestWith r (2 ^ slot) (nextAfter r)) ++
-            forgotSlot L area cells (outsideMarks L r area cells slot) (liveAt L r area cells k cell place slot) (r .size) slot)
+            fitting-long L r (2 ^ slot) work
+            (forgotOwn L area cells (outsideMarks r area cells slot) (liveAt r area cells k cell place slot) (r .size) slot)
         go false = refl
 
-  pub forgot-at : (cell : ℕ) → searchFor L area cells k ≡ Found.At cell → {b : Begun} → b ≡ forgotAt L r area cells k work cell → b ≡ forgotFor L r area cells k work
+  pub forgot-at : (cell : ℕ) → searchFor area cells k ≡ Found.At cell → {b : Begun} → b ≡ forgotAt L r area cells k work cell → b ≡ forgotFor L r area cells k work
   unfolding forgotFound
   forgot-at cell e h = h ∙ sym (ap (forgotFound L r area cells k work) e)
 
-  pub forgot-free : (cell : ℕ) → searchFor L area cells k ≡ Found.Free cell → (a : Start) → a ≡ refusedStart r BadRecord →
+  pub forgot-free : (cell : ℕ) → searchFor area cells k ≡ Found.Free cell → (a : Start) → a ≡ refusedStart r BadRecord →
       record { start = a; work = work } ≡ forgotFor L r area cells k work
   unfolding forgotFound
   forgot-free cell e a is = ap (λ (s : Start). record { start = s; work = work }) is ∙ sym (ap (forgotFound L r area cells k work) e)
 
-  pub forgot-full : searchFor L area cells k ≡ Found.Full → (a : Start) → a ≡ refusedStart r BadRecord →
+  pub forgot-full : searchFor area cells k ≡ Found.Full → (a : Start) → a ≡ refusedStart r BadRecord →
       record { start = a; work = work } ≡ forgotFor L r area cells k work
   unfolding forgotFound
   forgot-full e a is = ap (λ (s : Start). record { start = s; work = work }) is ∙ sym (ap (forgotFound L r area cells k work) e)
@@ -245,6 +295,15 @@ module _ (L : Layout) (r : Record) (log : List Placed) (k : Key) (work : List �
 
 module _ (L : Layout) (r : Record) (area cells : List ℕ) (k : Key) (work : List ℕ) (bytes : Bytes area) (g : Genuine L area r cells)
     (h : Lent L r (length area) (length cells)) (x : Placed) (is : present (logNow area r) k ≡ some x) where
+  abbrev store : Indexed area r cells
+  store = genuine-indexed L area cells r g
+
+  above : highest (logNow area r) < r .next .0
+  above = recovered-highest L (r .slots) (r .size) (r .cells) area (withPending r Idle) (g .recovers)
+
+  few : length cells ≤ 4096
+  few = omega (arith, h .cells-high, h .index-own)
+
   -- what the code answers and leaves, step by step
   in-place : (place slot : ℕ) → place ≡ placeOf (r .size) x → slot ≡ x .slot → (cell : ℕ) →
       forgotIn L r area cells k work cell place slot ≡ forgotIn L r area cells k work cell (placeOf (r .size) x) (x .slot)
@@ -253,11 +312,13 @@ module _ (L : Layout) (r : Record) (area cells : List ℕ) (k : Key) (work : Lis
   forget-exact : forgotFor L r area cells k work ≡ laidBegun r (laidForget L r (logNow area r) k) work
   unfolding forgotFound forgotIn slotOf
   forget-exact =
-      ap (forgotFound L r area cells k work) (live-found L area cells r g h k x is)
-      ∙ in-place _ _ (live-place L area cells r g h k x is)
-      (ap (λ (p : ℕ). p / r .size) (live-place L area cells r g h k x is) ∙ live-slot L area cells r g h k x is) _
-      ∙ pick-true (inLog r (x .slot)) _ _ (live-in L area cells r g h k x is)
-      ∙ ap (forgotBegun L r (2 ^ x .slot) work) (bytes-forgot L area cells r g h k x is bytes)
+      ap (forgotFound L r area cells k work) (live-found area cells r store above few k x is)
+      ∙ in-place _ _ (live-place area cells r store above few k x is)
+      (ap (λ (p : ℕ). p / r .size) (live-place area cells r store above few k x is) ∙ live-slot area cells r store above few k x is) _
+      ∙ pick-true (inLog r (x .slot)) _ _ (live-in area cells r store above few k x is)
+      ∙ ap (forgotFitting L r (2 ^ x .slot) work) (bytes-forgot area cells r store above few k x is bytes L)
+      ∙ fitting-begun L r (2 ^ x .slot) work (allEncoded L (forgetKept r (logNow area r) k))
+      (room-fits L (r .size) (allEncoded L (forgetKept r (logNow area r) k)) (full-delete-fits L area (withPending r Idle) (g .recovers) k x is))
       ∙ ap (λ (o : Option Placed). forgotBegun L r (2 ^ slotOf o) work (allEncoded L (forgetKept r (logNow area r) k))) (sym is)
       ∙ begun-same L r (logNow area r) k work
 
@@ -269,7 +330,7 @@ some-of none e = let z : _≡_ {A = ℕ} 0 1 = cc in absurd (omega arith)
 some-of (some x) e = (x, refl)
 
 module _ (L : Layout) (t : Tables) (r : Record) (area cells work : List ℕ) (k : Key) (passed : Check.Passed ≡ deletes L t r area cells work k) where
-  tests : DeletePassed L r (lentLengths area cells work) (reaching t) k (factsFor L r area cells k)
+  tests : DeletePassed L r (lentLengths area cells work) (reaching t) k (factsFor r area cells k)
   tests = deleted L t r area cells work k passed
 
   delete-fits : fitsLent L r (length area) (length cells) ≡ true
@@ -299,7 +360,7 @@ module _ (L : Layout) (t : Tables) (r : Record) (area cells work : List ℕ) (k 
     unfolding laid
     forget-promise bytes work′ a e =
         start-laid L (reaching t) (delete k) r area cells work (deleteTests L t r area cells work k) (delete-causes L t r area cells work k) passed work′ a
-        (ap (λ (b : Begun). length (b .work)) e ∙ found-long L r area cells k work (searchFor L area cells k))
+        (ap (λ (b : Begun). length (b .work)) e ∙ found-long L r area cells k work (searchFor area cells k))
         (λ g.
         let x = live-key g in
         e ∙ forget-exact L r area cells k work bytes g delete-lent (x .0) (x .1)

@@ -13,7 +13,7 @@ use Rattle.segment.specs.declared.Key.{Key}
 use Rattle.slot_map.specs.Bit.{named}
 use Rattle.record.specs.RangeLaws.{Lent}
 use Rattle.record.specs.declared.Pending.the-variants.{Forget}
-use Rattle.record.specs.declared.Refusal.the-variants.{BadRecord}
+use Rattle.record.specs.declared.Refusal.the-variants.{BadRecord, NoRoom}
 use Rattle.record.specs.declared.Start.{Start}
 use Rattle.record.specs.declared.Record.{Record}
 use Rattle.model.specs.Operations.{newSlot, digestWith, nextAfter}
@@ -23,11 +23,10 @@ use Rattle.index.specs.declared.Found.{Found}
 use Rattle.starting.specs.Stores.{headStores}
 use Rattle.starting.specs.NewHead.{NumberLeft}
 use Rattle.starting.specs.Answer.{startedWith, refusedStart}
-use Rattle.cleaning.specs.Entries.{SplitFits}
 use Rattle.cleaning.specs.Marks.{isMarked, markOutside}
 use Rattle.cleaning.specs.KeptModel.{splitOf}
 use Rattle.cleaning.specs.declared.Split.{Split}
-use Rattle.forgetting.specs.Forgot.{forgotSlot}
+use Rattle.forgetting.specs.Forgot.{forgotOwn, fitsSegment}
 use Rattle.forgetting.specs.declared.Live.{Live}
 
 -- ---- what the code may rely on
@@ -62,41 +61,46 @@ forgettingWith r victims slot n = startedWith r (Forget slot victims n (headStor
 
 -- with these bytes behind its digest
 unfoldable pub forgotBegun : Layout → Record → ℕ → List ℕ → List ℕ → Begun
-forgotBegun L r victims work bytes =
+forgotBegun W r victims work bytes =
     record {
-      start = forgettingWith r victims (newSlot r) (digestSize L + length bytes);
-      work = sets work 0 (encodedDigest L (digestWith r victims (nextAfter r)) ++ bytes);
+      start = forgettingWith r victims (newSlot r) (digestSize W + length bytes);
+      work = sets work 0 (encodedDigest W (digestWith r victims (nextAfter r)) ++ bytes);
     }
+
+-- 02, R-13: where they do not fit a segment there is no room for the delete
+unfoldable pub forgotFitting : Layout → Record → ℕ → List ℕ → List ℕ → Begun
+forgotFitting W r victims work bytes =
+    pick (fitsSegment W (r .size) bytes) (forgotBegun W r victims work bytes) (record { start = refusedStart r NoRoom; work = work })
 
 -- a store that is none of ours
 abbrev pub unfit : Record → List ℕ → Begun
 unfit r work = record { start = refusedStart r BadRecord; work = work }
 
 -- the marks of the cells of keys with an object outside the victim
-abbrev pub outsideMarks : Layout → Record → List ℕ → List ℕ → ℕ → List ℕ
-outsideMarks L r area cells slot = markOutside L area cells (splitOf r (2 ^ slot)) (replicate 128 0)
+abbrev pub outsideMarks : Record → List ℕ → List ℕ → ℕ → List ℕ
+outsideMarks r area cells slot = markOutside area cells (splitOf r (2 ^ slot)) (replicate 128 0)
 
 -- the live object that a cell tells of
-abbrev pub liveAt : Layout → Record → List ℕ → List ℕ → Key → ℕ → ℕ → ℕ → Live
-liveAt L r area cells k cell place slot =
-    record { place = place; needed = isMarked (outsideMarks L r area cells slot) cell; key = k; version = r .next }
+abbrev pub liveAt : Record → List ℕ → List ℕ → Key → ℕ → ℕ → ℕ → Live
+liveAt r area cells k cell place slot =
+    record { place = place; needed = isMarked (outsideMarks r area cells slot) cell; key = k; version = r .next }
 
 -- the object stands at a place, in this slot
 unfoldable pub forgotIn : Layout → Record → List ℕ → List ℕ → Key → List ℕ → ℕ → ℕ → ℕ → Begun
-forgotIn L r area cells k work cell place slot =
+forgotIn W r area cells k work cell place slot =
     pick (inLog r slot)
-    (forgotBegun L r (2 ^ slot) work
-    (forgotSlot L area cells (outsideMarks L r area cells slot) (liveAt L r area cells k cell place slot) (r .size) slot))
+    (forgotFitting W r (2 ^ slot) work
+    (forgotOwn W area cells (outsideMarks r area cells slot) (liveAt r area cells k cell place slot) (r .size) slot))
     (unfit r work)
 
 abbrev pub forgotAt : Layout → Record → List ℕ → List ℕ → Key → List ℕ → ℕ → Begun
-forgotAt L r area cells k work cell =
-    forgotIn L r area cells k work cell (getD cells cell 0 - 1) ((getD cells cell 0 - 1) / r .size)
+forgotAt W r area cells k work cell =
+    forgotIn W r area cells k work cell (getD cells cell 0 - 1) ((getD cells cell 0 - 1) / r .size)
 
 unfoldable pub forgotFound : Layout → Record → List ℕ → List ℕ → Key → List ℕ → Found → Begun
-forgotFound L r area cells k work (Found.At i) = forgotAt L r area cells k work i
-forgotFound L r area cells k work (Found.Free i) = unfit r work
-forgotFound L r area cells k work Found.Full = unfit r work
+forgotFound W r area cells k work (Found.At i) = forgotAt W r area cells k work i
+forgotFound W r area cells k work (Found.Free i) = unfit r work
+forgotFound W r area cells k work Found.Full = unfit r work
 
 abbrev pub forgotFor : Layout → Record → List ℕ → List ℕ → Key → List ℕ → Begun
-forgotFor L r area cells k work = forgotFound L r area cells k work (searchFor L area cells k)
+forgotFor W r area cells k work = forgotFound W r area cells k work (searchFor area cells k)

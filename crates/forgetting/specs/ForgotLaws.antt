@@ -1,110 +1,161 @@
 -- What comes of the victim, at each test of the code.
-use Prim.Native.Nat.{ℕ, _+_, _*_, _≤_}
+use Prim.Native.Nat.{ℕ, zero, suc, _+_, _*_, _≤_, _<_}
 use mathlib.Core.Path.{_≡_, refl, sym, _∙_, ap}
 use mathlib.Core.Bool.{Bool, true, false, not}
-use mathlib.Core.List.{List, [], _++_}
+use mathlib.Core.List.{List, []}
 use native.Mathlib.Omega.{arith}
-use lib.Dec.{eqb}
-use lib.ListN.{length}
+use lib.Dec.{eqb, leb}
+use lib.ListN.{length, length-append}
 use lib.Seq.{sets}
-use borrow.Author.Tests.{eq-eqb, ne-eqb, not-true, not-false}
+use borrow.Author.Tests.{eq-eqb, ne-eqb, le-leb, not-true, not-false}
 use Rattle.segment.specs.Choice.{pick, pick-true, pick-false}
-use Rattle.segment.specs.Layout.{Layout, entrySize, digestSize, table}
+use Rattle.segment.specs.Layout.{Layout, sameLayout, entrySize, digestSize, table}
+use Rattle.segment.specs.LayoutLaws.{width-low, width-high, same-layout}
+use Rattle.segment.specs.Entry.{Found, entry, end, damage, entryAt, sizeOf}
+use Rattle.segment.specs.EntryLaws.{found-fits}
 use Rattle.segment.specs.Entries.{headerOf}
 use Rattle.segment.specs.Written.{encodedHead, length-encodedHead}
 use Rattle.segment.specs.declared.Header.{Header}
 use Rattle.model.specs.Log.{segmentOf}
 use Rattle.index.specs.Build.{entriesAt}
-use Rattle.cleaning.specs.EntriesLaws.{Meets}
-use Rattle.cleaning.specs.Kept.{keptEntry}
-use Rattle.cleaning.specs.KeptLaws.{entry-short, partsFrom, parts-stop, parts-entry}
-use Rattle.segment.specs.Copied.{Copied, copied-none, Copying, copying-start, copying-next, copying-end}
-use Rattle.forgetting.specs.Forgot.{deadBytes, forgotEntry, forgotSlot}
+use Rattle.index.specs.Entries.{entries-end, entries-damage}
+use Rattle.cleaning.specs.Entries.{SlotsFit}
+use Rattle.cleaning.specs.EntriesLaws.{Meets, meets-long, slot-long, entry-lies}
+use Rattle.cleaning.specs.Kept.{keptTest, keptEntry, Part}
+use Rattle.cleaning.specs.KeptLaws.{length-kept, length-dropped, entry-short, partsFrom, parts-stop, parts-entry}
+use Rattle.cleaning.specs.declared.Split.{Split}
+use Rattle.segment.specs.Copied.{Copied, copied-none}
+use Rattle.forgetting.specs.Forgot.{deadBytes, forgotEntry, forgotSlot, fitsSegment}
 use Rattle.forgetting.specs.declared.Live.{Live}
 
 -- ---- the tombstone
 
-module _ (L : Layout) (live : Live) (work : List ℕ) (to : ℕ) where
-  pub dead-none : not (live .needed) ≡ true → Copied (deadBytes L live) work to work to
-  unfolding deadBytes
-  dead-none e = copied-none _ work to (pick-false (live .needed) _ _ (not-true (live .needed) e))
+module _ (W : Layout) (live : Live) where
+  abbrev dead : List ℕ
+  dead = encodedHead W (table W .tombstoneKind) (live .key) (live .version)
 
-  pub dead-put : not (live .needed) ≡ false → (work′ : List ℕ) →
-      work′ ≡ sets work to (encodedHead L (table L .tombstoneKind) (live .key) (live .version)) → Copied (deadBytes L live) work to work′ (to + entrySize L 0)
+  dead-empty : not (live .needed) ≡ true → deadBytes W live ≡ []
   unfolding deadBytes
-  dead-put e work′ h =
-      let is = pick-true (live .needed) (encodedHead L (table L .tombstoneKind) (live .key) (live .version)) [] (not-false (live .needed) e) in
-      record {
-        stored = h ∙ ap (sets work to) (sym is);
-        behind = omega (arith, ap length is, length-encodedHead L (table L .tombstoneKind) (live .key) (live .version));
-      }
+  dead-empty e = pick-false (live .needed) dead [] (not-true (live .needed) e)
 
-pub dead-short : (L : Layout) (live : Live) → length (deadBytes L live) ≤ entrySize L 0
-unfolding deadBytes pick
-dead-short L live = go (live .needed)
-  where
-    go : (t : Bool) → length (pick t (encodedHead L (table L .tombstoneKind) (live .key) (live .version)) []) ≤ entrySize L 0
-    go true = omega (arith, length-encodedHead L (table L .tombstoneKind) (live .key) (live .version))
-    go false = omega arith
+  dead-there : not (live .needed) ≡ false → deadBytes W live ≡ dead
+  unfolding deadBytes
+  dead-there e = pick-true (live .needed) dead [] (not-false (live .needed) e)
+
+  pub length-none : not (live .needed) ≡ true → 0 ≡ length (deadBytes W live)
+  length-none e = sym (ap length (dead-empty e))
+
+  pub length-dead : not (live .needed) ≡ false → entrySize W 0 ≡ length (deadBytes W live)
+  length-dead e = sym (ap length (dead-there e) ∙ length-encodedHead W (table W .tombstoneKind) (live .key) (live .version))
+
+  pub dead-short : length (deadBytes W live) ≤ entrySize W 0
+  dead-short = go (live .needed) refl
+    where
+      go : (t : Bool) → live .needed ≡ t → length (deadBytes W live) ≤ entrySize W 0
+      go true e = omega (arith, length-dead (ap not e))
+      go false e = omega (arith, length-none (ap not e))
+
+  module _ (work : List ℕ) (to : ℕ) where
+    pub dead-none : not (live .needed) ≡ true → Copied (deadBytes W live) work to work to
+    dead-none e = copied-none _ work to (dead-empty e)
+
+    pub dead-put : not (live .needed) ≡ false → (work′ : List ℕ) → work′ ≡ sets work to dead → Copied (deadBytes W live) work to work′ (to + entrySize W 0)
+    dead-put e work′ h = record { stored = h ∙ ap (sets work to) (sym (dead-there e)); behind = omega (arith, length-dead e) }
 
 -- ---- an entry
 
-module _ (L : Layout) (area cells marks : List ℕ) (live : Live) (h : Header) (place : ℕ) where
-  pub entry-dead : place ≡ live .place → forgotEntry L area cells marks live h place ≡ deadBytes L live
+module _ (W : Layout) (area cells marks : List ℕ) (live : Live) (K : Layout) (h : Header) (place : ℕ) where
+  pub entry-dead : place ≡ live .place → forgotEntry W area cells marks live K h place ≡ deadBytes W live
   entry-dead e = pick-true (eqb place (live .place)) _ _ (eq-eqb place (live .place) e)
 
-  pub entry-other : (place ≡ live .place → ⊥) → forgotEntry L area cells marks live h place ≡ keptEntry L area cells marks h place
+  pub entry-other : (place ≡ live .place → ⊥) → forgotEntry W area cells marks live K h place ≡ keptEntry W area cells marks K h place
   entry-other e = pick-false (eqb place (live .place)) _ _ (ne-eqb place (live .place) e)
 
-  -- it takes no more bytes than the entry that stood there
-  pub forgot-short : entrySize L 0 ≤ h .length → length (forgotEntry L area cells marks live h place) ≤ h .length
-  unfolding pick
-  forgot-short low = go (eqb place (live .place))
+  module _ (low : entrySize K 0 ≤ h .length) (fits : place + h .length ≤ length area) where
+    pub forgot-long : length (forgotEntry W area cells marks live K h place) ≤ 2 * h .length
+    unfolding pick
+    forgot-long = go (eqb place (live .place))
+      where
+        go : (t : Bool) → length (pick t (deadBytes W live) (keptEntry W area cells marks K h place)) ≤ 2 * h .length
+        go true = omega (arith, dead-short W live, low, width-low K, width-high W)
+        go false = entry-short W area cells marks K h place low fits
+
+    -- in its own layout it takes no more bytes than the entry that stood there
+    module _ (same : sameLayout K W ≡ true) where
+      heads : entrySize K 0 ≡ entrySize W 0
+      heads = ap (λ (M : Layout). entrySize M 0) (same-layout K W same)
+
+      kept-short : (t : Bool) → keptTest area cells marks h place ≡ t → length (keptEntry W area cells marks K h place) ≤ h .length
+      kept-short true e = omega (arith, length-kept W area cells marks K h place low fits e, heads, low)
+      kept-short false e = omega (arith, length-dropped W area cells marks K h place e)
+
+      pub forgot-short : length (forgotEntry W area cells marks live K h place) ≤ h .length
+      unfolding pick
+      forgot-short = go (eqb place (live .place))
+        where
+          go : (t : Bool) → length (pick t (deadBytes W live) (keptEntry W area cells marks K h place)) ≤ h .length
+          go true = omega (arith, dead-short W live, heads, low)
+          go false = kept-short (keptTest area cells marks h place) refl
+
+-- ---- a walk over the slot
+
+-- parts that are no longer than their entries take no more bytes than the segment has from there on
+module _ (L : Layout) (part : Part) (S i : ℕ) (s : List ℕ) (short : (at : ℕ) (h : Header) → Meets L s at h → length (part L h (i * S + at)) ≤ h .length) where
+  parts-within : (f at : ℕ) → length s < at + f → at ≤ length s → at + length (partsFrom L part S i s at) ≤ length s
+  parts-within zero at h k = absurd (omega arith)
+  parts-within (suc f) at h k = go (entryAt L s at) refl (λ b p q. parts-within f b p q)
     where
-      go : (t : Bool) → length (pick t (deadBytes L live) (keptEntry L area cells marks h place)) ≤ h .length
-      go true = omega (arith, dead-short L live)
-      go false = entry-short L area cells marks h place
+      stops : entriesAt L s at ≡ [] → at + length (partsFrom L part S i s at) ≤ length s
+      stops e = omega (arith, ap length (parts-stop L part S i s at e))
 
--- an entry that a walk meets has a head at least
-pub meets-long : (L : Layout) (s : List ℕ) (at : ℕ) {h : Header} → Meets L s at h → entrySize L 0 ≤ h .length
-meets-long L s at m = omega (arith, ap (λ (g : Header). g .length) (m .its))
+      go : (r : Found) → entryAt L s at ≡ r →
+          ((b : ℕ) → length s < b + f → b ≤ length s → b + length (partsFrom L part S i s b) ≤ length s) →
+          at + length (partsFrom L part S i s at) ≤ length s
+      go (entry e) p ih =
+          let fits = found-fits L s at e p in
+          let m : Meets L s at (headerOf L e) = record { met = e; is = p; its = refl; fits = fits; some-byte = omega arith } in
+          omega (
+            arith,
+            ap length (parts-entry L part S i s at m),
+            length-append (part L (headerOf L e) (i * S + at)) (partsFrom L part S i s (at + sizeOf L e)),
+            short at (headerOf L e) m,
+            ih (at + sizeOf L e) (omega arith) fits,
+          )
+      go end p ih = stops (entries-end L s at p)
+      go damage p ih = stops (entries-damage L s at p)
 
--- ---- a turn of the loop over the slot
+module _ (K W : Layout) (area cells marks : List ℕ) (live : Live) where
+  module _ (S i : ℕ) (s : List ℕ) where
+    -- what comes of slot i, of the bytes s, from an offset on
+    abbrev pub forgotFrom : ℕ → List ℕ
+    forgotFrom at = partsFrom K (forgotEntry W area cells marks live) S i s at
 
--- What is copied so far, no more than what was read; all of it is read from the slot's S bytes.
-pub record Putting (whole work₀ : List ℕ) (from : ℕ) (rest work : List ℕ) (to at size : ℕ) : Type 0 where
-  pub copying : Copying whole work₀ from rest work to
-  pub short : to ≤ at
-  pub inside : at ≤ size
+    pub forgot-whole : s ≡ segmentOf area S i → forgotFrom (digestSize K) ≡ forgotSlot K W area cells marks live S i
+    forgot-whole e = ap (λ (t : List ℕ). partsFrom K (forgotEntry W area cells marks live) S i t (digestSize K)) e
 
-module _ (L : Layout) (area cells marks : List ℕ) (live : Live) (S i : ℕ) (s work₀ : List ℕ) where
-  abbrev pub forgotFrom : ℕ → List ℕ
-  forgotFrom at = partsFrom L (forgotEntry L area cells marks live) S i s at
+    pub forgot-measured : s ≡ segmentOf area S i → 0 + length (forgotFrom (digestSize K)) ≡ length (forgotSlot K W area cells marks live S i)
+    forgot-measured e = omega (arith, ap length (forgot-whole e))
 
-  abbrev pub PuttingAt : List ℕ → ℕ → ℕ → Type 0
-  PuttingAt work to at = Putting (forgotSlot L area cells marks live S i) work₀ (digestSize L) (forgotFrom at) work to at S
+  -- in its own layout the slot's bytes fit a segment
+  pub forgot-fits : sameLayout K W ≡ true → (split : Split) → SlotsFit split area → (i : ℕ) → i < split .slots →
+      true ≡ fitsSegment W (split .size) (forgotSlot K W area cells marks live (split .size) i)
+  unfolding fitsSegment
+  forgot-fits same split fits i below =
+      let s : List ℕ = segmentOf area (split .size) i in
+      let long : length s ≡ split .size = slot-long fits i below s refl in
+      let within = parts-within K (forgotEntry W area cells marks live) (split .size) i s short (suc (length s)) (digestSize K) (omega arith)
+      (omega (arith, long, fits .size-low, width-high K)) in
+      sym (le-leb (digestSize W + length (forgotSlot K W area cells marks live (split .size) i)) (split .size)
+      (omega (arith, within, long, ap digestSize (same-layout K W same))))
+    where
+      short : (at : ℕ) (h : Header) → Meets K (segmentOf area (split .size) i) at h →
+          length (forgotEntry W area cells marks live K h (i * split .size + at)) ≤ h .length
+      short at h m =
+          forgot-short W area cells marks live K h (i * split .size + at) (meets-long K (segmentOf area (split .size) i) at m)
+          (entry-lies fits i below (segmentOf area (split .size) i) refl at (h .length) (m .fits)) same
 
-  pub putting-start : s ≡ segmentOf area S i → digestSize L ≤ S → PuttingAt work₀ (digestSize L) (digestSize L)
-  putting-start e low =
-      record {
-        copying = copying-start _ work₀ (digestSize L) (forgotFrom (digestSize L)) (ap (λ (t : List ℕ). partsFrom L (forgotEntry L area cells marks live) S i t (digestSize L)) e);
-        short = omega arith;
-        inside = low;
-      }
-
-  module _ {work : List ℕ} {to at : ℕ} (p : PuttingAt work to at) where
-    pub putting-next :
-        {h : Header} → Meets L s at h → at + h .length ≤ S → (work′ : List ℕ) (to′ : ℕ) →
-        Copied (forgotEntry L area cells marks live h (i * S + at)) work to work′ to′ → PuttingAt work′ to′ (at + h .length)
-    putting-next {h} m fits work′ to′ c =
-        record {
-          copying =
-              copying-next (p .copying) (forgotEntry L area cells marks live h (i * S + at)) (forgotFrom (at + h .length)) work′ to′
-              (parts-entry L (forgotEntry L area cells marks live) S i s at m) c;
-          short = omega (arith, c .behind, p .short, forgot-short L area cells marks live h (i * S + at) (meets-long L s at m));
-          inside = fits;
-        }
-
-    pub putting-end : entriesAt L s at ≡ [] → Copied (forgotSlot L area cells marks live S i) work₀ (digestSize L) work to × (to ≤ S)
-    putting-end e =
-        (copying-end (p .copying) (parts-stop L (forgotEntry L area cells marks live) S i s at e), omega (arith, p .short, p .inside))
+  -- else they are measured
+  pub fits-measured : (S i n d : ℕ) → n ≡ length (forgotSlot K W area cells marks live S i) → d ≡ digestSize W →
+      leb (d + n) S ≡ fitsSegment W S (forgotSlot K W area cells marks live S i)
+  unfolding fitsSegment
+  fits-measured S i n d e b = (λ j. leb (b j + e j) S)

@@ -19,29 +19,24 @@ ghost use Rattle.cleaning.specs.Entries.{SplitFits};
 ghost use Rattle.segment.specs.Copied.{Copied};
 ghost use Rattle.forgetting.specs.Forgot.{deadBytes, forgotEntry, forgotSlot};
 
-// The tombstone, if it is needed, from an offset of the work buffer on. Like the others here it answers the offset behind what
-// it put there.
-fn put_tombstone(edition: Edition, live: Live, work: &mut [u8], to: usize) -> usize
-    requires { ⌜ to + entrySize edition 0 ≤ length (now work) ⌝ }
-    ensures { λ r. ⌜ Copied (deadBytes edition live) (now (work .entry)) to (now (work .exit)) r ⌝ }
+// The tombstone, if it is needed, in the edition of the new head, from an offset of the work buffer on. Like the others here it
+// answers the offset behind what it put there.
+fn put_tombstone(into: Edition, live: Live, work: &mut [u8], to: usize) -> usize
+    requires { ⌜ to + length (deadBytes into live) ≤ length (now work) ⌝ }
+    ensures { λ r. ⌜ Copied (deadBytes into live) (now (work .entry)) to (now (work .exit)) r ⌝ }
 {
     if !live.needed {
         return to;
     }
-    write_head(
-        edition,
-        work,
-        to,
-        tombstone_kind(edition),
-        live.key,
-        live.version,
-    );
-    to + head_size(edition)
+    let kind = tombstone_kind(into);
+    write_head(into, work, to, kind, live.key, live.version);
+    to + head_size(into)
 }
 
 // What comes of an entry: in the live object's place the tombstone or nothing, else the entry if it is kept.
 fn put_entry(
     edition: Edition,
+    into: Edition,
     area: &[u8],
     cells: &[u32],
     marks: &[u32],
@@ -55,22 +50,23 @@ fn put_entry(
     requires { ⌜ place + header .length ≤ length (now area) ⌝ }
     requires { ⌜ place < 65536 ⌝ }
     requires { ⌜ entrySize edition 0 ≤ header .length ⌝ }
-    requires { ⌜ to + header .length ≤ length (now work) ⌝ }
+    requires { ⌜ to + length (forgotEntry into (now area) (now cells) (now marks) live edition header place) ≤ length (now work) ⌝ }
     ensures { λ r.
         ⌜
-        Copied (forgotEntry edition (now (area .entry)) (now (cells .entry)) (now (marks .entry)) live header place)
+        Copied (forgotEntry into (now (area .entry)) (now (cells .entry)) (now (marks .entry)) live edition header place)
         (now (work .entry)) to (now (work .exit)) r
         ⌝ }
 {
     if place == live.place {
-        return put_tombstone(edition, live, work, to);
+        return put_tombstone(into, live, work, to);
     }
-    copy_entry(edition, area, cells, marks, header, place, work, to)
+    copy_entry(edition, into, area, cells, marks, header, place, work, to)
 }
 
-// What comes of a slot, behind the digest. It takes no more bytes than the slot has. Damage ends a segment too.
+// What comes of a slot, read in an edition, behind the digest of the new head. Damage ends a segment too.
 pub fn put_slot(
     edition: Edition,
+    into: Edition,
     area: &[u8],
     cells: &[u32],
     marks: &[u32],
@@ -81,23 +77,25 @@ pub fn put_slot(
 ) -> usize
     requires { ⌜ SplitFits split (now area) (now marks) ⌝ }
     requires { ⌜ slot < split .slots ⌝ }
-    requires { ⌜ split .size ≤ length (now work) ⌝ }
+    requires { ⌜
+        digestSize into + length (forgotSlot edition into (now area) (now cells) (now marks) live (split .size) slot) ≤ length (now work)
+        ⌝ }
     ensures { λ r.
         ⌜
-        Copied (forgotSlot edition (now (area .entry)) (now (cells .entry)) (now (marks .entry)) live (split .size) slot)
-        (now (work .entry)) (digestSize edition) (now (work .exit)) r
-        × (r ≤ split .size)
+        Copied (forgotSlot edition into (now (area .entry)) (now (cells .entry)) (now (marks .entry)) live (split .size) slot)
+        (now (work .entry)) (digestSize into) (now (work .exit)) r
         ⌝ }
 {
     let size = split.size;
     let s = cut(size, area, slot);
     let mut at = digest_size(edition);
-    let mut to = at;
+    let mut to = digest_size(into);
     loop {
         match next(edition, s, at) {
             Next::Entry(header) => {
                 to = put_entry(
                     edition,
+                    into,
                     area,
                     cells,
                     marks,

@@ -2,6 +2,7 @@
 // the key is left outside, and else nothing.
 use crate::Live;
 use crate::copy::put_slot;
+use crate::room::fits_segment;
 use cleaning::Split;
 use cleaning::clean::split_of;
 use cleaning::filter::put;
@@ -18,6 +19,8 @@ use record::Start;
 use segment::Edition;
 use segment::Key;
 use segment::Version;
+use segment::area::cut;
+use segment::reader::edition_of;
 use segment::writer::write_digest;
 use slot_map::next_free;
 use slot_map::with_slot;
@@ -27,13 +30,14 @@ use starting::digest::new_digest;
 use starting::stores::head_stores;
 ghost use Prim.Native.Nat.{_≤_, _<_};
 ghost use mathlib.Core.Path.{_≡_};
+ghost use mathlib.Core.Bool.{true};
 ghost use Rattle.index.specs.Search.{searchFor};
 ghost use Rattle.index.specs.SearchLaws.{Inside};
 ghost use Rattle.index.specs.declared.Found.the-variants.{At};
 ghost use Rattle.cleaning.specs.Entries.{SplitFits};
-ghost use Rattle.forgetting.specs.Forgot.{forgotSlot};
+ghost use Rattle.forgetting.specs.Forgot.{forgotSlot, forgotOwn, fitsSegment};
 ghost use Rattle.forgetting.specs.Sifted.{siftedMarks};
-ghost use Rattle.forgetting.specs.Forgetting.{ForgetReady, VictimReady, inLog, forgotBegun, forgotAt, forgotFor};
+ghost use Rattle.forgetting.specs.Forgetting.{ForgetReady, VictimReady, inLog, forgotBegun, forgotFitting, forgotAt, forgotFor};
 
 // Whether a slot is one of the log's.
 fn in_log(rec: Record, slot: usize) -> bool
@@ -49,6 +53,53 @@ fn in_log(rec: Record, slot: usize) -> bool
 // The new head's bytes go to the work buffer, and the delete is pending. Its digest has the next version after the delete.
 fn begin(
     rec: Record,
+    edition: Edition,
+    area: &[u8],
+    index: &[u32],
+    marks: &[u32],
+    work: &mut [u8],
+    live: Live,
+    split: Split,
+    slot: usize,
+) -> Start
+    requires { ⌜ VictimReady (rec .edition) rec (now area) (now marks) (now work) split slot ⌝ }
+    requires { ⌜
+        fitsSegment (rec .edition) (split .size)
+        (forgotSlot edition (rec .edition) (now area) (now index) (now marks) live (split .size) slot) ≡ true
+        ⌝ }
+    ensures { λ r.
+        ⌜
+        record { start = r; work = now (work .exit) }
+        ≡ forgotBegun (rec .edition) rec (split .victims) (now (work .entry))
+        (forgotSlot edition (rec .edition) (now (area .entry)) (now (index .entry)) (now (marks .entry)) live (split .size) slot)
+        ⌝ }
+{
+    let into = rec.edition;
+    let next = rec.next;
+    let victims = split.victims;
+    let head = next_free(rec.slots, rec.map, rec.head);
+    write_digest(
+        into,
+        work,
+        0,
+        new_digest(rec, victims, head, Version(next.0 + 1)),
+    );
+    let count = put_slot(edition, into, area, index, marks, live, split, slot, work);
+    let left = head_stores(rec.size as usize, count) as u32;
+    let length = count as u32;
+    let pending = Pending::Forget {
+        slot: head,
+        victims,
+        length,
+        left,
+    };
+    started(rec, pending, left)
+}
+
+// The live object and its slot are known. Where what comes of the slot does not fit a segment once it is rewritten, there is no room
+// (02, R-13).
+fn forget_live(
+    rec: Record,
     area: &[u8],
     index: &[u32],
     marks: &[u32],
@@ -61,49 +112,28 @@ fn begin(
     ensures { λ r.
         ⌜
         record { start = r; work = now (work .exit) }
-        ≡ forgotBegun (rec .edition) rec (split .victims) (now (work .entry))
-        (forgotSlot (rec .edition) (now (area .entry)) (now (index .entry)) (now (marks .entry)) live (split .size) slot)
+        ≡ forgotFitting (rec .edition) rec (split .victims) (now (work .entry))
+        (forgotOwn (rec .edition) (now (area .entry)) (now (index .entry)) (now (marks .entry)) live (split .size) slot)
         ⌝ }
 {
-    let edition = rec.edition;
-    let next = rec.next;
-    let victims = split.victims;
-    let head = next_free(rec.slots, rec.map, rec.head);
-    write_digest(
-        edition,
-        work,
-        0,
-        new_digest(rec, victims, head, Version(next.0 + 1)),
-    );
-    let count = put_slot(edition, area, index, marks, live, split, slot, work);
-    let left = head_stores(rec.size as usize, count) as u32;
-    let length = count as u32;
-    let pending = Pending::Forget {
-        slot: head,
-        victims,
-        length,
-        left,
-    };
-    started(rec, pending, left)
+    let into = rec.edition;
+    let edition = edition_of(cut(split.size, area, slot));
+    if !fits_segment(edition, into, area, index, marks, live, split, slot) {
+        return refused(rec, Refusal::NoRoom);
+    }
+    begin(rec, edition, area, index, marks, work, live, split, slot)
 }
 
 // Marks the cells of the keys of objects outside the victim, of the key itself and those of the victim's tombstones: no other
 // mark is looked at.
-fn mark_left(
-    edition: Edition,
-    area: &[u8],
-    index: &[u32],
-    marks: &mut [u32],
-    split: Split,
-    key: Key,
-)
+fn mark_left(area: &[u8], index: &[u32], marks: &mut [u32], split: Split, key: Key)
     requires { ⌜ SplitFits split (now area) (now marks) ⌝ }
-    ensures { λ _. ⌜ now (marks .exit) ≡ siftedMarks edition (now (area .entry)) (now (index .entry)) split key (now (marks .entry)) ⌝ }
+    ensures { λ _. ⌜ now (marks .exit) ≡ siftedMarks (now (area .entry)) (now (index .entry)) split key (now (marks .entry)) ⌝ }
 {
     let mut filter = [0u32; 128];
     put(&mut filter, key);
-    note_victims(edition, area, &mut filter, split);
-    mark_outside(edition, area, index, &filter, marks, split);
+    note_victims(area, &mut filter, split);
+    mark_outside(area, index, &filter, marks, split);
 }
 
 // The key's cell in the index tells the place of the live object, and so the victim. On a store that is none of ours the place
@@ -117,15 +147,14 @@ fn forget_at(
     cell: usize,
 ) -> Start
     requires { ⌜ ForgetReady (rec .edition) rec (now area) (now index) (now work) ⌝ }
-    requires { ⌜ Inside (rec .edition) (now area) (now index) cell ⌝ }
-    requires { ⌜ searchFor (rec .edition) (now area) (now index) key ≡ At cell ⌝ }
+    requires { ⌜ Inside (now area) (now index) cell ⌝ }
+    requires { ⌜ searchFor (now area) (now index) key ≡ At cell ⌝ }
     ensures { λ r.
         ⌜
         record { start = r; work = now (work .exit) }
         ≡ forgotAt (rec .edition) rec (now (area .entry)) (now (index .entry)) key (now (work .entry)) cell
         ⌝ }
 {
-    let edition = rec.edition;
     let place = (index[cell] - 1) as usize;
     let slot = place / rec.size as usize;
     if !in_log(rec, slot) {
@@ -133,7 +162,7 @@ fn forget_at(
     }
     let split = split_of(rec, with_slot(0, slot as u32));
     let mut marks = [0u32; 128];
-    mark_left(edition, area, index, &mut marks, split, key);
+    mark_left(area, index, &mut marks, split, key);
     let needed = is_marked(&marks, cell);
     let version = rec.next;
     let live = Live {
@@ -142,7 +171,7 @@ fn forget_at(
         key,
         version,
     };
-    begin(rec, area, index, &marks, work, live, split, slot)
+    forget_live(rec, area, index, &marks, work, live, split, slot)
 }
 
 // A delete of a present key that finds no room.
@@ -154,8 +183,7 @@ pub fn forget(rec: Record, area: &[u8], index: &[u32], work: &mut [u8], key: Key
         ≡ forgotFor (rec .edition) rec (now (area .entry)) (now (index .entry)) key (now (work .entry))
         ⌝ }
 {
-    let edition = rec.edition;
-    match search(edition, area, index, key) {
+    match search(area, index, key) {
         Found::At(cell) => forget_at(rec, area, index, work, key, cell),
         Found::Free(_) => refused(rec, Refusal::BadRecord),
         Found::Full => refused(rec, Refusal::BadRecord),

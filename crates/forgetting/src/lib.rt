@@ -5,6 +5,7 @@ use segment::Version;
 
 pub mod copy;
 pub mod forget;
+pub mod room;
 pub mod start;
 
 // A live object that is to go: the place where it stands, whether a tombstone is needed there, and the tombstone's key and

@@ -3,7 +3,7 @@
 use Prim.Native.Nat.{ℕ}
 use mathlib.Core.Path.{_≡_, sym, ap, _∙_, subst}
 use mathlib.Core.List.{List}
-use mathlib.Core.Option.{Option, some}
+use mathlib.Core.Option.{some}
 use Rattle.word.specs.Number.{Bytes}
 use Rattle.segment.specs.Layout.{Layout, numberOfLayout}
 use Rattle.record.specs.Answers.{withPending}
@@ -20,15 +20,15 @@ use Rattle.history.proofs.Invariant.{HeldGood, Holding, recovered-is}
 use Rattle.history.proofs.Theorem.{fresh, run-keeps}
 
 -- a genuine record's numbers, whether or not an operation is pending
-pub genuine-counts : (L : Layout) (area : List ℕ) (r : Record) (cells : List ℕ) → Genuine L area r cells → r .counts ≡ countsOf L (logNow area r)
+pub genuine-counts : (L : Layout) (area : List ℕ) (r : Record) (cells : List ℕ) → Genuine L area r cells → r .counts ≡ countsOf (logNow area r)
 genuine-counts L area r cells g =
     let is = recovered-is L (r .slots) (r .size) (r .cells) area (withPending r Idle) (g .recovers) in
-    ap (λ (x : Record). x .counts) is ∙ sym (ap (λ (x : Record). countsOf L (logNow area x)) is)
+    ap (λ (x : Record). x .counts) is ∙ sym (ap (λ (x : Record). countsOf (logNow area x)) is)
 
 -- After any list of events since the format, a record that is held counts the present bytes of the area as it is.
 pub counts-kept :
     (L : Layout) (n s : ℕ) (area₀ area : List ℕ) → Bytes area₀ → FormatPromise (numberOfLayout L) n s area₀ area FormatAnswer.Formatted →
-    (es : List Event) (w : World) → Run n s (freshWorld area) es w → (h : Held) → w .held ≡ some h → h .rec .counts ≡ countsOf L (logNow (w .area) (h .rec))
+    (es : List Event) (w : World) → Run n s (freshWorld area) es w → (h : Held) → w .held ≡ some h → h .rec .counts ≡ countsOf (logNow (w .area) (h .rec))
 unfolding HeldGood
 counts-kept L n s area₀ area ab p es w r h e =
     let kept = run-keeps L (edition-laws L) n s freshBook 0 r (fresh L (edition-laws L) n s area₀ area ab p) .0 in

@@ -14,7 +14,7 @@ use Rattle.segment.specs.Layout.{Layout, entrySize}
 use Rattle.segment.specs.Entry.{Entry, kindOf, bytesIn}
 use Rattle.segment.specs.declared.Key.{Key}
 use Rattle.record.specs.Answers.{Said, taken, saidBy, readSaid, fewestSaid, refusal, withPending, storesLeft}
-use Rattle.record.specs.Pairs.{PairSaid, joinSaid}
+use Rattle.record.specs.Pairs.{joinSaid}
 use Rattle.record.specs.Reach.{holdsTable}
 use Rattle.record.specs.Range.{inRange, lengthsOwn, fitsLent}
 use Rattle.record.specs.RangeLaws.{lent, fits-lent, lent-next, lent-pending}
@@ -41,7 +41,7 @@ use Rattle.laws.specs.MapLaws.{valueAt, unplaced}
 use Rattle.laws.specs.Operated.{OperationLaws}
 use Rattle.history.specs.Book.{Question, reads, readsValue, tells, fewest, asks, Answer, saying, giving, telling, naming, called, accepted, Kept, Book, feed, feedCall, versionTold, joins, pairing, Awaited}
 use Rattle.history.specs.Runs.{Held, World, Asked, read, readValue, tell, least, join}
-use Rattle.model.specs.Joining.{joinEarly, JoinPromise}
+use Rattle.model.specs.Joining.{JoinPromise}
 use Rattle.history.specs.Demand3.{bookAnswer, bookValue, QuestionAgrees, EventAgrees}
 use Rattle.history.proofs.Invariant.{Inv, Holding, HeldGood, Phase, idle, pending, bookEntry, started-accepted, next-of, log-of, with-geometry, held-promise}
 use Rattle.history.proofs.Tellings.{started-pending, tell-keeps}
@@ -124,18 +124,20 @@ module _ (L : Layout) (laws : OperationLaws L) (n s : ℕ) where
   -- ---- what the log holds of a key is what the book holds of it
 
   present-answer :
-      (k : Key) (p : Option Placed) (x : Option Kept) → unplaced p ≡ bookEntry k x →
-      readAnswer L (firstCause (when (isNone p) Absent ∷ [])) p ≡ bookAnswer L x
+      (k : Key) (p : Option Placed) (x : Option Kept) → unplaced p ≡ bookEntry k x → ((y : Placed) → p ≡ some y → y .layout ≡ L) →
+      readAnswer (firstCause (when (isNone p) Absent ∷ [])) p ≡ bookAnswer L x
   unfolding unplaced bookEntry firstCause pick isNone readAnswer presentAnswer bookAnswer
-  present-answer k none none e = refl
-  present-answer k none (some y) e = cc
-  present-answer k (some p) none e = cc
-  present-answer k (some p) (some y) e = ap (λ (z : Entry). ReadAnswer.Present (record { 0 = z .version }) (kindOf L z)) (some-same e)
+  present-answer k none none e of = refl
+  present-answer k none (some y) e of = cc
+  present-answer k (some p) none e of = cc
+  present-answer k (some p) (some y) e of =
+      ap (λ (K : Layout). ReadAnswer.Present (record { 0 = p .entry .version }) (kindOf K (p .entry))) (of p refl)
+      ∙ ap (λ (z : Entry). ReadAnswer.Present (record { 0 = z .version }) (kindOf L z)) (some-same e)
 
   present-value :
       (area : List ℕ) (size : ℕ) (k : Key) (p : Option Placed) (x : Option Kept) → unplaced p ≡ bookEntry k x →
-      ((y : Placed) → p ≡ some y → partOf area (valuePart L size (some y)) ≡ bytesIn (y .entry .value)) →
-      partOf area (valueAnswer L size (firstCause (when (isNone p) Absent ∷ [])) p) ≡ bookValue x
+      ((y : Placed) → p ≡ some y → partOf area (valuePart size (some y)) ≡ bytesIn (y .entry .value)) →
+      partOf area (valueAnswer size (firstCause (when (isNone p) Absent ∷ [])) p) ≡ bookValue x
   unfolding unplaced bookEntry firstCause pick isNone valueAnswer valuePart bookValue bytesIn
   present-value area size k none none e part = refl
   present-value area size k none (some y) e part = cc
@@ -161,41 +163,41 @@ module _ (L : Layout) (laws : OperationLaws L) (n s : ℕ) where
           cause-skip (when (recordBad L r (readLengths area cells)) BadRecord) _ (ap not fits) ∙
           cause-first (when (outsideTables v k) OutsideTables) (when (keyAbsent (logNow area r) k) Absent ∷ []) (ap not out)
 
-      pub read-answer : holdsTable v (k .table) ≡ true → readAnswer L cause (present (logNow area r) k) ≡ bookAnswer L x
+      pub read-answer : holdsTable v (k .table) ≡ true → readAnswer cause (present (logNow area r) k) ≡ bookAnswer L x
       read-answer held =
-          ap (λ (c : Option Refusal). readAnswer L c (present (logNow area r) k)) (only-absent held) ∙
-          present-answer k (present (logNow area r) k) x same
+          ap (λ (c : Option Refusal). readAnswer c (present (logNow area r) k)) (only-absent held) ∙
+          present-answer k (present (logNow area r) k) x same (λ y q. laws .present-layout area (withPending r Idle) recovers k y q)
 
-      pub value-answer : holdsTable v (k .table) ≡ true → partOf area (valueAnswer L (r .size) cause (present (logNow area r) k)) ≡ bookValue x
+      pub value-answer : holdsTable v (k .table) ≡ true → partOf area (valueAnswer (r .size) cause (present (logNow area r) k)) ≡ bookValue x
       value-answer held =
-          ap (λ (c : Option Refusal). partOf area (valueAnswer L (r .size) c (present (logNow area r) k))) (only-absent held) ∙
+          ap (λ (c : Option Refusal). partOf area (valueAnswer (r .size) c (present (logNow area r) k))) (only-absent held) ∙
           present-value area (r .size) k (present (logNow area r) k) x same
           (λ y q. laws .value-part area (withPending r Idle) ab recovers k y q)
 
       -- what is said and given, within reach and out of it
       pub read-said :
-          readSaid (readAnswer L cause (present (logNow area r) k)) ≡ pick (holdsTable v (k .table)) (readSaid (bookAnswer L x)) (refusal 22)
+          readSaid (readAnswer cause (present (logNow area r) k)) ≡ pick (holdsTable v (k .table)) (readSaid (bookAnswer L x)) (refusal 22)
       unfolding pick readAnswer
       read-said = go (holdsTable v (k .table)) refl
         where
           go : (t : Bool) → holdsTable v (k .table) ≡ t →
-              readSaid (readAnswer L cause (present (logNow area r) k)) ≡ pick t (readSaid (bookAnswer L x)) (refusal 22)
+              readSaid (readAnswer cause (present (logNow area r) k)) ≡ pick t (readSaid (bookAnswer L x)) (refusal 22)
           go true e = ap readSaid (read-answer e)
-          go false e = ap (λ (c : Option Refusal). readSaid (readAnswer L c (present (logNow area r) k))) (only-outside e)
+          go false e = ap (λ (c : Option Refusal). readSaid (readAnswer c (present (logNow area r) k))) (only-outside e)
 
       pub value-given :
-          partOf area (valueAnswer L (r .size) cause (present (logNow area r) k)) ≡ pick (holdsTable v (k .table)) (bookValue x) []
+          partOf area (valueAnswer (r .size) cause (present (logNow area r) k)) ≡ pick (holdsTable v (k .table)) (bookValue x) []
       unfolding pick valueAnswer
       value-given = go (holdsTable v (k .table)) refl
         where
-          go : (t : Bool) → holdsTable v (k .table) ≡ t → partOf area (valueAnswer L (r .size) cause (present (logNow area r) k)) ≡ pick t (bookValue x) []
+          go : (t : Bool) → holdsTable v (k .table) ≡ t → partOf area (valueAnswer (r .size) cause (present (logNow area r) k)) ≡ pick t (bookValue x) []
           go true e = value-answer e
-          go false e = ap (λ (c : Option Refusal). partOf area (valueAnswer L (r .size) c (present (logNow area r) k))) (only-outside e)
+          go false e = ap (λ (c : Option Refusal). partOf area (valueAnswer (r .size) c (present (logNow area r) k))) (only-outside e)
 
   -- a version that a read tells is below the next
   pub told-below :
       (next : ℕ) → 0 < next → (c : Option Refusal) (o : Option Placed) → ((x : Placed) → o ≡ some x → x .entry .version < next) →
-      readSaid (readAnswer L c o) .version < next
+      readSaid (readAnswer c o) .version < next
   unfolding readAnswer presentAnswer
   told-below next some-next (some c) o less = some-next
   told-below next some-next none none less = some-next
@@ -222,7 +224,7 @@ module _ (L : Layout) (laws : OperationLaws L) (n s : ℕ) where
       fits : fitsLent L (h .rec) (length area) (length (h .cells)) ≡ true
       fits = held-fits area m b h (inv .bytes) good
 
-      told-less : (c : Option Refusal) → readSaid (readAnswer L c (present (logNow area (h .rec)) k)) .version < b .next
+      told-less : (c : Option Refusal) → readSaid (readAnswer c (present (logNow area (h .rec)) k)) .version < b .next
       told-less c =
           told-below (b .next) (omega (arith, inv .below)) c (present (logNow area (h .rec)) k)
           (λ x e. omega (arith, next-now, laws .version-below area (withPending (h .rec) Idle) (good .genuine .recovers) k x e))

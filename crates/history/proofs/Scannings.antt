@@ -3,7 +3,7 @@
 use Prim.Native.Nat.{ℕ, _<_, max}
 use native.Mathlib.Nat.{max-zero}
 use native.Mathlib.Omega.{arith}
-use mathlib.Core.Path.{_≡_, refl, sym, ap, ap₂, _∙_, subst⁻¹}
+use mathlib.Core.Path.{_≡_, refl, ap, ap₂, _∙_, subst⁻¹}
 use mathlib.Core.Bool.{Bool, true, false}
 use mathlib.Core.List.{List, [], _∷_, _++_}
 use mathlib.Core.Option.{Option, none, some}
@@ -26,7 +26,7 @@ use Rattle.model.specs.Conversion.{slotTooLong, slotTooWide, targetLayout, imag
 use Rattle.model.specs.Operations.{logNow}
 use Rattle.model.specs.Refused.{Lengths, readCauses}
 use Rattle.model.specs.Promises.{readLengths, readAnswer, Part, partOf, valueAnswer}
-use Rattle.model.specs.Scanned.{imageLog, scanCauses, ScanPromise, scannedPart, ScanValue}
+use Rattle.model.specs.Scanned.{imageLog, scanCauses, ScanPromise, ScanValue}
 use Rattle.laws.specs.CauseLaws.{none-left, causes-none, first-none}
 use Rattle.laws.specs.Operated.{OperationLaws}
 use Rattle.laws.specs.RecoverLaws.{recovered-facts, recovered-image, lent-clear, sound-clear}
@@ -63,11 +63,11 @@ module _ (L : Layout) (laws : OperationLaws L) (n s : ℕ) (w : World) (b : Book
   same-log : imageLog n s (w .area) ≡ log
   same-log = scan-log L n s m (w .area) rec (inv .base)
 
-  answered : (a : ReadAnswer) → ScanPromise L n s (w .area) v k a → a ≡ readAnswer L cause (present log k)
-  answered a p = p .answers ∙ ap₂ (λ (c : Option Refusal) (l : List Placed). readAnswer L c (present l k)) same-cause same-log
+  answered : (a : ReadAnswer) → ScanPromise L n s (w .area) v k a → a ≡ readAnswer cause (present log k)
+  answered a p = p .answers ∙ ap₂ (λ (c : Option Refusal) (l : List Placed). readAnswer c (present l k)) same-cause same-log
 
-  given : (p : Part) → ScanValue L n s (w .area) v k p → p ≡ valueAnswer L s cause (present log k)
-  given p q = q .exact ∙ ap₂ (λ (c : Option Refusal) (l : List Placed). valueAnswer L s c (present l k)) same-cause same-log
+  given : (p : Part) → ScanValue L n s (w .area) v k p → p ≡ valueAnswer s cause (present log k)
+  given p q = q .exact ∙ ap₂ (λ (c : Option Refusal) (l : List Placed). valueAnswer s c (present l k)) same-cause same-log
 
   abbrev QuestionGoal : Question → Lengths → Answer → Type 0
   QuestionGoal q l a =

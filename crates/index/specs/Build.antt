@@ -6,6 +6,7 @@ use lib.Dec.{leb}
 use lib.ListN.{length, replicate}
 use Rattle.segment.specs.Choice.{pick, both}
 use Rattle.segment.specs.Layout.{Layout, digestSize}
+use Rattle.segment.specs.Digest.{layoutIn}
 use Rattle.segment.specs.Entry.{entry, end, damage, entryAt, sizeOf}
 use Rattle.slot_map.specs.Bit.{named}
 use Rattle.model.specs.Log.{Item, Placed, segmentOf, placedIn}
@@ -30,16 +31,17 @@ entriesAt L s at = entriesFrom L s (suc (length s)) at
 unfoldable pub inLog : ℕ → ℕ → ℕ → ℕ → Bool
 inLog areaLength S map i = both (named map i) (leb (i * S + S) areaLength)
 
--- the entries of one slot, none where it is not in the log, and those of the slots of a list in their order
+-- the entries of one slot read in a layout
 abbrev pub slotEntries : Layout → List ℕ → ℕ → ℕ → List Placed
-slotEntries L area S i = placedIn i (entriesAt L (segmentOf area S i) (digestSize L))
+slotEntries L area S i = placedIn L i (entriesAt L (segmentOf area S i) (digestSize L))
 
-abbrev pub listedSlot : Layout → List ℕ → ℕ → ℕ → ℕ → List Placed
-listedSlot L area S map i = pick (inLog (length area) S map i) (slotEntries L area S i) []
+-- those of a slot in its own edition, none where it is not in the log, and those of the slots of a list in their order
+abbrev pub listedSlot : List ℕ → ℕ → ℕ → ℕ → List Placed
+listedSlot area S map i = pick (inLog (length area) S map i) (slotEntries (layoutIn (segmentOf area S i)) area S i) []
 
-unfoldable pub listed : Layout → List ℕ → ℕ → ℕ → List ℕ → List Placed
-listed L area S map [] = []
-listed L area S map (i ∷ order) = listedSlot L area S map i ++ listed L area S map order
+unfoldable pub listed : List ℕ → ℕ → ℕ → List ℕ → List Placed
+listed area S map [] = []
+listed area S map (i ∷ order) = listedSlot area S map i ++ listed area S map order
 
 -- the tally that an answer stands for, with the cells
 unfoldable pub tallyOf : Built → List ℕ → Tally
@@ -55,5 +57,5 @@ unfoldable pub finished : ℕ → Tally → Rebuilt
 finished m (counted cells n) = record { answer = Built.Keys n; cells = cells }
 finished m over = record { answer = Built.TooMany; cells = replicate m 0 }
 
-abbrev pub built : Layout → List ℕ → ℕ → ℕ → List ℕ → ℕ → Rebuilt
-built L area S map order m = finished m (insertAll L area S (listed L area S map order) (counted (replicate m 0) 0))
+abbrev pub built : List ℕ → ℕ → ℕ → List ℕ → ℕ → Rebuilt
+built area S map order m = finished m (insertAll area S (listed area S map order) (counted (replicate m 0) 0))

@@ -9,32 +9,42 @@ use native.Mathlib.Decide.{ℕ-discrete}
 use native.Mathlib.Nat.{add-assoc, mul-le-mul-right, suc-mul}
 use native.Mathlib.Omega.{arith}
 use lib.Dec.{eqb, leb}
-use lib.ListN.{length, take, drop, replicate, length-take, length-drop}
+use lib.ListN.{length, take, drop, replicate, length-take, length-drop, getD}
 use borrow.Author.Tests.{le-leb, eqb-true, ltb-true, ltb-false, not-false}
 use Rattle.word.specs.Number.{numberOf}
 use Rattle.segment.specs.Choice.{pick, pick-true, pick-false, both, both-left, both-right, both-true, either}
-use Rattle.segment.specs.Layout.{Layout, entrySize, digestSize, table}
+use Rattle.segment.specs.Layout.{Layout, entrySize, digestSize, table, edition1, layoutOfKind, edition2}
 use Rattle.segment.specs.Packed.{field-at}
 use Rattle.segment.specs.Entry.{Entry, bytesIn, entry, entryAt, sizeOf}
 use Rattle.segment.specs.EntryLaws.{decodedAt, decoded-at, found-fits, found-readable}
 use Rattle.slot_map.specs.Bit.{named}
 use Rattle.slot_map.specs.BitLaws.{named-true, set-below}
-use Rattle.model.specs.Log.{Item, Placed, isDamaged, segmentOf, viewsOf, scan, itemsOf, logOf, keysOf, versionShared}
+use Rattle.model.specs.Log.{Item, Placed, segmentOf, viewsOf, scan, itemsOf, logOf, keysOf, versionShared, placedIn}
 use Rattle.model.specs.Recovery.{lists, listsBelow, orderBad, keysBad}
 use Rattle.model.specs.Index.{IndexRule}
 use Rattle.laws.specs.Members.{In, Within, Same}
 use Rattle.laws.specs.Versions.{shared-apart}
-use Rattle.laws.specs.LogLaws.{AllOf, AllScanned, itemOf, placed-mem, mem-placed, in-log, log-in, scan-whole}
+use Rattle.laws.specs.LogLaws.{AllScanned, itemOf, placed-mem, mem-placed, in-log, log-in, scan-whole}
 use Rattle.laws.specs.Scans.{scan-scans, scans-found}
 use Rattle.index.specs.Area.{InArea, AllIn}
-use Rattle.index.specs.Search.{mostCells}
+use Rattle.index.specs.Search.{mostCells, entryLayout}
 use Rattle.index.specs.Insert.{Tally, counted, over, insertAll}
 use Rattle.index.specs.InsertLaws.{Tells, tells-log}
 use Rattle.index.specs.Build.{entriesAt, inLog, slotEntries, listed, Rebuilt, finished, built}
 use Rattle.index.specs.Entries.{entries-scan}
 use Rattle.index.specs.declared.Built.{Built}
+use Rattle.segment.specs.Digest.{layoutIn}
+use Rattle.segment.specs.declared.Edition.the-variants.{First, Second}
+use lib.Seq.{getD-take, getD-drop}
+use Rattle.segment.specs.LayoutLaws.{kind-tells}
 
 -- ---- an entry that is found in a slot stands in the area
+
+-- no entry is shorter than a tombstone of edition 1
+shortest : (L : Layout) → entrySize edition1 0 ≤ entrySize L 0
+unfolding table
+shortest First = omega arith
+shortest Second = omega arith
 
 module _ (L : Layout) (area : List ℕ) (S i at : ℕ) (e : Entry) (found : entryAt L (segmentOf area S i) at ≡ entry e) where
   inside : at + sizeOf L e ≤ min S (length area - i * S)
@@ -49,23 +59,33 @@ module _ (L : Layout) (area : List ℕ) (S i at : ℕ) (e : Entry) (found : entr
       ap numberOf
       (ap (λ (p : ℕ). take w (drop p area)) (add-assoc (i * S) at k) ∙ sym (field-at w (at + k) S (i * S) area (omega (arith, inside))))
 
-  pub found-in-area : InArea L area S (record { slot = i; offset = at; entry = e })
+  -- its kind tells its edition
+  kind-there : layoutOfKind (getD area (i * S + at) 0) ≡ L
+  kind-there =
+      ap layoutOfKind (sym (getD-take S (drop (i * S) area) at 0 (omega (arith, inside)) ∙ getD-drop (i * S) area at 0))
+      ∙ kind-tells L (getD (segmentOf area S i) at 0) (length (bytesIn (e .value))) (found-readable L (segmentOf area S i) at e found .known)
+
+  layout-there : entryLayout area (i * S + at) ≡ L
+  layout-there = by-layout L kind-there (omega (arith, inside))
+    where
+      by-layout : (K : Layout) → layoutOfKind (getD area (i * S + at) 0) ≡ K → i * S + at + entrySize K 0 ≤ length area → entryLayout area (i * S + at) ≡ K
+      by-layout First k h = ap (λ (K : Layout). pick (leb (i * S + at + entrySize edition2 0) (length area)) K edition1) k ∙ either-way (leb (i * S + at + entrySize edition2 0) (length area))
+        where
+          either-way : (t : Bool) → pick t edition1 edition1 ≡ edition1
+          either-way true = unfold pick in refl
+          either-way false = unfold pick in refl
+      by-layout Second k h = pick-true (leb (i * S + at + entrySize edition2 0) (length area)) _ _ (le-leb (i * S + at + entrySize edition2 0) (length area) h) ∙ k
+
+  pub found-in-area : InArea area S (record { slot = i; layout = L; offset = at; entry = e })
   found-in-area =
       record {
-        fits = omega (arith, inside);
+        fits = omega (arith, inside, shortest L);
         table-there = field 2 1 (omega arith) ∙ ap (λ (x : Entry). x .table) fields;
         key-there = field 4 3 (omega arith) ∙ ap (λ (x : Entry). x .key) fields;
-        version-there = field (table L .width) 7 (omega arith) ∙ ap (λ (x : Entry). x .version) fields;
+        version-there =
+            ap (λ (K : Layout). numberOf (take (table K .width) (drop (i * S + at + 7) area))) layout-there
+            ∙ field (table L .width) 7 (omega arith) ∙ ap (λ (x : Entry). x .version) fields;
       }
-
--- ---- a slot of the layout L is read by it
-
-module _ (L : Layout) (area : List ℕ) (S i : ℕ) (of : viewsOf area S i .layout ≡ L) where
-  own-scan : viewsOf area S i .scan ≡ scan L (segmentOf area S i)
-  own-scan = ap (λ (K : Layout). scan K (segmentOf area S i)) of
-
-  own-whole : isDamaged (viewsOf area S i .scan) ≡ false → isDamaged (scan L (segmentOf area S i)) ≡ false
-  own-whole e = ap isDamaged (sym own-scan) ∙ e
 
 -- ---- members of an order list
 
@@ -99,32 +119,32 @@ order-lists n order e i h =
 
 -- ---- the entries of the slots of an order list are those of the log
 
-module _ (L : Layout) (area : List ℕ) (S map : ℕ) where
+module _ (area : List ℕ) (S map : ℕ) where
   -- from a slot of the list, and to one
-  listed-from : (order : List ℕ) (x : Placed) → In x (listed L area S map order) → (i : ℕ) × (inLog (length area) S map i ≡ true) × In x (slotEntries L area S i)
+  listed-from : (order : List ℕ) (x : Placed) → In x (listed area S map order) → (i : ℕ) × (inLog (length area) S map i ≡ true) × In x (slotEntries (layoutIn (segmentOf area S i)) area S i)
   unfolding listed
   listed-from [] x m = absurd (List·Memᴰ·not-nil m)
   listed-from (i ∷ order) x m =
-      go (inLog (length area) S map i) refl (List·Memᴰ·append-cases (pick (inLog (length area) S map i) (slotEntries L area S i) []) m) (λ r. listed-from order x r)
+      go (inLog (length area) S map i) refl (List·Memᴰ·append-cases (pick (inLog (length area) S map i) (slotEntries (layoutIn (segmentOf area S i)) area S i) []) m) (λ r. listed-from order x r)
     where
-      go : (t : Bool) → inLog (length area) S map i ≡ t → In x (pick (inLog (length area) S map i) (slotEntries L area S i) []) ⊎ In x (listed L area S map order) →
-          (In x (listed L area S map order) → (j : ℕ) × (inLog (length area) S map j ≡ true) × In x (slotEntries L area S j)) →
-          (j : ℕ) × (inLog (length area) S map j ≡ true) × In x (slotEntries L area S j)
-      go true e (inl p) ih = (i, e, rw (pick-true (inLog (length area) S map i) (slotEntries L area S i) [] e) at p)
-      go false e (inl p) ih = absurd (List·Memᴰ·not-nil (rw (pick-false (inLog (length area) S map i) (slotEntries L area S i) [] e) at p))
+      go : (t : Bool) → inLog (length area) S map i ≡ t → In x (pick (inLog (length area) S map i) (slotEntries (layoutIn (segmentOf area S i)) area S i) []) ⊎ In x (listed area S map order) →
+          (In x (listed area S map order) → (j : ℕ) × (inLog (length area) S map j ≡ true) × In x (slotEntries (layoutIn (segmentOf area S j)) area S j)) →
+          (j : ℕ) × (inLog (length area) S map j ≡ true) × In x (slotEntries (layoutIn (segmentOf area S j)) area S j)
+      go true e (inl p) ih = (i, e, rw (pick-true (inLog (length area) S map i) (slotEntries (layoutIn (segmentOf area S i)) area S i) [] e) at p)
+      go false e (inl p) ih = absurd (List·Memᴰ·not-nil (rw (pick-false (inLog (length area) S map i) (slotEntries (layoutIn (segmentOf area S i)) area S i) [] e) at p))
       go t e (inr r) ih = ih r
 
-  listed-to : (order : List ℕ) (i : ℕ) → In i order → inLog (length area) S map i ≡ true → (x : Placed) → In x (slotEntries L area S i) → In x (listed L area S map order)
+  listed-to : (order : List ℕ) (i : ℕ) → In i order → inLog (length area) S map i ≡ true → (x : Placed) → In x (slotEntries (layoutIn (segmentOf area S i)) area S i) → In x (listed area S map order)
   unfolding listed
   listed-to (j ∷ order) i (List·Memᴰ·head q) e x m =
-      Memᴰ·append-left (listed L area S map order)
-      (subst (λ (k : ℕ). In x (pick (inLog (length area) S map k) (slotEntries L area S k) [])) q
-      (rw (pick-true (inLog (length area) S map i) (slotEntries L area S i) [] e) m))
+      Memᴰ·append-left (listed area S map order)
+      (subst (λ (k : ℕ). In x (pick (inLog (length area) S map k) (slotEntries (layoutIn (segmentOf area S k)) area S k) [])) q
+      (rw (pick-true (inLog (length area) S map i) (slotEntries (layoutIn (segmentOf area S i)) area S i) [] e) m))
   listed-to (j ∷ order) i (List·Memᴰ·tail r) e x m =
-      Memᴰ·append-right (pick (inLog (length area) S map j) (slotEntries L area S j) []) (listed-to order i r e x m)
+      Memᴰ·append-right (pick (inLog (length area) S map j) (slotEntries (layoutIn (segmentOf area S j)) area S j) []) (listed-to order i r e x m)
 
-  -- n slots of S bytes, and a map of slots below n whose segments are of the layout and undamaged
-  module _ (n : ℕ) (long : length area ≡ n * S) (below : map < 2 ^ n) (editions : AllOf L (viewsOf area S) (named map) n)
+  -- n slots of S bytes, and a map of slots below n whose segments are undamaged
+  module _ (n : ℕ) (long : length area ≡ n * S) (below : map < 2 ^ n)
       (scans : AllScanned (viewsOf area S) (named map) n) where
     slot-below : (i : ℕ) → named map i ≡ true → i < n
     slot-below i e = set-below n map i below (named-true map i e)
@@ -139,50 +159,57 @@ module _ (L : Layout) (area : List ℕ) (S map : ℕ) where
         both-true (named map i) (leb (i * S + S) (length area)) e
         (le-leb (i * S + S) (length area) (omega (arith, mul-le-mul-right S (slot-below i e), suc-mul i S)))
 
-    slot-scan : (i : ℕ) → named map i ≡ true → entriesAt L (segmentOf area S i) (digestSize L) ≡ itemsOf (viewsOf area S i .scan)
-    slot-scan i e =
-        let of = editions i (slot-below i e) e in
-        entries-scan L (segmentOf area S i) (own-whole L area S i of (scans i (slot-below i e) e)) ∙ ap itemsOf (sym (own-scan L area S i of))
+    slot-scan : (i : ℕ) → named map i ≡ true
+        → entriesAt (layoutIn (segmentOf area S i)) (segmentOf area S i) (digestSize (layoutIn (segmentOf area S i))) ≡ itemsOf (viewsOf area S i .scan)
+    slot-scan i e = entries-scan (layoutIn (segmentOf area S i)) (segmentOf area S i) (scans i (slot-below i e) e)
 
-    pub listed-log : (order : List ℕ) → orderBad n order ≡ false → Same (listed L area S map order) (logOf (viewsOf area S) (named map) n)
+    pub listed-log : (order : List ℕ) → orderBad n order ≡ false → Same (listed area S map order) (logOf (viewsOf area S) (named map) n)
     listed-log order ob = record { to = to; from = from }
       where
-        to : Within (listed L area S map order) (logOf (viewsOf area S) (named map) n)
+        to : Within (listed area S map order) (logOf (viewsOf area S) (named map) n)
         to x m = go (listed-from order x m)
           where
-            go : (i : ℕ) × (inLog (length area) S map i ≡ true) × In x (slotEntries L area S i) → In x (logOf (viewsOf area S) (named map) n)
+            go : (i : ℕ) × (inLog (length area) S map i ≡ true) × In x (slotEntries (layoutIn (segmentOf area S i)) area S i) → In x (logOf (viewsOf area S) (named map) n)
             go (i, e, p) =
                 let q = in-log-named i e in
-                let w = mem-placed i x (entriesAt L (segmentOf area S i) (digestSize L)) p in
+                let K = layoutIn (segmentOf area S i) in
+                let w = mem-placed K i x (entriesAt K (segmentOf area S i) (digestSize K)) p in
                 in-log (viewsOf area S) (named map) n x
                 (record {
-                  below = omega (arith, w .0, slot-below i q);
-                  picked = ap (named map) (w .0) ∙ q;
+                  below = omega (arith, w .slot, slot-below i q);
+                  picked = ap (named map) (w .slot) ∙ q;
+                  layout = w .layout ∙ ap (λ (j : ℕ). viewsOf area S j .layout) (sym (w .slot));
                   item =
-                      subst (λ (j : ℕ). In (itemOf x) (itemsOf (viewsOf area S j .scan))) (sym (w .0))
-                      (subst (λ (is : List Item). In (itemOf x) is) (slot-scan i q) (w .1));
+                      subst (λ (j : ℕ). In (itemOf x) (itemsOf (viewsOf area S j .scan))) (sym (w .slot))
+                      (subst (λ (is : List Item). In (itemOf x) is) (slot-scan i q) (w .item));
                 })
 
-        from : Within (logOf (viewsOf area S) (named map) n) (listed L area S map order)
+        from : Within (logOf (viewsOf area S) (named map) n) (listed area S map order)
         from x m =
             let w = log-in (viewsOf area S) (named map) n x m in
             listed-to order (x .slot) (order-lists n order ob (x .slot) (w .below)) (named-in-log (x .slot) (w .picked)) x
-            (placed-mem (x .slot) (subst (λ (is : List Item). In (itemOf x) is) (sym (slot-scan (x .slot) (w .picked))) (w .item)))
+            (subst (λ (K : Layout). In x (placedIn K (x .slot) (entriesAt (layoutIn (segmentOf area S (x .slot))) (segmentOf area S (x .slot)) (digestSize (layoutIn (segmentOf area S (x .slot)))))))
+            (w .layout) (placed-mem (x .layout) (x .slot) (subst (λ (is : List Item). In (itemOf x) is) (sym (slot-scan (x .slot) (w .picked))) (w .item))))
 
--- ---- the entries of an undamaged log of one layout stand in the area
+-- ---- the entries of an undamaged log stand in the area
+
+-- an entry of the log is read where it stands, by the edition of its slot
+pub log-reads :
+    (area : List ℕ) (S : ℕ) (p : ℕ → Bool) (n : ℕ) → AllScanned (viewsOf area S) p n → (x : Placed) → In x (logOf (viewsOf area S) p n) →
+    entryAt (x .layout) (segmentOf area S (x .slot)) (x .offset) ≡ entry (x .entry)
+log-reads area S p n scans x m =
+    let w = log-in (viewsOf area S) p n x m in
+    subst (λ (K : Layout). entryAt K (segmentOf area S (x .slot)) (x .offset) ≡ entry (x .entry)) (sym (w .layout))
+    (scans-found
+    (scan-scans (viewsOf area S (x .slot) .layout) (segmentOf area S (x .slot))
+    (scan-whole (viewsOf area S (x .slot) .scan) (scans (x .slot) (w .below) (w .picked)))) (w .item))
 
 pub log-in-area :
-    (L : Layout) (area : List ℕ) (S : ℕ) (p : ℕ → Bool) (n : ℕ) → AllOf L (viewsOf area S) p n → AllScanned (viewsOf area S) p n →
-    AllIn L area S (logOf (viewsOf area S) p n)
-log-in-area L area S p n editions scans x m =
-    let w = log-in (viewsOf area S) p n x m in
-    let s : List ℕ = segmentOf area S (x .slot) in
-    let of = editions (x .slot) (w .below) (w .picked) in
-    found-in-area L area S (x .slot) (x .offset) (x .entry)
-    (scans-found (scan-scans L s (scan-whole (scan L s) (own-whole L area S (x .slot) of (scans (x .slot) (w .below) (w .picked)))))
-    (subst (λ (is : List Item). In (itemOf x) is) (ap itemsOf (own-scan L area S (x .slot) of)) (w .item)))
+    (area : List ℕ) (S : ℕ) (p : ℕ → Bool) (n : ℕ) → AllScanned (viewsOf area S) p n → AllIn area S (logOf (viewsOf area S) p n)
+log-in-area area S p n scans x m =
+    found-in-area (x .layout) area S (x .slot) (x .offset) (x .entry) (log-reads area S p n scans x m)
 
--- ---- the index of an undamaged log of one layout whose versions differ
+-- ---- the index of an undamaged log whose versions differ
 
 -- The number of a log's keys is told, and the cells keep the rule for it.
 pub record Holds (S m : ℕ) (log : List Placed) (r : Rebuilt) : Type 0 where
@@ -193,21 +220,21 @@ pub record Holds (S m : ℕ) (log : List Placed) (r : Rebuilt) : Type 0 where
 abbrev logIn : List ℕ → ℕ → ℕ → ℕ → List Placed
 logIn area S map n = logOf (viewsOf area S) (named map) n
 
-module _ (L : Layout) (area : List ℕ) (S map n m : ℕ) (order : List ℕ) (long : length area ≡ n * S) (below : map < 2 ^ n)
-    (editions : AllOf L (viewsOf area S) (named map) n) (scans : AllScanned (viewsOf area S) (named map) n)
+module _ (area : List ℕ) (S map n m : ℕ) (order : List ℕ) (long : length area ≡ n * S) (below : map < 2 ^ n)
+    (scans : AllScanned (viewsOf area S) (named map) n)
     (versions : versionShared (logIn area S map n) ≡ false)
     (order-good : orderBad n order ≡ false) (some-cell : 0 < m) (most : m ≤ mostCells) where
   abbrev tally : Tally
-  tally = insertAll L area S (listed L area S map order) (counted (replicate m 0) 0)
+  tally = insertAll area S (listed area S map order) (counted (replicate m 0) 0)
 
   told : Tells S m (logIn area S map n) tally
   told =
-      tells-log L area S m (listed L area S map order) (logIn area S map n) some-cell most
-      (listed-log L area S map n long below editions scans order order-good) (log-in-area L area S (named map) n editions scans)
+      tells-log area S m (listed area S map order) (logIn area S map n) some-cell most
+      (listed-log area S map n long below scans order order-good) (log-in-area area S (named map) n scans)
       (shared-apart (logIn area S map n) versions)
 
   -- at most M - 1 keys
-  pub built-rule : keysBad m (logIn area S map n) ≡ false → Holds S m (logIn area S map n) (built L area S map order m)
+  pub built-rule : keysBad m (logIn area S map n) ≡ false → Holds S m (logIn area S map n) (built area S map order m)
   unfolding Tells finished
   built-rule few = go tally refl told
     where
@@ -216,7 +243,7 @@ module _ (L : Layout) (area : List ℕ) (S map n m : ℕ) (order : List ℕ) (lo
       go over e w = absurd (omega (arith, ltb-false (m - 1) (length (keysOf (logIn area S map n))) few))
 
   -- more: the cells are all 0
-  pub built-over : keysBad m (logIn area S map n) ≡ true → built L area S map order m ≡ record { answer = Built.TooMany; cells = replicate m 0 }
+  pub built-over : keysBad m (logIn area S map n) ≡ true → built area S map order m ≡ record { answer = Built.TooMany; cells = replicate m 0 }
   unfolding Tells finished
   built-over many = go tally refl told
     where

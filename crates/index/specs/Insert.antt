@@ -4,7 +4,6 @@ use mathlib.Core.List.{List, [], _∷_}
 use lib.Dec.{ltb}
 use lib.ListN.{length, getD, set}
 use Rattle.segment.specs.Choice.{pick}
-use Rattle.segment.specs.Layout.{Layout}
 use Rattle.segment.specs.Entry.{keyOf}
 use Rattle.segment.specs.declared.Key.{Key}
 use Rattle.model.specs.Log.{Placed, placeOf}
@@ -18,15 +17,15 @@ pub record Insertion : Type 0 where
   pub cells : List ℕ
 
 -- By what the search for the key met: an entry that is indexed already gives way to a higher version only, and its place is told.
-unfoldable pub insertedAt : Layout → List ℕ → List ℕ → ℕ → ℕ → Found → Insertion
-insertedAt L area cells place version (Found.At i) =
-    pick (ltb (versionAt L area (getD cells i 0 - 1)) version) (record { answer = Inserted.Newer (getD cells i 0 - 1); cells = set cells i (place + 1) })
+unfoldable pub insertedAt : List ℕ → List ℕ → ℕ → ℕ → Found → Insertion
+insertedAt area cells place version (Found.At i) =
+    pick (ltb (versionAt area (getD cells i 0 - 1)) version) (record { answer = Inserted.Newer (getD cells i 0 - 1); cells = set cells i (place + 1) })
     (record { answer = Inserted.Older; cells = cells })
-insertedAt L area cells place version (Found.Free i) = record { answer = Inserted.New; cells = set cells i (place + 1) }
-insertedAt L area cells place version Found.Full = record { answer = Inserted.Full; cells = cells }
+insertedAt area cells place version (Found.Free i) = record { answer = Inserted.New; cells = set cells i (place + 1) }
+insertedAt area cells place version Found.Full = record { answer = Inserted.Full; cells = cells }
 
-abbrev pub inserted : Layout → List ℕ → List ℕ → ℕ → Key → ℕ → Insertion
-inserted L area cells place k version = insertedAt L area cells place version (searchFor L area cells k)
+abbrev pub inserted : List ℕ → List ℕ → ℕ → Key → ℕ → Insertion
+inserted area cells place k version = insertedAt area cells place version (searchFor area cells k)
 
 -- ---- many entries
 
@@ -42,15 +41,15 @@ tallied Inserted.Older cells n = counted cells n
 tallied Inserted.Full cells n = over
 
 -- one entry more
-abbrev pub insertOne : Layout → List ℕ → ℕ → Key → ℕ → List ℕ → ℕ → Tally
-insertOne L area place k version cells n =
-    let i = inserted L area cells place k version in
+abbrev pub insertOne : List ℕ → ℕ → Key → ℕ → List ℕ → ℕ → Tally
+insertOne area place k version cells n =
+    let i = inserted area cells place k version in
     tallied (i .answer) (i .cells) n
 
-unfoldable pub insertNext : Layout → List ℕ → ℕ → Placed → Tally → Tally
-insertNext L area S x (counted cells n) = insertOne L area (placeOf S x) (keyOf (x .entry)) (x .entry .version) cells n
-insertNext L area S x over = over
+unfoldable pub insertNext : List ℕ → ℕ → Placed → Tally → Tally
+insertNext area S x (counted cells n) = insertOne area (placeOf S x) (keyOf (x .entry)) (x .entry .version) cells n
+insertNext area S x over = over
 
-unfoldable pub insertAll : Layout → List ℕ → ℕ → List Placed → Tally → Tally
-insertAll L area S [] s = s
-insertAll L area S (x ∷ xs) s = insertAll L area S xs (insertNext L area S x s)
+unfoldable pub insertAll : List ℕ → ℕ → List Placed → Tally → Tally
+insertAll area S [] s = s
+insertAll area S (x ∷ xs) s = insertAll area S xs (insertNext area S x s)

@@ -10,7 +10,6 @@ use lib.Dec.{eqb, ltb}
 use lib.ListN.{length, getD, set, replicate, length-set, length-replicate, getD-replicate}
 use borrow.Author.Tests.{lt-ltb, le-ltb, ltb-true, ltb-false, eqb-true, eqb-false}
 use Rattle.segment.specs.Choice.{pick-true, pick-false}
-use Rattle.segment.specs.Layout.{Layout}
 use Rattle.segment.specs.Entry.{keyOf}
 use Rattle.segment.specs.declared.Key.{Key}
 use Rattle.model.specs.Log.{Placed, placeOf, sameKey, latest, hasKey, keysOf}
@@ -30,32 +29,32 @@ use Rattle.index.specs.declared.Inserted.{Inserted}
 
 -- ---- one insertion at each of its tests
 
-module _ (L : Layout) (area cells : List ℕ) (place : ℕ) (k : Key) (version : ℕ) where
+module _ (area cells : List ℕ) (place : ℕ) (k : Key) (version : ℕ) where
   pub insert-newer :
-      (i : ℕ) → searchFor L area cells k ≡ Found.At i → versionAt L area (getD cells i 0 - 1) < version →
-      inserted L area cells place k version ≡ record { answer = Inserted.Newer (getD cells i 0 - 1); cells = set cells i (place + 1) }
+      (i : ℕ) → searchFor area cells k ≡ Found.At i → versionAt area (getD cells i 0 - 1) < version →
+      inserted area cells place k version ≡ record { answer = Inserted.Newer (getD cells i 0 - 1); cells = set cells i (place + 1) }
   unfolding insertedAt
   insert-newer i e h =
-      ap (insertedAt L area cells place version) e
-      ∙ pick-true (ltb (versionAt L area (getD cells i 0 - 1)) version) _ _ (lt-ltb (versionAt L area (getD cells i 0 - 1)) version h)
+      ap (insertedAt area cells place version) e
+      ∙ pick-true (ltb (versionAt area (getD cells i 0 - 1)) version) _ _ (lt-ltb (versionAt area (getD cells i 0 - 1)) version h)
 
   pub insert-older :
-      (i : ℕ) → searchFor L area cells k ≡ Found.At i → version ≤ versionAt L area (getD cells i 0 - 1) →
-      inserted L area cells place k version ≡ record { answer = Inserted.Older; cells = cells }
+      (i : ℕ) → searchFor area cells k ≡ Found.At i → version ≤ versionAt area (getD cells i 0 - 1) →
+      inserted area cells place k version ≡ record { answer = Inserted.Older; cells = cells }
   unfolding insertedAt
   insert-older i e h =
-      ap (insertedAt L area cells place version) e
-      ∙ pick-false (ltb (versionAt L area (getD cells i 0 - 1)) version) _ _ (le-ltb (versionAt L area (getD cells i 0 - 1)) version h)
+      ap (insertedAt area cells place version) e
+      ∙ pick-false (ltb (versionAt area (getD cells i 0 - 1)) version) _ _ (le-ltb (versionAt area (getD cells i 0 - 1)) version h)
 
   pub insert-new :
-      (i : ℕ) → searchFor L area cells k ≡ Found.Free i →
-      inserted L area cells place k version ≡ record { answer = Inserted.New; cells = set cells i (place + 1) }
+      (i : ℕ) → searchFor area cells k ≡ Found.Free i →
+      inserted area cells place k version ≡ record { answer = Inserted.New; cells = set cells i (place + 1) }
   unfolding insertedAt
-  insert-new i e = ap (insertedAt L area cells place version) e
+  insert-new i e = ap (insertedAt area cells place version) e
 
-  pub insert-full : searchFor L area cells k ≡ Found.Full → inserted L area cells place k version ≡ record { answer = Inserted.Full; cells = cells }
+  pub insert-full : searchFor area cells k ≡ Found.Full → inserted area cells place k version ≡ record { answer = Inserted.Full; cells = cells }
   unfolding insertedAt
-  insert-full e = ap (insertedAt L area cells place version) e
+  insert-full e = ap (insertedAt area cells place version) e
 
 -- ---- the tally at each answer
 
@@ -81,16 +80,16 @@ module _ (cells : List ℕ) (n : ℕ) where
   tally-full = refl
 
 pub insert-next :
-    (L : Layout) (area : List ℕ) (S : ℕ) (x : Placed) (cells : List ℕ) (n : ℕ) (i : Insertion) →
-    inserted L area cells (placeOf S x) (keyOf (x .entry)) (x .entry .version) ≡ i →
-    insertNext L area S x (counted cells n) ≡ tallied (i .answer) (i .cells) n
+    (area : List ℕ) (S : ℕ) (x : Placed) (cells : List ℕ) (n : ℕ) (i : Insertion) →
+    inserted area cells (placeOf S x) (keyOf (x .entry)) (x .entry .version) ≡ i →
+    insertNext area S x (counted cells n) ≡ tallied (i .answer) (i .cells) n
 unfolding insertNext
-insert-next L area S x cells n i e = ap (λ (j : Insertion). tallied (j .answer) (j .cells) n) e
+insert-next area S x cells n i e = ap (λ (j : Insertion). tallied (j .answer) (j .cells) n) e
 
-pub insert-over : (L : Layout) (area : List ℕ) (S : ℕ) (xs : List Placed) → insertAll L area S xs over ≡ over
+pub insert-over : (area : List ℕ) (S : ℕ) (xs : List Placed) → insertAll area S xs over ≡ over
 unfolding insertAll insertNext
-insert-over L area S [] = refl
-insert-over L area S (x ∷ xs) = insert-over L area S xs
+insert-over area S [] = refl
+insert-over area S (x ∷ xs) = insert-over area S xs
 
 -- ---- what a tally says of the entries gone through
 
@@ -115,9 +114,9 @@ unfoldable pub Tells : ℕ → ℕ → List Placed → Tally → Type 0
 Tells S m log (counted cells n) = Indexed S m log cells n
 Tells S m log over = m ≤ length (keysOf log)
 
-module _ (L : Layout) (area : List ℕ) (S m : ℕ) (log : List Placed) (x : Placed) (most : m ≤ mostCells) (there : AllIn L area S (x ∷ log)) (apart : Apart (x ∷ log)) where
-  picks-all : Picks (cellHas L area (keyOf (x .entry))) S (x ∷ log) (keyOf (x .entry))
-  picks-all = area-picks L area S (x ∷ log) (keyOf (x .entry)) there
+module _ (area : List ℕ) (S m : ℕ) (log : List Placed) (x : Placed) (most : m ≤ mostCells) (there : AllIn area S (x ∷ log)) (apart : Apart (x ∷ log)) where
+  picks-all : Picks (cellHas area (keyOf (x .entry))) S (x ∷ log) (keyOf (x .entry))
+  picks-all = area-picks area S (x ∷ log) (keyOf (x .entry)) there
 
   more-keys : length (keysOf log) ≤ length (keysOf (x ∷ log))
   more-keys = go (hasKey log (keyOf (x .entry))) refl
@@ -135,35 +134,35 @@ module _ (L : Layout) (area : List ℕ) (S m : ℕ) (log : List Placed) (x : Pla
       newest : Newest log (keyOf (x .entry)) y
       newest = latest-some log (keyOf (x .entry)) y l
 
-      module _ (c : HasCell S cells y) (found : searchFor L area cells (keyOf (x .entry)) ≡ Found.At (c .cell)) where
-        its-version : versionAt L area (getD cells (c .cell) 0 - 1) ≡ y .entry .version
-        its-version = cell-version L area S cells y (there y (List·Memᴰ·tail (newest .member))) c
+      module _ (c : HasCell S cells y) (found : searchFor area cells (keyOf (x .entry)) ≡ Found.At (c .cell)) where
+        its-version : versionAt area (getD cells (c .cell) 0 - 1) ≡ y .entry .version
+        its-version = cell-version area S cells y (there y (List·Memᴰ·tail (newest .member))) c
 
-        newer : y .entry .version < x .entry .version → Tells S m (x ∷ log) (insertNext L area S x (counted cells n))
+        newer : y .entry .version < x .entry .version → Tells S m (x ∷ log) (insertNext area S x (counted cells n))
         unfolding Tells
         newer h =
             subst (Tells S m (x ∷ log))
             (sym
-            (insert-next L area S x cells n
+            (insert-next area S x cells n
             (record { answer = Inserted.Newer (getD cells (c .cell) 0 - 1); cells = set cells (c .cell) (placeOf S x + 1) })
-            (insert-newer L area cells (placeOf S x) (keyOf (x .entry)) (x .entry .version) (c .cell) found (omega (arith, its-version)))
+            (insert-newer area cells (placeOf S x) (keyOf (x .entry)) (x .entry .version) (c .cell) found (omega (arith, its-version)))
             ∙ tally-newer (set cells (c .cell) (placeOf S x + 1)) n (getD cells (c .cell) 0 - 1)))
             (record {
               rule =
-                  put-newest S log cells (ix .rule) x (cellHas L area (keyOf (x .entry))) picks-all (c .cell)
+                  put-newest S log cells (ix .rule) x (cellHas area (keyOf (x .entry))) picks-all (c .cell)
                   (target-known S log cells (keyOf (x .entry)) y l c) (λ z i s. omega (arith, newest .none-above z i s));
               keys = same-keys;
               few = ix .few;
               long = length-set cells (c .cell) (placeOf S x + 1) ∙ ix .long;
             })
 
-        older : x .entry .version ≤ y .entry .version → Tells S m (x ∷ log) (insertNext L area S x (counted cells n))
+        older : x .entry .version ≤ y .entry .version → Tells S m (x ∷ log) (insertNext area S x (counted cells n))
         unfolding Tells
         older h =
             subst (Tells S m (x ∷ log))
             (sym
-            (insert-next L area S x cells n (record { answer = Inserted.Older; cells = cells })
-            (insert-older L area cells (placeOf S x) (keyOf (x .entry)) (x .entry .version) (c .cell) found (omega (arith, its-version)))
+            (insert-next area S x cells n (record { answer = Inserted.Older; cells = cells })
+            (insert-older area cells (placeOf S x) (keyOf (x .entry)) (x .entry .version) (c .cell) found (omega (arith, its-version)))
             ∙ tally-older cells n))
             (record { rule = rule (eqb (x .entry .version) (y .entry .version)) refl; keys = same-keys; few = ix .few; long = ix .long })
           where
@@ -177,17 +176,17 @@ module _ (L : Layout) (area : List ℕ) (S m : ℕ) (log : List Placed) (x : Pla
 
     -- a new key
     module _ (l : latest log (keyOf (x .entry)) ≡ none) (c : FreeCell cells (keyOf (x .entry)))
-        (found : searchFor L area cells (keyOf (x .entry)) ≡ Found.Free (c .cell)) where
+        (found : searchFor area cells (keyOf (x .entry)) ≡ Found.Free (c .cell)) where
       one-more : length (keysOf (x ∷ log)) ≡ n + 1
       one-more = ap length (keys-new log x (key-none log (keyOf (x .entry)) (latest-none log (keyOf (x .entry)) l))) ∙ omega (arith, ix .keys)
 
-      went : insertNext L area S x (counted cells n) ≡ tallied Inserted.New (set cells (c .cell) (placeOf S x + 1)) n
+      went : insertNext area S x (counted cells n) ≡ tallied Inserted.New (set cells (c .cell) (placeOf S x + 1)) n
       went =
-          insert-next L area S x cells n
+          insert-next area S x cells n
           (record { answer = Inserted.New; cells = set cells (c .cell) (placeOf S x + 1) })
-          (insert-new L area cells (placeOf S x) (keyOf (x .entry)) (x .entry .version) (c .cell) found)
+          (insert-new area cells (placeOf S x) (keyOf (x .entry)) (x .entry .version) (c .cell) found)
 
-      fresh : Tells S m (x ∷ log) (insertNext L area S x (counted cells n))
+      fresh : Tells S m (x ∷ log) (insertNext area S x (counted cells n))
       unfolding Tells
       fresh = go (ltb (n + 1) (length (set cells (c .cell) (placeOf S x + 1)))) refl
         where
@@ -197,13 +196,13 @@ module _ (L : Layout) (area : List ℕ) (S m : ℕ) (log : List Placed) (x : Pla
           long : length after ≡ m
           long = length-set cells (c .cell) (placeOf S x + 1) ∙ ix .long
 
-          go : (t : Bool) → ltb (n + 1) (length after) ≡ t → Tells S m (x ∷ log) (insertNext L area S x (counted cells n))
+          go : (t : Bool) → ltb (n + 1) (length after) ≡ t → Tells S m (x ∷ log) (insertNext area S x (counted cells n))
           go true e =
               let below = ltb-true (n + 1) (length after) e in
               subst (Tells S m (x ∷ log)) (sym (went ∙ tally-new after n below))
               (record {
                 rule =
-                    put-newest S log cells (ix .rule) x (cellHas L area (keyOf (x .entry))) picks-all (c .cell)
+                    put-newest S log cells (ix .rule) x (cellHas area (keyOf (x .entry))) picks-all (c .cell)
                     (target-new S log cells (keyOf (x .entry)) l c)
                     (λ z i s. absurd (clash (sameKey (keyOf (x .entry)) (z .entry)) s (latest-none log (keyOf (x .entry)) l z i)));
                 keys = sym one-more;
@@ -214,47 +213,47 @@ module _ (L : Layout) (area : List ℕ) (S m : ℕ) (log : List Placed) (x : Pla
               let many = ltb-false (n + 1) (length after) e in
               subst (Tells S m (x ∷ log)) (sym (went ∙ tally-over after n many)) (omega (arith, one-more, long))
 
-    one : Tells S m (x ∷ log) (insertNext L area S x (counted cells n))
+    one : Tells S m (x ∷ log) (insertNext area S x (counted cells n))
     one = go (latest log (keyOf (x .entry))) refl
       where
         some-key : (y : Placed) (l : latest log (keyOf (x .entry)) ≡ some y) (c : HasCell S cells y) →
-            searchFor L area cells (keyOf (x .entry)) ≡ Found.At (c .cell) → (t : Bool) → ltb (y .entry .version) (x .entry .version) ≡ t →
-            Tells S m (x ∷ log) (insertNext L area S x (counted cells n))
+            searchFor area cells (keyOf (x .entry)) ≡ Found.At (c .cell) → (t : Bool) → ltb (y .entry .version) (x .entry .version) ≡ t →
+            Tells S m (x ∷ log) (insertNext area S x (counted cells n))
         some-key y l c f true e = newer y l c f (ltb-true (y .entry .version) (x .entry .version) e)
         some-key y l c f false e = older y l c f (ltb-false (y .entry .version) (x .entry .version) e)
 
-        go : (o : Option Placed) → latest log (keyOf (x .entry)) ≡ o → Tells S m (x ∷ log) (insertNext L area S x (counted cells n))
+        go : (o : Option Placed) → latest log (keyOf (x .entry)) ≡ o → Tells S m (x ∷ log) (insertNext area S x (counted cells n))
         go none l =
-            let f = search-new S log cells (ix .rule) (cellHas L area (keyOf (x .entry))) (keyOf (x .entry))
+            let f = search-new S log cells (ix .rule) (cellHas area (keyOf (x .entry))) (keyOf (x .entry))
             (λ y i. picks-all y (List·Memᴰ·tail i)) l (omega (arith, ix .keys, ix .few, ix .long)) in
-            fresh l (f .0) (search-within L area cells (keyOf (x .entry)) (omega (arith, ix .long, most)) ∙ f .1)
+            fresh l (f .0) (search-within area cells (keyOf (x .entry)) (omega (arith, ix .long, most)) ∙ f .1)
         go (some y) l =
-            let f = search-known S log cells (ix .rule) (cellHas L area (keyOf (x .entry))) (keyOf (x .entry))
+            let f = search-known S log cells (ix .rule) (cellHas area (keyOf (x .entry))) (keyOf (x .entry))
             (λ z i. picks-all z (List·Memᴰ·tail i)) y l in
-            some-key y l (f .0) (search-within L area cells (keyOf (x .entry)) (omega (arith, ix .long, most)) ∙ f .1) (ltb (y .entry .version) (x .entry .version)) refl
+            some-key y l (f .0) (search-within area cells (keyOf (x .entry)) (omega (arith, ix .long, most)) ∙ f .1) (ltb (y .entry .version) (x .entry .version)) refl
 
     -- what an insertion of a newer entry answers: the place of the key's latest entry, which it replaces, or that the key is new
     pub replaces : (y : Placed) → latest log (keyOf (x .entry)) ≡ some y → y .entry .version < x .entry .version
-        → inserted L area cells (placeOf S x) (keyOf (x .entry)) (x .entry .version) .answer ≡ Inserted.Newer (placeOf S y)
+        → inserted area cells (placeOf S x) (keyOf (x .entry)) (x .entry .version) .answer ≡ Inserted.Newer (placeOf S y)
     replaces y l h =
-        let f = search-known S log cells (ix .rule) (cellHas L area (keyOf (x .entry))) (keyOf (x .entry))
+        let f = search-known S log cells (ix .rule) (cellHas area (keyOf (x .entry))) (keyOf (x .entry))
         (λ z i. picks-all z (List·Memᴰ·tail i)) y l in
         ap (λ (i : Insertion). i .answer)
-        (insert-newer L area cells (placeOf S x) (keyOf (x .entry)) (x .entry .version) (f .0 .cell) (search-within L area cells (keyOf (x .entry)) (omega (arith, ix .long, most)) ∙ f .1)
-        (omega (arith, its-version y l (f .0) (search-within L area cells (keyOf (x .entry)) (omega (arith, ix .long, most)) ∙ f .1))))
+        (insert-newer area cells (placeOf S x) (keyOf (x .entry)) (x .entry .version) (f .0 .cell) (search-within area cells (keyOf (x .entry)) (omega (arith, ix .long, most)) ∙ f .1)
+        (omega (arith, its-version y l (f .0) (search-within area cells (keyOf (x .entry)) (omega (arith, ix .long, most)) ∙ f .1))))
         ∙ ap Inserted.Newer (omega (arith, f .0 .holds))
 
     pub comes-new : latest log (keyOf (x .entry)) ≡ none
-        → inserted L area cells (placeOf S x) (keyOf (x .entry)) (x .entry .version) .answer ≡ Inserted.New
+        → inserted area cells (placeOf S x) (keyOf (x .entry)) (x .entry .version) .answer ≡ Inserted.New
     comes-new l =
-        let f = search-new S log cells (ix .rule) (cellHas L area (keyOf (x .entry))) (keyOf (x .entry))
+        let f = search-new S log cells (ix .rule) (cellHas area (keyOf (x .entry))) (keyOf (x .entry))
         (λ y i. picks-all y (List·Memᴰ·tail i)) l (omega (arith, ix .keys, ix .few, ix .long)) in
         ap (λ (i : Insertion). i .answer)
-        (insert-new L area cells (placeOf S x) (keyOf (x .entry)) (x .entry .version) (f .0 .cell)
-        (search-within L area cells (keyOf (x .entry)) (omega (arith, ix .long, most)) ∙ f .1))
+        (insert-new area cells (placeOf S x) (keyOf (x .entry)) (x .entry .version) (f .0 .cell)
+        (search-within area cells (keyOf (x .entry)) (omega (arith, ix .long, most)) ∙ f .1))
 
   -- one entry more
-  pub tells-next : (s : Tally) → Tells S m log s → Tells S m (x ∷ log) (insertNext L area S x s)
+  pub tells-next : (s : Tally) → Tells S m log s → Tells S m (x ∷ log) (insertNext area S x s)
   unfolding Tells insertNext
   tells-next (counted cells n) w = one cells n w
   tells-next over w = omega (arith, more-keys)
@@ -286,16 +285,16 @@ tells-none S m h =
     zeros : (i : ℕ) → i < m → _≡_ {A = ℕ} (getD (replicate m 0) i 0) 0
     zeros i b = getD-replicate m i 0 0 b
 
-module _ (L : Layout) (area : List ℕ) (S m : ℕ) (most : m ≤ mostCells) (all : List Placed) (there : AllIn L area S all) (apart : Apart all) where
+module _ (area : List ℕ) (S m : ℕ) (most : m ≤ mostCells) (all : List Placed) (there : AllIn area S all) (apart : Apart all) where
   -- items are left to go through, and log is what was gone through
   pub tells-rest :
       (items log : List Placed) → Within items all → Within log all → (s : Tally) → Tells S m log s →
-      (gone : List Placed) × Same (items ++ log) gone × Tells S m gone (insertAll L area S items s)
+      (gone : List Placed) × Same (items ++ log) gone × Tells S m gone (insertAll area S items s)
   unfolding insertAll
   tells-rest [] log wi wl s w = (log, record { to = λ y i. i; from = λ y i. i }, w)
   tells-rest (x ∷ items) log wi wl s w =
-      let rest = tells-rest items (x ∷ log) (λ y i. wi y (List·Memᴰ·tail i)) within (insertNext L area S x s)
-      (tells-next L area S m log x most (λ y i. there y (within y i)) (λ y z i j. apart y z (within y i) (within z j)) s w) in
+      let rest = tells-rest items (x ∷ log) (λ y i. wi y (List·Memᴰ·tail i)) within (insertNext area S x s)
+      (tells-next area S m log x most (λ y i. there y (within y i)) (λ y z i j. apart y z (within y i) (within z j)) s w) in
       (rest .0, same-trans (added-same (added-between items x log)) (rest .1), rest .2)
     where
       within : Within (x ∷ log) all
@@ -305,10 +304,10 @@ module _ (L : Layout) (area : List ℕ) (S m : ℕ) (most : m ≤ mostCells) (al
 -- Whatever the order of a log's entries, going through them gives the rule for the log and the number of its keys, or finds
 -- as many keys as cells or more.
 pub tells-log :
-    (L : Layout) (area : List ℕ) (S m : ℕ) (items log : List Placed) → 0 < m → m ≤ mostCells → Same items log → AllIn L area S log → Apart log →
-    Tells S m log (insertAll L area S items (counted (replicate m 0) 0))
-tells-log L area S m items log h most e there apart =
-    let w = tells-rest L area S m most log there apart items [] (e .to) (λ y i. absurd (List·Memᴰ·not-nil i)) (counted (replicate m 0) 0) (tells-none S m h) in
+    (area : List ℕ) (S m : ℕ) (items log : List Placed) → 0 < m → m ≤ mostCells → Same items log → AllIn area S log → Apart log →
+    Tells S m log (insertAll area S items (counted (replicate m 0) 0))
+tells-log area S m items log h most e there apart =
+    let w = tells-rest area S m most log there apart items [] (e .to) (λ y i. absurd (List·Memᴰ·not-nil i)) (counted (replicate m 0) 0) (tells-none S m h) in
     let same : Same (w .0) log =
     same-trans (same-sym (w .1)) (same-trans (record { to = λ y i. rw (append-nil items) at i; from = λ y i. rw (append-nil items) i }) e) in
-    tells-same S m (w .0) log same (apart-same (same-sym same) apart) (insertAll L area S items (counted (replicate m 0) 0)) (w .2)
+    tells-same S m (w .0) log same (apart-same (same-sym same) apart) (insertAll area S items (counted (replicate m 0) 0)) (w .2)

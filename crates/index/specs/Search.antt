@@ -6,7 +6,7 @@ use lib.Dec.{eqb, leb}
 use lib.ListN.{length, getD, take, drop}
 use Rattle.word.specs.Number.{numberOf}
 use Rattle.segment.specs.Choice.{pick, both}
-use Rattle.segment.specs.Layout.{Layout, entrySize, table}
+use Rattle.segment.specs.Layout.{Layout, edition1, edition2, layoutOfKind, entrySize, table}
 use Rattle.segment.specs.declared.Key.{Key}
 use Rattle.model.specs.Index.{around, startCell}
 use Rattle.index.specs.declared.Found.{Found}
@@ -27,17 +27,22 @@ tableAt area p = numberOf (take 2 (drop (p + 1) area))
 abbrev pub keyAt : List ℕ → ℕ → ℕ
 keyAt area p = numberOf (take 4 (drop (p + 3) area))
 
-abbrev pub versionAt : Layout → List ℕ → ℕ → ℕ
-versionAt L area p = numberOf (take (table L .width) (drop (p + 7) area))
+-- The edition of the entry at a place is told by its kind (02, R-11); where no entry of edition 2 fits it is the first.
+abbrev pub entryLayout : List ℕ → ℕ → Layout
+entryLayout area p = pick (leb (p + entrySize edition2 0) (length area)) (layoutOfKind (getD area p 0)) edition1
 
--- whether the entry at a place has that key; a place where no entry fits has none
-unfoldable pub hasKeyAt : Layout → List ℕ → Key → ℕ → Bool
-hasKeyAt L area k p =
-    both (leb (p + entrySize L 0) (length area)) (both (eqb (k .table) (tableAt area p)) (eqb (k .key) (keyAt area p)))
+abbrev pub versionAt : List ℕ → ℕ → ℕ
+versionAt area p = numberOf (take (table (entryLayout area p) .width) (drop (p + 7) area))
+
+-- whether the entry at a place has that key, which stands at the same offsets in either edition; a place where not even the shortest
+-- entry fits, a tombstone of edition 1, has none
+unfoldable pub hasKeyAt : List ℕ → Key → ℕ → Bool
+hasKeyAt area k p =
+    both (leb (p + entrySize edition1 0) (length area)) (both (eqb (k .table) (tableAt area p)) (eqb (k .key) (keyAt area p)))
 
 -- A cell that is not 0 stands for the place below it.
-abbrev pub cellHas : Layout → List ℕ → Key → ℕ → Bool
-cellHas L area k c = hasKeyAt L area k (c - 1)
+abbrev pub cellHas : List ℕ → Key → ℕ → Bool
+cellHas area k c = hasKeyAt area k (c - 1)
 
 -- the most cells that there can be (01: M up to 4,096)
 abbrev pub mostCells : ℕ
@@ -45,6 +50,6 @@ mostCells = 4096
 
 -- From the cell of the key's hash over all cells. 02, R-6: place and count are numbers of 16 bits, in which the most cells have room. More
 -- cells than that, which the range test lets no call have, are not searched.
-unfoldable pub searchFor : Layout → List ℕ → List ℕ → Key → Found
-searchFor L area cells k =
-    pick (leb (length cells) mostCells) (probe (cellHas L area k) cells (length cells) (startCell (length cells) k)) Full
+unfoldable pub searchFor : List ℕ → List ℕ → Key → Found
+searchFor area cells k =
+    pick (leb (length cells) mostCells) (probe (cellHas area k) cells (length cells) (startCell (length cells) k)) Full

@@ -8,38 +8,58 @@ use native.Mathlib.Decide.{decLt}
 use native.Mathlib.Nat.{eq-zero-or-pos, mod-lt}
 use native.Mathlib.Omega.{arith}
 use lib.Dec.{eqb, leb}
-use lib.ListN.{length, getD}
+use lib.ListN.{length, getD, take, drop}
 use borrow.Author.Tests.{le-leb, lt-leb, leb-true, eq-eqb, ne-eqb}
 use Rattle.word.specs.Fnv.{keyHash}
+use Rattle.word.specs.Number.{numberOf}
 use Rattle.segment.specs.Choice.{pick-true, pick-false, both, both-left, both-false-left, both-false-right}
-use Rattle.segment.specs.Layout.{Layout, entrySize}
+use Rattle.segment.specs.Layout.{Layout, edition1, edition2, layoutOfKind, entrySize, table}
 use Rattle.segment.specs.declared.Key.{Key}
+use Rattle.segment.specs.declared.Version.{Version}
 use Rattle.model.specs.Index.{around, startCell}
 use Rattle.index.specs.Around.{around-below, start-below}
-use Rattle.index.specs.Search.{tableAt, keyAt, hasKeyAt, cellHas, probe, mostCells, searchFor}
+use Rattle.index.specs.Search.{tableAt, keyAt, versionAt, hasKeyAt, cellHas, probe, mostCells, searchFor}
 use Rattle.index.specs.Probe.{orElse, or-full, probe-none, probe-free, probe-at, probe-up, probe-split, Probed, probed, reached-below}
 use Rattle.index.specs.declared.Found.{Found}
 
 -- ---- whether the entry at a place has a key
 
-module _ (L : Layout) (area : List ℕ) (k : Key) (p : ℕ) where
-  pub key-no-room : length area < p + entrySize L 0 → false ≡ hasKeyAt L area k p
+module _ (area : List ℕ) (k : Key) (p : ℕ) where
+  pub key-no-room : length area < p + entrySize edition1 0 → false ≡ hasKeyAt area k p
   unfolding hasKeyAt
-  key-no-room h = sym (both-false-left (leb (p + entrySize L 0) (length area)) _ (lt-leb (p + entrySize L 0) (length area) h))
+  key-no-room h = sym (both-false-left (leb (p + entrySize edition1 0) (length area)) _ (lt-leb (p + entrySize edition1 0) (length area) h))
 
-  pub key-other-table : (t : ℕ) → t ≡ tableAt area p → (k .table ≡ t → ⊥) → false ≡ hasKeyAt L area k p
+  pub key-other-table : (t : ℕ) → t ≡ tableAt area p → (k .table ≡ t → ⊥) → false ≡ hasKeyAt area k p
   unfolding hasKeyAt
   key-other-table t e n =
       sym
-      (both-false-right (leb (p + entrySize L 0) (length area)) _
+      (both-false-right (leb (p + entrySize edition1 0) (length area)) _
       (both-false-left (eqb (k .table) (tableAt area p)) _ (ne-eqb (k .table) (tableAt area p) (λ q. n (q ∙ sym e)))))
 
   pub key-by-key :
-      p + entrySize L 0 ≤ length area → (t : ℕ) → t ≡ tableAt area p → k .table ≡ t → (j : ℕ) → j ≡ keyAt area p →
-      eqb (k .key) j ≡ hasKeyAt L area k p
+      p + entrySize edition1 0 ≤ length area → (t : ℕ) → t ≡ tableAt area p → k .table ≡ t → (j : ℕ) → j ≡ keyAt area p →
+      eqb (k .key) j ≡ hasKeyAt area k p
   unfolding hasKeyAt both
   key-by-key h t et q j ej =
-      rw (le-leb (p + entrySize L 0) (length area) h, eq-eqb (k .table) (tableAt area p) (q ∙ et), ej)
+      rw (le-leb (p + entrySize edition1 0) (length area) h, eq-eqb (k .table) (tableAt area p) (q ∙ et), ej)
+
+-- ---- the version at a place
+
+module _ (area : List ℕ) (p : ℕ) (v : Version) where
+  pub version-short : length area - p < 15 → v ≡ record { 0 = numberOf (take (table edition1 .width) (drop (p + 7) area)) } → v ≡ record { 0 = versionAt area p }
+  unfolding table
+  version-short h e =
+      e
+      ∙ ap (λ (L : Layout). record { 0 = numberOf (take (table L .width) (drop (p + 7) area)) })
+      (sym (pick-false (leb (p + entrySize edition2 0) (length area)) (layoutOfKind (getD area p 0)) edition1 (lt-leb (p + entrySize edition2 0) (length area) (omega arith))))
+
+  pub version-by-kind : 15 ≤ length area - p → (L : Layout) → L ≡ layoutOfKind (getD area p 0)
+      → v ≡ record { 0 = numberOf (take (table L .width) (drop (p + 7) area)) } → v ≡ record { 0 = versionAt area p }
+  unfolding table
+  version-by-kind h L k e =
+      e
+      ∙ ap (λ (K : Layout). record { 0 = numberOf (take (table K .width) (drop (p + 7) area)) })
+      (k ∙ sym (pick-true (leb (p + entrySize edition2 0) (length area)) (layoutOfKind (getD area p 0)) edition1 (le-leb (p + entrySize edition2 0) (length area) (omega arith))))
 
 -- ---- a turn of the search up to an end: the whole answer is the answer from here
 
@@ -62,27 +82,27 @@ module _ (t : ℕ → Bool) (cells : List ℕ) (whole : Found) (end at : ℕ) (f
 -- ---- what an answer says for any area and any cells
 
 -- The cell is there, is not 0, and an entry fits at its place.
-pub record Inside (L : Layout) (area cells : List ℕ) (i : ℕ) : Type 0 where
+pub record Inside (area cells : List ℕ) (i : ℕ) : Type 0 where
   pub below : i < length cells
   pub taken : 0 < getD cells i 0
-  pub fits : getD cells i 0 - 1 + entrySize L 0 ≤ length area
+  pub fits : getD cells i 0 - 1 + entrySize edition1 0 ≤ length area
 
-module _ (L : Layout) (area cells : List ℕ) (k : Key) where
+module _ (area cells : List ℕ) (k : Key) where
   -- up to the most cells all are searched, and above that none
-  pub search-within : length cells ≤ mostCells → searchFor L area cells k ≡ probe (cellHas L area k) cells (length cells) (startCell (length cells) k)
+  pub search-within : length cells ≤ mostCells → searchFor area cells k ≡ probe (cellHas area k) cells (length cells) (startCell (length cells) k)
   unfolding searchFor
   search-within h = pick-true (leb (length cells) mostCells) _ _ (le-leb (length cells) mostCells h)
 
-  pub search-above : mostCells < length cells → Found.Full ≡ searchFor L area cells k
+  pub search-above : mostCells < length cells → Found.Full ≡ searchFor area cells k
   unfolding searchFor
   search-above h = sym (pick-false (leb (length cells) mostCells) _ _ (lt-leb (length cells) mostCells h))
 
-  pub search-empty : length cells ≡ 0 → Found.Full ≡ searchFor L area cells k
+  pub search-empty : length cells ≡ 0 → Found.Full ≡ searchFor area cells k
   search-empty z =
       sym
       (search-within (omega arith)
-      ∙ ap (λ (f : ℕ). probe (cellHas L area k) cells f (startCell (length cells) k)) z
-      ∙ probe-none (cellHas L area k) cells (startCell (length cells) k))
+      ∙ ap (λ (f : ℕ). probe (cellHas area k) cells f (startCell (length cells) k)) z
+      ∙ probe-none (cellHas area k) cells (startCell (length cells) k))
 
 -- the first cell to look at is one of the cells
 pub first-below : (m at hash : ℕ) → 0 < m → at ≡ hash % m → at < m
@@ -90,17 +110,17 @@ first-below m at hash some first = rw first (mod-lt hash some)
 
 -- The search in two runs, m being the number of cells and at the first to look at, as the code holds them.
 pub search-runs :
-    (L : Layout) (area cells : List ℕ) (k : Key) {m at hash : ℕ} → m ≡ length cells → 0 < m → length cells ≤ mostCells →
+    (area cells : List ℕ) (k : Key) {m at hash : ℕ} → m ≡ length cells → 0 < m → length cells ≤ mostCells →
     hash ≡ keyHash (k .table) (k .key) → at ≡ hash % m →
-    orElse (probe (cellHas L area k) cells (m - at) at) (probe (cellHas L area k) cells at 0) ≡ searchFor L area cells k
-search-runs L area cells k {m} {at} {hash} long some most hashed first =
+    orElse (probe (cellHas area k) cells (m - at) at) (probe (cellHas area k) cells at 0) ≡ searchFor area cells k
+search-runs area cells k {m} {at} {hash} long some most hashed first =
     sym
-    (search-within L area cells k most
+    (search-within area cells k most
     ∙ (λ i. t (all i) (start i))
-    ∙ probe-split (cellHas L area k) cells at (m - at) at (omega (arith, below)))
+    ∙ probe-split (cellHas area k) cells at (m - at) at (omega (arith, below)))
   where
     t : ℕ → ℕ → Found
-    t = probe (cellHas L area k) cells
+    t = probe (cellHas area k) cells
 
     below : at < m
     below = first-below m at hash some first
@@ -143,35 +163,35 @@ module _ (t : ℕ → Bool) (cells : List ℕ) (whole : Found) (from end : ℕ)
         ∙ ap (λ (f : ℕ). probe t cells f 0) (omega arith)
         ∙ by-run Found.Full e
 
-module _ (L : Layout) (area cells : List ℕ) (k : Key) (i : ℕ) where
+module _ (area cells : List ℕ) (k : Key) (i : ℕ) where
   -- an answer that is not full came from some cell, of no more than the most
-  some-cell : (a : Found) → searchFor L area cells k ≡ a → (Found.Full ≡ a → ⊥) → (0 < length cells) × (length cells ≤ mostCells)
+  some-cell : (a : Found) → searchFor area cells k ≡ a → (Found.Full ≡ a → ⊥) → (0 < length cells) × (length cells ≤ mostCells)
   some-cell a e n = go (eq-zero-or-pos (length cells)) (decLt mostCells (length cells))
     where
       go : (length cells ≡ 0) ⊎ (0 < length cells) → Dec (mostCells < length cells) → (0 < length cells) × (length cells ≤ mostCells)
-      go (inl z) d = absurd (n (search-empty L area cells k z ∙ e))
-      go (inr h) (yes l) = absurd (n (search-above L area cells k l ∙ e))
+      go (inl z) d = absurd (n (search-empty area cells k z ∙ e))
+      go (inr h) (yes l) = absurd (n (search-above area cells k l ∙ e))
       go (inr h) (no l) = (h, omega arith)
 
-  pub search-inside : searchFor L area cells k ≡ Found.At i → Inside L area cells i
+  pub search-inside : searchFor area cells k ≡ Found.At i → Inside area cells i
   unfolding Probed hasKeyAt
   search-inside e =
       let h = some-cell (Found.At i) e (λ q. let z : _≡_ {A = ℕ} 0 1 = cc in omega arith) in
       let s = start-below (length cells) k (h .0) in
-      let w : Probed (cellHas L area k) cells (startCell (length cells) k) (Found.At i) = rw (sym (search-within L area cells k (h .1)) ∙ e) at (probed (cellHas L area k) cells (startCell (length cells) k) s) in
+      let w : Probed (cellHas area k) cells (startCell (length cells) k) (Found.At i) = rw (sym (search-within area cells k (h .1)) ∙ e) at (probed (cellHas area k) cells (startCell (length cells) k) s) in
       record {
-        below = reached-below (cellHas L area k) cells (startCell (length cells) k) i s (w .0);
+        below = reached-below (cellHas area k) cells (startCell (length cells) k) i s (w .0);
         taken = nonzero (w .1);
-        fits = leb-true (getD cells i 0 - 1 + entrySize L 0) (length area) (both-left (leb (getD cells i 0 - 1 + entrySize L 0) (length area)) _ (w .2));
+        fits = leb-true (getD cells i 0 - 1 + entrySize edition1 0) (length area) (both-left (leb (getD cells i 0 - 1 + entrySize edition1 0) (length area)) _ (w .2));
       }
     where
       nonzero : (getD cells i 0 ≡ 0 → ⊥) → 0 < getD cells i 0
       nonzero n = omega arith
 
-  pub search-free : searchFor L area cells k ≡ Found.Free i → i < length cells
+  pub search-free : searchFor area cells k ≡ Found.Free i → i < length cells
   unfolding Probed
   search-free e =
       let h = some-cell (Found.Free i) e (λ q. let z : _≡_ {A = ℕ} 0 1 = cc in omega arith) in
       let s = start-below (length cells) k (h .0) in
-      let w : Probed (cellHas L area k) cells (startCell (length cells) k) (Found.Free i) = rw (sym (search-within L area cells k (h .1)) ∙ e) at (probed (cellHas L area k) cells (startCell (length cells) k) s) in
-      reached-below (cellHas L area k) cells (startCell (length cells) k) i s (w .0)
+      let w : Probed (cellHas area k) cells (startCell (length cells) k) (Found.Free i) = rw (sym (search-within area cells k (h .1)) ∙ e) at (probed (cellHas area k) cells (startCell (length cells) k) s) in
+      reached-below (cellHas area k) cells (startCell (length cells) k) i s (w .0)

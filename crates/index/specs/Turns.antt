@@ -31,6 +31,7 @@ use Rattle.index.specs.Search.{versionAt, searchFor}
 use Rattle.index.specs.declared.Found.{Found as Searched}
 use Rattle.index.specs.declared.Inserted.{Inserted}
 use Rattle.index.specs.declared.Built.{Built}
+use Rattle.segment.specs.Digest.{layoutIn}
 
 -- ---- all cells 0
 
@@ -47,28 +48,28 @@ module _ (cells old : List ℕ) (n : ℕ) (e : cells ≡ replicate n 0 ++ drop n
 
 -- ---- one entry more
 
-module _ (L : Layout) (area : List ℕ) (place : ℕ) (k : Key) (version : ℕ) (cells : List ℕ) (n : ℕ) (r : Inserted) (after : List ℕ)
-    (e : _≡_ {A = Insertion} (record { answer = r; cells = after }) (inserted L area cells place k version)) where
-  one : tallied r after n ≡ insertOne L area place k version cells n
+module _ (area : List ℕ) (place : ℕ) (k : Key) (version : ℕ) (cells : List ℕ) (n : ℕ) (r : Inserted) (after : List ℕ)
+    (e : _≡_ {A = Insertion} (record { answer = r; cells = after }) (inserted area cells place k version)) where
+  one : tallied r after n ≡ insertOne area place k version cells n
   one = ap (λ (i : Insertion). tallied (i .answer) (i .cells) n) e
 
-  pub one-new : r ≡ Inserted.New → n + 1 < length after → tallyOf (Built.Keys (n + 1)) after ≡ insertOne L area place k version cells n
+  pub one-new : r ≡ Inserted.New → n + 1 < length after → tallyOf (Built.Keys (n + 1)) after ≡ insertOne area place k version cells n
   unfolding tallyOf
   one-new p h = sym (tally-new after n h) ∙ ap (λ (i : Inserted). tallied i after n) (sym p) ∙ one
 
-  pub one-over : r ≡ Inserted.New → length after ≤ n + 1 → tallyOf Built.TooMany after ≡ insertOne L area place k version cells n
+  pub one-over : r ≡ Inserted.New → length after ≤ n + 1 → tallyOf Built.TooMany after ≡ insertOne area place k version cells n
   unfolding tallyOf
   one-over p h = sym (tally-over after n h) ∙ ap (λ (i : Inserted). tallied i after n) (sym p) ∙ one
 
-  pub one-newer : {old : ℕ} → r ≡ Inserted.Newer old → tallyOf (Built.Keys n) after ≡ insertOne L area place k version cells n
+  pub one-newer : {old : ℕ} → r ≡ Inserted.Newer old → tallyOf (Built.Keys n) after ≡ insertOne area place k version cells n
   unfolding tallyOf
   one-newer {old} p = sym (tally-newer after n old) ∙ ap (λ (i : Inserted). tallied i after n) (sym p) ∙ one
 
-  pub one-older : r ≡ Inserted.Older → tallyOf (Built.Keys n) after ≡ insertOne L area place k version cells n
+  pub one-older : r ≡ Inserted.Older → tallyOf (Built.Keys n) after ≡ insertOne area place k version cells n
   unfolding tallyOf
   one-older p = sym (tally-older after n) ∙ ap (λ (i : Inserted). tallied i after n) (sym p) ∙ one
 
-  pub one-full : r ≡ Inserted.Full → tallyOf Built.TooMany after ≡ insertOne L area place k version cells n
+  pub one-full : r ≡ Inserted.Full → tallyOf Built.TooMany after ≡ insertOne area place k version cells n
   unfolding tallyOf
   one-full p = sym (tally-full after n) ∙ ap (λ (i : Inserted). tallied i after n) (sym p) ∙ one
 
@@ -91,53 +92,53 @@ few-tallied (Inserted.Newer old) cells n h = h
 few-tallied Inserted.Older cells n h = h
 few-tallied Inserted.Full cells n h = tt
 
-module _ (L : Layout) (area : List ℕ) where
-  length-inserted : (cells : List ℕ) (place : ℕ) (k : Key) (version : ℕ) → length (inserted L area cells place k version .cells) ≡ length cells
-  length-inserted cells place k version = go (searchFor L area cells k) refl
+module _ (area : List ℕ) where
+  length-inserted : (cells : List ℕ) (place : ℕ) (k : Key) (version : ℕ) → length (inserted area cells place k version .cells) ≡ length cells
+  length-inserted cells place k version = go (searchFor area cells k) refl
     where
-      newer : (i : ℕ) → searchFor L area cells k ≡ Searched.At i → (t : Bool) → ltb (versionAt L area (getD cells i 0 - 1)) version ≡ t →
-          length (inserted L area cells place k version .cells) ≡ length cells
+      newer : (i : ℕ) → searchFor area cells k ≡ Searched.At i → (t : Bool) → ltb (versionAt area (getD cells i 0 - 1)) version ≡ t →
+          length (inserted area cells place k version .cells) ≡ length cells
       newer i e true t =
           ap (λ (j : Insertion). length (j .cells))
-          (insert-newer L area cells place k version i e (ltb-true (versionAt L area (getD cells i 0 - 1)) version t))
+          (insert-newer area cells place k version i e (ltb-true (versionAt area (getD cells i 0 - 1)) version t))
           ∙ length-set cells i (place + 1)
       newer i e false t =
           ap (λ (j : Insertion). length (j .cells))
-          (insert-older L area cells place k version i e (ltb-false (versionAt L area (getD cells i 0 - 1)) version t))
+          (insert-older area cells place k version i e (ltb-false (versionAt area (getD cells i 0 - 1)) version t))
 
-      go : (f : Searched) → searchFor L area cells k ≡ f → length (inserted L area cells place k version .cells) ≡ length cells
-      go (Searched.At i) e = newer i e (ltb (versionAt L area (getD cells i 0 - 1)) version) refl
-      go (Searched.Free i) e = ap (λ (j : Insertion). length (j .cells)) (insert-new L area cells place k version i e) ∙ length-set cells i (place + 1)
-      go Searched.Full e = ap (λ (j : Insertion). length (j .cells)) (insert-full L area cells place k version e)
+      go : (f : Searched) → searchFor area cells k ≡ f → length (inserted area cells place k version .cells) ≡ length cells
+      go (Searched.At i) e = newer i e (ltb (versionAt area (getD cells i 0 - 1)) version) refl
+      go (Searched.Free i) e = ap (λ (j : Insertion). length (j .cells)) (insert-new area cells place k version i e) ∙ length-set cells i (place + 1)
+      go Searched.Full e = ap (λ (j : Insertion). length (j .cells)) (insert-full area cells place k version e)
 
-  few-one : (place : ℕ) (k : Key) (version : ℕ) (cells : List ℕ) (n : ℕ) → n ≤ length cells → Few (insertOne L area place k version cells n)
+  few-one : (place : ℕ) (k : Key) (version : ℕ) (cells : List ℕ) (n : ℕ) → n ≤ length cells → Few (insertOne area place k version cells n)
   few-one place k version cells n h =
-      few-tallied (inserted L area cells place k version .answer) (inserted L area cells place k version .cells) n
+      few-tallied (inserted area cells place k version .answer) (inserted area cells place k version .cells) n
       (omega (arith, length-inserted cells place k version))
 
-  few-all : (S : ℕ) (xs : List Placed) (s : Tally) → Few s → Few (insertAll L area S xs s)
+  few-all : (S : ℕ) (xs : List Placed) (s : Tally) → Few s → Few (insertAll area S xs s)
   unfolding insertAll insertNext Few
   few-all S [] s h = h
   few-all S (x ∷ xs) (counted cells n) h =
-      few-all S xs (insertNext L area S x (counted cells n)) (few-one (placeOf S x) (keyOf (x .entry)) (x .entry .version) cells n h)
+      few-all S xs (insertNext area S x (counted cells n)) (few-one (placeOf S x) (keyOf (x .entry)) (x .entry .version) cells n h)
   few-all S (x ∷ xs) over h = few-all S xs over tt
 
 -- ---- a turn over the entries of a slot: going on from here gives the whole tally
 
 pub slot-start : (L : Layout) (area : List ℕ) (S i at : ℕ) (cells : List ℕ) (n : ℕ) → at ≡ digestSize L →
-    insertAll L area S (placedIn i (entriesAt L (segmentOf area S i) at)) (counted cells n) ≡
-    insertAll L area S (slotEntries L area S i) (counted cells n)
-slot-start L area S i at cells n e = ap (λ (k : ℕ). insertAll L area S (placedIn i (entriesAt L (segmentOf area S i) k)) (counted cells n)) e
+    insertAll area S (placedIn L i (entriesAt L (segmentOf area S i) at)) (counted cells n) ≡
+    insertAll area S (slotEntries L area S i) (counted cells n)
+slot-start L area S i at cells n e = ap (λ (k : ℕ). insertAll area S (placedIn L i (entriesAt L (segmentOf area S i) k)) (counted cells n)) e
 
 module _ (L : Layout) (area : List ℕ) (S i at : ℕ) (cells : List ℕ) (n : ℕ) (whole : Tally)
-    (from : insertAll L area S (placedIn i (entriesAt L (segmentOf area S i) at)) (counted cells n) ≡ whole) (s : List ℕ)
+    (from : insertAll area S (placedIn L i (entriesAt L (segmentOf area S i) at)) (counted cells n) ≡ whole) (s : List ℕ)
     (cut : s ≡ segmentOf area S i) (r : Next) (read : r ≡ nextOf L (entryAt L s at)) where
   is : r ≡ nextOf L (entryAt L (segmentOf area S i) at)
   is = read ∙ ap (λ (l : List ℕ). nextOf L (entryAt L l at)) cut
 
   stops : entriesAt L (segmentOf area S i) at ≡ [] → tallyOf (Built.Keys n) cells ≡ whole
   unfolding tallyOf insertAll placedIn
-  stops none = sym (ap (λ (l : List Item). insertAll L area S (placedIn i l) (counted cells n)) none) ∙ from
+  stops none = sym (ap (λ (l : List Item). insertAll area S (placedIn L i l) (counted cells n)) none) ∙ from
 
   pub slot-end : r ≡ N.End → tallyOf (Built.Keys n) cells ≡ whole
   slot-end e = stops (entries-end L (segmentOf area S i) at (next-end L (segmentOf area S i) at r is e))
@@ -152,37 +153,37 @@ module _ (L : Layout) (area : List ℕ) (S i at : ℕ) (cells : List ℕ) (n : �
         (fits .0, omega (arith, fits .1, length-part S (i * S) area room))
 
     -- b and after are what one entry more gives
-    module _ (b : Built) (after : List ℕ) (one-more : tallyOf b after ≡ insertOne L area (i * S + at) (h .key) (h .version .0) cells n) where
-      rest : insertAll L area S (placedIn i (entriesAt L (segmentOf area S i) (at + h .length))) (tallyOf b after) ≡ whole
+    module _ (b : Built) (after : List ℕ) (one-more : tallyOf b after ≡ insertOne area (i * S + at) (h .key) (h .version .0) cells n) where
+      rest : insertAll area S (placedIn L i (entriesAt L (segmentOf area S i) (at + h .length))) (tallyOf b after) ≡ whole
       unfolding insertAll insertNext placedIn
       rest = go (next-entry L (segmentOf area S i) at r is h e)
         where
           go : (x : Entry) × (entryAt L (segmentOf area S i) at ≡ entry x) × (headerOf L x ≡ h) →
-              insertAll L area S (placedIn i (entriesAt L (segmentOf area S i) (at + h .length))) (tallyOf b after) ≡ whole
+              insertAll area S (placedIn L i (entriesAt L (segmentOf area S i) (at + h .length))) (tallyOf b after) ≡ whole
           go (x, p, q) =
-              let same : tallyOf b after ≡ insertOne L area (i * S + at) (keyOf x) (x .version) cells n =
-              one-more ∙ λ j. insertOne L area (i * S + at) (sym q j .key) (sym q j .version .0) cells n in
-              ap (λ (w : Header). insertAll L area S (placedIn i (entriesAt L (segmentOf area S i) (at + w .length))) (tallyOf b after)) (sym q)
-              ∙ ap (insertAll L area S (placedIn i (entriesAt L (segmentOf area S i) (at + sizeOf L x)))) same
-              ∙ ap (λ (l : List Item). insertAll L area S (placedIn i l) (counted cells n)) (sym (entries-entry L (segmentOf area S i) at x p))
+              let same : tallyOf b after ≡ insertOne area (i * S + at) (keyOf x) (x .version) cells n =
+              one-more ∙ λ j. insertOne area (i * S + at) (sym q j .key) (sym q j .version .0) cells n in
+              ap (λ (w : Header). insertAll area S (placedIn L i (entriesAt L (segmentOf area S i) (at + w .length))) (tallyOf b after)) (sym q)
+              ∙ ap (insertAll area S (placedIn L i (entriesAt L (segmentOf area S i) (at + sizeOf L x)))) same
+              ∙ ap (λ (l : List Item). insertAll area S (placedIn L i l) (counted cells n)) (sym (entries-entry L (segmentOf area S i) at x p))
               ∙ from
 
       pub slot-over : b ≡ Built.TooMany → tallyOf Built.TooMany after ≡ whole
       unfolding tallyOf
       slot-over p =
-          sym (insert-over L area S (placedIn i (entriesAt L (segmentOf area S i) (at + h .length))))
-          ∙ ap (λ (j : Built). insertAll L area S (placedIn i (entriesAt L (segmentOf area S i) (at + h .length))) (tallyOf j after)) (sym p)
+          sym (insert-over area S (placedIn L i (entriesAt L (segmentOf area S i) (at + h .length))))
+          ∙ ap (λ (j : Built). insertAll area S (placedIn L i (entriesAt L (segmentOf area S i) (at + h .length))) (tallyOf j after)) (sym p)
           ∙ rest
 
       module _ (m : ℕ) (p : b ≡ Built.Keys m) where
-        pub slot-next : insertAll L area S (placedIn i (entriesAt L (segmentOf area S i) (at + h .length))) (counted after m) ≡ whole
+        pub slot-next : insertAll area S (placedIn L i (entriesAt L (segmentOf area S i) (at + h .length))) (counted after m) ≡ whole
         unfolding tallyOf
         slot-next =
-            ap (λ (j : Built). insertAll L area S (placedIn i (entriesAt L (segmentOf area S i) (at + h .length))) (tallyOf j after)) (sym p) ∙ rest
+            ap (λ (j : Built). insertAll area S (placedIn L i (entriesAt L (segmentOf area S i) (at + h .length))) (tallyOf j after)) (sym p) ∙ rest
 
         pub slot-few : n ≤ length cells → m ≤ length after
         unfolding tallyOf Few
-        slot-few f = subst Few (sym (ap (λ (j : Built). tallyOf j after) (sym p) ∙ one-more)) (few-one L area (i * S + at) (h .key) (h .version .0) cells n f)
+        slot-few f = subst Few (sym (ap (λ (j : Built). tallyOf j after) (sym p) ∙ one-more)) (few-one area (i * S + at) (h .key) (h .version .0) cells n f)
 
 -- ---- whether a slot is in the log
 
@@ -212,74 +213,76 @@ slot-small i S h g = omega (arith, mul-le-mul {n₁ = i} {m₁ = S} {n₂ = 255}
 
 -- ---- a slot of the order list
 
-module _ (L : Layout) (area : List ℕ) (S map i : ℕ) (cells : List ℕ) (n : ℕ) (t : Bool) (is : t ≡ inLog (length area) S map i) where
-  pub listed-out : t ≡ false → tallyOf (Built.Keys n) cells ≡ insertAll L area S (listedSlot L area S map i) (counted cells n)
+module _ (area : List ℕ) (S map i : ℕ) (cells : List ℕ) (n : ℕ) (t : Bool) (is : t ≡ inLog (length area) S map i) where
+  pub listed-out : t ≡ false → tallyOf (Built.Keys n) cells ≡ insertAll area S (listedSlot area S map i) (counted cells n)
   unfolding tallyOf insertAll
-  listed-out e = rw (pick-false (inLog (length area) S map i) (slotEntries L area S i) [] (sym is ∙ e))
+  listed-out e = rw (pick-false (inLog (length area) S map i) (slotEntries (layoutIn (segmentOf area S i)) area S i) [] (sym is ∙ e))
 
-  pub listed-slot : t ≡ true → (s : Tally) → s ≡ insertAll L area S (slotEntries L area S i) (counted cells n) →
-      s ≡ insertAll L area S (listedSlot L area S map i) (counted cells n)
-  listed-slot e s p = p ∙ ap (λ (l : List Placed). insertAll L area S l (counted cells n)) (sym (pick-true (inLog (length area) S map i) (slotEntries L area S i) [] (sym is ∙ e)))
+  pub listed-slot : t ≡ true → {L : Layout} → L ≡ layoutIn (segmentOf area S i) → (s : Tally) → s ≡ insertAll area S (slotEntries L area S i) (counted cells n) →
+      s ≡ insertAll area S (listedSlot area S map i) (counted cells n)
+  listed-slot e of s p =
+      p ∙ ap (λ (K : Layout). insertAll area S (slotEntries K area S i) (counted cells n)) of
+      ∙ ap (λ (l : List Placed). insertAll area S l (counted cells n)) (sym (pick-true (inLog (length area) S map i) (slotEntries (layoutIn (segmentOf area S i)) area S i) [] (sym is ∙ e)))
 
 -- ---- a turn over the order list
 
-insert-append : (L : Layout) (area : List ℕ) (S : ℕ) (a b : List Placed) (s : Tally) → insertAll L area S (a ++ b) s ≡ insertAll L area S b (insertAll L area S a s)
+insert-append : (area : List ℕ) (S : ℕ) (a b : List Placed) (s : Tally) → insertAll area S (a ++ b) s ≡ insertAll area S b (insertAll area S a s)
 unfolding insertAll
-insert-append L area S [] b s = refl
-insert-append L area S (x ∷ a) b s = insert-append L area S a b (insertNext L area S x s)
+insert-append area S [] b s = refl
+insert-append area S (x ∷ a) b s = insert-append area S a b (insertNext area S x s)
 
-module _ (L : Layout) (area : List ℕ) (S map : ℕ) (order : List ℕ) (j : ℕ) (cells : List ℕ) (n : ℕ) (whole : Tally)
-    (from : insertAll L area S (listed L area S map (drop j order)) (counted cells n) ≡ whole) where
+module _ (area : List ℕ) (S map : ℕ) (order : List ℕ) (j : ℕ) (cells : List ℕ) (n : ℕ) (whole : Tally)
+    (from : insertAll area S (listed area S map (drop j order)) (counted cells n) ≡ whole) where
   pub order-end : length order ≤ j → tallyOf (Built.Keys n) cells ≡ whole
   unfolding tallyOf insertAll listed
-  order-end h = ap (λ (l : List ℕ). insertAll L area S (listed L area S map l) (counted cells n)) (sym (drop-of-length-le order h)) ∙ from
+  order-end h = ap (λ (l : List ℕ). insertAll area S (listed area S map l) (counted cells n)) (sym (drop-of-length-le order h)) ∙ from
 
   -- b and after are what the slot at j gives
   module _ (h : j < length order) (i : ℕ) (at : i ≡ getD order j 0) (b : Built) (after : List ℕ)
-      (slot : tallyOf b after ≡ insertAll L area S (listedSlot L area S map i) (counted cells n)) where
+      (slot : tallyOf b after ≡ insertAll area S (listedSlot area S map i) (counted cells n)) where
     behind : i ∷ drop (j + 1) order ≡ drop j order
     behind = rw (at, add-one j) (sym (drop-cons order j 0 h))
 
-    on : insertAll L area S (listed L area S map (drop (j + 1) order)) (tallyOf b after) ≡ whole
+    on : insertAll area S (listed area S map (drop (j + 1) order)) (tallyOf b after) ≡ whole
     unfolding listed
     on =
-        ap (insertAll L area S (listed L area S map (drop (j + 1) order))) slot
-        ∙ sym (insert-append L area S (listedSlot L area S map i) (listed L area S map (drop (j + 1) order)) (counted cells n))
-        ∙ ap (λ (l : List ℕ). insertAll L area S (listed L area S map l) (counted cells n)) behind
+        ap (insertAll area S (listed area S map (drop (j + 1) order))) slot
+        ∙ sym (insert-append area S (listedSlot area S map i) (listed area S map (drop (j + 1) order)) (counted cells n))
+        ∙ ap (λ (l : List ℕ). insertAll area S (listed area S map l) (counted cells n)) behind
         ∙ from
 
     pub order-over : b ≡ Built.TooMany → tallyOf Built.TooMany after ≡ whole
     unfolding tallyOf
     order-over p =
-        sym (insert-over L area S (listed L area S map (drop (j + 1) order)))
-        ∙ ap (λ (q : Built). insertAll L area S (listed L area S map (drop (j + 1) order)) (tallyOf q after)) (sym p)
+        sym (insert-over area S (listed area S map (drop (j + 1) order)))
+        ∙ ap (λ (q : Built). insertAll area S (listed area S map (drop (j + 1) order)) (tallyOf q after)) (sym p)
         ∙ on
 
     module _ (k : ℕ) (p : b ≡ Built.Keys k) where
-      pub order-next : insertAll L area S (listed L area S map (drop (j + 1) order)) (counted after k) ≡ whole
+      pub order-next : insertAll area S (listed area S map (drop (j + 1) order)) (counted after k) ≡ whole
       unfolding tallyOf
-      order-next = ap (λ (q : Built). insertAll L area S (listed L area S map (drop (j + 1) order)) (tallyOf q after)) (sym p) ∙ on
+      order-next = ap (λ (q : Built). insertAll area S (listed area S map (drop (j + 1) order)) (tallyOf q after)) (sym p) ∙ on
 
       pub order-few : n ≤ length cells → k ≤ length after
       unfolding Few tallyOf
       order-few f =
-          subst Few (sym (ap (λ (q : Built). tallyOf q after) (sym p) ∙ slot)) (few-all L area S (listedSlot L area S map i) (counted cells n) f)
+          subst Few (sym (ap (λ (q : Built). tallyOf q after) (sym p) ∙ slot)) (few-all area S (listedSlot area S map i) (counted cells n) f)
 
 -- ---- the whole: free cells, the slots of the list, and free cells again where there are too many keys
 
-module _ (L : Layout) (area : List ℕ) (S map : ℕ) (order : List ℕ) (m : ℕ) (free : List ℕ) (e : free ≡ replicate m 0) (b : Built) (after : List ℕ)
-    (all : tallyOf b after ≡ insertAll L area S (listed L area S map order) (counted free 0)) where
-  tally : tallyOf b after ≡ insertAll L area S (listed L area S map order) (counted (replicate m 0) 0)
-  tally = all ∙ ap (λ (l : List ℕ). insertAll L area S (listed L area S map order) (counted l 0)) e
+module _ (area : List ℕ) (S map : ℕ) (order : List ℕ) (m : ℕ) (free : List ℕ) (e : free ≡ replicate m 0) (b : Built) (after : List ℕ)
+    (all : tallyOf b after ≡ insertAll area S (listed area S map order) (counted free 0)) where
+  tally : tallyOf b after ≡ insertAll area S (listed area S map order) (counted (replicate m 0) 0)
+  tally = all ∙ ap (λ (l : List ℕ). insertAll area S (listed area S map order) (counted l 0)) e
 
-  pub built-keys : (n : ℕ) → b ≡ Built.Keys n → _≡_ {A = Rebuilt} (record { answer = Built.Keys n; cells = after }) (built L area S map order m)
+  pub built-keys : (n : ℕ) → b ≡ Built.Keys n → _≡_ {A = Rebuilt} (record { answer = Built.Keys n; cells = after }) (built area S map order m)
   unfolding tallyOf finished
   built-keys n p = ap (λ (q : Built). finished m (tallyOf q after)) (sym p) ∙ ap (finished m) tally
 
   -- r and cleared are what giving up leaves
   pub built-many :
       b ≡ Built.TooMany → (r : Built) (cleared : List ℕ) → (r ≡ Built.TooMany) × (cleared ≡ replicate (length after) 0) → length after ≡ m →
-      _≡_ {A = Rebuilt} (record { answer = r; cells = cleared }) (built L area S map order m)
+      _≡_ {A = Rebuilt} (record { answer = r; cells = cleared }) (built area S map order m)
   unfolding tallyOf finished
   built-many p r cleared (er, ec) l =
       (λ j. record { answer = er j; cells = (ec ∙ ap (λ (n : ℕ). replicate n 0) l) j })

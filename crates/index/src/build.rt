@@ -1,7 +1,9 @@
 // The index rebuilt from the entries of the log, slot by slot in the order of a list.
 use crate::Built;
-use crate::Inserted;
-use crate::put::insert;
+use crate::Found;
+use crate::put::put;
+use crate::put::version_there;
+use crate::search::search;
 use segment::Edition;
 use segment::Key;
 use segment::Next;
@@ -9,6 +11,7 @@ use segment::Version;
 use segment::area::cut;
 use segment::entries::next;
 use segment::layout::digest_size;
+use segment::reader::edition_of;
 use slot_map::has_slot;
 ghost use Prim.Native.Nat.{_+_, _*_, _≤_, _<_};
 ghost use mathlib.Core.Path.{_≡_};
@@ -27,9 +30,9 @@ fn clear(cells: &mut [u32])
     }
 }
 
-// One entry more, with the number of keys so far.
+// One entry more, with the number of keys so far. It does what `insert` does, and not by it: a function that is called from the steps
+// too would not be put in line here, and a recovery takes a fifth longer then.
 fn index_entry(
-    edition: Edition,
     area: &[u8],
     cells: &mut [u32],
     place: usize,
@@ -41,23 +44,30 @@ fn index_entry(
     ensures { λ r.
         ⌜
         tallyOf r (now (cells .exit))
-        ≡ insertOne edition (now (area .entry)) place key (version .0) (now (cells .entry)) keys
+        ≡ insertOne (now (area .entry)) place key (version .0) (now (cells .entry)) keys
         ⌝ }
 {
-    match insert(edition, area, cells, place, key, version) {
-        Inserted::New => {
+    match search(area, cells, key) {
+        Found::Full => Built::TooMany,
+        Found::Free(i) => {
+            put(cells, i, place);
             if keys + 1 < cells.len() {
                 return Built::Keys(keys + 1);
             }
             Built::TooMany
         }
-        Inserted::Newer(_) => Built::Keys(keys),
-        Inserted::Older => Built::Keys(keys),
-        Inserted::Full => Built::TooMany,
+        Found::At(i) => {
+            let old = (cells[i] - 1) as usize;
+            let there = version_there(area, old);
+            if there.0 < version.0 {
+                put(cells, i, place);
+            }
+            Built::Keys(keys)
+        }
     }
 }
 
-// The entries of one slot. Damage, which a log that is recovered does not have, ends a segment too.
+// The entries of one slot, read in an edition. Damage, which a log that is recovered does not have, ends a segment too.
 fn index_slot(
     edition: Edition,
     area: &[u8],
@@ -74,7 +84,7 @@ fn index_slot(
     ensures { λ r.
         ⌜
         tallyOf r (now (cells .exit))
-        ≡ insertAll edition (now (area .entry)) size (slotEntries edition (now (area .entry)) size slot) (counted (now (cells .entry)) keys)
+        ≡ insertAll (now (area .entry)) size (slotEntries edition (now (area .entry)) size slot) (counted (now (cells .entry)) keys)
         ⌝ }
 {
     let s = cut(size, area, slot);
@@ -87,8 +97,7 @@ fn index_slot(
                 let place = start + at;
                 let key = header.key;
                 let version = header.version;
-                let Built::Keys(n) = index_entry(edition, area, cells, place, key, version, keys)
-                else {
+                let Built::Keys(n) = index_entry(area, cells, place, key, version, keys) else {
                     return Built::TooMany;
                 };
                 keys = n;
@@ -125,9 +134,8 @@ fn in_log(length: usize, size: usize, map: u32, slot: usize) -> bool
     slot * size + size <= length
 }
 
-// The entries of one slot of the order list, if it is in the log.
+// The entries of one slot of the order list in its own edition, if it is in the log.
 fn index_listed(
-    edition: Edition,
     area: &[u8],
     cells: &mut [u32],
     slot: usize,
@@ -139,36 +147,30 @@ fn index_listed(
     ensures { λ r.
         ⌜
         tallyOf r (now (cells .exit))
-        ≡ insertAll edition (now (area .entry)) size (listedSlot edition (now (area .entry)) size map slot) (counted (now (cells .entry)) keys)
+        ≡ insertAll (now (area .entry)) size (listedSlot (now (area .entry)) size map slot) (counted (now (cells .entry)) keys)
         ⌝ }
 {
     if !in_log(area.len(), size, map, slot) {
         return Built::Keys(keys);
     }
+    let edition = edition_of(cut(size, area, slot));
     index_slot(edition, area, cells, slot, size, keys)
 }
 
 // The entries of the slots of the order list, one slot after the other, into cells that are free.
-fn index_order(
-    edition: Edition,
-    area: &[u8],
-    cells: &mut [u32],
-    order: &[u8],
-    size: usize,
-    map: u32,
-) -> Built
+fn index_order(area: &[u8], cells: &mut [u32], order: &[u8], size: usize, map: u32) -> Built
     requires { ⌜ size ≤ 65536 ⌝ }
     ensures { λ r.
         ⌜
         tallyOf r (now (cells .exit))
-        ≡ insertAll edition (now (area .entry)) size (listed edition (now (area .entry)) size map (now (order .entry))) (counted (now (cells .entry)) 0)
+        ≡ insertAll (now (area .entry)) size (listed (now (area .entry)) size map (now (order .entry))) (counted (now (cells .entry)) 0)
         ⌝ }
 {
     let mut keys = 0;
     let mut j = 0;
     while j < order.len() {
         let slot = slot_of(order[j]);
-        let Built::Keys(n) = index_listed(edition, area, cells, slot, size, map, keys) else {
+        let Built::Keys(n) = index_listed(area, cells, slot, size, map, keys) else {
             return Built::TooMany;
         };
         keys = n;
@@ -186,23 +188,16 @@ fn give_up(index: &mut [u32]) -> Built
 }
 
 // The index of the log: the slots of the map in the order of the list. With too many keys every cell is left 0.
-pub fn build(
-    edition: Edition,
-    area: &[u8],
-    cells: &mut [u32],
-    order: &[u8],
-    size: usize,
-    map: u32,
-) -> Built
+pub fn build(area: &[u8], cells: &mut [u32], order: &[u8], size: usize, map: u32) -> Built
     requires { ⌜ size ≤ 65536 ⌝ }
     ensures { λ r.
         ⌜
         _≡_ {A = Rebuilt} (record { answer = r; cells = now (cells .exit) })
-        (built edition (now (area .entry)) size map (now (order .entry)) (length (now (cells .entry))))
+        (built (now (area .entry)) size map (now (order .entry)) (length (now (cells .entry))))
         ⌝ }
 {
     clear(cells);
-    match index_order(edition, area, cells, order, size, map) {
+    match index_order(area, cells, order, size, map) {
         Built::Keys(n) => Built::Keys(n),
         Built::TooMany => give_up(cells),
     }

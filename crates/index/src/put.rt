@@ -5,10 +5,13 @@ use crate::search::search;
 use segment::Edition;
 use segment::Key;
 use segment::Version;
+use segment::layout::edition_of_kind;
 use segment::reader::version_at;
-ghost use Prim.Native.Nat.{_+_, _<_};
+ghost use Prim.Native.Nat.{_+_, _≤_, _<_};
 ghost use mathlib.Core.Path.{_≡_};
 ghost use lib.ListN.{length, set};
+ghost use Rattle.segment.specs.Layout.{edition1, entrySize};
+ghost use Rattle.index.specs.Search.{versionAt};
 ghost use Rattle.index.specs.Insert.{inserted};
 
 // The place of an entry goes into a cell.
@@ -19,25 +22,29 @@ pub fn put(cells: &mut [u32], cell: usize, place: usize)
     cells[cell] = (place + 1) as u32;
 }
 
+// The version of the entry at a place. Its kind tells the edition, which saves a look at the slot's byte 0.
+pub fn version_there(area: &[u8], place: usize) -> Version
+    requires { ⌜ place + entrySize edition1 0 ≤ length (now area) ⌝ }
+    ensures { λ r. ⌜ r ≡ record { 0 = versionAt (now (area .entry)) place } ⌝ }
+{
+    if area.len() - place < 15 {
+        return version_at(Edition::First, area, place + 7);
+    }
+    version_at(edition_of_kind(area[place]), area, place + 7)
+}
+
 // An entry of a key goes into the index, unless a newer one is there. The version of one that is there is read at its offset
 // and not through the entry reader: through the reader a recovery takes 15 to 30 % longer, for this function is then no
 // longer put in line where the index is rebuilt.
-pub fn insert(
-    edition: Edition,
-    area: &[u8],
-    cells: &mut [u32],
-    place: usize,
-    key: Key,
-    version: Version,
-) -> Inserted
+pub fn insert(area: &[u8], cells: &mut [u32], place: usize, key: Key, version: Version) -> Inserted
     requires { ⌜ place < 4294967295 ⌝ }
     ensures { λ r.
         ⌜
         record { answer = r; cells = now (cells .exit) }
-        ≡ inserted edition (now (area .entry)) (now (cells .entry)) place key (version .0)
+        ≡ inserted (now (area .entry)) (now (cells .entry)) place key (version .0)
         ⌝ }
 {
-    match search(edition, area, cells, key) {
+    match search(area, cells, key) {
         Found::Full => Inserted::Full,
         Found::Free(i) => {
             put(cells, i, place);
@@ -45,7 +52,7 @@ pub fn insert(
         }
         Found::At(i) => {
             let old = cells[i] - 1;
-            let there = version_at(edition, area, old as usize + 7);
+            let there = version_there(area, old as usize);
             if there.0 < version.0 {
                 put(cells, i, place);
                 return Inserted::Newer(old);

@@ -92,7 +92,7 @@ module _ (of : ℕ → Bool) (v v′ : ℕ → View) where
       hiddenLog of (logOf v q n) ≡ hiddenLog of (logOf v′ q n)
   log-alike p q n a sub =
       sym (log-hidden of v q n) ∙
-      log-same (hiddenViews of v′) (hiddenViews of v) q q n (λ i l. refl) (λ i l e. a .scans i l (sub i l e)) ∙ log-hidden of v′ q n
+      log-same (hiddenViews of v′) (hiddenViews of v) q q n (λ i l. refl) (λ i l e. (a .layouts i l (sub i l e), a .scans i l (sub i l e))) ∙ log-hidden of v′ q n
 
 module _ (of : ℕ → Bool) (v v′ : ℕ → View) (n : ℕ) (h : Head) (a : AlikeViews of n (logSlots h) v v′) where
   logs : hiddenLog of (logUnder v n h) ≡ hiddenLog of (logUnder v′ n h)
@@ -107,8 +107,8 @@ module _ (of : ℕ → Bool) (v v′ : ℕ → View) (n : ℕ) (h : Head) (a : A
   high : highest (logUnder v n h) ≡ highest (logUnder v′ n h)
   high = same-by of highest (highest-hidden of) logs
 
-  present-bytes : (L : Layout) → countsOf L (logUnder v n h) ≡ countsOf L (logUnder v′ n h)
-  present-bytes L = same-by of (countsOf L) (counts-hidden of L) logs
+  present-bytes : (L : Layout) → countsOf (logUnder v n h) ≡ countsOf (logUnder v′ n h)
+  present-bytes L = same-by of countsOf (counts-hidden of) logs
 
   pub image-alike : (L : Layout) (o : Option Head) → headElse o ≡ h → imageCauses L v n o ≡ imageCauses L v′ n o
   image-alike L o e =

@@ -35,7 +35,7 @@ abbrev pub hiddenItem : (ℕ → Bool) → Item → Item
 hiddenItem of x = record { offset = x .offset; entry = hidden of (x .entry) }
 
 abbrev pub hiddenPlaced : (ℕ → Bool) → Placed → Placed
-hiddenPlaced of x = record { slot = x .slot; offset = x .offset; entry = hidden of (x .entry) }
+hiddenPlaced of x = record { slot = x .slot; layout = x .layout; offset = x .offset; entry = hidden of (x .entry) }
 
 abbrev pub hiddenLog : (ℕ → Bool) → List Placed → List Placed
 hiddenLog of log = map (hiddenPlaced of) log
@@ -113,10 +113,11 @@ module _ (of : ℕ → Bool) where
 
   -- ---- a log
 
-  pub placed-hidden : (i : ℕ) (is : List Item) → placedIn i (map (hiddenItem of) is) ≡ hiddenLog of (placedIn i is)
+  pub placed-hidden : (L : Layout) (i : ℕ) (is : List Item) → placedIn L i (map (hiddenItem of) is) ≡ hiddenLog of (placedIn L i is)
   unfolding placedIn
-  placed-hidden i [] = refl
-  placed-hidden i (x ∷ is) = ap (λ (r : List Placed). record { slot = i; offset = x .offset; entry = hidden of (x .entry) } ∷ r) (placed-hidden i is)
+  placed-hidden L i [] = refl
+  placed-hidden L i (x ∷ is) =
+      ap (λ (r : List Placed). record { slot = i; layout = L; offset = x .offset; entry = hidden of (x .entry) } ∷ r) (placed-hidden L i is)
 
   pub log-hidden : (v : ℕ → View) (p : ℕ → Bool) (n : ℕ) → logOf (hiddenViews of v) p n ≡ hiddenLog of (logOf v p n)
   unfolding logOf pick
@@ -127,12 +128,12 @@ module _ (of : ℕ → Bool) where
       sym (map-append (hiddenPlaced of) (logOf v p n) (part (v n .scan)))
     where
       part : Scan → List Placed
-      part s = pick (p n) (placedIn n (itemsOf s)) []
+      part s = pick (p n) (placedIn (v n .layout) n (itemsOf s)) []
 
       picked :
-          (t : Bool) → pick t (placedIn n (itemsOf (hiddenScan of (v n .scan)))) [] ≡
-          map (hiddenPlaced of) (pick t (placedIn n (itemsOf (v n .scan))) [])
-      picked true = ap (placedIn n) (scan-items (v n .scan)) ∙ placed-hidden n (itemsOf (v n .scan))
+          (t : Bool) → pick t (placedIn (v n .layout) n (itemsOf (hiddenScan of (v n .scan)))) [] ≡
+          map (hiddenPlaced of) (pick t (placedIn (v n .layout) n (itemsOf (v n .scan))) [])
+      picked true = ap (placedIn (v n .layout) n) (scan-items (v n .scan)) ∙ placed-hidden (v n .layout) n (itemsOf (v n .scan))
       picked false = refl
 
   -- ---- the map of a log
@@ -218,14 +219,14 @@ module _ (of : ℕ → Bool) where
   is-present-hidden log e =
       ap (λ (o : Option Placed). isVersion o (e .version)) (present-hidden log (keyOf e)) ∙ is-version-hidden (present log (keyOf e)) (e .version)
 
-  tally-hidden : (L : Layout) (log xs : List Placed) → tally L (hiddenLog of log) (hiddenLog of xs) ≡ tally L log xs
+  tally-hidden : (log xs : List Placed) → tally (hiddenLog of log) (hiddenLog of xs) ≡ tally log xs
   unfolding tally
-  tally-hidden L log [] = refl
-  tally-hidden L log (x ∷ xs) =
-      λ i. moreBytes (x .slot) (pick (is-present-hidden log (x .entry) i) (size-hidden L (x .entry) i) 0) (tally-hidden L log xs i)
+  tally-hidden log [] = refl
+  tally-hidden log (x ∷ xs) =
+      λ i. moreBytes (x .slot) (pick (is-present-hidden log (x .entry) i) (size-hidden (x .layout) (x .entry) i) 0) (tally-hidden log xs i)
 
-  pub counts-hidden : (L : Layout) (log : List Placed) → countsOf L (hiddenLog of log) ≡ countsOf L log
-  counts-hidden L log = tally-hidden L log log
+  pub counts-hidden : (log : List Placed) → countsOf (hiddenLog of log) ≡ countsOf log
+  counts-hidden log = tally-hidden log log
 
   -- ---- a tombstone in the place of a live object
 
@@ -233,7 +234,7 @@ module _ (of : ℕ → Bool) where
   unfolding replaced
   replaced-hidden v e own [] = refl
   replaced-hidden v e own (x ∷ log) =
-      λ i. record { slot = x .slot; offset = x .offset; entry = go (eqb (x .entry .version) v) i } ∷ replaced-hidden v e own log i
+      λ i. record { slot = x .slot; layout = x .layout; offset = x .offset; entry = go (eqb (x .entry .version) v) i } ∷ replaced-hidden v e own log i
     where
       go : (t : Bool) → pick t e (hidden of (x .entry)) ≡ hidden of (pick t e (x .entry))
       go true = unfold pick in sym own

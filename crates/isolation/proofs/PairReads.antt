@@ -26,7 +26,7 @@ use Rattle.model.specs.Log.{Placed, latest, objectOnly, present}
 use Rattle.model.specs.Causes.{Cause, firstCause}
 use Rattle.model.specs.Operations.{logNow}
 use Rattle.model.specs.Refused.{Lengths, keptLength, readCauses}
-use Rattle.model.specs.Joining.{SlotPair, pairOf, joinFits, lowestPair, joinPair, joinCauses, joinAnswer, JoinPromise}
+use Rattle.model.specs.Joining.{pairOf, joinFits, lowestPair, joinPair, joinCauses, joinAnswer, JoinPromise}
 use Rattle.model.specs.Promises.{Genuine, readLengths, readAnswer, presentAnswer, ReadPromise, Part, partOf, valuePart, valueAnswer, ValuePromise}
 use Rattle.laws.specs.Latest.{same-key, latest-some}
 use Rattle.laws.specs.Operated.{OperationLaws}
@@ -65,7 +65,7 @@ module _ (of : ℕ → Bool) where
     where
       go : (o : Option Placed) → present log k ≡ o → hiddenOne of o ≡ o
       go none p = refl
-      go (some x) p = λ i. some (record { slot = x .slot; offset = x .offset; entry = record { table = x .entry .table; key = x .entry .key; version = x .entry .version; value = value i } })
+      go (some x) p = λ i. some (record { slot = x .slot; layout = x .layout; offset = x .offset; entry = record { table = x .entry .table; key = x .entry .key; version = x .entry .version; value = value i } })
         where
           value : hiddenValue (of (x .entry .table)) (x .entry .value) ≡ x .entry .value
           value =
@@ -80,19 +80,19 @@ module _ (of : ℕ → Bool) where
 
   -- ---- version and kind
 
-  answer-hidden : (L : Layout) (c : Option Refusal) (o : Option Placed) → readAnswer L c (hiddenOne of o) ≡ readAnswer L c o
+  answer-hidden : (c : Option Refusal) (o : Option Placed) → readAnswer c (hiddenOne of o) ≡ readAnswer c o
   unfolding readAnswer presentAnswer hiddenOne
-  answer-hidden L (some c) o = refl
-  answer-hidden L none none = refl
-  answer-hidden L none (some x) =
-      ap (ReadAnswer.Present (record { 0 = x .entry .version })) (value-kind L (of (x .entry .table)) (x .entry .value))
+  answer-hidden (some c) o = refl
+  answer-hidden none none = refl
+  answer-hidden none (some x) =
+      ap (ReadAnswer.Present (record { 0 = x .entry .version })) (value-kind (x .layout) (of (x .entry .table)) (x .entry .value))
 
   -- the same cause tells the same
   pub told-same :
-      (L : Layout) (c : Option Refusal) (log log′ : List Placed) (k : Key) → hiddenLog of log ≡ hiddenLog of log′ →
-      readAnswer L c (present log k) ≡ readAnswer L c (present log′ k)
-  told-same L c log log′ k logs =
-      sym (answer-hidden L c (present log k)) ∙ ap (readAnswer L c) (one-same log log′ k logs) ∙ answer-hidden L c (present log′ k)
+      (c : Option Refusal) (log log′ : List Placed) (k : Key) → hiddenLog of log ≡ hiddenLog of log′ →
+      readAnswer c (present log k) ≡ readAnswer c (present log′ k)
+  told-same c log log′ k logs =
+      sym (answer-hidden c (present log k)) ∙ ap (readAnswer c) (one-same log log′ k logs) ∙ answer-hidden c (present log′ k)
 
   pub absent-same : (log log′ : List Placed) (k : Key) → hiddenLog of log ≡ hiddenLog of log′ → isNone (present log k) ≡ isNone (present log′ k)
   absent-same log log′ k logs = sym (absent-hidden of of log k) ∙ ap (λ (x : List Placed). isNone (present x k)) logs ∙ absent-hidden of of log′ k
@@ -102,10 +102,10 @@ module _ (of : ℕ → Bool) where
     reads-refused = rw (absent-same log log′ k logs)
 
     pub answers-same :
-        readAnswer L (firstCause (readCauses L r log l u k)) (present log k) ≡ readAnswer L (firstCause (readCauses L r log′ l u k)) (present log′ k)
+        readAnswer (firstCause (readCauses L r log l u k)) (present log k) ≡ readAnswer (firstCause (readCauses L r log′ l u k)) (present log′ k)
     answers-same =
-        told-same L (firstCause (readCauses L r log l u k)) log log′ k logs ∙
-        ap (λ (c : Option Refusal). readAnswer L c (present log′ k)) reads-refused
+        told-same (firstCause (readCauses L r log l u k)) log log′ k logs ∙
+        ap (λ (c : Option Refusal). readAnswer c (present log′ k)) reads-refused
 
 -- ---- in two worlds
 
@@ -129,12 +129,12 @@ module _ (of : ℕ → Bool) (L : Layout) (laws : OperationLaws L) (area area′
     read-both a a′ p p′ =
         ap readSaid
         (p .exact g ∙ answers-same of L r (readLengths area cells) log log′ logs u k ∙
-        ap (λ (l : Lengths). readAnswer L (firstCause (readCauses L r log′ l u k)) (present log′ k)) lent ∙ sym (p′ .exact g′))
+        ap (λ (l : Lengths). readAnswer (firstCause (readCauses L r log′ l u k)) (present log′ k)) lent ∙ sym (p′ .exact g′))
 
     -- what stands where the value is
     value-at :
         (ar ce : List ℕ) → Bytes ar → Genuine L ar r ce → (o : Option Placed) → present (logNow ar r) k ≡ o →
-        partOf ar (valuePart L (r .size) o) ≡ valueIn o
+        partOf ar (valuePart (r .size) o) ≡ valueIn o
     unfolding valuePart valueIn
     value-at ar ce ab x none e = refl
     value-at ar ce ab x (some y) e = laws .value-part ar (withPending r Idle) ab (x .recovers) k y e
@@ -146,15 +146,15 @@ module _ (of : ℕ → Bool) (L : Layout) (laws : OperationLaws L) (area area′
     unfolding valueAnswer
     value-both ab ab′ p p′ told q q′ = ap (partOf area) (q .exact g) ∙ go (firstCause (causes log area cells)) refl ∙ sym (ap (partOf area′) exact′)
       where
-        exact′ : p′ ≡ valueAnswer L (r .size) (firstCause (causes log area cells)) (present log′ k)
+        exact′ : p′ ≡ valueAnswer (r .size) (firstCause (causes log area cells)) (present log′ k)
         exact′ =
             q′ .exact g′ ∙
-            ap (λ (c : Option Refusal). valueAnswer L (r .size) c (present log′ k))
+            ap (λ (c : Option Refusal). valueAnswer (r .size) c (present log′ k))
             (sym (reads-refused of L r (readLengths area cells) log log′ logs u k ∙ ap (λ (l : Lengths). firstCause (readCauses L r log′ l u k)) lent))
 
         go :
             (c : Option Refusal) → firstCause (causes log area cells) ≡ c →
-            partOf area (valueAnswer L (r .size) c (present log k)) ≡ partOf area′ (valueAnswer L (r .size) c (present log′ k))
+            partOf area (valueAnswer (r .size) c (present log k)) ≡ partOf area′ (valueAnswer (r .size) c (present log′ k))
         go (some c) e = refl
         go none e =
             value-at area cells ab g (present log k) refl ∙ ap valueIn (objects-same of log log′ k logs (told e)) ∙

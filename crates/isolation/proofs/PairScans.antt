@@ -59,7 +59,7 @@ module _ (L : Layout) (laws : OperationLaws L) (n s m : ℕ) (area : List ℕ) (
     scan-inside e = not-false (holdsTable u (k .table)) (no-cause (soughtCauses (imageLog n s area) u k) (sym only-sought ∙ e) .0)
 
     -- what stands where the value is
-    scanned-at : (o : Option Placed) → present (imageLog n s area) k ≡ o → partOf area (valuePart L s o) ≡ valueIn o
+    scanned-at : (o : Option Placed) → present (imageLog n s area) k ≡ o → partOf area (valuePart s o) ≡ valueIn o
     unfolding valuePart valueIn
     scanned-at none e = refl
     scanned-at (some y) e = laws .value-part area rec ab base k y (ap (λ (l : List Placed). present l k) (sym image-log) ∙ e)
@@ -94,7 +94,7 @@ module _ (of : ℕ → Bool) (L : Layout) (laws : OperationLaws L) (n s m m′ :
     pub scan-both : (a a′ : ReadAnswer) → ScanPromise L n s area u k a → ScanPromise L n s area′ u k a′ → readSaid a ≡ readSaid a′
     scan-both a a′ p p′ =
         ap readSaid
-        (p .answers ∙ told-same of L cause log log′ k logs ∙ ap (λ (c : Option Refusal). readAnswer L c (present log′ k)) causes-same ∙
+        (p .answers ∙ told-same of cause log log′ k logs ∙ ap (λ (c : Option Refusal). readAnswer c (present log′ k)) causes-same ∙
         sym (p′ .answers))
 
     -- The value is the same where its table is not hidden, and where none is given.
@@ -104,12 +104,12 @@ module _ (of : ℕ → Bool) (L : Layout) (laws : OperationLaws L) (n s m m′ :
     unfolding valueAnswer
     scan-value-both p p′ told q q′ = ap (partOf area) (q .exact) ∙ go cause refl ∙ sym (ap (partOf area′) exact′)
       where
-        exact′ : p′ ≡ valueAnswer L s cause (present log′ k)
-        exact′ = q′ .exact ∙ ap (λ (c : Option Refusal). valueAnswer L s c (present log′ k)) (sym causes-same)
+        exact′ : p′ ≡ valueAnswer s cause (present log′ k)
+        exact′ = q′ .exact ∙ ap (λ (c : Option Refusal). valueAnswer s c (present log′ k)) (sym causes-same)
 
         go :
             (c : Option Refusal) → cause ≡ c →
-            partOf area (valueAnswer L s c (present log k)) ≡ partOf area′ (valueAnswer L s c (present log′ k))
+            partOf area (valueAnswer s c (present log k)) ≡ partOf area′ (valueAnswer s c (present log′ k))
         go (some c) e = refl
         go none e =
             scanned-at L laws n s m area ab base u k (present log k) refl ∙ ap valueIn (objects-same of log log′ k logs (told e)) ∙

@@ -2,41 +2,40 @@
 use Prim.Native.Nat.{ℕ, _≤_, _<_}
 use mathlib.Core.Path.{_≡_, refl, sym, _∙_, ap}
 use mathlib.Core.Bool.{Bool, true, false, not}
-use mathlib.Core.Logic.{_⊎_, inl, inr}
+use mathlib.Core.Logic.{inl, inr}
 use mathlib.Core.Option.{Option, none, some}
 use mathlib.Core.List.{List, [], _∷_}
 use native.Mathlib.Nat.{mul-le-mul}
 use native.Mathlib.Omega.{arith}
 use lib.Dec.{ltb}
 use lib.ListN.{length, replicate, length-replicate}
-use borrow.Author.Tests.{le-ltb, not-false, not-true}
+use borrow.Author.Tests.{le-ltb, not-false}
 use Rattle.segment.specs.Choice.{isNone}
 use Rattle.segment.specs.Layout.{Layout, digestSize}
 use Rattle.record.specs.Range.{fitsLent}
 use Rattle.record.specs.RangeLaws.{Lent, lent}
-use Rattle.record.specs.Pairs.{PairSaid, noneSaid, joinSaid}
-use Rattle.record.specs.Refusals.{numberOfRefusal}
+use Rattle.record.specs.Pairs.{joinSaid}
 use Rattle.record.specs.declared.Joined.{Joined}
 use Rattle.record.specs.declared.JoinAnswer.{JoinAnswer}
 use Rattle.record.specs.declared.Record.{Record}
 use Rattle.record.specs.declared.Refusal.{Refusal}
 use Rattle.record.specs.declared.Refusal.the-variants.{BadRecord, WorkShort, Busy, NoPair}
-use Rattle.model.specs.Causes.{Cause, when, firstCause}
+use Rattle.model.specs.Causes.{when, firstCause}
 use Rattle.model.specs.Operations.{logNow}
 use Rattle.model.specs.Refused.{Lengths, recordBad, isPending}
 use Rattle.model.specs.Promises.{Genuine, Settled, readLengths}
 use Rattle.model.specs.Joining.{SlotPair, lowestPair, joinPair, joinEarly, joinCauses, pairAnswer, joinAnswer, pairSaid, pairSaidBy, JoinPromise}
-use Rattle.laws.specs.CauseLaws.{cause-first, cause-skip, cause-false, cause-none, first-some, first-none, no-cause}
+use Rattle.laws.specs.CauseLaws.{cause-first, cause-skip, cause-false, cause-none, first-some, first-none}
 use Rattle.starting.specs.declared.Check.{Check}
 use Rattle.starting.specs.Checks.{checked, idleCauses}
 use Rattle.starting.specs.CheckLaws.{refused, skipped, checked-some, checked-none}
-use Rattle.cleaning.specs.Entries.{SlotsFit}
+use Rattle.cleaning.specs.KeptModel.{genuine-indexed}
 use Rattle.cleaning.specs.declared.Split.{Split}
 use Rattle.joining.specs.declared.Chosen.{Chosen}
 use Rattle.joining.specs.Notes.{NotesFit, noteAll}
 use Rattle.joining.specs.Weights.{Rows, numbersFit, weightsFit}
 use Rattle.joining.specs.WeightsLaws.{fits-same}
-use Rattle.joining.specs.PairLaws.{chosenIs, Joins, pair-given, pair-same}
+use Rattle.joining.specs.PairLaws.{chosenIs, pair-given, pair-same}
 use Rattle.joining.specs.JoinModel.{logSplit, pair-model}
 
 -- ---- the first tests
@@ -57,9 +56,9 @@ module _ (L : Layout) (r : Record) (l : Lengths) {t : Bool} (e : t ≡ fitsLent 
 -- by the numbers it is the pair by what is kept
 pub chosen-same :
     (L : Layout) (area cells notes : List ℕ) (split : Split) (totals shares : List ℕ) (chosen : Chosen) → split .slots ≤ 32 →
-    notes ≡ noteAll L area cells split (replicate 5958 0) → Rows L area cells notes split (split .slots) totals shares →
+    notes ≡ noteAll area cells split (replicate 5958 0) → Rows L area cells notes split (split .slots) totals shares →
     chosen ≡ chosenIs (lowestPair (numbersFit totals shares split (digestSize L)) (split .slots)) →
-    chosen ≡ chosenIs (lowestPair (weightsFit L area cells (noteAll L area cells split (replicate 5958 0)) split) (split .slots))
+    chosen ≡ chosenIs (lowestPair (weightsFit L area cells (noteAll area cells split (replicate 5958 0)) split) (split .slots))
 chosen-same L area cells notes split totals shares chosen most is w e =
     e
     ∙ ap chosenIs
@@ -100,7 +99,7 @@ module _ (L : Layout) (area cells : List ℕ) (r : Record) where
 
   -- the pair by the code's weights
   abbrev pub codePair : Option SlotPair
-  codePair = lowestPair (weightsFit L area cells (noteAll L area cells (logSplit r) (replicate 5958 0)) (logSplit r)) (r .slots)
+  codePair = lowestPair (weightsFit L area cells (noteAll area cells (logSplit r) (replicate 5958 0)) (logSplit r)) (r .slots)
 
   early-first : (p : Option SlotPair) (c : Refusal) → firstCause (joinEarly L r l) ≡ some c → firstCause (joinCauses L r l p) ≡ some c
   early-first p c e = first-some (joinEarly L r l) (when (isNone p) NoPair ∷ []) c e
@@ -146,7 +145,8 @@ module _ (L : Layout) (area cells : List ℕ) (r : Record) where
           go none q =
               let f = in-range q in
               ap (λ (p : Option SlotPair). joinAnswer (firstCause (joinCauses L r l p)) p)
-              (pair-model L area cells (omega (arith, f .area-own, mul-le-mul (f .slots-high) (f .size-high))) r g (omega (arith, f .cells-high, f .index-own)) (f .slots-high))
+              (pair-model area cells (omega (arith, f .area-own, mul-le-mul (f .slots-high) (f .size-high))) r (genuine-indexed L area cells r g)
+              (omega (arith, f .cells-high, f .index-own)) L (f .slots-high))
 
       says : Settled L area r cells (joinEarly L r l) → joinSaid (a .answer) ≡ pairSaidBy (firstCause (joinCauses L r l model)) model
       says (inl (c, q)) = ap joinSaid (early c q) ∙ sym (ap (λ (d : Option Refusal). pairSaidBy d model) (early-first model c q))
@@ -159,9 +159,9 @@ module _ (L : Layout) (area cells : List ℕ) (r : Record) where
       (sym (ap (λ (d : Option Refusal). joinAnswer d codePair) (early-first codePair c (checked-some _ c e))))
 
   module _ (e : Check.Passed ≡ checked (firstCause (joinEarly L r l))) (split : Split) (is : split ≡ logSplit r) (chosen : Chosen)
-      (its : chosen ≡ chosenIs (lowestPair (weightsFit L area cells (noteAll L area cells split (replicate 5958 0)) split) (split .slots))) where
+      (its : chosen ≡ chosenIs (lowestPair (weightsFit L area cells (noteAll area cells split (replicate 5958 0)) split) (split .slots))) where
     code : chosen ≡ chosenIs codePair
-    code = its ∙ ap (λ (s : Split). chosenIs (lowestPair (weightsFit L area cells (noteAll L area cells s (replicate 5958 0)) s) (s .slots))) is
+    code = its ∙ ap (λ (s : Split). chosenIs (lowestPair (weightsFit L area cells (noteAll area cells s (replicate 5958 0)) s) (s .slots))) is
 
     only : firstCause (joinCauses L r l codePair) ≡ firstCause (when (isNone codePair) NoPair ∷ [])
     only = first-none (joinEarly L r l) (when (isNone codePair) NoPair ∷ []) (checked-none _ e)

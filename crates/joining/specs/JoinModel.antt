@@ -1,4 +1,5 @@
--- On a genuine store the pair that the code finds is the model's: what is kept of two slots is what is kept of each by the other.
+-- On an undamaged store, whatever the editions of its slots, the pair that the code finds is the model's: what is kept of two slots is
+-- what is kept of each by the other.
 use Prim.Native.Nat.{ℕ, zero, suc, _+_, _*_, _^_, _≤_, _<_}
 use mathlib.Core.Path.{_≡_, refl, sym, _∙_, ap, subst}
 use mathlib.Core.Bool.{Bool, true, false, not}
@@ -11,7 +12,7 @@ use lib.Dec.{eqb, leb, ltb}
 use lib.ListN.{length, getD, replicate, length-append, length-replicate}
 use borrow.Author.Tests.{eq-eqb, ne-eqb, eqb-true, le-leb, lt-leb, le-ltb, lt-ltb, ltb-true, ltb-false}
 use Rattle.segment.specs.Choice.{pick, pick-true, pick-false, both, both-false-left, both-false-right, either, either-true-left, either-true-right}
-use Rattle.segment.specs.Layout.{Layout, digestSize, entrySize}
+use Rattle.segment.specs.Layout.{Layout, edition1, digestSize, entrySize}
 use Rattle.segment.specs.LayoutLaws.{width-low}
 use Rattle.segment.specs.Entries.{headerOf}
 use Rattle.segment.specs.Entry.{Entry, encoded, sizeOf, keyOf, isTombstone}
@@ -20,10 +21,9 @@ use Rattle.segment.specs.declared.Key.{Key}
 use Rattle.slot_map.specs.Bit.{bit, named}
 use Rattle.slot_map.specs.BitLaws.{bit-pow-same, bit-pow-other, bit-add-same, bit-add-other, set-named, clear-named}
 use Rattle.record.specs.declared.Record.{Record}
-use Rattle.model.specs.Log.{View, Item, Placed, placeOf, segmentOf, viewsOf, scan, itemsOf, placedIn, logOf, sameKeys, sameKey, latest}
+use Rattle.model.specs.Log.{View, Item, Placed, placeOf, placedSize, segmentOf, viewsOf, itemsOf, placedIn, logOf, sameKeys, sameKey, latest}
 use Rattle.model.specs.Operations.{logNow, isVersion, isHighest, objectOutside, isKept, keptOf, kept, allEncoded}
 use Rattle.model.specs.Refused.{keptTooLong, keptLength}
-use Rattle.model.specs.Promises.{Genuine}
 use Rattle.model.specs.Joining.{pairOf, joinFits, joinPair, lowestPair}
 use Rattle.laws.specs.Members.{clash, In, first, Within}
 use Rattle.laws.specs.LogLaws.{anyBelow, partOf, part-picked, part-passed, placedAt, mem-placed, in-log, itemOf, log-in, scan-whole}
@@ -33,9 +33,9 @@ use Rattle.laws.specs.Stores.{slots-apart}
 use Rattle.index.specs.Search.{searchFor}
 use Rattle.index.specs.SearchLaws.{search-inside}
 use Rattle.index.specs.declared.Found.{Found}
-use Rattle.cleaning.specs.Entries.{slotItems, slotHolds, objectIn}
+use Rattle.cleaning.specs.Entries.{slotLayout, slotItems, slotHolds, objectIn}
 use Rattle.cleaning.specs.Outside.{outside-named, slot-items, object-same}
-use Rattle.cleaning.specs.KeptModel.{splitOf, encoded-append, kept-front, kept-behind, kept-append, kept-none, editions, scans, inside, place-one, KeyCell, key-cell, cell-highest}
+use Rattle.cleaning.specs.KeptModel.{splitOf, encoded-append, kept-front, kept-behind, kept-append, kept-none, Indexed, inside, place-one, KeyCell, key-cell, cell-highest}
 use Rattle.cleaning.specs.declared.Split.{Split}
 use Rattle.joining.specs.declared.Share.{Share}
 use Rattle.joining.specs.Notes.{tellsBut, spotOf, cellSpot, elsewhere, noteAll, foundLength, objectAt, objectsOf}
@@ -121,14 +121,13 @@ scans-apart (more x p r) (List·Memᴰ·head a) (List·Memᴰ·tail n) l = omega
 scans-apart (more x p r) (List·Memᴰ·tail m) (List·Memᴰ·head b) l = absurd (omega (arith, ap (λ (k : Item). k .offset) b, scans-above r m))
 scans-apart (more x p r) (List·Memᴰ·tail m) (List·Memᴰ·tail n) l = scans-apart r m n l
 
--- ---- a genuine store
+-- ---- a store
 
 -- no entry is shorter than the bytes of a note
 wide : (L : Layout) → 11 ≤ entrySize L 0
 wide L = omega (arith, width-low L)
 
-module _ (L : Layout) (area cells : List ℕ) (short : length area ≤ 65536) (r : Record) (g : Genuine L area r cells)
-    (few : length cells ≤ 4096) where
+module _ (area cells : List ℕ) (short : length area ≤ 65536) (r : Record) (g : Indexed area r cells) (few : length cells ≤ 4096) where
   abbrev v : ℕ → View
   v = viewsOf area (r .size)
 
@@ -136,7 +135,7 @@ module _ (L : Layout) (area cells : List ℕ) (short : length area ≤ 65536) (r
   log = logNow area r
 
   abbrev pub notes : List ℕ
-  notes = noteAll L area cells (logSplit r) (replicate 5958 0)
+  notes = noteAll area cells (logSplit r) (replicate 5958 0)
 
   -- ---- the note of an entry
 
@@ -148,24 +147,23 @@ module _ (L : Layout) (area cells : List ℕ) (short : length area ≤ 65536) (r
       go (yes e) =
           let wx = log-in v (named (r .map)) (r .slots) x mx in
           let wy = log-in v (named (r .map)) (r .slots) y my in
-          let seg : List ℕ = segmentOf area (r .size) (x .slot) in
+          let K : Layout = v (x .slot) .layout in
           let own : In (itemOf y) (itemsOf (v (x .slot) .scan)) = subst (λ (s : ℕ). In (itemOf y) (itemsOf (v s .scan))) (sym e) (wy .item) in
-          let whole = scan-whole (v (x .slot) .scan) (scans L area cells r g (x .slot) (wx .below) (wx .picked)) in
-          let its = ap (λ (K : Layout). scan K seg) (editions L area cells r g (x .slot) (wx .below) (wx .picked)) in
-          let all = scan-scans L seg (sym its ∙ whole) in
+          let whole = scan-whole (v (x .slot) .scan) (g .scans (x .slot) (wx .below) (wx .picked)) in
+          let all = scan-scans K (segmentOf area (r .size) (x .slot)) whole in
           let same : x .slot * r .size ≡ y .slot * r .size = ap (λ (s : ℕ). s * r .size) e in
-          omega (arith, same, wide L, scans-apart all (wx .item) own (omega (arith, same)))
+          omega (arith, same, wide K, scans-apart all (wx .item) own (omega (arith, same)))
       go (no n) = at (ltb (x .slot) (y .slot)) refl
         where
           at : (t : Bool) → ltb (x .slot) (y .slot) ≡ t → placeOf (r .size) x + 11 ≤ placeOf (r .size) y
-          at true p = omega (arith, wide L, slots-apart (r .size) (ltb-true (x .slot) (y .slot) p), inside L area cells r g x mx)
+          at true p = omega (arith, wide (x .layout), slots-apart (r .size) (ltb-true (x .slot) (y .slot) p), inside area cells r g x mx)
           at false p =
               let above : y .slot < x .slot = omega (arith, ltb-false (x .slot) (y .slot) p) in
-              absurd (omega (arith, slots-apart (r .size) above, inside L area cells r g y my))
+              absurd (omega (arith, slots-apart (r .size) above, inside area cells r g y my))
 
   -- no two entries have the same note
   spot-one : (x y : Placed) → In x log → In y log → spotOf (placeOf (r .size) x) ≡ spotOf (placeOf (r .size) y) → x ≡ y
-  spot-one x y mx my e = place-one L area cells r g x y mx my (same (ltb p q) refl (ltb q p) refl)
+  spot-one x y mx my e = place-one area cells r g x y mx my (same (ltb p q) refl (ltb q p) refl)
     where
       p : ℕ
       p = placeOf (r .size) x
@@ -179,20 +177,22 @@ module _ (L : Layout) (area cells : List ℕ) (short : length area ≤ 65536) (r
       same false h false k = omega (arith, ltb-false p q h, ltb-false q p k)
 
   -- the entry of a log slot's item
-  item-in : (s : ℕ) → s < r .slots → named (r .map) s ≡ true → (y : Item) → In y (slotItems L area (r .size) s) → In (placedAt s y) log
+  item-in : (s : ℕ) → s < r .slots → named (r .map) s ≡ true → (y : Item) → In y (slotItems area (r .size) s) →
+      In (placedAt (slotLayout area (r .size) s) s y) log
   item-in s h e y m =
-      in-log v (named (r .map)) (r .slots) (placedAt s y)
+      in-log v (named (r .map)) (r .slots) (placedAt (slotLayout area (r .size) s) s y)
       (record {
         below = h;
         picked = e;
-        item = subst (λ (is : List Item). In y is) (slot-items L area (r .size) (r .map) (r .slots) (editions L area cells r g) (scans L area cells r g) s h e) m;
+        layout = refl;
+        item = subst (λ (is : List Item). In y is) (slot-items area (r .size) (r .map) (r .slots) (g .scans) s h e) m;
       })
 
   -- the search for the key of an entry leads to the note of the key's latest entry, and to no other
   misses : (x : Placed) → In x log → (y : Placed) → In y log → (latest log (keyOf (y .entry)) ≡ some x → ⊥) →
-      Misses L area cells (r .size) (spotOf (placeOf (r .size) x)) (headerOf L (y .entry))
+      Misses area cells (r .size) (spotOf (placeOf (r .size) x)) (headerOf (y .layout) (y .entry))
   misses x mx y my n =
-      let c = key-cell L area cells r g few y my in (
+      let c = key-cell area cells r g few y my in (
         c .cell .cell,
         c .finds,
         λ e.
@@ -200,15 +200,15 @@ module _ (L : Layout) (area cells : List ℕ) (short : length area ≤ 65536) (r
             n (c .is ∙ ap some (spot-one (c .top) x (latest-some log (keyOf (y .entry)) (c .top) (c .is) .member) mx same)),
       )
     where
-      spot-of : (c : KeyCell L area cells r g (keyOf (y .entry))) → spotOf (placeOf (r .size) (c .top)) ≡ cellSpot cells (c .cell .cell)
+      spot-of : (c : KeyCell area cells r g (keyOf (y .entry))) → spotOf (placeOf (r .size) (c .top)) ≡ cellSpot cells (c .cell .cell)
       spot-of c = omega (arith, c .cell .holds)
 
   -- an entry that is not its key's latest has no note
   no-note : (x : Placed) → In x log → isHighest log (x .entry) ≡ false → getD notes (spotOf (placeOf (r .size) x)) 0 ≡ 0
   unfolding isVersion
   no-note x mx h =
-      below-misses L area cells (r .size) (spotOf (placeOf (r .size) x)) (logSplit r) refl (replicate 5958 0)
-      (λ s l e y m. misses x mx (placedAt s y) (item-in s l e y m) (not-latest (y .entry))) (r .slots) (omega arith)
+      below-misses area cells (r .size) (spotOf (placeOf (r .size) x)) (logSplit r) refl (replicate 5958 0)
+      (λ s l e y m. misses x mx (placedAt (slotLayout area (r .size) s) s y) (item-in s l e y m) (not-latest (y .entry))) (r .slots) (omega arith)
       ∙ zeros 5958 (spotOf (placeOf (r .size) x))
     where
       not-latest : (e : Entry) → latest log (keyOf e) ≡ some x → ⊥
@@ -219,7 +219,7 @@ module _ (L : Layout) (area cells : List ℕ) (short : length area ≤ 65536) (r
           (ap (λ (o : Option Placed). isVersion o (x .entry .version)) own ∙ eq-eqb (x .entry .version) (x .entry .version) refl) h
 
   -- the slot of a cell's entry
-  cell-slot : (k : Key) (c : KeyCell L area cells r g k) (s : ℕ) → elsewhere (r .size) s (getD cells (c .cell .cell) 0) ≡ not (eqb s (c .top .slot))
+  cell-slot : (k : Key) (c : KeyCell area cells r g k) (s : ℕ) → elsewhere (r .size) s (getD cells (c .cell .cell) 0) ≡ not (eqb s (c .top .slot))
   unfolding elsewhere either
   cell-slot k c s = go (ℕ-discrete s (c .top .slot))
     where
@@ -229,8 +229,8 @@ module _ (L : Layout) (area cells : List ℕ) (short : length area ≤ 65536) (r
       cell : ℕ
       cell = getD cells (c .cell .cell) 0
 
-      lies : x .offset + sizeOf L (x .entry) ≤ r .size
-      lies = inside L area cells r g x (latest-some log k x (c .is) .member)
+      lies : x .offset + placedSize x ≤ r .size
+      lies = inside area cells r g x (latest-some log k x (c .is) .member)
 
       go : Dec (s ≡ x .slot) → either (leb cell (s * r .size)) (ltb (s * r .size + r .size) cell) ≡ not (eqb s (x .slot))
       go (yes p) =
@@ -252,17 +252,17 @@ module _ (L : Layout) (area cells : List ℕ) (short : length area ≤ 65536) (r
               either-true-left (leb cell (s * r .size)) (ltb (s * r .size + r .size) cell) (le-leb cell (s * r .size) (omega (arith, c .cell .holds, high, lies))) ∙ sym (ap not (ne-eqb s (x .slot) p))
 
   -- the search for the key of an entry of a log slot tells it from another key
-  leads : (k : Key) (c : KeyCell L area cells r g k) (j : ℕ) (low : cellSpot cells (c .cell .cell) < 5958) (b : j < 32) (s : ℕ) → s < r .slots →
-      named (r .map) s ≡ true → (y : Item) → In y (slotItems L area (r .size) s) →
-      Leads L area cells k (c .cell .cell) (c .top .slot) j low b (r .size) (cell-slot k c) (headerOf L (y .entry))
+  leads : (k : Key) (c : KeyCell area cells r g k) (j : ℕ) (low : cellSpot cells (c .cell .cell) < 5958) (b : j < 32) (s : ℕ) → s < r .slots →
+      named (r .map) s ≡ true → (y : Item) → In y (slotItems area (r .size) s) →
+      Leads area cells k (c .cell .cell) (c .top .slot) j low b (r .size) (cell-slot k c) (headerOf (slotLayout area (r .size) s) (y .entry))
   unfolding sameKey sameKeys
   leads k c j low b s h e y m =
       record {
-        own = λ p. sym (ap (searchFor L area cells) (same-key k (y .entry) p)) ∙ c .finds;
+        own = λ p. sym (ap (searchFor area cells) (same-key k (y .entry) p)) ∙ c .finds;
         other =
             λ p.
-            subst (λ (q : ℕ). Misses L area cells (r .size) q (headerOf L (y .entry))) spot
-            (misses (c .top) (top .member) (placedAt s y) (item-in s h e y m)
+            subst (λ (q : ℕ). Misses area cells (r .size) q (headerOf (slotLayout area (r .size) s) (y .entry))) spot
+            (misses (c .top) (top .member) (placedAt (slotLayout area (r .size) s) s y) (item-in s h e y m)
             (λ q. clash (sameKey k (y .entry)) (ap (λ (i : Key). sameKey i (y .entry)) (key q) ∙ own-key (y .entry)) p));
       }
     where
@@ -277,21 +277,21 @@ module _ (L : Layout) (area cells : List ℕ) (short : length area ≤ 65536) (r
           same-key k (c .top .entry) (top .of-key)
           ∙ sym (same-key (keyOf (y .entry)) (c .top .entry) (latest-some log (keyOf (y .entry)) (c .top) q .of-key))
 
-  spot-low : (k : Key) (c : KeyCell L area cells r g k) → cellSpot cells (c .cell .cell) < 5958
+  spot-low : (k : Key) (c : KeyCell area cells r g k) → cellSpot cells (c .cell .cell) < 5958
   spot-low k c =
-      let w = search-inside L area cells k (c .cell .cell) (c .finds) in
-      omega (arith, w .taken, w .fits, wide L, short)
+      let w = search-inside area cells k (c .cell .cell) (c .finds) in
+      omega (arith, w .taken, w .fits, wide edition1, short)
 
   -- A note tells of a slot other than j exactly if an object of the key stands outside j and the slot of the key's latest entry.
-  note-means : (k : Key) (c : KeyCell L area cells r g k) (j : ℕ) → j < 32 → (c .top .slot ≡ j → ⊥) →
+  note-means : (k : Key) (c : KeyCell area cells r g k) (j : ℕ) → j < 32 → (c .top .slot ≡ j → ⊥) →
       tellsBut (getD notes (cellSpot cells (c .cell .cell)) 0) j ≡ objectOutside (pairOf (c .top .slot) j) log k
   unfolding tellsBut either both
   note-means k c j low apart =
-      below-note L area cells k (c .cell .cell) (c .top .slot) j (spot-low k c) low (r .size) (cell-slot k c) (logSplit r) refl
+      below-note area cells k (c .cell .cell) (c .top .slot) j (spot-low k c) low (r .size) (cell-slot k c) (logSplit r) refl
       (replicate 5958 0) (length-replicate {A = ℕ} 5958 0) clear (leads k c j (spot-low k c) low) (r .slots) (omega arith)
-      ∙ any-same (standsIn L area cells k (c .cell .cell) (c .top .slot) j (spot-low k c) low (r .size) (cell-slot k c) (logSplit r) refl (replicate 5958 0) (length-replicate {A = ℕ} 5958 0) clear (leads k c j (spot-low k c) low))
-      (slotHolds L area (splitOf r (pairOf (c .top .slot) j)) k) (r .slots) slot-same
-      ∙ object-same L area (r .size) (r .map) (pairOf (c .top .slot) j) (r .slots) (editions L area cells r g) (scans L area cells r g) k
+      ∙ any-same (standsIn area cells k (c .cell .cell) (c .top .slot) j (spot-low k c) low (r .size) (cell-slot k c) (logSplit r) refl (replicate 5958 0) (length-replicate {A = ℕ} 5958 0) clear (leads k c j (spot-low k c) low))
+      (slotHolds area (splitOf r (pairOf (c .top .slot) j)) k) (r .slots) slot-same
+      ∙ object-same area (r .size) (r .map) (pairOf (c .top .slot) j) (r .slots) (g .scans) k
     where
       clear : tellsBut (getD (replicate 5958 0) (cellSpot cells (c .cell .cell)) 0) j ≡ false
       clear = ap (λ (n : ℕ). tellsBut n j) (zeros 5958 (cellSpot cells (c .cell .cell)))
@@ -302,37 +302,37 @@ module _ (L : Layout) (area cells : List ℕ) (short : length area ≤ 65536) (r
       regroup false p q o = refl
 
       slot-same : (s : ℕ) →
-          both (named (r .map) s) (both (both (not (eqb s (c .top .slot))) (not (eqb s j))) (objectIn L k (slotItems L area (r .size) s)))
-          ≡ slotHolds L area (splitOf r (pairOf (c .top .slot) j)) k s
+          both (named (r .map) s) (both (both (not (eqb s (c .top .slot))) (not (eqb s j))) (objectIn (slotLayout area (r .size) s) k (slotItems area (r .size) s)))
+          ≡ slotHolds area (splitOf r (pairOf (c .top .slot) j)) k s
       slot-same s =
-          regroup (named (r .map) s) (eqb s (c .top .slot)) (eqb s j) (objectIn L k (slotItems L area (r .size) s))
-          ∙ ap (λ (t : Bool). both (both (named (r .map) s) (not t)) (objectIn L k (slotItems L area (r .size) s))) (sym (pair-named (c .top .slot) j apart s))
-          ∙ ap (λ (t : Bool). both t (objectIn L k (slotItems L area (r .size) s))) (sym (outside-named (r .map) (pairOf (c .top .slot) j) s))
+          regroup (named (r .map) s) (eqb s (c .top .slot)) (eqb s j) (objectIn (slotLayout area (r .size) s) k (slotItems area (r .size) s))
+          ∙ ap (λ (t : Bool). both (both (named (r .map) s) (not t)) (objectIn (slotLayout area (r .size) s) k (slotItems area (r .size) s))) (sym (pair-named (c .top .slot) j apart s))
+          ∙ ap (λ (t : Bool). both t (objectIn (slotLayout area (r .size) s) k (slotItems area (r .size) s))) (sym (outside-named (r .map) (pairOf (c .top .slot) j) s))
 
-  -- ---- what is kept of a slot by the other
+  -- ---- what is kept of a slot by the other, as rewritten in the layout W of the new head (02, R-13)
 
-  module _ (i j : ℕ) (apart : i ≡ j → ⊥) (low : j < 32) where
+  module _ (W : Layout) (i j : ℕ) (apart : i ≡ j → ⊥) (low : j < 32) where
     own-victim : named (pairOf i j) i ≡ true
     own-victim = pair-named i j apart i ∙ either-true-left (eqb i i) (eqb i j) (eq-eqb i i refl)
 
     -- what the two walks count of an entry is its length, if the model keeps it
     entry-same : (x : Placed) → In x log → x .slot ≡ i →
-        objectAt L area cells (headerOf L (x .entry)) (placeOf (r .size) x) + weightAt notes j (headerOf L (x .entry)) (placeOf (r .size) x)
-        ≡ pick (isKept (pairOf i j) log x) (sizeOf L (x .entry)) 0
+        objectAt area cells (headerOf W (x .entry)) (placeOf (r .size) x) + weightAt notes j (headerOf W (x .entry)) (placeOf (r .size) x)
+        ≡ pick (isKept (pairOf i j) log x) (sizeOf W (x .entry)) 0
     unfolding objectAt foundLength shareAt shareKept noteShare both either pick
     entry-same x m own =
         ap (λ (f : Found). pick (isTombstone (x .entry)) 0 (foundLength cells (placeOf (r .size) x) size f) + kept (isTombstone (x .entry))) (c .finds)
-        ∙ ap (λ (b : Bool). pick (isTombstone (x .entry)) 0 (pick b size 0) + kept (isTombstone (x .entry))) (cell-highest L area cells r g x m c)
+        ∙ ap (λ (b : Bool). pick (isTombstone (x .entry)) 0 (pick b size 0) + kept (isTombstone (x .entry))) (cell-highest area cells r g x m c)
         ∙ go (isHighest log (x .entry)) refl (isTombstone (x .entry))
         ∙ sym
         (ap (λ (b : Bool). pick (both b (both (isHighest log (x .entry)) (either (not (isTombstone (x .entry))) outside))) size 0)
         (ap (named (pairOf i j)) own ∙ own-victim))
       where
-        c : KeyCell L area cells r g (keyOf (x .entry))
-        c = key-cell L area cells r g few x m
+        c : KeyCell area cells r g (keyOf (x .entry))
+        c = key-cell area cells r g few x m
 
         size : ℕ
-        size = sizeOf L (x .entry)
+        size = sizeOf W (x .entry)
 
         n : ℕ
         n = getD notes (spotOf (placeOf (r .size) x)) 0
@@ -344,12 +344,12 @@ module _ (L : Layout) (area cells : List ℕ) (short : length area ≤ 65536) (r
         outside = objectOutside (pairOf i j) log (keyOf (x .entry))
 
         place : isHighest log (x .entry) ≡ true → getD cells (c .cell .cell) 0 ≡ placeOf (r .size) x + 1
-        place h = eqb-true (getD cells (c .cell .cell) 0) (placeOf (r .size) x + 1) (cell-highest L area cells r g x m c ∙ h)
+        place h = eqb-true (getD cells (c .cell .cell) 0) (placeOf (r .size) x + 1) (cell-highest area cells r g x m c ∙ h)
 
         top-slot : isHighest log (x .entry) ≡ true → c .top .slot ≡ i
         top-slot h =
             let same : placeOf (r .size) (c .top) ≡ placeOf (r .size) x = omega (arith, c .cell .holds, place h) in
-            ap (λ (y : Placed). y .slot) (place-one L area cells r g (c .top) x (latest-some log (keyOf (x .entry)) (c .top) (c .is) .member) m same) ∙ own
+            ap (λ (y : Placed). y .slot) (place-one area cells r g (c .top) x (latest-some log (keyOf (x .entry)) (c .top) (c .is) .member) m same) ∙ own
 
         told : isHighest log (x .entry) ≡ true → shareKept (noteShare n) j ≡ outside
         told h =
@@ -371,36 +371,36 @@ module _ (L : Layout) (area cells : List ℕ) (short : length area ≤ 65536) (r
         go true p false = omega arith
 
     weight-same : (xs : List Placed) → Within xs log → ((x : Placed) → In x xs → x .slot ≡ i) →
-        objectsOf L area cells (r .size) xs + weightOf L notes (r .size) j xs ≡ length (allEncoded L (keptOf (pairOf i j) log xs))
+        objectsOf W area cells (r .size) xs + weightOf W notes (r .size) j xs ≡ length (allEncoded W (keptOf (pairOf i j) log xs))
     unfolding objectsOf weightOf allEncoded keptOf
     weight-same [] w f = refl
     weight-same (x ∷ xs) w f = go (isKept (pairOf i j) log x) refl (weight-same xs (λ y m. w y (List·Memᴰ·tail m)) (λ y m. f y (List·Memᴰ·tail m)))
       where
         object : ℕ
-        object = objectAt L area cells (headerOf L (x .entry)) (placeOf (r .size) x)
+        object = objectAt area cells (headerOf W (x .entry)) (placeOf (r .size) x)
 
         tombstone : ℕ
-        tombstone = weightAt notes j (headerOf L (x .entry)) (placeOf (r .size) x)
+        tombstone = weightAt notes j (headerOf W (x .entry)) (placeOf (r .size) x)
 
-        one : (t : Bool) → isKept (pairOf i j) log x ≡ t → object + tombstone ≡ pick t (sizeOf L (x .entry)) 0
-        one t e = entry-same x (w x first) (f x first) ∙ ap (λ (b : Bool). pick b (sizeOf L (x .entry)) 0) e
+        one : (t : Bool) → isKept (pairOf i j) log x ≡ t → object + tombstone ≡ pick t (sizeOf W (x .entry)) 0
+        one t e = entry-same x (w x first) (f x first) ∙ ap (λ (b : Bool). pick b (sizeOf W (x .entry)) 0) e
 
         go : (t : Bool) → isKept (pairOf i j) log x ≡ t →
-            objectsOf L area cells (r .size) xs + weightOf L notes (r .size) j xs ≡ length (allEncoded L (keptOf (pairOf i j) log xs)) →
-            object + objectsOf L area cells (r .size) xs + (tombstone + weightOf L notes (r .size) j xs)
-            ≡ length (allEncoded L (keptOf (pairOf i j) log (x ∷ xs)))
+            objectsOf W area cells (r .size) xs + weightOf W notes (r .size) j xs ≡ length (allEncoded W (keptOf (pairOf i j) log xs)) →
+            object + objectsOf W area cells (r .size) xs + (tombstone + weightOf W notes (r .size) j xs)
+            ≡ length (allEncoded W (keptOf (pairOf i j) log (x ∷ xs)))
         go true e ih =
             omega (
               arith,
-              one true e ∙ pick-true true (sizeOf L (x .entry)) 0 refl,
+              one true e ∙ pick-true true (sizeOf W (x .entry)) 0 refl,
               ih,
-              length-encoded L (x .entry),
-              length-append (encoded L (x .entry)) (allEncoded L (keptOf (pairOf i j) log xs)),
+              length-encoded W (x .entry),
+              length-append (encoded W (x .entry)) (allEncoded W (keptOf (pairOf i j) log xs)),
             )
-            ∙ ap (λ (es : List Entry). length (allEncoded L es)) (sym (kept-front L (pairOf i j) log x xs e))
+            ∙ ap (λ (es : List Entry). length (allEncoded W es)) (sym (kept-front (pairOf i j) log x xs e))
         go false e ih =
-            omega (arith, one false e ∙ pick-false false (sizeOf L (x .entry)) 0 refl, ih)
-            ∙ ap (λ (es : List Entry). length (allEncoded L es)) (sym (kept-behind L (pairOf i j) log x xs e))
+            omega (arith, one false e ∙ pick-false false (sizeOf W (x .entry)) 0 refl, ih)
+            ∙ ap (λ (es : List Entry). length (allEncoded W es)) (sym (kept-behind (pairOf i j) log x xs e))
 
   -- ---- the part of the log that one slot is
 
@@ -408,94 +408,96 @@ module _ (L : Layout) (area cells : List ℕ) (short : length area ≤ 65536) (r
   part-slot i x m = go (named (r .map) i) refl
     where
       go : (t : Bool) → named (r .map) i ≡ t → x .slot ≡ i
-      go true e = mem-placed i x (itemsOf (v i .scan)) (rw (part-picked v (named (r .map)) i e) at m) .0
+      go true e = mem-placed (v i .layout) i x (itemsOf (v i .scan)) (rw (part-picked v (named (r .map)) i e) at m) .slot
       go false e = absurd (List·Memᴰ·not-nil (rw (part-passed v (named (r .map)) i e) at m))
 
   part-in : (i : ℕ) → i < r .slots → named (r .map) i ≡ true → Within (partOf v (named (r .map)) i) log
   part-in i h e x m =
-      let w = mem-placed i x (itemsOf (v i .scan)) (rw (part-picked v (named (r .map)) i e) at m) in
+      let w = mem-placed (v i .layout) i x (itemsOf (v i .scan)) (rw (part-picked v (named (r .map)) i e) at m) in
       in-log v (named (r .map)) (r .slots) x
       (record {
-        below = omega (arith, w .0);
-        picked = ap (named (r .map)) (w .0) ∙ e;
-        item = subst (λ (s : ℕ). In (itemOf x) (itemsOf (v s .scan))) (sym (w .0)) (w .1);
+        below = omega (arith, w .slot);
+        picked = ap (named (r .map)) (w .slot) ∙ e;
+        layout = w .layout ∙ ap (λ (s : ℕ). v s .layout) (sym (w .slot));
+        item = subst (λ (s : ℕ). In (itemOf x) (itemsOf (v s .scan))) (sym (w .slot)) (w .item);
       })
 
   -- what is kept of slot s, where the victims are these
-  abbrev partLength : ℕ → ℕ → ℕ
-  partLength victims s = length (allEncoded L (keptOf victims log (partOf v (named (r .map)) s)))
+  abbrev partLength : Layout → ℕ → ℕ → ℕ
+  partLength W victims s = length (allEncoded W (keptOf victims log (partOf v (named (r .map)) s)))
 
-  slot-weight : (i j : ℕ) → (i ≡ j → ⊥) → j < 32 → i < r .slots → named (r .map) i ≡ true →
-      slotWeight L area cells notes (r .size) i j ≡ partLength (pairOf i j) i
-  slot-weight i j apart low h e =
-      ap (λ (xs : List Placed). objectsOf L area cells (r .size) xs + weightOf L notes (r .size) j xs)
-      (ap (placedIn i) (slot-items L area (r .size) (r .map) (r .slots) (editions L area cells r g) (scans L area cells r g) i h e) ∙ sym (part-picked v (named (r .map)) i e))
-      ∙ weight-same i j apart low (partOf v (named (r .map)) i) (part-in i h e) (part-slot i)
+  module _ (W : Layout) where
+    slot-weight : (i j : ℕ) → (i ≡ j → ⊥) → j < 32 → i < r .slots → named (r .map) i ≡ true →
+        slotWeight W area cells notes (r .size) i j ≡ partLength W (pairOf i j) i
+    slot-weight i j apart low h e =
+        ap (λ (xs : List Placed). objectsOf W area cells (r .size) xs + weightOf W notes (r .size) j xs)
+        (ap (placedIn (v i .layout) i) (slot-items area (r .size) (r .map) (r .slots) (g .scans) i h e) ∙ sym (part-picked v (named (r .map)) i e))
+        ∙ weight-same W i j apart low (partOf v (named (r .map)) i) (part-in i h e) (part-slot i)
 
-  -- all that is kept, slot by slot
-  parts-sum : (victims n : ℕ) → length (allEncoded L (keptOf victims log (logOf v (named (r .map)) n))) ≡ sumBelow (partLength victims) n
-  unfolding logOf keptOf allEncoded sumBelow
-  parts-sum victims zero = refl
-  parts-sum victims (suc n) =
-      ap (λ (es : List Entry). length (allEncoded L es)) (kept-append L victims log (logOf v (named (r .map)) n) (partOf v (named (r .map)) n))
-      ∙ ap length (encoded-append L (keptOf victims log (logOf v (named (r .map)) n)) (keptOf victims log (partOf v (named (r .map)) n)))
-      ∙ length-append (allEncoded L (keptOf victims log (logOf v (named (r .map)) n))) (allEncoded L (keptOf victims log (partOf v (named (r .map)) n)))
-      ∙ ap (λ (m : ℕ). m + partLength victims n) (parts-sum victims n)
+    -- all that is kept, slot by slot
+    parts-sum : (victims n : ℕ) → length (allEncoded W (keptOf victims log (logOf v (named (r .map)) n))) ≡ sumBelow (partLength W victims) n
+    unfolding logOf keptOf allEncoded sumBelow
+    parts-sum victims zero = refl
+    parts-sum victims (suc n) =
+        ap (λ (es : List Entry). length (allEncoded W es)) (kept-append victims log (logOf v (named (r .map)) n) (partOf v (named (r .map)) n))
+        ∙ ap length (encoded-append W (keptOf victims log (logOf v (named (r .map)) n)) (keptOf victims log (partOf v (named (r .map)) n)))
+        ∙ length-append (allEncoded W (keptOf victims log (logOf v (named (r .map)) n))) (allEncoded W (keptOf victims log (partOf v (named (r .map)) n)))
+        ∙ ap (λ (m : ℕ). m + partLength W victims n) (parts-sum victims n)
 
-  swap : (i j : ℕ) → pairOf i j ≡ pairOf j i
-  swap i j = omega arith
+    swap : (i j : ℕ) → pairOf i j ≡ pairOf j i
+    swap i j = omega arith
 
-  -- 02, R-7: a cleaning of two slots keeps of each what is kept of it by the other.
-  pub pair-kept : r .slots ≤ 32 → (i j : ℕ) → i < j → j < r .slots → named (r .map) i ≡ true → named (r .map) j ≡ true →
-      keptLength L log (pairOf i j) ≡ slotWeight L area cells notes (r .size) i j + slotWeight L area cells notes (r .size) j i
-  unfolding allEncoded either
-  pair-kept most i j l h p q =
-      parts-sum (pairOf i j) (r .slots)
-      ∙ sum-two (partLength (pairOf i j)) i j (r .slots) l h others
-      ∙ (λ t. first-part t + second-part t)
-    where
-      apart : i ≡ j → ⊥
-      apart e = omega arith
+    -- 02, R-7: a cleaning of two slots keeps of each what is kept of it by the other.
+    pub pair-kept : r .slots ≤ 32 → (i j : ℕ) → i < j → j < r .slots → named (r .map) i ≡ true → named (r .map) j ≡ true →
+        keptLength W log (pairOf i j) ≡ slotWeight W area cells notes (r .size) i j + slotWeight W area cells notes (r .size) j i
+    unfolding allEncoded either
+    pair-kept most i j l h p q =
+        parts-sum (pairOf i j) (r .slots)
+        ∙ sum-two (partLength W (pairOf i j)) i j (r .slots) l h others
+        ∙ (λ t. first-part t + second-part t)
+      where
+        apart : i ≡ j → ⊥
+        apart e = omega arith
 
-      others : (s : ℕ) → s < r .slots → (s ≡ i → ⊥) → (s ≡ j → ⊥) → partLength (pairOf i j) s ≡ 0
-      others s b a c =
-          ap (λ (es : List Entry). length (allEncoded L es))
-          (kept-none L (pairOf i j) log (partOf v (named (r .map)) s)
-          (λ x m. ap (named (pairOf i j)) (part-slot s x m) ∙ pair-named i j apart s ∙ rw (ne-eqb s i a, ne-eqb s j c)))
+        others : (s : ℕ) → s < r .slots → (s ≡ i → ⊥) → (s ≡ j → ⊥) → partLength W (pairOf i j) s ≡ 0
+        others s b a c =
+            ap (λ (es : List Entry). length (allEncoded W es))
+            (kept-none (pairOf i j) log (partOf v (named (r .map)) s)
+            (λ x m. ap (named (pairOf i j)) (part-slot s x m) ∙ pair-named i j apart s ∙ rw (ne-eqb s i a, ne-eqb s j c)))
 
-      first-part : partLength (pairOf i j) i ≡ slotWeight L area cells notes (r .size) i j
-      first-part = sym (slot-weight i j apart (omega arith) (omega arith) p)
+        first-part : partLength W (pairOf i j) i ≡ slotWeight W area cells notes (r .size) i j
+        first-part = sym (slot-weight i j apart (omega arith) (omega arith) p)
 
-      second-part : partLength (pairOf i j) j ≡ slotWeight L area cells notes (r .size) j i
-      second-part = ap (λ (m : ℕ). partLength m j) (swap i j) ∙ sym (slot-weight j i (λ e. apart (sym e)) (omega arith) h q)
+        second-part : partLength W (pairOf i j) j ≡ slotWeight W area cells notes (r .size) j i
+        second-part = ap (λ (m : ℕ). partLength W m j) (swap i j) ∙ sym (slot-weight j i (λ e. apart (sym e)) (omega arith) h q)
 
-  fits-model : r .slots ≤ 32 → (i j : ℕ) → i < j → j < r .slots → weightsFit L area cells notes (logSplit r) i j ≡ joinFits L r log i j
-  unfolding weightsFit joinFits
-  fits-model most i j l h = go (named (r .map) i) refl (named (r .map) j) refl
-    where
-      weights : ℕ
-      weights = slotWeight L area cells notes (r .size) i j + slotWeight L area cells notes (r .size) j i
+    fits-model : r .slots ≤ 32 → (i j : ℕ) → i < j → j < r .slots → weightsFit W area cells notes (logSplit r) i j ≡ joinFits W r log i j
+    unfolding weightsFit joinFits
+    fits-model most i j l h = go (named (r .map) i) refl (named (r .map) j) refl
+      where
+        weights : ℕ
+        weights = slotWeight W area cells notes (r .size) i j + slotWeight W area cells notes (r .size) j i
 
-      negated : (a b : ℕ) → leb a b ≡ not (ltb b a)
-      negated a b = at (ltb b a) refl
-        where
-          at : (t : Bool) → ltb b a ≡ t → leb a b ≡ not t
-          at true e = lt-leb a b (ltb-true b a e)
-          at false e = le-leb a b (omega (arith, ltb-false b a e))
+        negated : (a b : ℕ) → leb a b ≡ not (ltb b a)
+        negated a b = at (ltb b a) refl
+          where
+            at : (t : Bool) → ltb b a ≡ t → leb a b ≡ not t
+            at true e = lt-leb a b (ltb-true b a e)
+            at false e = le-leb a b (omega (arith, ltb-false b a e))
 
-      test : named (r .map) i ≡ true → named (r .map) j ≡ true →
-          leb (digestSize L + weights) (r .size) ≡ not (keptTooLong L r (keptLength L log (pairOf i j)))
-      test p q =
-          negated (digestSize L + weights) (r .size)
-          ∙ ap (λ (n : ℕ). not (ltb (r .size) (digestSize L + n))) (sym (pair-kept most i j l h p q))
+        test : named (r .map) i ≡ true → named (r .map) j ≡ true →
+            leb (digestSize W + weights) (r .size) ≡ not (keptTooLong W r (keptLength W log (pairOf i j)))
+        test p q =
+            negated (digestSize W + weights) (r .size)
+            ∙ ap (λ (n : ℕ). not (ltb (r .size) (digestSize W + n))) (sym (pair-kept most i j l h p q))
 
-      go : (p : Bool) → named (r .map) i ≡ p → (q : Bool) → named (r .map) j ≡ q →
-          both (both (named (r .map) i) (named (r .map) j)) (leb (digestSize L + weights) (r .size))
-          ≡ both (both (named (r .map) i) (named (r .map) j)) (not (keptTooLong L r (keptLength L log (pairOf i j))))
-      go true p true q = ap (both (both (named (r .map) i) (named (r .map) j))) (test p q)
-      go true p false q = both-false-left _ _ (both-false-right _ _ q) ∙ sym (both-false-left _ _ (both-false-right _ _ q))
-      go false p b q = both-false-left _ _ (both-false-left _ _ p) ∙ sym (both-false-left _ _ (both-false-left _ _ p))
+        go : (p : Bool) → named (r .map) i ≡ p → (q : Bool) → named (r .map) j ≡ q →
+            both (both (named (r .map) i) (named (r .map) j)) (leb (digestSize W + weights) (r .size))
+            ≡ both (both (named (r .map) i) (named (r .map) j)) (not (keptTooLong W r (keptLength W log (pairOf i j))))
+        go true p true q = ap (both (both (named (r .map) i) (named (r .map) j))) (test p q)
+        go true p false q = both-false-left _ _ (both-false-right _ _ q) ∙ sym (both-false-left _ _ (both-false-right _ _ q))
+        go false p b q = both-false-left _ _ (both-false-left _ _ p) ∙ sym (both-false-left _ _ (both-false-left _ _ p))
 
-  -- The pair by the code's weights is the model's.
-  pub pair-model : r .slots ≤ 32 → lowestPair (weightsFit L area cells notes (logSplit r)) (r .slots) ≡ joinPair L r log
-  pair-model most = pair-same (weightsFit L area cells notes (logSplit r)) (joinFits L r log) (r .slots) (fits-model most)
+    -- The pair by the code's weights is the model's.
+    pub pair-model : r .slots ≤ 32 → lowestPair (weightsFit W area cells notes (logSplit r)) (r .slots) ≡ joinPair W r log
+    pair-model most = pair-same (weightsFit W area cells notes (logSplit r)) (joinFits W r log) (r .slots) (fits-model most)

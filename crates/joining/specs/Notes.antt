@@ -1,5 +1,5 @@
 -- The first walk, as total functions of any area and any cells: for each latest entry of a key a note of the slots in which objects of
--- the key stand, other than the entry's own, and the bytes of the objects that are kept.
+-- the key stand, other than the entry's own, and the bytes of the objects that are kept, as they are rewritten.
 use Prim.Native.Nat.{ℕ, zero, suc, _+_, _*_, _-_, _/_, _≤_, _<_}
 use mathlib.Core.Path.{_≡_}
 use mathlib.Core.Bool.{Bool, true, not}
@@ -14,7 +14,7 @@ use Rattle.slot_map.specs.Bit.{named}
 use Rattle.model.specs.Log.{Item, Placed, placeOf, placedIn}
 use Rattle.index.specs.Search.{searchFor}
 use Rattle.index.specs.declared.Found.{Found}
-use Rattle.cleaning.specs.Entries.{SlotsFit, slotItems}
+use Rattle.cleaning.specs.Entries.{SlotsFit, itemsIn, slotLayout}
 use Rattle.cleaning.specs.declared.Split.{Split}
 use Rattle.joining.specs.declared.Sums.{Sums}
 
@@ -60,26 +60,27 @@ noteFound S s cells notes (Found.Free c) = notes
 noteFound S s cells notes Found.Full = notes
 
 -- a tombstone is not noted
-unfoldable pub noteEntry : Layout → List ℕ → List ℕ → ℕ → ℕ → List ℕ → Header → List ℕ
-noteEntry L area cells S s notes h = pick (h .tombstone) notes (noteFound S s cells notes (searchFor L area cells (h .key)))
+unfoldable pub noteEntry : List ℕ → List ℕ → ℕ → ℕ → List ℕ → Header → List ℕ
+noteEntry area cells S s notes h = pick (h .tombstone) notes (noteFound S s cells notes (searchFor area cells (h .key)))
 
 unfoldable pub noteItems : Layout → List ℕ → List ℕ → ℕ → ℕ → List ℕ → List Item → List ℕ
-noteItems L area cells S s notes [] = notes
-noteItems L area cells S s notes (x ∷ xs) = noteItems L area cells S s (noteEntry L area cells S s notes (headerOf L (x .entry))) xs
+noteItems K area cells S s notes [] = notes
+noteItems K area cells S s notes (x ∷ xs) = noteItems K area cells S s (noteEntry area cells S s notes (headerOf K (x .entry))) xs
 
--- a slot; nothing where it is not of the log; and the slots below n
+-- a slot read in the layout K; in its own edition, nothing where it is not of the log; and the slots below n
 abbrev pub noteSlot : Layout → List ℕ → List ℕ → ℕ → List ℕ → ℕ → List ℕ
-noteSlot L area cells S notes s = noteItems L area cells S s notes (slotItems L area S s)
+noteSlot K area cells S notes s = noteItems K area cells S s notes (itemsIn K area S s)
 
-unfoldable pub notePart : Layout → List ℕ → List ℕ → Split → List ℕ → ℕ → List ℕ
-notePart L area cells split notes s = pick (named (split .outside) s) (noteSlot L area cells (split .size) notes s) notes
+unfoldable pub notePart : List ℕ → List ℕ → Split → List ℕ → ℕ → List ℕ
+notePart area cells split notes s =
+    pick (named (split .outside) s) (noteSlot (slotLayout area (split .size) s) area cells (split .size) notes s) notes
 
-unfoldable pub noteBelow : Layout → List ℕ → List ℕ → Split → List ℕ → ℕ → List ℕ
-noteBelow L area cells split notes zero = notes
-noteBelow L area cells split notes (suc n) = notePart L area cells split (noteBelow L area cells split notes n) n
+unfoldable pub noteBelow : List ℕ → List ℕ → Split → List ℕ → ℕ → List ℕ
+noteBelow area cells split notes zero = notes
+noteBelow area cells split notes (suc n) = notePart area cells split (noteBelow area cells split notes n) n
 
-abbrev pub noteAll : Layout → List ℕ → List ℕ → Split → List ℕ → List ℕ
-noteAll L area cells split notes = noteBelow L area cells split notes (split .slots)
+abbrev pub noteAll : List ℕ → List ℕ → Split → List ℕ → List ℕ
+noteAll area cells split notes = noteBelow area cells split notes (split .slots)
 
 -- ---- the objects that are kept
 
@@ -89,40 +90,49 @@ foundLength cells place n (Found.At c) = pick (eqb (getD cells c 0) (place + 1))
 foundLength cells place n (Found.Free c) = 0
 foundLength cells place n Found.Full = 0
 
-unfoldable pub objectAt : Layout → List ℕ → List ℕ → Header → ℕ → ℕ
-objectAt L area cells h place = pick (h .tombstone) 0 (foundLength cells place (h .length) (searchFor L area cells (h .key)))
+unfoldable pub objectAt : List ℕ → List ℕ → Header → ℕ → ℕ
+objectAt area cells h place = pick (h .tombstone) 0 (foundLength cells place (h .length) (searchFor area cells (h .key)))
 
+-- as the objects are rewritten in the layout W of the new head (02, R-13)
 unfoldable pub objectsOf : Layout → List ℕ → List ℕ → ℕ → List Placed → ℕ
-objectsOf L area cells S [] = 0
-objectsOf L area cells S (x ∷ xs) = objectAt L area cells (headerOf L (x .entry)) (placeOf S x) + objectsOf L area cells S xs
+objectsOf W area cells S [] = 0
+objectsOf W area cells S (x ∷ xs) = objectAt area cells (headerOf W (x .entry)) (placeOf S x) + objectsOf W area cells S xs
 
--- the bytes kept of the objects of slot i
+-- the bytes kept of the objects of slot i, read in the layout K
+abbrev pub objectsRead : Layout → Layout → List ℕ → List ℕ → ℕ → ℕ → ℕ
+objectsRead K W area cells S i = objectsOf W area cells S (placedIn K i (itemsIn K area S i))
+
+-- and in its own edition
 abbrev pub slotObjects : Layout → List ℕ → List ℕ → ℕ → ℕ → ℕ
-slotObjects L area cells S i = objectsOf L area cells S (placedIn i (slotItems L area S i))
+slotObjects W area cells S i = objectsRead (slotLayout area S i) W area cells S i
 
 -- ---- the tombstones
 
 unfoldable pub tombstonesOf : Layout → List Item → ℕ
-tombstonesOf L [] = 0
-tombstonesOf L (x ∷ xs) = pick (headerOf L (x .entry) .tombstone) (headerOf L (x .entry) .length) 0 + tombstonesOf L xs
+tombstonesOf W [] = 0
+tombstonesOf W (x ∷ xs) = pick (headerOf W (x .entry) .tombstone) (headerOf W (x .entry) .length) 0 + tombstonesOf W xs
 
--- the bytes of the tombstones of slot i
+-- the bytes of the tombstones of slot i, rewritten in the same way
+abbrev pub tombstonesRead : Layout → Layout → List ℕ → ℕ → ℕ → ℕ
+tombstonesRead K W area S i = tombstonesOf W (itemsIn K area S i)
+
 abbrev pub tombstonesIn : Layout → List ℕ → ℕ → ℕ → ℕ
-tombstonesIn L area S i = tombstonesOf L (slotItems L area S i)
+tombstonesIn W area S i = tombstonesRead (slotLayout area S i) W area S i
 
 -- ---- the sums of the slots
 
-pub record Summed (L : Layout) (area cells : List ℕ) (S i : ℕ) (sums : Sums) : Type 0 where
-  pub objects-are : sums .objects ≡ slotObjects L area cells S i
-  pub tombstones-are : sums .tombstones ≡ tombstonesIn L area S i
-  pub few : sums .objects + sums .tombstones ≤ 2048
+-- Rewritten in the other edition no entry takes twice its bytes.
+pub record Summed (K W : Layout) (area cells : List ℕ) (S i : ℕ) (sums : Sums) : Type 0 where
+  pub objects-are : sums .objects ≡ objectsRead K W area cells S i
+  pub tombstones-are : sums .tombstones ≡ tombstonesRead K W area S i
+  pub few : sums .objects + sums .tombstones ≤ 4096
 
 -- The sums of the log slots below n.
-pub record ObjectsCounted (L : Layout) (area cells : List ℕ) (split : Split) (n : ℕ) (totals : List ℕ) : Type 0 where
-  pub counted : (i : ℕ) → i < n → named (split .outside) i ≡ true → getD totals i 0 ≡ slotObjects L area cells (split .size) i
-  pub few : (i : ℕ) → getD totals i 0 ≤ 2048
+pub record ObjectsCounted (W : Layout) (area cells : List ℕ) (split : Split) (n : ℕ) (totals : List ℕ) : Type 0 where
+  pub counted : (i : ℕ) → i < n → named (split .outside) i ≡ true → getD totals i 0 ≡ slotObjects W area cells (split .size) i
+  pub few : (i : ℕ) → getD totals i 0 ≤ 4096
   pub totals-long : length totals ≡ 32
 
-pub record TombstonesCounted (L : Layout) (area : List ℕ) (split : Split) (n : ℕ) (tombstones : List ℕ) : Type 0 where
-  pub tombstones-are : (i : ℕ) → i < n → named (split .outside) i ≡ true → getD tombstones i 0 ≡ tombstonesIn L area (split .size) i
+pub record TombstonesCounted (W : Layout) (area : List ℕ) (split : Split) (n : ℕ) (tombstones : List ℕ) : Type 0 where
+  pub tombstones-are : (i : ℕ) → i < n → named (split .outside) i ≡ true → getD tombstones i 0 ≡ tombstonesIn W area (split .size) i
   pub tombstones-long : length tombstones ≡ 32

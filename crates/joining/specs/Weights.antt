@@ -13,7 +13,7 @@ use Rattle.segment.specs.declared.Header.{Header}
 use Rattle.slot_map.specs.Bit.{named}
 use Rattle.model.specs.Log.{Placed, placeOf, placedIn}
 use Rattle.index.specs.Build.{entriesAt}
-use Rattle.cleaning.specs.Entries.{slotItems}
+use Rattle.cleaning.specs.Entries.{itemsIn, slotLayout}
 use Rattle.cleaning.specs.declared.Split.{Split}
 use Rattle.joining.specs.declared.Share.{Share}
 use Rattle.joining.specs.Notes.{spotOf, slotObjects}
@@ -39,21 +39,27 @@ shareKept (Share.Unless p) j = not (eqb p j)
 abbrev pub weightAt : List ℕ → ℕ → Header → ℕ → ℕ
 weightAt notes j h place = pick (shareKept (shareAt notes h place) j) (h .length) 0
 
+-- as they are rewritten in the layout W of the new head
 unfoldable pub weightOf : Layout → List ℕ → ℕ → ℕ → List Placed → ℕ
-weightOf L notes S j [] = 0
-weightOf L notes S j (x ∷ xs) = weightAt notes j (headerOf L (x .entry)) (placeOf S x) + weightOf L notes S j xs
+weightOf W notes S j [] = 0
+weightOf W notes S j (x ∷ xs) = weightAt notes j (headerOf W (x .entry)) (placeOf S x) + weightOf W notes S j xs
 
--- the bytes kept of the tombstones of slot i where the other victim is slot j
+-- the bytes kept of the tombstones of slot i, read in the layout K, where the other victim is slot j
+abbrev pub weightRead : Layout → Layout → List ℕ → List ℕ → ℕ → ℕ → ℕ → ℕ
+weightRead K W area notes S i j = weightOf W notes S j (placedIn K i (itemsIn K area S i))
+
+-- in its own edition
 abbrev pub slotTombstones : Layout → List ℕ → List ℕ → ℕ → ℕ → ℕ → ℕ
-slotTombstones L area notes S i j = weightOf L notes S j (placedIn i (slotItems L area S i))
+slotTombstones W area notes S i j = weightRead (slotLayout area S i) W area notes S i j
 
 -- and of all its entries
 abbrev pub slotWeight : Layout → List ℕ → List ℕ → List ℕ → ℕ → ℕ → ℕ → ℕ
-slotWeight L area cells notes S i j = slotObjects L area cells S i + slotTombstones L area notes S i j
+slotWeight W area cells notes S i j = slotObjects W area cells S i + slotTombstones W area notes S i j
 
 -- Where a walk from one offset of a segment has come to another, it has passed over no tombstone.
-pub record Passed (L : Layout) (s : List ℕ) (from to : ℕ) : Type 0 where
-  pub same : (notes : List ℕ) (S i j : ℕ) → weightOf L notes S j (placedIn i (entriesAt L s from)) ≡ weightOf L notes S j (placedIn i (entriesAt L s to))
+pub record Passed (K : Layout) (s : List ℕ) (from to : ℕ) : Type 0 where
+  pub same : (W : Layout) (notes : List ℕ) (S i j : ℕ) →
+      weightOf W notes S j (placedIn K i (entriesAt K s from)) ≡ weightOf W notes S j (placedIn K i (entriesAt K s to))
   pub forward : from ≤ to
   pub inside : to ≤ length s
 
@@ -82,19 +88,19 @@ sharesWith shares base Share.Whole n = shares
 sharesWith shares base (Share.Unless p) n = set shares (base + p) (getD shares (base + p) 0 + n)
 
 -- A slot's numbers are what the total of its tombstones has more than is kept of them by the other victim; those of other slots stay.
-pub record Weighed (L : Layout) (area notes : List ℕ) (S i : ℕ) (shares shares′ : List ℕ) (total : ℕ) : Type 0 where
-  pub row : (j : ℕ) → j < 32 → getD shares′ (i * 32 + j) 0 + slotTombstones L area notes S i j ≡ total
+pub record Weighed (K W : Layout) (area notes : List ℕ) (S i : ℕ) (shares shares′ : List ℕ) (total : ℕ) : Type 0 where
+  pub row : (j : ℕ) → j < 32 → getD shares′ (i * 32 + j) 0 + weightRead K W area notes S i j ≡ total
   pub below : (k : ℕ) → k < i * 32 → getD shares′ k 0 ≡ getD shares k 0
   pub above : (k : ℕ) → i * 32 + 32 ≤ k → getD shares′ k 0 ≡ getD shares k 0
   pub same-length : length shares′ ≡ length shares
-  pub small : total ≤ 2048
+  pub small : total ≤ 4096
 
 -- The numbers of the log slots below n; the totals of the others are those of the first walk.
-pub record Rows (L : Layout) (area cells notes : List ℕ) (split : Split) (n : ℕ) (totals shares : List ℕ) : Type 0 where
+pub record Rows (W : Layout) (area cells notes : List ℕ) (split : Split) (n : ℕ) (totals shares : List ℕ) : Type 0 where
   pub rows : (i : ℕ) → i < n → named (split .outside) i ≡ true → (j : ℕ) → j < 32 →
-      getD shares (i * 32 + j) 0 + slotWeight L area cells notes (split .size) i j ≡ getD totals i 0
-  pub rest : (i : ℕ) → n ≤ i → i < split .slots → named (split .outside) i ≡ true → getD totals i 0 ≡ slotObjects L area cells (split .size) i
-  pub few : (i : ℕ) → n ≤ i → getD totals i 0 ≤ 2048
+      getD shares (i * 32 + j) 0 + slotWeight W area cells notes (split .size) i j ≡ getD totals i 0
+  pub rest : (i : ℕ) → n ≤ i → i < split .slots → named (split .outside) i ≡ true → getD totals i 0 ≡ slotObjects W area cells (split .size) i
+  pub few : (i : ℕ) → n ≤ i → getD totals i 0 ≤ 4096
   pub clear : Clear shares (n * 32)
   pub shares-long : length shares ≡ 1024
   pub totals-long : length totals ≡ 32
@@ -109,6 +115,6 @@ numbersFit totals shares split digest i j =
 
 -- by what is kept of the two
 unfoldable pub weightsFit : Layout → List ℕ → List ℕ → List ℕ → Split → ℕ → ℕ → Bool
-weightsFit L area cells notes split i j =
+weightsFit W area cells notes split i j =
     both (both (named (split .outside) i) (named (split .outside) j))
-    (leb (digestSize L + (slotWeight L area cells notes (split .size) i j + slotWeight L area cells notes (split .size) j i)) (split .size))
+    (leb (digestSize W + (slotWeight W area cells notes (split .size) i j + slotWeight W area cells notes (split .size) j i)) (split .size))

@@ -12,9 +12,8 @@ use record::range::fits_lent;
 use segment::Edition;
 use starting::Check;
 use starting::checks::check_idle;
-ghost use Prim.Native.Nat.{_≤_, _<_};
 ghost use mathlib.Core.Path.{_≡_};
-ghost use lib.ListN.{length, replicate};
+ghost use lib.ListN.{replicate};
 ghost use Rattle.model.specs.Causes.{firstCause};
 ghost use Rattle.model.specs.Joining.{lowestPair, joinEarly, JoinPromise};
 ghost use Rattle.starting.specs.Checks.{checked};
@@ -45,14 +44,14 @@ fn check(rec: Record, area: usize, index: usize) -> Check
     check_idle(rec, rec.size as usize)
 }
 
-// The lowest pair of the log.
+// The lowest pair of the log, where the new head is of that edition.
 fn choose(edition: Edition, area: &[u8], index: &[u32], split: Split) -> Chosen
     requires { ⌜ NotesFit split (now area) (now index) (replicate 5958 0) ⌝ }
     ensures { λ r.
         ⌜
         r ≡ chosenIs
         (lowestPair
-        (weightsFit edition (now (area .entry)) (now (index .entry)) (noteAll edition (now (area .entry)) (now (index .entry)) split (replicate 5958 0)) split)
+        (weightsFit edition (now (area .entry)) (now (index .entry)) (noteAll (now (area .entry)) (now (index .entry)) split (replicate 5958 0)) split)
         (split .slots))
         ⌝ }
 {

@@ -1,18 +1,19 @@
-// The first walk, with the only search for each object: the bytes of the objects that are kept of each slot, and a byte for each
-// latest entry of a key that tells in which slots, but for its own, objects of the key stand.
+// The first walk, with the only search for each object: the bytes of the objects that are kept of each slot, as they are rewritten
+// in the edition of the new head, and a byte for each latest entry of a key that tells in which slots, but for its own, objects of
+// the key stand.
 use crate::Sums;
 use cleaning::Split;
 use index::Found;
 use index::search::search;
 use log::slots::is_named;
 use segment::Edition;
-use segment::Header;
 use segment::Key;
 use segment::Next;
 use segment::area::cut;
 use segment::entries::next;
 use segment::layout::digest_size;
 use segment::layout::head_size;
+use segment::reader::edition_of;
 ghost use Prim.Native.Nat.{_+_, _*_, _≤_, _<_};
 ghost use mathlib.Core.Path.{_≡_};
 ghost use lib.ListN.{length};
@@ -69,13 +70,14 @@ fn note_cell(notes: &mut [u8], newest: usize, size: usize, slot: usize)
     notes[at] = note_with(notes[at], slot);
 }
 
-// The bytes kept of an object of a slot, by one search for its key. One that is not its key's latest entry is noted.
+// The bytes kept of an object of a slot that is `count` bytes long once rewritten, by one search for its key. One that is not its
+// key's latest entry is noted.
 fn note_key(
-    edition: Edition,
     area: &[u8],
     cells: &[u32],
     notes: &mut [u8],
-    header: Header,
+    key: Key,
+    count: usize,
     size: usize,
     slot: usize,
     place: usize,
@@ -88,16 +90,16 @@ fn note_key(
     requires { ⌜ place < slot * size + size ⌝ }
     ensures { λ r.
         ⌜
-        (r ≡ foundLength (now (cells .entry)) place (header .length) (searchFor edition (now (area .entry)) (now (cells .entry)) (header .key)))
+        (r ≡ foundLength (now (cells .entry)) place count (searchFor (now (area .entry)) (now (cells .entry)) key))
         × (now (notes .exit)
-        ≡ noteFound size slot (now (cells .entry)) (now (notes .entry)) (searchFor edition (now (area .entry)) (now (cells .entry)) (header .key)))
+        ≡ noteFound size slot (now (cells .entry)) (now (notes .entry)) (searchFor (now (area .entry)) (now (cells .entry)) key))
         ⌝ }
 {
-    match search(edition, area, cells, header.key) {
+    match search(area, cells, key) {
         Found::At(i) => {
             let newest = cells[i] as usize;
             if newest == place + 1 {
-                return header.length;
+                return count;
             }
             note_cell(notes, newest, size, slot);
             0
@@ -107,10 +109,12 @@ fn note_key(
     }
 }
 
-// The sums of a slot. Damage ends a segment too. A tombstone's length is not taken from its header, so that no turn waits until
-// the turn before has read a length.
+// The sums of a slot, read in an edition and counted in that of the new head. Only what stands before the value may be of another
+// length there (02, R-13). Damage ends a segment too. A tombstone's length is not taken from its header, so that no turn waits
+// until the turn before has read a length.
 fn note_slot(
     edition: Edition,
+    into: Edition,
     area: &[u8],
     cells: &[u32],
     notes: &mut [u8],
@@ -121,13 +125,14 @@ fn note_slot(
     requires { ⌜ slot < split .slots ⌝ }
     ensures { λ r.
         ⌜
-        Summed edition (now (area .entry)) (now (cells .entry)) (split .size) slot r
+        Summed edition into (now (area .entry)) (now (cells .entry)) (split .size) slot r
         × (now (notes .exit) ≡ noteSlot edition (now (area .entry)) (now (cells .entry)) (split .size) (now (notes .entry)) slot)
         ⌝ }
 {
     let size = split.size;
     let s = cut(size, area, slot);
     let head = head_size(edition);
+    let counted = head_size(into);
     let mut at = digest_size(edition);
     let mut objects = 0;
     let mut tombstones = 0;
@@ -135,15 +140,15 @@ fn note_slot(
         match next(edition, s, at) {
             Next::Entry(header) => {
                 if header.tombstone {
-                    tombstones += head;
+                    tombstones += counted;
                     at += head;
                 } else {
                     objects += note_key(
-                        edition,
                         area,
                         cells,
                         notes,
-                        header,
+                        header.key,
+                        header.length - head + counted,
                         size,
                         slot,
                         slot * size + at,
@@ -167,9 +172,9 @@ fn note_slot(
     }
 }
 
-// The same, kept for the slot; nothing where the slot is not of the log.
+// The same in the slot's own edition, kept for the slot; nothing where it is not of the log.
 fn note_part(
-    edition: Edition,
+    into: Edition,
     area: &[u8],
     cells: &[u32],
     notes: &mut [u8],
@@ -180,26 +185,27 @@ fn note_part(
 )
     requires { ⌜ NotesFit split (now area) (now cells) (now notes) ⌝ }
     requires { ⌜ slot < split .slots ⌝ }
-    requires { ⌜ ObjectsCounted edition (now area) (now cells) split slot (now totals) ⌝ }
-    requires { ⌜ TombstonesCounted edition (now area) split slot (now tombstones) ⌝ }
+    requires { ⌜ ObjectsCounted into (now area) (now cells) split slot (now totals) ⌝ }
+    requires { ⌜ TombstonesCounted into (now area) split slot (now tombstones) ⌝ }
     ensures { λ _.
         ⌜
-        (now (notes .exit) ≡ notePart edition (now (area .entry)) (now (cells .entry)) split (now (notes .entry)) slot)
-        × ObjectsCounted edition (now (area .entry)) (now (cells .entry)) split (slot + 1) (now (totals .exit))
-        × TombstonesCounted edition (now (area .entry)) split (slot + 1) (now (tombstones .exit))
+        (now (notes .exit) ≡ notePart (now (area .entry)) (now (cells .entry)) split (now (notes .entry)) slot)
+        × ObjectsCounted into (now (area .entry)) (now (cells .entry)) split (slot + 1) (now (totals .exit))
+        × TombstonesCounted into (now (area .entry)) split (slot + 1) (now (tombstones .exit))
         ⌝ }
 {
     if !is_named(split.outside, slot) {
         return;
     }
-    let sums = note_slot(edition, area, cells, notes, split, slot);
+    let edition = edition_of(cut(split.size, area, slot));
+    let sums = note_slot(edition, into, area, cells, notes, split, slot);
     totals[slot] = sums.objects as u32;
     tombstones[slot] = sums.tombstones as u32;
 }
 
-// The notes and the sums of the whole log.
+// The notes and the sums of the whole log, counted in the edition of the new head.
 pub fn note_all(
-    edition: Edition,
+    into: Edition,
     area: &[u8],
     cells: &[u32],
     notes: &mut [u8],
@@ -208,18 +214,18 @@ pub fn note_all(
     split: Split,
 )
     requires { ⌜ NotesFit split (now area) (now cells) (now notes) ⌝ }
-    requires { ⌜ ObjectsCounted edition (now area) (now cells) split 0 (now totals) ⌝ }
-    requires { ⌜ TombstonesCounted edition (now area) split 0 (now tombstones) ⌝ }
+    requires { ⌜ ObjectsCounted into (now area) (now cells) split 0 (now totals) ⌝ }
+    requires { ⌜ TombstonesCounted into (now area) split 0 (now tombstones) ⌝ }
     ensures { λ _.
         ⌜
-        (now (notes .exit) ≡ noteAll edition (now (area .entry)) (now (cells .entry)) split (now (notes .entry)))
-        × ObjectsCounted edition (now (area .entry)) (now (cells .entry)) split (split .slots) (now (totals .exit))
-        × TombstonesCounted edition (now (area .entry)) split (split .slots) (now (tombstones .exit))
+        (now (notes .exit) ≡ noteAll (now (area .entry)) (now (cells .entry)) split (now (notes .entry)))
+        × ObjectsCounted into (now (area .entry)) (now (cells .entry)) split (split .slots) (now (totals .exit))
+        × TombstonesCounted into (now (area .entry)) split (split .slots) (now (tombstones .exit))
         ⌝ }
 {
     let mut i = 0;
     while i < split.slots {
-        note_part(edition, area, cells, notes, totals, tombstones, split, i);
+        note_part(into, area, cells, notes, totals, tombstones, split, i);
         i += 1;
     }
 }

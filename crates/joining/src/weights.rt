@@ -1,5 +1,6 @@
-// The second walk, over the tombstones alone: for each slot the bytes that are kept of it, and for each other slot how many of them
-// go where that one is a victim too. No key is searched for: a tombstone that is not its key's latest entry has no note.
+// The second walk, over the tombstones alone: for each slot the bytes that are kept of it, as they are rewritten in the edition of
+// the new head, and for each other slot how many of them go where that one is a victim too. No key is searched for: a tombstone that
+// is not its key's latest entry has no note.
 use crate::Share;
 use crate::notes::SHORTEST;
 use cleaning::Split;
@@ -10,6 +11,7 @@ use segment::area::cut;
 use segment::entries::next;
 use segment::layout::digest_size;
 use segment::layout::head_size;
+use segment::reader::edition_of;
 ghost use Prim.Native.Nat.{_+_, _*_, _≤_, _<_};
 ghost use mathlib.Core.Path.{_≡_};
 ghost use lib.ListN.{length};
@@ -34,7 +36,7 @@ fn note_share(note: u8) -> Share
 fn add_share(shares: &mut [u16], base: usize, share: Share, count: usize) -> usize
     requires { ⌜ length (now shares) ≡ 1024 ⌝ }
     requires { ⌜ base ≤ 992 ⌝ }
-    requires { ⌜ Low (now shares) base 2048 ⌝ }
+    requires { ⌜ Low (now shares) base 4096 ⌝ }
     requires { ⌜ ShareFits share ⌝ }
     requires { ⌜ count ≤ 2048 ⌝ }
     ensures { λ r. ⌜ (r ≡ shareLength share count) × (now (shares .exit) ≡ sharesWith (now (shares .entry)) base share count) ⌝ }
@@ -79,9 +81,11 @@ fn behind(edition: Edition, s: &[u8], from: usize, count: usize) -> usize
     }
 }
 
-// What is kept of a slot's tombstones; its numbers hold what goes by the other victim. Damage ends a segment too.
+// What is kept of a slot's tombstones, read in an edition and counted in that of the new head; its numbers hold what goes by the
+// other victim. Damage ends a segment too.
 fn weigh_slot(
     edition: Edition,
+    into: Edition,
     area: &[u8],
     notes: &[u8],
     split: Split,
@@ -95,13 +99,14 @@ fn weigh_slot(
     requires { ⌜ Clear (now shares) (slot * 32) ⌝ }
     ensures { λ r.
         ⌜
-        Weighed edition (now (area .entry)) (now (notes .entry)) (split .size) slot (now (shares .entry)) (now (shares .exit)) r
+        Weighed edition into (now (area .entry)) (now (notes .entry)) (split .size) slot (now (shares .entry)) (now (shares .exit)) r
         ⌝ }
 {
     let size = split.size;
     let base = slot * 32;
     let s = cut(size, area, slot);
     let head = head_size(edition);
+    let counted = head_size(into);
     let mut at = digest_size(edition);
     let mut total = 0;
     loop {
@@ -109,7 +114,7 @@ fn weigh_slot(
             Next::Entry(header) => {
                 if header.tombstone {
                     let share = note_share(notes[(slot * size + at) / SHORTEST]);
-                    total += add_share(shares, base, share, head);
+                    total += add_share(shares, base, share, counted);
                     at += head;
                 } else {
                     at = behind(edition, s, at + header.length, header.length);
@@ -125,9 +130,9 @@ fn weigh_slot(
     }
 }
 
-// The same added to the slot's total; nothing where the slot is not of the log or has no tombstones.
+// The same in the slot's own edition, added to its total; nothing where the slot is not of the log or has no tombstones.
 fn weigh_part(
-    edition: Edition,
+    into: Edition,
     area: &[u8],
     cells: &[u32],
     notes: &[u8],
@@ -139,11 +144,11 @@ fn weigh_part(
 )
     requires { ⌜ NotesFit split (now area) (now cells) (now notes) ⌝ }
     requires { ⌜ slot < split .slots ⌝ }
-    requires { ⌜ TombstonesCounted edition (now area) split (split .slots) (now tombstones) ⌝ }
-    requires { ⌜ Rows edition (now area) (now cells) (now notes) split slot (now totals) (now shares) ⌝ }
+    requires { ⌜ TombstonesCounted into (now area) split (split .slots) (now tombstones) ⌝ }
+    requires { ⌜ Rows into (now area) (now cells) (now notes) split slot (now totals) (now shares) ⌝ }
     ensures { λ _.
         ⌜
-        Rows edition (now (area .entry)) (now (cells .entry)) (now (notes .entry)) split (slot + 1) (now (totals .exit))
+        Rows into (now (area .entry)) (now (cells .entry)) (now (notes .entry)) split (slot + 1) (now (totals .exit))
         (now (shares .exit))
         ⌝ }
 {
@@ -153,13 +158,14 @@ fn weigh_part(
     if tombstones[slot] == 0 {
         return;
     }
-    let total = weigh_slot(edition, area, notes, split, slot, shares);
+    let edition = edition_of(cut(split.size, area, slot));
+    let total = weigh_slot(edition, into, area, notes, split, slot, shares);
     totals[slot] = totals[slot] + total as u32;
 }
 
-// The numbers of all slots of the log.
+// The numbers of all slots of the log, counted in the edition of the new head.
 pub fn weigh_all(
-    edition: Edition,
+    into: Edition,
     area: &[u8],
     cells: &[u32],
     notes: &[u8],
@@ -169,18 +175,18 @@ pub fn weigh_all(
     shares: &mut [u16],
 )
     requires { ⌜ NotesFit split (now area) (now cells) (now notes) ⌝ }
-    requires { ⌜ TombstonesCounted edition (now area) split (split .slots) (now tombstones) ⌝ }
-    requires { ⌜ Rows edition (now area) (now cells) (now notes) split 0 (now totals) (now shares) ⌝ }
+    requires { ⌜ TombstonesCounted into (now area) split (split .slots) (now tombstones) ⌝ }
+    requires { ⌜ Rows into (now area) (now cells) (now notes) split 0 (now totals) (now shares) ⌝ }
     ensures { λ _.
         ⌜
-        Rows edition (now (area .entry)) (now (cells .entry)) (now (notes .entry)) split (split .slots) (now (totals .exit))
+        Rows into (now (area .entry)) (now (cells .entry)) (now (notes .entry)) split (split .slots) (now (totals .exit))
         (now (shares .exit))
         ⌝ }
 {
     let mut i = 0;
     while i < split.slots {
         weigh_part(
-            edition,
+            into,
             area,
             cells,
             notes,

@@ -10,7 +10,6 @@ use lib.ListN.{length}
 use lib.Seq.{sets}
 use borrow.Author.Tests.{not-true, not-false, eq-eqb}
 use Rattle.segment.specs.Choice.{both, both-true}
-use Rattle.segment.specs.Layout.{Layout}
 use Rattle.segment.specs.declared.Key.{Key}
 use Rattle.segment.specs.declared.Version.{Version}
 use Rattle.record.specs.Answers.{bare, formatSaid, recoverSaid, readSaid, startSaid, stepSaid, convertSaid}
@@ -44,7 +43,7 @@ use Rattle.index.specs.declared.Found.{Found}
 use Rattle.recovery.specs.Lookups.{Reached, lookupAt, lookedUp, toldBy, partBy}
 use Rattle.recovery.specs.LookupLaws.{reached, looked-unfit, looked-fit, read-promise, value-promise, looked-outside}
 use Rattle.recovery.specs.declared.Lookup.{Lookup}
-use Rattle.words.specs.Words.{recordWords, wordsOf, word, countsIn, recordIn, isRecord, decoded, editionOf}
+use Rattle.words.specs.Words.{recordWords, wordsOf, word, countsIn, recordIn, isRecord, decoded}
 use Rattle.words.specs.WordLaws.{record-long, counts-long, decoded-record, decoded-none, too-short, none-unfit, encode-decode, fits-record, fits-decoded}
 use Rattle.words.specs.declared.Decoded.{Decoded}
 use Rattle.kurdavel.specs.Crossing.{FormatCrossed, RecoverCrossed, wordsAfter, ReadCrossed, ValueCrossed, Handed, storesAfter, StartCrossed, keptWords, StepCrossed, leftTold, toldAfter, slotTold, FewestCrossed, ScanCrossed, ScanValueCrossed, ConvertCrossed}
@@ -152,11 +151,11 @@ pub looked-away : (words area cells : List ℕ) (t : Tables) (k : Key) {d : Deco
 looked-away words area cells t k {d} f fit out = looked-crossed words area cells t k f (sym (looked-outside (d .rec .edition) (d .rec) area cells t k fit out))
 
 pub looked-found : (words area cells : List ℕ) (t : Tables) (k : Key) {d : Decoded} {x : Lookup} {found : Found} → d ≡ decoded words
-    → fitsLent (d .rec .edition) (d .rec) (length area) (length cells) ≡ true → holdsTable t (k .table) ≡ true → found ≡ searchFor (d .rec .edition) area cells k
-    → x ≡ lookupAt (d .rec .edition) (d .rec .size) area cells found → x ≡ lookedUp (decoded words .rec .edition) (decoded words .rec) area cells t k
+    → fitsLent (d .rec .edition) (d .rec) (length area) (length cells) ≡ true → holdsTable t (k .table) ≡ true → found ≡ searchFor area cells k
+    → x ≡ lookupAt (d .rec .size) area cells found → x ≡ lookedUp (decoded words .rec .edition) (decoded words .rec) area cells t k
 looked-found words area cells t k {d} f fit held e l =
     looked-crossed words area cells t k f
-    (l ∙ ap (lookupAt (d .rec .edition) (d .rec .size) area cells) e ∙ sym (looked-fit (d .rec .edition) (d .rec) area cells t k fit held))
+    (l ∙ ap (lookupAt (d .rec .size) area cells) e ∙ sym (looked-fit (d .rec .edition) (d .rec) area cells t k fit held))
 
 -- the same of words that were tested as they are
 pub fits-words : (words : List ℕ) (a i : ℕ) → fitsLent (decoded words .rec .edition) (decoded words .rec) a i ≡ true → recordWords ≤ length words
@@ -165,33 +164,26 @@ fits-words words a i fit = record-long words (fits-record _ words a i fit)
 pub size-word : (words : List ℕ) (a i : ℕ) → fitsLent (decoded words .rec .edition) (decoded words .rec) a i ≡ true → decoded words .rec .size ≡ word words 1
 size-word words a i fit = ap (λ (d : Decoded). d .rec .size) (fits-decoded _ words a i fit)
 
-pub edition-word : (words : List ℕ) (a i : ℕ) → fitsLent (decoded words .rec .edition) (decoded words .rec) a i ≡ true
-    → (e : Layout) → e ≡ editionOf (word words 10) → e ≡ decoded words .rec .edition
-edition-word words a i fit e is = is ∙ sym (ap (λ (d : Decoded). d .rec .edition) (fits-decoded _ words a i fit))
-
 -- and the front that they say is the record's
 pub front-says : (words : List ℕ) (a i : ℕ) {t : Bool} → t ≡ fitsLent (decoded words .rec .edition) (decoded words .rec) a i → not t ≡ false → {f : Record}
     → f ≡ bare (recordIn words) → f ≡ bare (decoded words .rec)
 front-says words a i {t} e fit f =
     f ∙ ap (λ (d : Decoded). bare (d .rec)) (sym (fits-decoded _ words a i (sym e ∙ not-false t fit)))
 
-pub looked-word : (words area cells : List ℕ) (t : Tables) (k : Key) {x : Lookup} {found : Found} {e : Layout}
+pub looked-word : (words area cells : List ℕ) (t : Tables) (k : Key) {x : Lookup} {found : Found}
     → fitsLent (decoded words .rec .edition) (decoded words .rec) (length area) (length cells) ≡ true → holdsTable t (k .table) ≡ true
-    → e ≡ editionOf (word words 10) → found ≡ searchFor e area cells k → x ≡ lookupAt e (word words 1) area cells found
+    → found ≡ searchFor area cells k → x ≡ lookupAt (word words 1) area cells found
     → x ≡ lookedUp (decoded words .rec .edition) (decoded words .rec) area cells t k
-looked-word words area cells t k {found = found} {e = e} fit held is f l =
-    let own = edition-word words (length area) (length cells) fit e is in
-    looked-found words area cells t k refl fit held (f ∙ ap (λ (L : Layout). searchFor L area cells k) own)
-    (l ∙ ap (λ (s : ℕ). lookupAt e s area cells found) (sym (size-word words (length area) (length cells) fit))
-    ∙ ap (λ (L : Layout). lookupAt L (decoded words .rec .size) area cells found) own)
+looked-word words area cells t k {found = found} fit held f l =
+    looked-found words area cells t k refl fit held f
+    (l ∙ ap (λ (s : ℕ). lookupAt s area cells found) (sym (size-word words (length area) (length cells) fit)))
 
-pub reached-word : (words area cells : List ℕ) (t : Tables) (k : Key) (e : Layout)
+pub reached-word : (words area cells : List ℕ) (t : Tables) (k : Key)
     → fitsLent (decoded words .rec .edition) (decoded words .rec) (length area) (length cells) ≡ true → holdsTable t (k .table) ≡ true
-    → e ≡ editionOf (word words 10) → (i : ℕ) → searchFor e area cells k ≡ Found.At i → Reached (word words 1) cells i
-reached-word words area cells t k e fit held is i f =
+    → (i : ℕ) → searchFor area cells k ≡ Found.At i → Reached (word words 1) cells i
+reached-word words area cells t k fit held i f =
     subst (λ (s : ℕ). Reached s cells i) (size-word words (length area) (length cells) fit)
-    (reached (decoded words .rec .edition) (decoded words .rec) area cells t k fit held i
-    (ap (λ (L : Layout). searchFor L area cells k) (sym (edition-word words (length area) (length cells) fit e is)) ∙ f))
+    (reached (decoded words .rec .edition) (decoded words .rec) area cells t k fit held i f)
 
 pub read-crossed : {words area cells : List ℕ} {t : Tables} {k : Key} {version kind number : ℕ} {x : Lookup} {a b : ReadAnswer}
     → x ≡ lookedUp (decoded words .rec .edition) (decoded words .rec) area cells t k → a ≡ toldBy x → a ≡ b → number ≡ readSaid b .refused
@@ -219,7 +211,7 @@ found-small r area cells t k e = go (fitsLent (r .edition) r (length area) (leng
 
 pub value-crossed : {words area cells : List ℕ} {t : Tables} {k : Key} {place bytes number : ℕ} {x b : Lookup}
     → x ≡ lookedUp (decoded words .rec .edition) (decoded words .rec) area cells t k → x ≡ b → number ≡ readSaid (toldBy b) .refused
-    → record { place = place; bytes = bytes } ≡ partBy (decoded words .rec .edition) b → place + bytes ≤ length area
+    → record { place = place; bytes = bytes } ≡ partBy b → place + bytes ≤ length area
     → ((number ≡ 0 → ⊥) → (place ≡ 0) × (bytes ≡ 0)) → ValueCrossed words area cells t k place bytes number
 value-crossed {words} {area} {cells} {t} {k} {place} {bytes} {b = b} l e m v i w =
     let found : b ≡ lookedUp (decoded words .rec .edition) (decoded words .rec) area cells t k = sym e ∙ l in

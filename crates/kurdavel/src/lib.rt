@@ -22,6 +22,7 @@ use recovery::read::look_at;
 use recovery::read::told;
 use segment::Key;
 use segment::Version;
+use segment::layout::edition_of_kind;
 use segment::layout::head_size;
 use segment::layout::object_kind;
 use starting::Check;
@@ -30,11 +31,9 @@ use store::delete;
 use store::format;
 use store::join;
 use store::recover;
-use words::EDITION;
 use words::SIZE;
 use words::WORDS;
 use words::decode;
-use words::edition_of;
 use words::encode;
 use words::encode_pending;
 use words::fits;
@@ -126,9 +125,8 @@ pub extern "C" fn kurdavel_read(
     if !holds_table(Tables { first, last }, table) {
         return 22;
     }
-    let edition = edition_of(words[EDITION]);
-    let found = search(edition, area, index, Key { table, key });
-    let answer = told(look_at(edition, words[SIZE] as usize, area, index, found));
+    let found = search(area, index, Key { table, key });
+    let answer = told(look_at(words[SIZE] as usize, area, index, found));
     match answer {
         ReadAnswer::Refused(cause) => number(cause),
         ReadAnswer::Present {
@@ -168,16 +166,15 @@ pub extern "C" fn kurdavel_read_value(
     if !holds_table(Tables { first, last }, table) {
         return 22;
     }
-    let edition = edition_of(words[EDITION]);
-    let found = search(edition, area, index, Key { table, key });
-    match look_at(edition, words[SIZE] as usize, area, index, found) {
+    let found = search(area, index, Key { table, key });
+    match look_at(words[SIZE] as usize, area, index, found) {
         Lookup::Object {
             place: entry,
             version: _,
-            kind: _,
+            kind,
             length,
         } => {
-            let head = head_size(edition);
+            let head = head_size(edition_of_kind(kind));
             *place = (entry + head) as u32;
             *bytes = (length - head) as u32;
             0

@@ -4,6 +4,7 @@ use record::number;
 use scanning::Sought;
 use scanning::read::seek;
 use segment::Key;
+use segment::layout::edition_of_kind;
 use segment::layout::head_size;
 ghost use Rattle.kurdavel.specs.Crossing.{ScanCrossed, ScanValueCrossed};
 
@@ -37,7 +38,6 @@ pub extern "C" fn kurdavel_scan_read(
     ) {
         Sought::Refused(cause) => number(cause),
         Sought::Object {
-            edition: _,
             place: _,
             version: found,
             kind: told,
@@ -80,13 +80,12 @@ pub extern "C" fn kurdavel_scan_read_value(
     ) {
         Sought::Refused(cause) => number(cause),
         Sought::Object {
-            edition,
             place: entry,
             version: _,
-            kind: _,
+            kind,
             length,
         } => {
-            let head = head_size(edition);
+            let head = head_size(edition_of_kind(kind));
             *place = (entry + head) as u32;
             *bytes = (length - head) as u32;
             0

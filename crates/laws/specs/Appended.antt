@@ -1,7 +1,7 @@
 -- An entry appended to the head: the head stays, the log has the one entry more, and recovery gives the record that the last
 -- step gives.
 use Prim.Native.Nat.{ℕ, _+_, _-_, _≤_, _<_}
-use mathlib.Core.Path.{_≡_, refl, sym, ap, subst, _∙_}
+use mathlib.Core.Path.{_≡_, refl, sym, ap, subst, _∙_, ap₂}
 use mathlib.Core.Bool.{true, false}
 use mathlib.Core.List.{List, [], _∷_, _++_}
 use mathlib.Core.Option.{some}
@@ -17,7 +17,7 @@ use Rattle.model.specs.Log.{View, Head, Item, Placed, scanned, itemsOf, endOf, 
 use Rattle.model.specs.Recovery.{logSlots, logUnder, recordUnder, recovered}
 use Rattle.model.specs.Operations.{logNow, countNew, appendedRecord}
 use Rattle.laws.specs.HeadLaws.{top-stays}
-use Rattle.laws.specs.LogLaws.{partOf, part-picked, part-same, one-slot, OnePart, part-entered, Entered, placedAt, placed-append, entered-versions, entered-highest, entered-keys, scanned-undamaged, items-scanned, end-scanned}
+use Rattle.laws.specs.LogLaws.{partOf, part-picked, part-same, one-slot, OnePart, part-entered, Entered, placedAt, placed-append, entered-versions, entered-highest, entered-keys, scanned-undamaged, items-scanned, end-scanned, alike-view}
 use Rattle.laws.specs.Counted.{entered-counts}
 use Rattle.laws.specs.RecoverLaws.{Sound, Allowed, sound-recovered, recovered-case}
 
@@ -44,16 +44,20 @@ module _ (L : Layout) (v v′ : ℕ → View) (n m : ℕ) (h : Head) (x : Item) 
   after = logUnder v′ n h
 
   abbrev placed : Placed
-  placed = placedAt (h .slot) x
+  placed = placedAt L (h .slot) x
 
   head-named : logSlots h (h .slot) ≡ true
   head-named = map-in n (h .slot) (h .digest .map) (f .map-good) .head-named
 
+  own-layout : v (h .slot) .layout ≡ L
+  own-layout = f .editions (h .slot) (f .top .below) head-named
+
   new-part : partOf v′ (logSlots h) (h .slot) ≡ partOf v (logSlots h) (h .slot) ++ placed ∷ []
   unfolding placedIn
   new-part =
-      part-picked v′ (logSlots h) (h .slot) head-named ∙ ap (placedIn (h .slot)) (items-scanned (v′ (h .slot) .scan) (a .scan)) ∙
-      placed-append (h .slot) (itemsOf (v (h .slot) .scan)) (x ∷ []) ∙
+      part-picked v′ (logSlots h) (h .slot) head-named ∙ ap₂ (λ (K : Layout) (is : List Item). placedIn K (h .slot) is) (a .layout ∙ own-layout) (items-scanned (v′ (h .slot) .scan) (a .scan)) ∙
+      placed-append L (h .slot) (itemsOf (v (h .slot) .scan)) (x ∷ []) ∙
+      ap (λ (K : Layout). placedIn K (h .slot) (itemsOf (v (h .slot) .scan)) ++ placed ∷ []) (sym own-layout) ∙
       ap (λ (l : List Placed). l ++ placed ∷ []) (sym (part-picked v (logSlots h) (h .slot) head-named))
 
   pub appended-log : Entered log placed after
@@ -61,7 +65,7 @@ module _ (L : Layout) (v v′ : ℕ → View) (n m : ℕ) (h : Head) (x : Item) 
       part-entered (partOf v (logSlots h) (h .slot)) placed log after
       (subst (λ (l : List Placed). OnePart (partOf v (logSlots h) (h .slot)) l log after) new-part
       (one-slot v v′ (logSlots h) (logSlots h) (h .slot) n (f .top .below)
-      (λ i l o. part-same v v′ (logSlots h) (logSlots h) i refl (λ q. ap (λ (w : View). w .scan) (a .others i l o)))))
+      (λ i l o. part-same v v′ (logSlots h) (logSlots h) i refl (λ q. alike-view v v′ i (a .others i l o)))))
 
   module _ (t : Takes (nextVersion (h .digest) log) (length (keysOf log)) m log (x .entry)) where
     above : highest log < x .entry .version
@@ -99,19 +103,19 @@ module _ (L : Layout) (v v′ : ℕ → View) (n m : ℕ) (h : Head) (x : Item) 
     pub appended-record : (s : ℕ) → e ≡ endOf (v (h .slot) .scan) + sizeOf L (x .entry)
         → recordUnder L v′ n s m h ≡ appendedRecord L (recordUnder L v n s m h) log (x .entry)
     appended-record s q =
-        rw (end-scanned (v′ (h .slot) .scan) (a .scan), q, appended-next, entered-keys log placed after appended-log, entered-counts L log placed after appended-log above (f .versions))
+        rw (end-scanned (v′ (h .slot) .scan) (a .scan), q, appended-next, entered-keys log placed after appended-log, entered-counts log placed after appended-log above (f .versions))
 
 -- ---- on areas
 
 module _ (L : Layout) (n s m : ℕ) (area area′ : List ℕ) (r : Record) (x : Item) (e : recovered L n s m area ≡ some r)
     (a : Appends (viewsOf area s) (viewsOf area′ s) n (r .head) x (r .end + sizeOf L (x .entry))) where
   pub appended-entered :
-      Entered (logNow area r) (placedAt (r .head) x) (logNow area′ (appendedRecord L r (logNow area r) (x .entry)))
+      Entered (logNow area r) (placedAt L (r .head) x) (logNow area′ (appendedRecord L r (logNow area r) (x .entry)))
   appended-entered =
       recovered-case L n s m area
       (λ (k : Record).
       Appends (viewsOf area s) (viewsOf area′ s) n (k .head) x (k .end + sizeOf L (x .entry))
-      → Entered (logNow area k) (placedAt (k .head) x) (logNow area′ (appendedRecord L k (logNow area k) (x .entry))))
+      → Entered (logNow area k) (placedAt L (k .head) x) (logNow area′ (appendedRecord L k (logNow area k) (x .entry))))
       (λ h l f b.
       appended-log L (viewsOf area s) (viewsOf area′ s) n m h x (endOf (viewsOf area s (h .slot) .scan) + sizeOf L (x .entry)) f b)
       r e a

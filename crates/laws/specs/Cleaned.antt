@@ -78,7 +78,7 @@ module _ (L : Layout) (v v′ : ℕ → View) (n s m : ℕ) (h : Head) (victims 
   cleaned-keys = sym (keys-same (rest ++ moved) after (part-members moved rest after parts))
 
   -- the victims have no present bytes, and the new head those of the objects kept
-  pub cleaned-counts : countsOf L after ≡ renewedCounts L victims (newSlot (recordUnder L v n s m h)) (kept victims stand) (countsOf L (logUnder v n h))
+  pub cleaned-counts : countsOf after ≡ renewedCounts L victims (newSlot (recordUnder L v n s m h)) (kept victims stand) (countsOf (logUnder v n h))
   cleaned-counts =
       renewed-counts L victims (newSlot (recordUnder L v n s m h)) (digestSize L) (logUnder v n h) stand after cleaned-log
       (subst (λ (l : List Placed). OnePart [] moved l after) (sym (outside-log v (h .digest .map) victims n)) parts) (w .versions)

@@ -37,7 +37,7 @@ use Rattle.laws.specs.Stores.{slot-inside, length-segment}
 use Rattle.laws.specs.Scans.{Scans, done, more, itemsFrom, itemEntries, scan-scans, scans-high, scans-total, scans-items}
 use Rattle.laws.specs.NewHeadBytes.{length-headBytes}
 use Rattle.laws.specs.HeadLaws.{top-stays}
-use Rattle.laws.specs.LogLaws.{anyBelow, below-none, none-below, both-true-false, both-of-true, log-same, scan-whole}
+use Rattle.laws.specs.LogLaws.{anyBelow, below-none, none-below, both-true-false, both-of-true, log-same, scan-whole, alike-view}
 use Rattle.laws.specs.MapLaws.{valueAt}
 use Rattle.laws.specs.Moved.{Moved, moved-log, moved-keys, moved-shared, moved-highest, moved-present}
 use Rattle.laws.specs.RecoverLaws.{Sound, digest-in, segment-bytes, head-slot, log-whole, sound-clear, sound-head, clear-head, lent-clear, sound-recovered, recovered-facts}
@@ -440,7 +440,7 @@ module _ (L : Layout) (n s m : ℕ) (source : List ℕ) (bytes : Bytes source) (
             (ap (λ (o : Option Head). logSlots (headElse o) i) (sym (sound-head L from n m h f)) ∙ q);
         same-log =
             ap (λ (o : Option Head). logUnder (viewsOf again s) n (headElse o)) again-head ∙
-            log-same from (viewsOf again s) (logSlots h) (logSlots h) n (λ i l. refl) (λ i l q. ap (λ (x : View). x .scan) (again-view i l q)) ∙
+            log-same from (viewsOf again s) (logSlots h) (logSlots h) n (λ i l. refl) (λ i l q. alike-view from (viewsOf again s) i (again-view i l q)) ∙
             ap (λ (o : Option Head). logUnder from n (headElse o)) (sym (sound-head L from n m h f));
       }
 

@@ -14,9 +14,9 @@ use Rattle.segment.specs.Entry.{Entry, bytesIn, kindOf, encoded, sizeOf}
 use Rattle.segment.specs.EntryLaws.{length-encoded, formed-known}
 use Rattle.segment.specs.Digest.{encodedDigest}
 use Rattle.segment.specs.declared.Key.{Key}
-use Rattle.record.specs.RangeLaws.{Lent, lent}
+use Rattle.record.specs.RangeLaws.{Lent}
 use Rattle.record.specs.declared.Record.{Record}
-use Rattle.model.specs.Log.{Item, scan, itemsOf, segmentOf, viewsOf, highest, sameKey}
+use Rattle.model.specs.Log.{Item, scan, itemsOf, viewsOf, highest, sameKey}
 use Rattle.model.specs.Recovery.{recovered}
 use Rattle.model.specs.Operations.{logNow, fitsHead, newSlot, newDigest, allEncoded, laidAppend, laidHead, laidEntry, commit, planOf, stored, appendedRecord, headedRecord, entryRecord}
 use Rattle.laws.specs.Members.{Added}
@@ -47,7 +47,7 @@ module _ (L : Layout) (roomy : Roomy L) (area : List ℕ) (r : Record) (x : Entr
         (recovered L (r .slots) (r .size) (r .cells) area′ ≡ some r′)
         × ((j : Key) → valueAt (logNow area′ r′) j ≡ pick (sameKey j x) (gives x) (valueAt (logNow area r) j))
 
-    above : (slot offset : ℕ) → Above (record { slot = slot; offset = offset; entry = x }) (logNow area r)
+    above : (slot offset : ℕ) → Above (record { slot = slot; layout = L; offset = offset; entry = x }) (logNow area r)
     above slot offset =
         below-highest (logNow area r) (x .version) (subst⁻¹ (λ (v : ℕ). highest (logNow area r) < v) (f .takes .version) (recovered-highest L (r .slots) (r .size) (r .cells) area r e))
 
@@ -81,10 +81,10 @@ module _ (L : Layout) (roomy : Roomy L) (area : List ℕ) (r : Record) (x : Entr
 
       -- the log has the entry more, where the head ended
       pub appended-added :
-          Added (logNow area r) (record { slot = r .head; offset = r .end; entry = x })
+          Added (logNow area r) (record { slot = r .head; layout = L; offset = r .end; entry = x })
           (logNow (stored area append-plan) (appendedRecord L r (logNow area r) x))
       appended-added =
-          entered-added (logNow area r) (record { slot = r .head; offset = r .end; entry = x })
+          entered-added (logNow area r) (record { slot = r .head; layout = L; offset = r .end; entry = x })
           (logNow (stored area append-plan) (appendedRecord L r (logNow area r) x))
           (appended-entered L (r .slots) (r .size) (r .cells) area (stored area append-plan) r (itemAt (r .end) x) e append-views)
 
@@ -92,7 +92,7 @@ module _ (L : Layout) (roomy : Roomy L) (area : List ℕ) (r : Record) (x : Entr
       appended = (
         appended-recovered L (r .slots) (r .size) (r .cells) area (stored area append-plan) r (itemAt (r .end) x) e append-views
             (length-stored area append-plan) (f .takes),
-        value-added (logNow area r) (record { slot = r .head; offset = r .end; entry = x })
+        value-added (logNow area r) (record { slot = r .head; layout = L; offset = r .end; entry = x })
             (logNow (stored area append-plan) (appendedRecord L r (logNow area r) x)) appended-added (above (r .head) (r .end))
             (recovered-apart L (r .slots) (r .size) (r .cells) area r e),
       )
@@ -125,22 +125,22 @@ module _ (L : Layout) (roomy : Roomy L) (area : List ℕ) (r : Record) (x : Entr
 
       -- the log has the entry more, behind the new digest
       headed-added-one :
-          Added (logNow area r) (record { slot = newSlot r; offset = digestSize L; entry = x })
+          Added (logNow area r) (record { slot = newSlot r; layout = L; offset = digestSize L; entry = x })
           (logNow (stored area head-plan) (headedRecord L r (logNow area r) x))
       headed-added-one =
-          entered-added (logNow area r) (record { slot = newSlot r; offset = digestSize L; entry = x })
+          entered-added (logNow area r) (record { slot = newSlot r; layout = L; offset = digestSize L; entry = x })
           (logNow (stored area head-plan) (headedRecord L r (logNow area r) x))
           (headed-entered L (r .slots) (r .size) (r .cells) area (stored area head-plan) r x e head-views)
 
       pub headed-added :
-          Added (logNow area r) (record { slot = newSlot r; offset = digestSize L; entry = x })
+          Added (logNow area r) (record { slot = newSlot r; layout = L; offset = digestSize L; entry = x })
           (logNow
           (stored area ((newSlot r * r .size, 0) ∷ commit (r .size) (newSlot r) 0 (encodedDigest L (newDigest r 0) ++ encoded L x)))
           (headedRecord L r (logNow area r) x))
       headed-added =
           subst
           (λ (b : List ℕ).
-          Added (logNow area r) (record { slot = newSlot r; offset = digestSize L; entry = x })
+          Added (logNow area r) (record { slot = newSlot r; layout = L; offset = digestSize L; entry = x })
           (logNow (stored area ((newSlot r * r .size, 0) ∷ commit (r .size) (newSlot r) 0 (encodedDigest L (newDigest r 0) ++ b)))
           (headedRecord L r (logNow area r) x)))
           (encoded-one L x) headed-added-one
@@ -149,7 +149,7 @@ module _ (L : Layout) (roomy : Roomy L) (area : List ℕ) (r : Record) (x : Entr
       headed = (
         headed-recovered L (r .slots) (r .size) (r .cells) area (stored area head-plan) r x e head-views (length-stored area head-plan)
             (omega (arith, f .two-free no-fit)) (f .takes),
-        value-added (logNow area r) (record { slot = newSlot r; offset = digestSize L; entry = x })
+        value-added (logNow area r) (record { slot = newSlot r; layout = L; offset = digestSize L; entry = x })
             (logNow (stored area head-plan) (headedRecord L r (logNow area r) x)) headed-added-one (above (newSlot r) (digestSize L))
             (recovered-apart L (r .slots) (r .size) (r .cells) area r e),
       )

@@ -2,14 +2,13 @@
 use Prim.Native.Nat.{ℕ, _+_, _^_, _≤_, _<_}
 use mathlib.Core.Path.{_≡_, refl, sym, _∙_, ap, ap₂}
 use mathlib.Core.Bool.{Bool, true, false, not}
-use mathlib.Core.Logic.{_⊎_, inl, inr}
 use mathlib.Core.List.{List, [], _∷_, List·Memᴰ·head, List·Memᴰ·tail, List·Memᴰ·not-nil}
 use mathlib.Core.Option.{Option, none, some}
 use native.Mathlib.Decide.{ℕ-discrete}
 use native.Mathlib.Omega.{arith}
 use lib.Dec.{eqb}
 use lib.ListN.{length}
-use borrow.Author.Tests.{eq-eqb, ne-eqb, eqb-true, eqb-false}
+use borrow.Author.Tests.{eq-eqb, ne-eqb}
 use Rattle.segment.specs.Choice.{pick, pick-true, pick-false, both, both-false-left, either}
 use Rattle.segment.specs.Entry.{Entry, keyOf, isTombstone}
 use Rattle.segment.specs.declared.Key.{Key}
@@ -18,7 +17,7 @@ use Rattle.slot_map.specs.BitLaws.{bit-pow-same, set-named}
 use Rattle.model.specs.Log.{Placed, sameKey, latest, laterOf, objectOnly, present, hasKey, keysOf, versionShared, highest}
 use Rattle.model.specs.Operations.{isVersion, isHighest, objectOutside, isKept, replaced}
 use Rattle.laws.specs.Members.{clash, In, first, entriesOf, those, total}
-use Rattle.laws.specs.Latest.{same-key, key-same, own-key, Newest, latest-is, LatestIs, absent, found, latest-some, Apart, has-key, key-had}
+use Rattle.laws.specs.Latest.{same-key, key-same, own-key, Newest, latest-is, LatestIs, absent, found, latest-some, has-key, key-had}
 use Rattle.laws.specs.Versions.{counted, count, count-shared, shared-count, shared-apart, highest-above, highest-least}
 use Rattle.laws.specs.Keys.{KeysWithin, keys-within}
 use Rattle.laws.specs.MapLaws.{valueAt, gives, value-some, value-none, unplaced, outside, outside-in}
@@ -43,7 +42,7 @@ module _ (v : ℕ) (e : Entry) where
   replaced-those p (x ∷ xs) = go (p (x .slot)) (replaced-those p xs)
     where
       y : Placed
-      y = record { slot = x .slot; offset = x .offset; entry = instead (x .entry) }
+      y = record { slot = x .slot; layout = x .layout; offset = x .offset; entry = instead (x .entry) }
 
       go : (t : Bool) → those (λ x. p (x .slot)) (replaced v e xs) ≡ replaced v e (those (λ x. p (x .slot)) xs) →
           pick t (y ∷ those (λ x. p (x .slot)) (replaced v e xs)) (those (λ x. p (x .slot)) (replaced v e xs)) ≡
@@ -56,7 +55,7 @@ module _ (v : ℕ) (e : Entry) where
   unfolding replaced
   replaced-none [] f = refl
   replaced-none (x ∷ xs) f =
-      λ i. record { slot = x .slot; offset = x .offset; entry = instead-other (x .entry) (f x first) i } ∷ replaced-none xs (λ y m. f y (List·Memᴰ·tail m)) i
+      λ i. record { slot = x .slot; layout = x .layout; offset = x .offset; entry = instead-other (x .entry) (f x first) i } ∷ replaced-none xs (λ y m. f y (List·Memᴰ·tail m)) i
 
   -- a sum in which the new entry counts no more than any
   pub replaced-total : (f : Entry → ℕ) (log : List Placed) → ((x : Placed) → In x log → f e ≤ f (x .entry)) →
@@ -104,7 +103,7 @@ module _ (v : ℕ) (e : Entry) where
   replaced-latest j q (x ∷ xs) f = go (ℕ-discrete (x .entry .version) v) (replaced-latest j q xs (λ y m. f y (List·Memᴰ·tail m)))
     where
       y : Entry → Placed
-      y d = record { slot = x .slot; offset = x .offset; entry = d }
+      y d = record { slot = x .slot; layout = x .layout; offset = x .offset; entry = d }
 
       front : Entry → Option Placed → Option Placed
       front d o = pick (sameKey j d) (laterOf (y d) o) o
@@ -325,7 +324,7 @@ module _ (log : List Placed) (k : Key) (x : Placed) (live : IsLive log k x) (e :
       (both (highest-same y m apart i) (either (not (isTombstone (y .entry))) (objects-same (keyOf (y .entry)) i)))
 
   -- The tombstone is kept where an object of the key stands outside.
-  pub forgotten-tombstone : isKept (2 ^ x .slot) stand (record { slot = x .slot; offset = x .offset; entry = e }) ≡ objectOutside (2 ^ x .slot) log k
+  pub forgotten-tombstone : isKept (2 ^ x .slot) stand (record { slot = x .slot; layout = x .layout; offset = x .offset; entry = e }) ≡ objectOutside (2 ^ x .slot) log k
   unfolding isVersion both either
   forgotten-tombstone =
       rw (victim-named, own-highest (latest stand (keyOf e)) (latest-is stand (keyOf e)), dead)

@@ -50,7 +50,7 @@ module _ (L : Layout) (v : ℕ → View) (n e : ℕ) (some-slots : 4 ≤ n) (own
         go : (i : ℕ) → Dec (i ≡ 0) → partOf v (logSlots first-head) i ≡ []
         go i (yes q) =
             ap (λ (k : ℕ). partOf v (logSlots first-head) k) q ∙ part-picked v (logSlots first-head) 0 refl ∙
-            ap (placedIn 0) (items-scanned (v 0 .scan) own-scan)
+            ap (placedIn (v 0 .layout) 0) (items-scanned (v 0 .scan) own-scan)
         go i (no q) = part-passed v (logSlots first-head) i (others-unnamed i q)
 
     pub fresh-sound : (k : ℕ) → Sound L v n k first-head

@@ -1,7 +1,7 @@
 -- A new head: the slot that it takes has the highest digest number, and the log is what its map leaves of the old one, and its own
 -- entries. With one entry and no victims this is a write or a delete that did not fit the old head.
 use Prim.Native.Nat.{ℕ, _+_, _-_, _^_, _≤_, _<_}
-use mathlib.Core.Path.{_≡_, refl, sym, ap, subst, _∙_}
+use mathlib.Core.Path.{_≡_, refl, sym, ap, subst, _∙_, ap₂}
 use mathlib.Core.Bool.{Bool, true, false, not}
 use mathlib.Core.Logic.{_⊎_, inl, inr}
 use mathlib.Core.List.{List, [], _∷_}
@@ -23,12 +23,12 @@ use Rattle.slot_map.specs.CountLaws.{clear-sub, used-renewed}
 use Rattle.slot_map.specs.NextLaws.{next-below, next-clear}
 use Rattle.record.specs.RangeLaws.{map-in}
 use Rattle.record.specs.declared.Record.{Record}
-use Rattle.model.specs.Log.{View, Head, Placed, scanned, endOf, isDamaged, placedIn, viewsOf, logOf, keysOf, versionShared, highest, nextVersion}
+use Rattle.model.specs.Log.{View, Head, Placed, scanned, endOf, isDamaged, placedIn, viewsOf, logOf, keysOf, versionShared, highest, nextVersion, Item}
 use Rattle.model.specs.Recovery.{logSlots, logUnder, recordUnder, recovered}
 use Rattle.model.specs.Operations.{logNow, newSlot, digestWith, newDigest, outsideSlots, allEncoded, placedFrom, headedRecord}
 use Rattle.laws.specs.Scans.{itemsFrom, placed-items, encoded-one}
 use Rattle.laws.specs.HeadLaws.{top-new-head}
-use Rattle.laws.specs.LogLaws.{partOf, part-picked, part-passed, part-same, log-same, one-slot, OnePart, part-entered, Entered, entered-versions, entered-highest, entered-keys, scanned-undamaged, items-scanned, end-scanned}
+use Rattle.laws.specs.LogLaws.{partOf, part-picked, part-passed, part-same, log-same, one-slot, OnePart, part-entered, Entered, entered-versions, entered-highest, entered-keys, scanned-undamaged, items-scanned, end-scanned, alike-view}
 use Rattle.laws.specs.Counted.{entered-counts}
 use Rattle.laws.specs.RecoverLaws.{Sound, Allowed, in-map, sound-recovered, recovered-case}
 use Rattle.laws.specs.Appended.{Takes}
@@ -118,7 +118,7 @@ module _ (L : Layout) (v v′ : ℕ → View) (n s m : ℕ) (h : Head) (victims 
       (one-slot v v′ (outsideSlots (h .digest .map) victims) (logSlots g) j n slot-below
       (λ i l o.
       part-same v v′ (outsideSlots (h .digest .map) victims) (logSlots g) i (new-others (h .digest .map) victims j sub slot-clear i o)
-      (λ q. ap (λ (w : View). w .scan) (c .others i l o)))))
+      (λ q. alike-view v v′ i (c .others i l o)))))
     where
       old-part : partOf v (outsideSlots (h .digest .map) victims) j ≡ []
       old-part = part-passed v (outsideSlots (h .digest .map) victims) j (slot-outside (h .digest .map) victims j sub slot-clear)
@@ -126,7 +126,8 @@ module _ (L : Layout) (v v′ : ℕ → View) (n s m : ℕ) (h : Head) (victims 
       new-part : partOf v′ (logSlots g) j ≡ placedFrom L j (digestSize L) es
       new-part =
           part-picked v′ (logSlots g) j (new-named (h .digest .map) victims j sub slot-clear) ∙
-          ap (placedIn j) (items-scanned (v′ j .scan) own-scan) ∙ placed-items L j (digestSize L) es
+          ap₂ (λ (K : Layout) (is : List Item). placedIn K j is) (ap (λ (w : View). w .layout) (c .own)) (items-scanned (v′ j .scan) own-scan)
+          ∙ placed-items L j (digestSize L) es
 
   pub new-sound : 0 < next .0 → used n (digestWith r victims next .map) < n → versionShared (logUnder v′ n g) ≡ false → length (keysOf (logUnder v′ n g)) ≤ m - 1
       → Sound L v′ n m g
@@ -182,14 +183,14 @@ module _ (L : Layout) (v v′ : ℕ → View) (n s m : ℕ) (h : Head) (x : Entr
   after = logUnder v′ n headed
 
   abbrev placed : Placed
-  placed = record { slot = newSlot (recordUnder L v n s m h); offset = digestSize L; entry = x }
+  placed = record { slot = newSlot (recordUnder L v n s m h); layout = L; offset = digestSize L; entry = x }
 
   pub headed-log : Entered old placed after
   unfolding placedFrom
   headed-log =
       part-entered [] placed old after
       (subst (λ (l : List Placed). OnePart [] (placed ∷ []) l after)
-      (log-same v v (logSlots h) (outsideSlots (h .digest .map) 0) n (λ i l. none-outside (h .digest .map) i) (λ i l q. refl))
+      (log-same v v (logSlots h) (outsideSlots (h .digest .map) 0) n (λ i l. none-outside (h .digest .map) i) (λ i l q. (refl, refl)))
       (new-log L v v′ n s m h 0 (recordUnder L v n s m h .next) (x ∷ []) f (none-within (h .digest .map)) c))
 
   module _ (t : Takes (nextVersion (h .digest) old) (length (keysOf old)) m old x) where
@@ -219,7 +220,7 @@ module _ (L : Layout) (v v′ : ℕ → View) (n s m : ℕ) (h : Head) (x : Entr
           length-encoded L x,
           headed-next,
           entered-keys old placed after headed-log,
-          entered-counts L old placed after headed-log above (f .versions),
+          entered-counts old placed after headed-log above (f .versions),
         )
 
 -- ---- one entry in a new head, on areas
@@ -227,13 +228,13 @@ module _ (L : Layout) (v v′ : ℕ → View) (n s m : ℕ) (h : Head) (x : Entr
 module _ (L : Layout) (n s m : ℕ) (area area′ : List ℕ) (r : Record) (x : Entry) (e : recovered L n s m area ≡ some r)
     (c : Heads L (viewsOf area s) (viewsOf area′ s) n (newSlot r) (newDigest r 0) (x ∷ [])) where
   pub headed-entered :
-      Entered (logNow area r) (record { slot = newSlot r; offset = digestSize L; entry = x })
+      Entered (logNow area r) (record { slot = newSlot r; layout = L; offset = digestSize L; entry = x })
       (logNow area′ (headedRecord L r (logNow area r) x))
   headed-entered =
       recovered-case L n s m area
       (λ (k : Record).
       Heads L (viewsOf area s) (viewsOf area′ s) n (newSlot k) (newDigest k 0) (x ∷ [])
-      → Entered (logNow area k) (record { slot = newSlot k; offset = digestSize L; entry = x })
+      → Entered (logNow area k) (record { slot = newSlot k; layout = L; offset = digestSize L; entry = x })
       (logNow area′ (headedRecord L k (logNow area k) x)))
       (λ h l f. headed-log L (viewsOf area s) (viewsOf area′ s) n s m h x f) r e c
 

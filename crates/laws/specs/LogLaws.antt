@@ -1,6 +1,6 @@
 -- The log of slots by their views: it is put together slot by slot, so a change of one slot changes one part of it.
 use Prim.Native.Nat.{ℕ, zero, suc, _+_, _<_}
-use mathlib.Core.Path.{_≡_, refl, sym, ap, subst, _∙_}
+use mathlib.Core.Path.{_≡_, refl, sym, ap, ap₂, subst, _∙_}
 use mathlib.Core.Bool.{Bool, true, false, not}
 use mathlib.Core.Logic.{_⊎_, inl, inr}
 use mathlib.Core.List.{List, [], _∷_, _++_, append-assoc, append-nil, List·Memᴰ·head, List·Memᴰ·tail}
@@ -129,20 +129,28 @@ module _ (v : ℕ → View) (p : ℕ → Bool) (n : ℕ) where
 
 -- what slot i adds to the log
 abbrev pub partOf : (ℕ → View) → (ℕ → Bool) → ℕ → List Placed
-partOf v p i = pick (p i) (placedIn i (itemsOf (v i .scan))) []
+partOf v p i = pick (p i) (placedIn (v i .layout) i (itemsOf (v i .scan))) []
 
-pub part-picked : (v : ℕ → View) (p : ℕ → Bool) (i : ℕ) → p i ≡ true → partOf v p i ≡ placedIn i (itemsOf (v i .scan))
-part-picked v p i e = pick-true (p i) (placedIn i (itemsOf (v i .scan))) [] e
+pub part-picked : (v : ℕ → View) (p : ℕ → Bool) (i : ℕ) → p i ≡ true → partOf v p i ≡ placedIn (v i .layout) i (itemsOf (v i .scan))
+part-picked v p i e = pick-true (p i) (placedIn (v i .layout) i (itemsOf (v i .scan))) [] e
 
 pub part-passed : (v : ℕ → View) (p : ℕ → Bool) (i : ℕ) → p i ≡ false → partOf v p i ≡ []
-part-passed v p i e = pick-false (p i) (placedIn i (itemsOf (v i .scan))) [] e
+part-passed v p i e = pick-false (p i) (placedIn (v i .layout) i (itemsOf (v i .scan))) [] e
 
-pub part-same : (v v′ : ℕ → View) (p p′ : ℕ → Bool) (i : ℕ) → p′ i ≡ p i → (p i ≡ true → v′ i .scan ≡ v i .scan)
+-- slot i has the edition and the entries that it had
+abbrev pub AlikeIn : (ℕ → View) → (ℕ → View) → ℕ → Type 0
+AlikeIn v v′ i = (v′ i .layout ≡ v i .layout) × (v′ i .scan ≡ v i .scan)
+
+pub alike-view : (v v′ : ℕ → View) (i : ℕ) → v′ i ≡ v i → AlikeIn v v′ i
+alike-view v v′ i e = (ap (λ (w : View). w .layout) e, ap (λ (w : View). w .scan) e)
+
+pub part-same : (v v′ : ℕ → View) (p p′ : ℕ → Bool) (i : ℕ) → p′ i ≡ p i → (p i ≡ true → AlikeIn v v′ i)
     → partOf v′ p′ i ≡ partOf v p i
 part-same v v′ p p′ i e f = go (p i) refl
   where
     go : (t : Bool) → p i ≡ t → partOf v′ p′ i ≡ partOf v p i
-    go true q = part-picked v′ p′ i (e ∙ q) ∙ ap (λ (s : Scan). placedIn i (itemsOf s)) (f q) ∙ sym (part-picked v p i q)
+    go true q =
+        part-picked v′ p′ i (e ∙ q) ∙ ap₂ (λ (L : Layout) (s : Scan). placedIn L i (itemsOf s)) (f q .0) (f q .1) ∙ sym (part-picked v p i q)
     go false q = part-passed v′ p′ i (e ∙ q) ∙ sym (part-passed v p i q)
 
 module _ (v v′ : ℕ → View) (p p′ : ℕ → Bool) where
@@ -152,7 +160,7 @@ module _ (v v′ : ℕ → View) (p p′ : ℕ → Bool) where
   log-of-parts (suc n) f = cc (log-of-parts n (λ i l. f i (omega arith)), f n (omega arith))
 
   -- the log goes by the picked slots alone
-  pub log-same : (n : ℕ) → ((i : ℕ) → i < n → p′ i ≡ p i) → ((i : ℕ) → i < n → p i ≡ true → v′ i .scan ≡ v i .scan)
+  pub log-same : (n : ℕ) → ((i : ℕ) → i < n → p′ i ≡ p i) → ((i : ℕ) → i < n → p i ≡ true → AlikeIn v v′ i)
       → logOf v′ p′ n ≡ logOf v p n
   log-same n e f = log-of-parts n (λ i l. part-same v v′ p p′ i (e i l) (f i l))
 
@@ -162,33 +170,46 @@ module _ (v v′ : ℕ → View) (p p′ : ℕ → Bool) where
 abbrev pub itemOf : Placed → Item
 itemOf x = record { offset = x .offset; entry = x .entry }
 
-abbrev pub placedAt : ℕ → Item → Placed
-placedAt i y = record { slot = i; offset = y .offset; entry = y .entry }
+abbrev pub placedAt : Layout → ℕ → Item → Placed
+placedAt L i y = record { slot = i; layout = L; offset = y .offset; entry = y .entry }
 
-pub placed-mem : (i : ℕ) {y : Item} {ys : List Item} → In y ys → In (placedAt i y) (placedIn i ys)
+pub placed-mem : (L : Layout) (i : ℕ) {y : Item} {ys : List Item} → In y ys → In (placedAt L i y) (placedIn L i ys)
 unfolding placedIn
-placed-mem i (List·Memᴰ·head e) = List·Memᴰ·head (ap (placedAt i) e)
-placed-mem i (List·Memᴰ·tail m) = List·Memᴰ·tail (placed-mem i m)
+placed-mem L i (List·Memᴰ·head e) = List·Memᴰ·head (ap (placedAt L i) e)
+placed-mem L i (List·Memᴰ·tail m) = List·Memᴰ·tail (placed-mem L i m)
 
-pub mem-placed : (i : ℕ) (x : Placed) (ys : List Item) → In x (placedIn i ys) → (x .slot ≡ i) × In (itemOf x) ys
+-- x stands in slot i, which is of the edition L and has these items.
+pub record Among (L : Layout) (i : ℕ) (x : Placed) (ys : List Item) : Type 0 where
+  pub slot : x .slot ≡ i
+  pub layout : x .layout ≡ L
+  pub item : In (itemOf x) ys
+
+pub mem-placed : (L : Layout) (i : ℕ) (x : Placed) (ys : List Item) → In x (placedIn L i ys) → Among L i x ys
 unfolding placedIn
-mem-placed i x [] m = absurd (List·Memᴰ·not-nil m)
-mem-placed i x (y ∷ ys) m = go m (λ r. mem-placed i x ys r)
+mem-placed L i x [] m = absurd (List·Memᴰ·not-nil m)
+mem-placed L i x (y ∷ ys) m = go m (λ r. mem-placed L i x ys r)
   where
-    go : In x (placedAt i y ∷ placedIn i ys) → (In x (placedIn i ys) → (x .slot ≡ i) × In (itemOf x) ys)
-        → (x .slot ≡ i) × In (itemOf x) (y ∷ ys)
-    go (List·Memᴰ·head e) r = (ap (λ (z : Placed). z .slot) e, List·Memᴰ·head (ap itemOf e))
-    go (List·Memᴰ·tail k) r = (r k .0, List·Memᴰ·tail (r k .1))
+    go : In x (placedAt L i y ∷ placedIn L i ys) → (In x (placedIn L i ys) → Among L i x ys) → Among L i x (y ∷ ys)
+    go (List·Memᴰ·head e) r =
+        record {
+          slot = ap (λ (z : Placed). z .slot) e;
+          layout = ap (λ (z : Placed). z .layout) e;
+          item = List·Memᴰ·head (ap itemOf e);
+        }
+    go (List·Memᴰ·tail k) r =
+        let rest = r k in
+        record { slot = rest .slot; layout = rest .layout; item = List·Memᴰ·tail (rest .item) }
 
-pub placed-append : (i : ℕ) (xs ys : List Item) → placedIn i (xs ++ ys) ≡ placedIn i xs ++ placedIn i ys
+pub placed-append : (L : Layout) (i : ℕ) (xs ys : List Item) → placedIn L i (xs ++ ys) ≡ placedIn L i xs ++ placedIn L i ys
 unfolding placedIn
-placed-append i [] ys = refl
-placed-append i (x ∷ xs) ys = ap (λ (r : List Placed). placedAt i x ∷ r) (placed-append i xs ys)
+placed-append L i [] ys = refl
+placed-append L i (x ∷ xs) ys = ap (λ (r : List Placed). placedAt L i x ∷ r) (placed-append L i xs ys)
 
 -- x stands in a slot below n that p picks.
 pub record InLog (v : ℕ → View) (p : ℕ → Bool) (n : ℕ) (x : Placed) : Type 0 where
   pub below : x .slot < n
   pub picked : p (x .slot) ≡ true
+  pub layout : x .layout ≡ v (x .slot) .layout
   pub item : In (itemOf x) (itemsOf (v (x .slot) .scan))
 
 module _ (v : ℕ → View) (p : ℕ → Bool) where
@@ -213,21 +234,23 @@ module _ (v : ℕ → View) (p : ℕ → Bool) where
 
   pub in-log : (n : ℕ) (x : Placed) → InLog v p n x → In x (logOf v p n)
   in-log n x h =
-      part-mem n (x .slot) x (h .below) (rw (part-picked v p (x .slot) (h .picked)) (placed-mem (x .slot) (h .item)))
+      part-mem n (x .slot) x (h .below) (rw (part-picked v p (x .slot) (h .picked))
+      (subst (λ (L : Layout). In x (placedIn L (x .slot) (itemsOf (v (x .slot) .scan)))) (h .layout) (placed-mem (x .layout) (x .slot) (h .item))))
 
   pub log-in : (n : ℕ) (x : Placed) → In x (logOf v p n) → InLog v p n x
   log-in n x m = let t = mem-part n x m in go (t .0) (t .1) (t .2) (p (t .0)) refl
     where
-      at : (i : ℕ) → i < n → p i ≡ true → (x .slot ≡ i) × In (itemOf x) (itemsOf (v i .scan)) → InLog v p n x
+      at : (i : ℕ) → i < n → p i ≡ true → Among (v i .layout) i x (itemsOf (v i .scan)) → InLog v p n x
       at i l q h =
           record {
-            below = omega (arith, h .0);
-            picked = ap p (h .0) ∙ q;
-            item = subst (λ (k : ℕ). In (itemOf x) (itemsOf (v k .scan))) (sym (h .0)) (h .1);
+            below = omega (arith, h .slot);
+            picked = ap p (h .slot) ∙ q;
+            layout = h .layout ∙ ap (λ (k : ℕ). v k .layout) (sym (h .slot));
+            item = subst (λ (k : ℕ). In (itemOf x) (itemsOf (v k .scan))) (sym (h .slot)) (h .item);
           }
 
       go : (i : ℕ) → i < n → In x (partOf v p i) → (t : Bool) → p i ≡ t → InLog v p n x
-      go i l k true q = at i l q (mem-placed i x (itemsOf (v i .scan)) (rw (part-picked v p i q) at k))
+      go i l k true q = at i l q (mem-placed (v i .layout) i x (itemsOf (v i .scan)) (rw (part-picked v p i q) at k))
       go i l k false q = absurd (List·Memᴰ·not-nil (rw (part-passed v p i q) at k))
 
 -- ---- one slot changes
@@ -392,19 +415,19 @@ those-append q (x ∷ a) b = go (q x) (those-append q a b)
     go true e = unfold pick in ap (λ (l : List Placed). x ∷ l) e
     go false e = unfold pick in e
 
-those-placed : (t : ℕ → Bool) (i : ℕ) (ys : List Item) → those (λ x. t (x .slot)) (placedIn i ys) ≡ pick (t i) (placedIn i ys) []
+those-placed : (t : ℕ → Bool) (L : Layout) (i : ℕ) (ys : List Item) → those (λ x. t (x .slot)) (placedIn L i ys) ≡ pick (t i) (placedIn L i ys) []
 unfolding those placedIn pick
-those-placed t i [] = go (t i)
+those-placed t L i [] = go (t i)
   where
     go : (b : Bool) → _≡_ {A = List Placed} [] (pick b [] [])
     go true = refl
     go false = refl
-those-placed t i (y ∷ ys) = go (t i) (those-placed t i ys)
+those-placed t L i (y ∷ ys) = go (t i) (those-placed t L i ys)
   where
-    go : (b : Bool) → those (λ x. t (x .slot)) (placedIn i ys) ≡ pick b (placedIn i ys) []
-        → pick b (placedAt i y ∷ those (λ x. t (x .slot)) (placedIn i ys)) (those (λ x. t (x .slot)) (placedIn i ys))
-        ≡ pick b (placedAt i y ∷ placedIn i ys) []
-    go true e = ap (λ (l : List Placed). placedAt i y ∷ l) e
+    go : (b : Bool) → those (λ x. t (x .slot)) (placedIn L i ys) ≡ pick b (placedIn L i ys) []
+        → pick b (placedAt L i y ∷ those (λ x. t (x .slot)) (placedIn L i ys)) (those (λ x. t (x .slot)) (placedIn L i ys))
+        ≡ pick b (placedAt L i y ∷ placedIn L i ys) []
+    go true e = ap (λ (l : List Placed). placedAt L i y ∷ l) e
     go false e = e
 
 -- the members in slots of which t holds are the log of those slots
@@ -414,9 +437,9 @@ log-those v p t zero = refl
 log-those v p t (suc n) =
     those-append (λ x. t (x .slot)) (logOf v p n) (partOf v p n) ∙ cc (log-those v p t n, part (p n))
   where
-    part : (b : Bool) → those (λ x. t (x .slot)) (pick b (placedIn n (itemsOf (v n .scan))) [])
-        ≡ pick (both b (t n)) (placedIn n (itemsOf (v n .scan))) []
-    part true = unfold pick both in those-placed t n (itemsOf (v n .scan))
+    part : (b : Bool) → those (λ x. t (x .slot)) (pick b (placedIn (v n .layout) n (itemsOf (v n .scan))) [])
+        ≡ pick (both b (t n)) (placedIn (v n .layout) n (itemsOf (v n .scan))) []
+    part true = unfold pick both in those-placed t (v n .layout) n (itemsOf (v n .scan))
     part false = unfold pick both in refl
 
 -- a log whose every slot adds nothing

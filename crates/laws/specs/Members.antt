@@ -173,11 +173,11 @@ those-in p (y ∷ ys) x m = go (p y) refl m (λ i. those-in p ys x i)
     go false d i ih = tail (ih i)
 
 -- the sum of a number for each entry
-unfoldable pub total : (Entry → ℕ) → List Entry → ℕ
+unfoldable pub total : {A : Type 0} → (A → ℕ) → List A → ℕ
 total f [] = 0
 total f (e ∷ es) = f e + total f es
 
-pub total-append : (f : Entry → ℕ) (a b : List Entry) → total f (a ++ b) ≡ total f a + total f b
+pub total-append : {A : Type 0} (f : A → ℕ) (a b : List A) → total f (a ++ b) ≡ total f a + total f b
 unfolding total
 total-append f [] b = omega arith
 total-append f (e ∷ a) b = omega (arith, total-append f a b)

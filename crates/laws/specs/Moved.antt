@@ -7,6 +7,7 @@ use mathlib.Core.Option.{Option, none, some}
 use native.Mathlib.Omega.{arith}
 use lib.Dec.{eqb, ltb}
 use Rattle.segment.specs.Choice.{pick, either}
+use Rattle.segment.specs.Layout.{Layout}
 use Rattle.segment.specs.Entry.{Entry, isTombstone, keyOf}
 use Rattle.segment.specs.declared.Key.{Key}
 use Rattle.model.specs.Log.{View, Item, Placed, itemsOf, placedIn, logOf, sameKey, laterOf, latest, objectOnly, present, hasKey, keysOf, hasVersion, versionShared, highest}
@@ -23,15 +24,15 @@ pub moved-append : {a b c d : List Placed} → Moved a b → Moved c d → Moved
 moved-append no-entry q = q
 moved-append (an-entry s e p) q = an-entry s e (moved-append p q)
 
-moved-items : (i : ℕ) (xs ys : List Item) → itemEntries xs ≡ itemEntries ys → Moved (placedIn i xs) (placedIn i ys)
+moved-items : (L K : Layout) (i : ℕ) (xs ys : List Item) → itemEntries xs ≡ itemEntries ys → Moved (placedIn L i xs) (placedIn K i ys)
 unfolding placedIn
-moved-items i [] [] e = no-entry
-moved-items i [] (y ∷ ys) e = let z : _≡_ {A = ℕ} 0 1 = cc in absurd (omega arith)
-moved-items i (x ∷ xs) [] e = let z : _≡_ {A = ℕ} 0 1 = cc in absurd (omega arith)
-moved-items i (x ∷ xs) (y ∷ ys) e =
+moved-items L K i [] [] e = no-entry
+moved-items L K i [] (y ∷ ys) e = let z : _≡_ {A = ℕ} 0 1 = cc in absurd (omega arith)
+moved-items L K i (x ∷ xs) [] e = let z : _≡_ {A = ℕ} 0 1 = cc in absurd (omega arith)
+moved-items L K i (x ∷ xs) (y ∷ ys) e =
     let same : x .entry ≡ y .entry = cc in
     let rest : itemEntries xs ≡ itemEntries ys = cc in
-    an-entry refl same (moved-items i xs ys rest)
+    an-entry refl same (moved-items L K i xs ys rest)
 
 pub moved-log : (v w : ℕ → View) (p : ℕ → Bool) (n : ℕ)
     → ((i : ℕ) → i < n → p i ≡ true → itemEntries (itemsOf (v i .scan)) ≡ itemEntries (itemsOf (w i .scan)))
@@ -40,8 +41,8 @@ unfolding logOf
 moved-log v w p zero same = no-entry
 moved-log v w p (suc n) same = moved-append (moved-log v w p n (λ i l q. same i (omega arith) q)) (go (p n) refl)
   where
-    go : (t : Bool) → p n ≡ t → Moved (pick t (placedIn n (itemsOf (v n .scan))) []) (pick t (placedIn n (itemsOf (w n .scan))) [])
-    go true q = unfold pick in moved-items n (itemsOf (v n .scan)) (itemsOf (w n .scan)) (same n (omega arith) q)
+    go : (t : Bool) → p n ≡ t → Moved (pick t (placedIn (v n .layout) n (itemsOf (v n .scan))) []) (pick t (placedIn (w n .layout) n (itemsOf (w n .scan))) [])
+    go true q = unfold pick in moved-items (v n .layout) (w n .layout) n (itemsOf (v n .scan)) (itemsOf (w n .scan)) (same n (omega arith) q)
     go false q = unfold pick in no-entry
 
 -- ---- keys and versions

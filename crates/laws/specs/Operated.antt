@@ -78,9 +78,13 @@ pub record OperationLaws (L : Layout) : Type 0 where
   pub version-below :
       (area : List ℕ) (r : Record) → recovered L (r .slots) (r .size) (r .cells) area ≡ some r → (k : Key) (x : Placed) →
       present (logNow area r) k ≡ some x → x .entry .version < r .next .0
+  -- a present object stands in a slot of the store's edition, and its value is its part of the area
+  pub present-layout :
+      (area : List ℕ) (r : Record) → recovered L (r .slots) (r .size) (r .cells) area ≡ some r → (k : Key) (x : Placed) →
+      present (logNow area r) k ≡ some x → x .layout ≡ L
   pub value-part :
       (area : List ℕ) (r : Record) → Bytes area → recovered L (r .slots) (r .size) (r .cells) area ≡ some r → (k : Key) (x : Placed) →
-      present (logNow area r) k ≡ some x → partOf area (valuePart L (r .size) (some x)) ≡ bytesIn (x .entry .value)
+      present (logNow area r) k ≡ some x → partOf area (valuePart (r .size) (some x)) ≡ bytesIn (x .entry .value)
   -- A fresh area has an empty log and next version 1, at any number of cells.
   pub format-bytes : (n s : ℕ) (area : List ℕ) → Bytes area → Bytes (formatted L n s area)
   pub format-recovers :

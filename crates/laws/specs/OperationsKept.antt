@@ -1,24 +1,25 @@
 -- All the laws that the promise about cuts needs, for every layout of which each entry fits a fresh segment.
-use Prim.Native.Nat.{ℕ, _+_, _-_, _*_, _^_, _≤_, _<_}
+use Prim.Native.Nat.{ℕ, _+_, _-_, _*_, _≤_, _<_}
 use native.Mathlib.Omega.{arith}
 use mathlib.Core.Path.{_≡_, refl, sym, ap, _∙_, subst}
 use mathlib.Core.Bool.{Bool, true, false}
-use mathlib.Core.List.{List, [], _∷_, List·Memᴰ}
+use mathlib.Core.List.{List, [], _∷_}
 use mathlib.Core.Option.{Option, none, some}
 use lib.Dec.{eqb, ltb, lit<}
 use lib.ListN.{length, take, drop}
 use lib.Seq.{take-length}
-use borrow.Author.Tests.{not-false, ltb-true, ltb-false, eqb-false}
-use Rattle.segment.specs.Choice.{pick, pick-true, pick-false, both, both-left, both-right, isNone, either-false-left, either-false-right}
+use borrow.Author.Tests.{ltb-true}
+use Rattle.segment.specs.Choice.{pick, pick-true, pick-false, both, both-left, both-right, isNone}
 use Rattle.segment.specs.Packed.{field-at}
 use Rattle.segment.specs.declared.Edition.the-variants.{First, Second}
-use Rattle.segment.specs.Layout.{Layout, edition1, edition2, lookup, valueLength, digestSize, entrySize, numberLimit, table}
-use Rattle.segment.specs.Entry.{Entry, WellFormed, isTombstone, bytesIn, sizeOf, entryAt, entry}
+use Rattle.segment.specs.Layout.{Layout, edition1, edition2, lookup, valueLength, digestSize, entrySize, table}
+use Rattle.segment.specs.Digest.{layoutIn}
+use Rattle.segment.specs.Entry.{Entry, isTombstone, bytesIn, sizeOf, entryAt, entry}
 use Rattle.segment.specs.EntryLaws.{Readable, found-readable, found-bytes}
 use Rattle.segment.specs.declared.Key.{Key}
 use Rattle.segment.specs.declared.Version.{Version}
-use Rattle.slot_map.specs.Bit.{named, within}
-use Rattle.record.specs.RangeLaws.{Lent, lent}
+use Rattle.slot_map.specs.Bit.{named}
+use Rattle.record.specs.RangeLaws.{Lent}
 use Rattle.record.specs.declared.Record.{Record}
 use Rattle.model.specs.Log.{View, Placed, placeOf, scan, scanned, segmentOf, viewsOf, present, latest, objectOnly, sameKey}
 use Rattle.model.specs.Recovery.{recovered, recordFrom}
@@ -29,12 +30,12 @@ use Rattle.laws.specs.Latest.{latest-some}
 use Rattle.laws.specs.Versions.{shared-apart}
 use Rattle.laws.specs.MapLaws.{valueAt, gives, log-clean}
 use Rattle.laws.specs.Stores.{length-stored, slot-inside, length-segment}
-use Rattle.laws.specs.Scans.{itemsFrom, scan-scans, scans-found}
+use Rattle.laws.specs.Scans.{itemsFrom}
 use Rattle.laws.specs.NewHeadBytes.{headPlan, new-head-other, new-head-view}
 use Rattle.laws.specs.FormatBytes.{bytes-formatted}
 use Rattle.laws.specs.Fresh.{format-recovers, format-log}
-use Rattle.laws.specs.LogLaws.{log-in, scan-whole}
-use Rattle.laws.specs.RecoverLaws.{recovered-case, recovered-fits, recovered-holds, recovered-apart, recovered-above, recovered-more, log-whole}
+use Rattle.laws.specs.LogLaws.{log-in}
+use Rattle.laws.specs.RecoverLaws.{recovered-case, recovered-fits, recovered-holds, recovered-above, recovered-more, placed-found}
 use Rattle.laws.specs.Headed.{Heads}
 use Rattle.laws.specs.Cleaned.{cleaned-cleaned, cleaned-recovered}
 use Rattle.laws.specs.Operated.{Accepted, planAt, mapAfter, OperationLaws}
@@ -68,6 +69,9 @@ module _ (L : Layout) (before : List ℕ) (idle : Record) (victims : ℕ) (next 
       }
 
   -- the new head holds what is kept
+  pub clean-layout : layoutIn (segmentOf (stored before clean-plan) (idle .size) (newSlot idle)) ≡ L
+  clean-layout = ap (λ (w : View). w .layout) (views .own)
+
   pub clean-scan :
       scan L (segmentOf (stored before clean-plan) (idle .size) (newSlot idle)) ≡
       scanned (itemsFrom L (digestSize L) (kept victims stand)) (digestSize L + length (allEncoded L (kept victims stand)))
@@ -181,40 +185,43 @@ present-in log k x e = go (latest log k) refl e
             same : _≡_ {A = Option Placed} (some y) (some x) → y ≡ x
             same c = cc
 
--- an entry of the log stands in its segment
+-- an entry of the log stands in a slot of the store's edition, and in its segment
+log-layout :
+    (L : Layout) (n s m : ℕ) (area : List ℕ) (r : Record) → recovered L n s m area ≡ some r → (x : Placed) → In x (logNow area r) → x .layout ≡ L
+log-layout L n s m area r e x =
+    recovered-case L n s m area (λ (k : Record). In x (logNow area k) → x .layout ≡ L)
+    (λ h l f i.
+    let at = log-in (viewsOf area s) (named (h .digest .map)) n x i in
+    at .layout ∙ f .editions (x .slot) (at .below) (at .picked)) r e
+
 log-found :
     (L : Layout) (n s m : ℕ) (area : List ℕ) (r : Record) → recovered L n s m area ≡ some r → (x : Placed) → In x (logNow area r) →
-    (x .slot < n) × (entryAt L (segmentOf area s (x .slot)) (x .offset) ≡ entry (x .entry))
+    (x .slot < n) × (entryAt (x .layout) (segmentOf area s (x .slot)) (x .offset) ≡ entry (x .entry))
 log-found L n s m area r e x =
     recovered-case L n s m area
-    (λ (k : Record). In x (logNow area k) → (x .slot < n) × (entryAt L (segmentOf area s (x .slot)) (x .offset) ≡ entry (x .entry)))
+    (λ (k : Record). In x (logNow area k) → (x .slot < n) × (entryAt (x .layout) (segmentOf area s (x .slot)) (x .offset) ≡ entry (x .entry)))
     (λ h l f i.
-    let at = log-in (viewsOf area s) (named (h .digest .map)) n x i in (
-      at .below,
-      scans-found (scan-scans L (segmentOf area s (x .slot)) (log-whole L n s m area h f (x .slot) (at .below) (at .picked)))
-          (at .item),
-    ))
-    r e
+    (log-in (viewsOf area s) (named (h .digest .map)) n x i .below, placed-found L n s m area h f x i)) r e
 
 -- the value of an entry that stands in a segment is a part of the area
 value-there :
-    (L : Layout) (area : List ℕ) (s : ℕ) (x : Placed) → length (segmentOf area s (x .slot)) ≡ s →
-    entryAt L (segmentOf area s (x .slot)) (x .offset) ≡ entry (x .entry) → partOf area (valuePart L s (some x)) ≡ bytesIn (x .entry .value)
+    (area : List ℕ) (s : ℕ) (x : Placed) → length (segmentOf area s (x .slot)) ≡ s →
+    entryAt (x .layout) (segmentOf area s (x .slot)) (x .offset) ≡ entry (x .entry) → partOf area (valuePart s (some x)) ≡ bytesIn (x .entry .value)
 unfolding valuePart
-value-there L area s x long e =
+value-there area s x long e =
     ap (λ (p : ℕ). take (length (bytesIn (x .entry .value))) (drop p area)) place ∙
-    sym (field-at (length (bytesIn (x .entry .value))) (x .offset + (7 + table L .width)) s (x .slot * s) area (omega (arith, there .fits, long))) ∙
+    sym (field-at (length (bytesIn (x .entry .value))) (x .offset + (7 + table (x .layout) .width)) s (x .slot * s) area (omega (arith, there .fits, long))) ∙
     sym
-    (field-at (length (bytesIn (x .entry .value))) (7 + table L .width) (sizeOf L (x .entry)) (x .offset) (segmentOf area s (x .slot)) (omega arith)) ∙
+    (field-at (length (bytesIn (x .entry .value))) (7 + table (x .layout) .width) (sizeOf (x .layout) (x .entry)) (x .offset) (segmentOf area s (x .slot)) (omega arith)) ∙
     ap (take (length (bytesIn (x .entry .value)))) value ∙ take-length (bytesIn (x .entry .value))
   where
-    there : Readable L (segmentOf area s (x .slot)) (x .offset) (x .entry)
-    there = found-readable L (segmentOf area s (x .slot)) (x .offset) (x .entry) e
+    there : Readable (x .layout) (segmentOf area s (x .slot)) (x .offset) (x .entry)
+    there = found-readable (x .layout) (segmentOf area s (x .slot)) (x .offset) (x .entry) e
 
-    value : drop (7 + table L .width) (take (sizeOf L (x .entry)) (drop (x .offset) (segmentOf area s (x .slot)))) ≡ bytesIn (x .entry .value)
-    value = found-bytes L (segmentOf area s (x .slot)) (x .offset) (x .entry) e
+    value : drop (7 + table (x .layout) .width) (take (sizeOf (x .layout) (x .entry)) (drop (x .offset) (segmentOf area s (x .slot)))) ≡ bytesIn (x .entry .value)
+    value = found-bytes (x .layout) (segmentOf area s (x .slot)) (x .offset) (x .entry) e
 
-    place : placeOf s x + entrySize L 0 ≡ x .slot * s + (x .offset + (7 + table L .width))
+    place : placeOf s x + entrySize (x .layout) 0 ≡ x .slot * s + (x .offset + (7 + table (x .layout) .width))
     place = omega arith
 
 -- ---- together
@@ -235,10 +242,11 @@ operation-laws L roomy =
       version-below =
           λ area r e k x p.
           recovered-above L (r .slots) (r .size) (r .cells) area r e x (present-in (logNow area r) k x p);
+      present-layout = λ area r e k x p. log-layout L (r .slots) (r .size) (r .cells) area r e x (present-in (logNow area r) k x p);
       value-part =
           λ area r ab e k x p.
           let found = log-found L (r .slots) (r .size) (r .cells) area r e x (present-in (logNow area r) k x p) in
-          value-there L area (r .size) x
+          value-there area (r .size) x
           (length-segment area (r .size) (x .slot)
           (slot-inside area (r .slots) (r .size) (x .slot) (recovered-holds L (r .slots) (r .size) (r .cells) area r e .area-own) (found .0)))
           (found .1);

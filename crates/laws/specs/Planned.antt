@@ -9,9 +9,8 @@ use mathlib.Core.List.{List, [], _∷_, _++_, List·Memᴰ}
 use mathlib.Core.Option.{some}
 use lib.ListN.{length, take}
 use lib.Pow.{pow-mono}
-use borrow.Author.Tests.{leb-true, ltb-false}
+use borrow.Author.Tests.{leb-true}
 use Rattle.word.specs.Number.{Bytes}
-use Rattle.word.specs.Laws.{bytes-take, bytes-drop}
 use Rattle.segment.specs.Choice.{pick}
 use Rattle.segment.specs.Layout.{Layout, digestSize, entrySize, table}
 use Rattle.segment.specs.Entry.{Entry, WellFormed, bytesIn, kindOf, encoded, sizeOf}
@@ -24,17 +23,17 @@ use Rattle.slot_map.specs.Bit.{named, within}
 use Rattle.slot_map.specs.BitLaws.{clear-named, add-below}
 use Rattle.slot_map.specs.CountLaws.{clear-sub}
 use Rattle.slot_map.specs.NextLaws.{next-below, next-clear}
-use Rattle.record.specs.RangeLaws.{Lent, lent}
+use Rattle.record.specs.RangeLaws.{Lent}
 use Rattle.record.specs.declared.Record.{Record}
-use Rattle.model.specs.Log.{View, Placed, scan, itemsOf, segmentOf, viewsOf, logOf}
+use Rattle.model.specs.Log.{Placed, scan, itemsOf, viewsOf, logOf}
 use Rattle.model.specs.Recovery.{recovered}
 use Rattle.model.specs.Operations.{Operation, write, delete, clean, logNow, writtenEntry, tombstoneEntry, fitsHead, noRoom, newSlot, digestWith, newDigest, kept, allEncoded, Laid, laidAppend, laidHead, laidEntry, laidForget, laidDelete, laid, commit, planOf, stored}
 use Rattle.laws.specs.Stores.{length-commit-within, length-commit-full, length-stored}
-use Rattle.laws.specs.Scans.{encoded-one, scan-scans, scans-stands}
+use Rattle.laws.specs.Scans.{encoded-one}
 use Rattle.laws.specs.AppendBytes.{append-prefix, append-prefix-bytes}
 use Rattle.laws.specs.NewHeadBytes.{headBytes, headPlan, length-headBytes, formed-one, new-head-prefix, new-head-other-prefix, new-head-prefix-bytes}
-use Rattle.laws.specs.LogLaws.{log-same, log-in, scan-whole}
-use Rattle.laws.specs.RecoverLaws.{recovered-case, recovered-holds, recovered-next, recovered-scan, views-recovered, cut-recovered, cut-log, recovered-layout}
+use Rattle.laws.specs.LogLaws.{log-same, alike-view}
+use Rattle.laws.specs.RecoverLaws.{recovered-holds, recovered-next, recovered-scan, views-recovered, cut-recovered, cut-log, recovered-layout}
 use Rattle.laws.specs.Operated.{Accepted, planAt}
 use Rattle.laws.specs.Entering.{Roomy, Entering, idle-lent, write-enters, delete-enters}
 use Rattle.laws.specs.Cleanings.{Cleaning, clean-cleans, forget-cleans}
@@ -137,7 +136,7 @@ module _ (L : Layout) (area : List ℕ) (r : Record) (e : recovered L (r .slots)
   same-stays area′ long same = (
     views-recovered L (r .slots) (r .size) (r .cells) area area′ long (λ i l. same i) ∙ e,
     log-same (viewsOf area (r .size)) (viewsOf area′ (r .size)) (named (r .map)) (named (r .map)) (r .slots) (λ i l. refl)
-        (λ i l p. ap (λ (w : View). w .scan) (same i)),
+        (λ i l p. alike-view (viewsOf area (r .size)) (viewsOf area′ (r .size)) i (same i)),
   )
 
   -- After every proper prefix of the stores recovery gives the old record, and the log is the old one.

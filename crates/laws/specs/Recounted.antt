@@ -1,30 +1,29 @@
 -- 02, R-5: what a cleaning, also one that deletes, does to the present bytes of the slots, and that they fit a segment.
-use Prim.Native.Nat.{ℕ, zero, suc, _+_, _-_, _≤_, _<_}
+use Prim.Native.Nat.{ℕ, zero, suc, _+_, _-_, _<_}
 use mathlib.Core.Path.{_≡_, refl, sym, _∙_, ap, ap₂}
 use mathlib.Core.Bool.{Bool, true, false, not}
-use mathlib.Core.List.{List, [], _∷_, _++_, List·Memᴰ·head, List·Memᴰ·tail}
+use mathlib.Core.List.{List, [], _∷_, _++_, List·Memᴰ·tail}
 use mathlib.Core.Option.{Option, none, some}
 use native.Mathlib.Decide.{ℕ-discrete}
 use native.Mathlib.Nat.{zero-add}
 use native.Mathlib.Omega.{arith}
 use lib.Dec.{eqb}
-use lib.ListN.{length, getD, set, length-set}
+use lib.ListN.{length, getD, length-set}
 use lib.Seq.{getD-set-same, getD-set-other}
-use borrow.Author.Tests.{eq-eqb, ne-eqb, eqb-true}
+use borrow.Author.Tests.{eq-eqb, ne-eqb}
 use Rattle.segment.specs.Choice.{pick, pick-true, pick-false}
 use Rattle.segment.specs.Layout.{Layout}
 use Rattle.segment.specs.Entry.{Entry, keyOf, isTombstone, sizeOf}
-use Rattle.segment.specs.declared.Key.{Key}
 use Rattle.slot_map.specs.Bit.{named}
-use Rattle.model.specs.Log.{Placed, isVersion, latest, objectOnly, present, versionShared}
+use Rattle.model.specs.Log.{Placed, isVersion, objectOnly, present, versionShared, placedSize}
 use Rattle.model.specs.Counts.{isPresent, presentSize, countsOf, objectSize, objectBytes, withoutVictims, renewedCounts}
 use Rattle.model.specs.Operations.{isHighest, isKept, kept, placedFrom}
-use Rattle.laws.specs.Members.{clash, In, first, entriesOf, entry-of, those, those-in, total}
+use Rattle.laws.specs.Members.{clash, In, first, entry-of, those, those-in, total}
 use Rattle.laws.specs.Latest.{found, latest-unique}
 use Rattle.laws.specs.Versions.{shared-apart}
-use Rattle.laws.specs.MapLaws.{valueAt, outside, outside-in, kept-those, kept-highest, highest-newest, Cleaned, log-clean}
+use Rattle.laws.specs.MapLaws.{outside, outside-in, kept-those, kept-highest, highest-newest, Cleaned, log-clean}
 use Rattle.laws.specs.LogLaws.{OnePart}
-use Rattle.laws.specs.Counted.{slotTotal, slot-total-cons, slot-total-append, slot-total-same, slot-total-none, length-tally, tally-at, counts-are, present-size-same}
+use Rattle.laws.specs.Counted.{slotTotal, slot-total-cons, slot-total-append, slot-total-same, slot-total-none, length-tally, tally-at, counts-are, present-same}
 
 -- ---- the numbers without those of the victims
 
@@ -43,7 +42,7 @@ without-at victims i (suc j) (n ∷ c) l =
 -- ---- sums over what is left and over what has moved
 
 -- a slot that is no victim's has all its members outside the victims
-pub outside-total : (f : Entry → ℕ) (victims i : ℕ) (xs : List Placed) → named victims i ≡ false → slotTotal f i (outside victims xs) ≡ slotTotal f i xs
+pub outside-total : (f : Placed → ℕ) (victims i : ℕ) (xs : List Placed) → named victims i ≡ false → slotTotal f i (outside victims xs) ≡ slotTotal f i xs
 unfolding those
 outside-total f victims i [] e = refl
 outside-total f victims i (x ∷ xs) e = go (named victims (x .slot)) refl (outside-total f victims i xs e)
@@ -54,18 +53,19 @@ outside-total f victims i (x ∷ xs) e = go (named victims (x .slot)) refl (outs
     go : (t : Bool) → named victims (x .slot) ≡ t → slotTotal f i (outside victims xs) ≡ slotTotal f i xs → goal t
     go false p ih = unfold pick in
         slot-total-cons f i x (outside victims xs)
-        ∙ ap (λ (n : ℕ). pick (eqb (x .slot) i) (f (x .entry)) 0 + n) ih ∙ sym (slot-total-cons f i x xs)
+        ∙ ap (λ (n : ℕ). pick (eqb (x .slot) i) (f x) 0 + n) ih ∙ sym (slot-total-cons f i x xs)
     go true p ih = unfold pick in
         omega (
           arith,
           ih,
           slot-total-cons f i x xs,
-          pick-false (eqb (x .slot) i) (f (x .entry)) 0
+          pick-false (eqb (x .slot) i) (f x) 0
               (ne-eqb (x .slot) i (λ d. clash (named victims i) (ap (named victims) (sym d) ∙ p) e)),
         )
 
 -- entries that all come to one slot
-pub moved-total : (L : Layout) (f : Entry → ℕ) (j i at : ℕ) (es : List Entry) → slotTotal f i (placedFrom L j at es) ≡ pick (eqb j i) (total f es) 0
+pub moved-total : (L : Layout) (f : Layout → Entry → ℕ) (j i at : ℕ) (es : List Entry)
+    → slotTotal (λ (x : Placed). f (x .layout) (x .entry)) i (placedFrom L j at es) ≡ pick (eqb j i) (total (f L) es) 0
 unfolding placedFrom those total
 moved-total L f j i at [] = go (eqb j i)
   where
@@ -73,10 +73,11 @@ moved-total L f j i at [] = go (eqb j i)
     go true = unfold pick in refl
     go false = unfold pick in refl
 moved-total L f j i at (e ∷ es) =
-    slot-total-cons f i (record { slot = j; offset = at; entry = e }) (placedFrom L j (at + sizeOf L e) es)
-    ∙ ap (λ (n : ℕ). pick (eqb j i) (f e) 0 + n) (moved-total L f j i (at + sizeOf L e) es) ∙ go (eqb j i)
+    slot-total-cons (λ (x : Placed). f (x .layout) (x .entry)) i (record { slot = j; layout = L; offset = at; entry = e })
+    (placedFrom L j (at + sizeOf L e) es)
+    ∙ ap (λ (n : ℕ). pick (eqb j i) (f L e) 0 + n) (moved-total L f j i (at + sizeOf L e) es) ∙ go (eqb j i)
   where
-    go : (t : Bool) → pick t (f e) 0 + pick t (total f es) 0 ≡ pick t (f e + total f es) 0
+    go : (t : Bool) → pick t (f L e) 0 + pick t (total (f L) es) 0 ≡ pick t (f L e + total (f L) es) 0
     go true = unfold pick in refl
     go false = unfold pick in refl
 
@@ -90,9 +91,13 @@ unfolding objectBytes total
 objects-total L [] = refl
 objects-total L (e ∷ es) = ap (λ (n : ℕ). objectSize L e + n) (objects-total L es)
 
+-- what an entry of a layout counts in a log
+abbrev entrySizeIn : List Placed → Layout → Entry → ℕ
+entrySizeIn log L e = pick (isPresent log e) (sizeOf L e) 0
+
 -- a key's highest version is present if it is an object
 highest-size : (L : Layout) (log : List Placed) (x : Placed) → versionShared log ≡ false → In x log → isHighest log (x .entry) ≡ true
-    → presentSize L log (x .entry) ≡ objectSize L (x .entry)
+    → entrySizeIn log L (x .entry) ≡ objectSize L (x .entry)
 unfolding present objectOnly
 highest-size L log x apart m h =
     ap (λ (o : Option Placed). pick (isVersion (objectOnly o) (x .entry .version)) (sizeOf L (x .entry)) 0)
@@ -112,15 +117,15 @@ module _ (L : Layout) (victims j at : ℕ) (log stand after : List Placed)
     (none-there : (y : Placed) → In y log → y .slot ≡ j → ⊥)
     (as-before : (y : Placed) → In y (outside victims log) → isPresent stand (y .entry) ≡ isPresent log (y .entry)) where
   -- every key has what it had
-  still : (e : Entry) → presentSize L after e ≡ presentSize L stand e
+  still : (e : Entry) → isPresent after e ≡ isPresent stand e
   still e =
-      present-size-same L after stand e
+      present-same after stand e
       (log-clean victims stand (placedFrom L j at (kept victims stand)) after c (shared-apart stand versions) (keyOf e))
 
-  kept-total : total (presentSize L after) (kept victims stand) ≡ objectBytes L (kept victims stand)
+  kept-total : total (entrySizeIn after L) (kept victims stand) ≡ objectBytes L (kept victims stand)
   kept-total =
-      total-same (presentSize L after) (objectSize L) (kept victims stand)
-      (λ e m. still e ∙ by-member e (entry-kept e m)) ∙ sym (objects-total L (kept victims stand))
+      total-same (entrySizeIn after L) (objectSize L) (kept victims stand)
+      (λ e m. ap (λ (t : Bool). pick t (sizeOf L e) 0) (still e) ∙ by-member e (entry-kept e m)) ∙ sym (objects-total L (kept victims stand))
     where
       entry-kept : (e : Entry) → In e (kept victims stand) → (x : Placed) × In x stand × (isKept victims stand x ≡ true) × (x .entry ≡ e)
       entry-kept e m =
@@ -128,67 +133,67 @@ module _ (L : Layout) (victims j at : ℕ) (log stand after : List Placed)
           let k = those-in (isKept victims stand) stand (h .0) (h .1) in
           (h .0, k .0, k .1, h .2)
 
-      by-member : (e : Entry) → (x : Placed) × In x stand × (isKept victims stand x ≡ true) × (x .entry ≡ e) → presentSize L stand e ≡ objectSize L e
+      by-member : (e : Entry) → (x : Placed) × In x stand × (isKept victims stand x ≡ true) × (x .entry ≡ e) → entrySizeIn stand L e ≡ objectSize L e
       by-member e h =
-          ap (presentSize L stand) (sym (h .3))
+          ap (entrySizeIn stand L) (sym (h .3))
           ∙ highest-size L stand (h .0) versions (h .1) (kept-highest victims stand (h .0) (h .2)) ∙ ap (objectSize L) (h .3)
 
-  after-total : (i : ℕ) → slotTotal (presentSize L after) i after ≡
-      slotTotal (presentSize L log) i (outside victims log) + pick (eqb j i) (objectBytes L (kept victims stand)) 0
+  after-total : (i : ℕ) → slotTotal (presentSize after) i after ≡
+      slotTotal (presentSize log) i (outside victims log) + pick (eqb j i) (objectBytes L (kept victims stand)) 0
   after-total i =
       omega (
         arith,
-        ap (slotTotal (presentSize L after) i) (parts .new),
-        ap (slotTotal (presentSize L after) i) (parts .old),
-        slot-total-append (presentSize L after) i (parts .before) (placedFrom L j at (kept victims stand) ++ parts .after),
-        slot-total-append (presentSize L after) i (placedFrom L j at (kept victims stand)) (parts .after),
-        slot-total-append (presentSize L after) i (parts .before) (parts .after),
-        moved-total L (presentSize L after) j i at (kept victims stand),
+        ap (slotTotal (presentSize after) i) (parts .new),
+        ap (slotTotal (presentSize after) i) (parts .old),
+        slot-total-append (presentSize after) i (parts .before) (placedFrom L j at (kept victims stand) ++ parts .after),
+        slot-total-append (presentSize after) i (placedFrom L j at (kept victims stand)) (parts .after),
+        slot-total-append (presentSize after) i (parts .before) (parts .after),
+        moved-total L (entrySizeIn after) j i at (kept victims stand),
         ap (λ (n : ℕ). pick (eqb j i) n 0) kept-total,
-        slot-total-same (presentSize L after) (presentSize L log) i (outside victims log) (λ y m. still (y .entry) ∙ ap (λ (t : Bool). pick t (sizeOf L (y .entry)) 0) (as-before y m)),
+        slot-total-same (presentSize after) (presentSize log) i (outside victims log) (λ y m. ap (λ (t : Bool). pick t (placedSize y) 0) (still (y .entry) ∙ as-before y m)),
       )
 
-  pub renewed-counts : countsOf L after ≡ renewedCounts L victims j (kept victims stand) (countsOf L log)
+  pub renewed-counts : countsOf after ≡ renewedCounts L victims j (kept victims stand) (countsOf log)
   renewed-counts =
-      counts-are L after (renewedCounts L victims j (kept victims stand) (countsOf L log))
-      (length-set (withoutVictims victims 0 (countsOf L log)) j (objectBytes L (kept victims stand)) ∙ long)
+      counts-are after (renewedCounts L victims j (kept victims stand) (countsOf log))
+      (length-set (withoutVictims victims 0 (countsOf log)) j (objectBytes L (kept victims stand)) ∙ long)
       (λ i l. go i l (ℕ-discrete i j) (named victims i) refl)
     where
-      long : length (withoutVictims victims 0 (countsOf L log)) ≡ 32
-      long = length-without victims 0 (countsOf L log) ∙ length-tally L log log
+      long : length (withoutVictims victims 0 (countsOf log)) ≡ 32
+      long = length-without victims 0 (countsOf log) ∙ length-tally log log
 
       goal : ℕ → Type 0
-      goal i = getD (renewedCounts L victims j (kept victims stand) (countsOf L log)) i 0 ≡ slotTotal (presentSize L after) i after
+      goal i = getD (renewedCounts L victims j (kept victims stand) (countsOf log)) i 0 ≡ slotTotal (presentSize after) i after
 
       go : (i : ℕ) → i < 32 → Dec (i ≡ j) → (t : Bool) → named victims i ≡ t → goal i
       go i l (yes e) t p =
           omega (
             arith,
-            ap (λ (k : ℕ). getD (renewedCounts L victims j (kept victims stand) (countsOf L log)) k 0) e,
-            getD-set-same (withoutVictims victims 0 (countsOf L log)) j (objectBytes L (kept victims stand)) 0 (omega (arith, long, e)),
+            ap (λ (k : ℕ). getD (renewedCounts L victims j (kept victims stand) (countsOf log)) k 0) e,
+            getD-set-same (withoutVictims victims 0 (countsOf log)) j (objectBytes L (kept victims stand)) 0 (omega (arith, long, e)),
             after-total i,
             pick-true (eqb j i) (objectBytes L (kept victims stand)) 0 (eq-eqb j i (sym e)),
-            slot-total-none (presentSize L log) i (outside victims log) (λ y m d. none-there y (outside-in victims log y m .0) (d ∙ e)),
+            slot-total-none (presentSize log) i (outside victims log) (λ y m d. none-there y (outside-in victims log y m .0) (d ∙ e)),
           )
       go i l (no e) true p =
           omega (
             arith,
-            getD-set-other (withoutVictims victims 0 (countsOf L log)) j i (objectBytes L (kept victims stand)) 0 e,
-            without-at victims 0 i (countsOf L log) (omega (arith, length-tally L log log)),
-            pick-true (named victims (0 + i)) 0 (getD (countsOf L log) i 0) (ap (named victims) (zero-add i) ∙ p),
+            getD-set-other (withoutVictims victims 0 (countsOf log)) j i (objectBytes L (kept victims stand)) 0 e,
+            without-at victims 0 i (countsOf log) (omega (arith, length-tally log log)),
+            pick-true (named victims (0 + i)) 0 (getD (countsOf log) i 0) (ap (named victims) (zero-add i) ∙ p),
             after-total i,
             pick-false (eqb j i) (objectBytes L (kept victims stand)) 0 (ne-eqb j i (λ d. e (sym d))),
-            slot-total-none (presentSize L log) i (outside victims log)
+            slot-total-none (presentSize log) i (outside victims log)
                 (λ y m d. clash (named victims i) p (ap (named victims) (sym d) ∙ outside-in victims log y m .1)),
           )
       go i l (no e) false p =
           omega (
             arith,
-            getD-set-other (withoutVictims victims 0 (countsOf L log)) j i (objectBytes L (kept victims stand)) 0 e,
-            without-at victims 0 i (countsOf L log) (omega (arith, length-tally L log log)),
-            pick-false (named victims (0 + i)) 0 (getD (countsOf L log) i 0) (ap (named victims) (zero-add i) ∙ p),
+            getD-set-other (withoutVictims victims 0 (countsOf log)) j i (objectBytes L (kept victims stand)) 0 e,
+            without-at victims 0 i (countsOf log) (omega (arith, length-tally log log)),
+            pick-false (named victims (0 + i)) 0 (getD (countsOf log) i 0) (ap (named victims) (zero-add i) ∙ p),
             after-total i,
             pick-false (eqb j i) (objectBytes L (kept victims stand)) 0 (ne-eqb j i (λ d. e (sym d))),
-            outside-total (presentSize L log) victims i log p,
-            tally-at L log i l log,
+            outside-total (presentSize log) victims i log p,
+            tally-at log i l log,
           )

@@ -6,10 +6,10 @@ use mathlib.Core.List.{List, [], _∷_, _++_}
 use mathlib.Core.Option.{Option, none, some}
 use native.Mathlib.Decide.{ℕ-discrete}
 use native.Mathlib.Omega.{arith}
-use lib.Dec.{eqb, ltb}
+use lib.Dec.{eqb}
 use lib.ListN.{length, getD, drop}
-use borrow.Author.Tests.{ltb-false, eqb-true, eqb-false, not-false, lt-ltb, le-ltb, le-leb, eq-eqb, ne-eqb}
-use Rattle.segment.specs.Choice.{pick, both, both-left, both-right, both-true, either, either-false, either-false-left, either-false-right, isNone}
+use borrow.Author.Tests.{ltb-false, eqb-true, eqb-false, not-false, lt-ltb, le-ltb, eq-eqb, ne-eqb}
+use Rattle.segment.specs.Choice.{pick, both-left, both-right, both-true, either-false, either-false-left, either-false-right, isNone}
 use Rattle.word.specs.Number.{Bytes}
 use Rattle.word.specs.Laws.{bytes-take, bytes-drop}
 use Rattle.segment.specs.Layout.{Layout, digestSize, versionLimit, numberLimit, table}
@@ -21,14 +21,14 @@ use Rattle.segment.specs.Digest.{digestOf, layoutIn}
 use Rattle.segment.specs.declared.Digest.{Digest}
 use Rattle.slot_map.specs.Bit.{named}
 use Rattle.slot_map.specs.Count.{used}
-use Rattle.record.specs.Range.{between, slotsGood, sizeGood, cellsGood, mapGood, leftGood, countsGood, inRange, lengthsOwn, fitsLent}
+use Rattle.record.specs.Range.{slotsGood, sizeGood, cellsGood, mapGood, countsGood, fitsLent}
 use Rattle.record.specs.RangeLaws.{Lent, map-in, between-low, between-high, fits-lent}
 use Rattle.record.specs.declared.Refusal.{Refusal}
 use Rattle.record.specs.declared.Refusal.the-variants.{BadOrder}
 use Rattle.record.specs.declared.Record.{Record}
 use Rattle.record.specs.declared.Recovery.{Recovery}
 use Rattle.record.specs.declared.RecoverAnswer.{RecoverAnswer}
-use Rattle.model.specs.Log.{View, Head, Placed, scanned, itemsOf, scan, digestIn, segmentOf, viewsOf, headOf, logOf, endOf, isDamaged, keysOf, versionShared, highest, nextVersion}
+use Rattle.model.specs.Log.{View, Head, Placed, scanned, itemsOf, scan, digestIn, segmentOf, viewsOf, headOf, logOf, endOf, isDamaged, keysOf, versionShared, highest}
 use Rattle.model.specs.Causes.{Cause, when, firstCause}
 use Rattle.model.specs.Counts.{countsOf}
 use Rattle.model.specs.Recovery.{headElse, sharing, mapBad, logSlots, logUnder, recordUnder, imageCauses, keyCauses, lentCauses, areaCauses, ifNone, recordFrom, recovered, orderBad, recoveryFor, recovery, recoverCauses, imageLayout}
@@ -39,10 +39,10 @@ use Rattle.laws.specs.Members.{clash, In}
 use Rattle.laws.specs.Latest.{Apart}
 use Rattle.laws.specs.Versions.{shared-apart, highest-below, below-highest}
 use Rattle.laws.specs.Stores.{slot-inside, length-segment}
-use Rattle.laws.specs.Scans.{itemEntries, scan-scans, scans-low, scans-high, scans-total, scans-found}
+use Rattle.laws.specs.Scans.{itemEntries, scan-scans, scans-low, scans-high, scans-total, scans-found, Scans}
 use Rattle.laws.specs.HeadLaws.{SameViews, digests-same, TopHead, head-is, is-top, top-head, top-alone, top-stays}
 use Rattle.laws.specs.Counted.{counts-fit}
-use Rattle.laws.specs.LogLaws.{AllOf, AllDigests, AllScanned, names-digests, digests-named, editions-one, one-edition, undamaged-scans, scans-undamaged, log-same, log-in, scan-whole}
+use Rattle.laws.specs.LogLaws.{AllOf, AllDigests, AllScanned, names-digests, digests-named, editions-one, one-edition, undamaged-scans, scans-undamaged, log-same, log-in, scan-whole, alike-view}
 
 -- ---- an image that recovery accepts
 
@@ -256,7 +256,7 @@ module _ (L : Layout) (v : ℕ → View) (n s m : ℕ) (h : Head) where
 
   -- and no slot has more present bytes than come behind a digest
   abbrev pub CountsInside : Type 0
-  CountsInside = countsGood (s - digestSize L) (countsOf L (logUnder v n h)) ≡ true
+  CountsInside = countsGood (s - digestSize L) (countsOf (logUnder v n h)) ≡ true
 
   pub under-lent : (areaLength : ℕ) → Allowed n s m areaLength → Sound L v n m h → EndsInside → CountsInside → Lent L (recordUnder L v n s m h) areaLength m
   under-lent areaLength l f e c =
@@ -355,7 +355,7 @@ cut-untouched v v′ n j h free s e =
 module _ (L : Layout) (v v′ : ℕ → View) (n m : ℕ) (h : Head) (f : Sound L v n m h) (u : Untouched v v′ n h) where
   pub untouched-log : logUnder v′ n h ≡ logUnder v n h
   untouched-log =
-      log-same v v′ (logSlots h) (logSlots h) n (λ i l. refl) (λ i l e. ap (λ (x : View). x .scan) (u .kept i l e))
+      log-same v v′ (logSlots h) (logSlots h) n (λ i l. refl) (λ i l e. alike-view v v′ i (u .kept i l e))
 
   head-kept : v′ (h .slot) ≡ v (h .slot)
   head-kept = u .kept (h .slot) (f .top .below) (map-in n (h .slot) (h .digest .map) (f .map-good) .head-named)
@@ -417,7 +417,7 @@ module _ (L : Layout) (n s m : ℕ) (area area′ : List ℕ) (same-length : len
     pub cut-log : logOf (viewsOf area′ s) (named (r .map)) n ≡ logOf (viewsOf area s) (named (r .map)) n
     cut-log =
         log-same (viewsOf area s) (viewsOf area′ s) (named (r .map)) (named (r .map)) n (λ i l. refl)
-        (λ i l e. ap (λ (x : View). x .scan) (others i l (λ q. clash (named (r .map) i) e (ap (named (r .map)) q ∙ free))))
+        (λ i l e. alike-view (viewsOf area s) (viewsOf area′ s) i (others i l (λ q. clash (named (r .map) i) e (ap (named (r .map)) q ∙ free))))
 
 -- ---- what the bytes of the area add
 
@@ -444,6 +444,25 @@ module _ (L : Layout) (n s m : ℕ) (area : List ℕ) (h : Head) (f : Sound L (v
   -- a log slot is of the store's edition, and its entries are read by it
   pub log-scan : (i : ℕ) → i < n → logSlots h i ≡ true → viewsOf area s i .scan ≡ scan L (segmentOf area s i)
   log-scan i b q = ap (λ (K : Layout). scan K (segmentOf area s i)) (f .editions i b q)
+
+  -- the entries of a log slot, by its own edition
+  pub slot-scans : (i : ℕ) → i < n → logSlots h i ≡ true
+      → Scans (viewsOf area s i .layout) (segmentOf area s i) (digestSize (viewsOf area s i .layout)) (itemsOf (viewsOf area s i .scan)) (endOf (viewsOf area s i .scan))
+  slot-scans i b q = scan-scans (viewsOf area s i .layout) (segmentOf area s i) (scan-whole (viewsOf area s i .scan) (f .scans i b q))
+
+  -- of an entry of the log too
+  pub placed-scans : (x : Placed) → In x (logUnder (viewsOf area s) n h)
+      → Scans (x .layout) (segmentOf area s (x .slot)) (digestSize (x .layout)) (itemsOf (viewsOf area s (x .slot) .scan)) (endOf (viewsOf area s (x .slot) .scan))
+  placed-scans x m =
+      let at = log-in (viewsOf area s) (logSlots h) n x m in
+      subst
+      (λ (K : Layout).
+      Scans K (segmentOf area s (x .slot)) (digestSize K) (itemsOf (viewsOf area s (x .slot) .scan)) (endOf (viewsOf area s (x .slot) .scan)))
+      (sym (at .layout)) (slot-scans (x .slot) (at .below) (at .picked))
+
+  -- so that it is read where it stands
+  pub placed-found : (x : Placed) → In x (logUnder (viewsOf area s) n h) → entryAt (x .layout) (segmentOf area s (x .slot)) (x .offset) ≡ entry (x .entry)
+  placed-found x m = scans-found (placed-scans x m) (log-in (viewsOf area s) (logSlots h) n x m .item)
 
   pub log-whole : (i : ℕ) → i < n → logSlots h i ≡ true
       → scan L (segmentOf area s i) ≡ scanned (itemsOf (viewsOf area s i .scan)) (endOf (viewsOf area s i .scan))
@@ -492,17 +511,23 @@ module _ (L : Layout) (n s m : ℕ) (area : List ℕ) (r : Record) (e : recovere
 
   -- what a log slot holds fits behind a digest
   slot-holds : (h : Head) → Allowed n s m (length area) → Sound L (viewsOf area s) n m h → (i : ℕ) → i < n → logSlots h i ≡ true
-      → length (allEncoded L (itemEntries (itemsOf (viewsOf area s i .scan)))) ≤ s - digestSize L
+      → length (allEncoded (viewsOf area s i .layout) (itemEntries (itemsOf (viewsOf area s i .scan)))) ≤ s - digestSize L
   slot-holds h l f i b q =
-      let scans = scan-scans L (segmentOf area s i) (log-whole L n s m area h f i b q) in
-      omega (arith, scans-total scans, scans-high scans, length-segment area s i (slot-inside area n s i (l .long) b))
+      let scans = slot-scans L n s m area h f i b q in
+      omega (
+        arith,
+        scans-total scans,
+        scans-high scans,
+        length-segment area s i (slot-inside area n s i (l .long) b),
+        ap digestSize (f .editions i b q),
+      )
 
   pub recovered-holds : Lent L r (length area) m
   recovered-holds =
       recovered-case L n s m area (λ (k : Record). (digestSize L ≤ k .end) × (k .end ≤ s) → Lent L k (length area) m)
       (λ h l f ends.
       under-lent L (viewsOf area s) n s m h (length area) l f ends
-      (counts-fit L (viewsOf area s) (h .digest .map) n (s - digestSize L) (slot-holds h l f))) r e recovered-ends
+      (counts-fit (viewsOf area s) (h .digest .map) n (s - digestSize L) (slot-holds h l f))) r e recovered-ends
 
   -- in an area of bytes the record's numbers fit theirs
   module _ (bytes : Bytes area) where
@@ -524,8 +549,8 @@ module _ (L : Layout) (n s m : ℕ) (area : List ℕ) (r : Record) (e : recovere
         → x .entry .version < versionLimit L
     log-version h f x i =
         let at = log-in (viewsOf area s) (logSlots h) n x i in
-        found-version L (segmentOf area s (x .slot)) (x .offset) (x .entry)
-        (scans-found (scan-scans L (segmentOf area s (x .slot)) (log-whole L n s m area h f (x .slot) (at .below) (at .picked))) (at .item))
+        let its = found-version (x .layout) (segmentOf area s (x .slot)) (x .offset) (x .entry) (placed-found L n s m area h f x i) in
+        omega (arith, its, ap versionLimit (at .layout ∙ f .editions (x .slot) (at .below) (at .picked)))
 
     pub recovered-next : r .next .0 ≤ versionLimit L
     recovered-next =

@@ -1,16 +1,15 @@
 -- Room: one victim always fits a new head, also of a delete that cleans it, a new head leaves a slot free, and a cleaning never leaves fewer free than before.
-use Prim.Native.Nat.{ℕ, zero, suc, _+_, _-_, _^_, _≤_, _<_}
+use Prim.Native.Nat.{ℕ, _+_, _-_, _^_, _≤_, _<_}
 use native.Mathlib.Nat.{sub-zero}
 use native.Mathlib.Omega.{arith}
 use native.Mathlib.Decide.{ℕ-discrete}
-use mathlib.Core.Path.{_≡_, refl, sym, ap, _∙_}
-use mathlib.Core.Bool.{Bool, true, false}
-use mathlib.Core.List.{List, [], _∷_, _++_, append-nil}
+use mathlib.Core.Path.{_≡_, sym, ap, _∙_}
+use mathlib.Core.Bool.{true, false}
+use mathlib.Core.List.{List}
 use mathlib.Core.Option.{some}
 use lib.Dec.{eqb}
 use lib.ListN.{length}
-use borrow.Author.Tests.{le-ltb, eq-eqb, ne-eqb}
-use Rattle.segment.specs.Choice.{both, both-true, both-false-right}
+use borrow.Author.Tests.{le-ltb}
 use Rattle.segment.specs.Layout.{Layout, digestSize}
 use Rattle.segment.specs.Entry.{bytesIn, encoded}
 use Rattle.segment.specs.EntryLaws.{length-encoded}
@@ -20,9 +19,9 @@ use Rattle.slot_map.specs.BitLaws.{bit-pow-other, named-true, set-below}
 use Rattle.slot_map.specs.NextLaws.{next-below, next-clear}
 use Rattle.slot_map.specs.Count.{used, free}
 use Rattle.slot_map.specs.CountLaws.{renewed-le, used-add}
-use Rattle.record.specs.RangeLaws.{Lent, lent}
+use Rattle.record.specs.RangeLaws.{Lent}
 use Rattle.record.specs.declared.Record.{Record}
-use Rattle.model.specs.Log.{View, Item, Placed, scan, scanned, itemsOf, endOf, isDamaged, segmentOf, viewsOf, logOf, placedIn, present, Scan}
+use Rattle.model.specs.Log.{Placed, scan, scanned, itemsOf, endOf, segmentOf, viewsOf, present, Scan}
 use Rattle.model.specs.Recovery.{recovered}
 use Rattle.model.specs.Operations.{logNow, tombstoneEntry, newSlot, newDigest, kept, allEncoded, replaced, replacedBy, slotOf, forgetKept}
 use Rattle.model.specs.Refused.{keptTooLong, keptLength}
@@ -32,7 +31,7 @@ use Rattle.laws.specs.MapLaws.{inSlot, encoded-total, kept-size-one}
 use Rattle.laws.specs.Forgotten.{replaced-those, replaced-total, present-live}
 use Rattle.laws.specs.Stores.{slot-inside, length-segment}
 use Rattle.laws.specs.Scans.{itemEntries, Scans, scan-scans, scans-total, scans-high}
-use Rattle.laws.specs.LogLaws.{partOf, part-picked, part-passed, no-parts, log-those, log-in, scan-whole}
+use Rattle.laws.specs.LogLaws.{log-in}
 use Rattle.laws.specs.Counted.{entries-in, slot-log}
 use Rattle.laws.specs.RecoverLaws.{recovered-case, recovered-holds, log-whole}
 
@@ -62,7 +61,7 @@ module _ (L : Layout) (area : List ℕ) (r : Record) (e : recovered L (r .slots)
       scans = scan-scans L (segmentOf area (r .size) i) whole
 
       held : entriesOf (inSlot i (logNow area r)) ≡ itemEntries (itemsOf read)
-      held = ap entriesOf (slot-log (viewsOf area (r .size)) (r .map) (r .slots) i l q) ∙ entries-in i (itemsOf read)
+      held = ap entriesOf (slot-log (viewsOf area (r .size)) (r .map) (r .slots) i l q) ∙ entries-in (viewsOf area (r .size) i .layout) i (itemsOf read)
 
   -- what is kept of one slot fits, also by a log whose entries there take no more bytes
   one-fits :

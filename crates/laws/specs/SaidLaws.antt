@@ -1,7 +1,7 @@
 -- What an answer says in 01's numbers, from the answer itself: one law for each call.
 use Prim.Native.Nat.{ℕ, zero, suc}
 use mathlib.Core.Path.{_≡_, refl, sym, ap, _∙_}
-use mathlib.Core.Logic.{_⊎_, inl, inr}
+use mathlib.Core.Logic.{inl, inr}
 use mathlib.Core.List.{List, []}
 use mathlib.Core.Option.{Option, none, some}
 use Rattle.segment.specs.Layout.{Layout}
@@ -38,7 +38,7 @@ unfolding recovery
 recover-says L n s m order area r e =
     ap (λ (x : Recovery). recoverSaid (x .answer)) e ∙ given-says (firstCause (recoverCauses L n s m order area)) (recordFrom L n s m area)
 
-pub read-says : (L : Layout) (c : Option Refusal) (x : Option Placed) → readSaid (readAnswer L c x) ≡ saidBy c (objectSaid L x)
+pub read-says : (L : Layout) (c : Option Refusal) (x : Option Placed) → readSaid (readAnswer c x) ≡ saidBy c (objectSaid x)
 unfolding readAnswer presentAnswer objectSaid saidBy
 read-says L none none = refl
 read-says L none (some x) = refl
@@ -62,13 +62,13 @@ pub read-settled :
     (L : Layout) (r : Record) (area cells : List ℕ) (t : Tables) (k : Key) (a : ReadAnswer) →
     ((c : Refusal) → firstCause (reachCauses L r (readLengths area cells) t k) ≡ some c → a ≡ ReadAnswer.Refused c) →
     (Genuine L area r cells → a ≡
-    readAnswer L (firstCause (readCauses L r (logNow area r) (readLengths area cells) t k)) (present (logNow area r) k)) →
+    readAnswer (firstCause (readCauses L r (logNow area r) (readLengths area cells) t k)) (present (logNow area r) k)) →
     Settled L area r cells (reachCauses L r (readLengths area cells) t k) → readSaid a ≡
-    saidBy (firstCause (readCauses L r (logNow area r) (readLengths area cells) t k)) (objectSaid L (present (logNow area r) k))
+    saidBy (firstCause (readCauses L r (logNow area r) (readLengths area cells) t k)) (objectSaid (present (logNow area r) k))
 unfolding saidBy
 read-settled L r area cells t k a early exact (inl (c, e)) =
     ap readSaid (early c e) ∙
-    sym (ap (λ (x : Option Refusal). saidBy x (objectSaid L (present (logNow area r) k))) (read-early L r (logNow area r) (readLengths area cells) t k c e))
+    sym (ap (λ (x : Option Refusal). saidBy x (objectSaid (present (logNow area r) k))) (read-early L r (logNow area r) (readLengths area cells) t k c e))
 read-settled L r area cells t k a early exact (inr genuine) =
     ap readSaid (exact genuine) ∙
     read-says L (firstCause (readCauses L r (logNow area r) (readLengths area cells) t k)) (present (logNow area r) k)

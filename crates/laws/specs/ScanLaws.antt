@@ -1,8 +1,8 @@
 -- 02, R-9: of an area that recovery accepts a read by scan says what an indexed read says.
 use Prim.Native.Nat.{ℕ}
 use mathlib.Core.Path.{_≡_, refl, sym, _∙_, ap, ap₂}
-use mathlib.Core.Bool.{true, false, not}
-use mathlib.Core.List.{List, [], _∷_, _++_}
+use mathlib.Core.Bool.{false, not}
+use mathlib.Core.List.{List, _++_}
 use mathlib.Core.Option.{Option, none, some}
 use native.Mathlib.Omega.{arith}
 use lib.ListN.{length}
@@ -23,7 +23,7 @@ use Rattle.model.specs.Index.{IndexRule}
 use Rattle.model.specs.Operations.{logNow}
 use Rattle.model.specs.Refused.{recordBad, readCauses}
 use Rattle.model.specs.Promises.{Genuine, readLengths, readAnswer, ReadPromise, Part, valueAnswer, ValuePromise}
-use Rattle.model.specs.Scanned.{imageLog, soughtCauses, scanCauses, ScanPromise, scannedPart, ScanValue}
+use Rattle.model.specs.Scanned.{imageLog, soughtCauses, scanCauses, ScanPromise, ScanValue}
 use Rattle.laws.specs.CauseLaws.{cause-skip, no-cause, causes-none, none-left, first-some, first-none, never-met}
 use Rattle.laws.specs.RecoverLaws.{Allowed, Sound, lent-clear, sound-clear, sound-head, sound-recovered, recovered-case, recovered-fits}
 
@@ -103,11 +103,11 @@ module _ (L : Layout) (n s m : ℕ) (area : List ℕ) where
         record {
           answer =
               λ a p b q.
-              q .answers ∙ ap₂ (λ (c : Option Refusal) (log : List Placed). readAnswer L c (present log k)) (own-first bytes t k cells long) own-log ∙
+              q .answers ∙ ap₂ (λ (c : Option Refusal) (log : List Placed). readAnswer c (present log k)) (own-first bytes t k cells long) own-log ∙
               sym (p .exact (own-genuine cells rule));
           value =
               λ p promised q given.
-              given .exact ∙ ap₂ (λ (c : Option Refusal) (log : List Placed). valueAnswer L s c (present log k)) (own-first bytes t k cells long) own-log ∙
+              given .exact ∙ ap₂ (λ (c : Option Refusal) (log : List Placed). valueAnswer s c (present log k)) (own-first bytes t k cells long) own-log ∙
               sym (promised .exact (own-genuine cells rule));
         }
 

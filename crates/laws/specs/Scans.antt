@@ -183,7 +183,7 @@ itemsFrom L at [] = []
 itemsFrom L at (x ∷ xs) = itemAt at x ∷ itemsFrom L (at + sizeOf L x) xs
 
 module _ (L : Layout) where
-  pub placed-items : (i at : ℕ) (xs : List Entry) → placedIn i (itemsFrom L at xs) ≡ placedFrom L i at xs
+  pub placed-items : (i at : ℕ) (xs : List Entry) → placedIn L i (itemsFrom L at xs) ≡ placedFrom L i at xs
   unfolding placedIn placedFrom itemsFrom
   placed-items i at [] = refl
   placed-items i at (x ∷ xs) = rw (placed-items i (at + sizeOf L x) xs)

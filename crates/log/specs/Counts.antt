@@ -33,10 +33,10 @@ pub record CountIn (L : Layout) (s table : List ℕ) (r : ℕ) : Type 0 where
   pub few : r ≤ length s
 
 -- the slot has no part in it
-hits-placed : (table : List ℕ) (i : ℕ) (is : List Item) → hits table (placedIn i is) ≡ countOf table is
+hits-placed : (table : List ℕ) (L : Layout) (i : ℕ) (is : List Item) → hits table (placedIn L i is) ≡ countOf table is
 unfolding total placedIn countOf
-hits-placed table i [] = refl
-hits-placed table i (x ∷ xs) = ap (λ (k : ℕ). hit table (x .entry) + k) (hits-placed table i xs)
+hits-placed table L i [] = refl
+hits-placed table L i (x ∷ xs) = ap (λ (k : ℕ). hit table (x .entry) + k) (hits-placed table L i xs)
 
 hit-pick : (table : List ℕ) (w : ℕ) (e : Entry) → e .version ≡ w → pick (holds table w) 1 0 ≡ hit table e
 unfolding hit
@@ -102,6 +102,6 @@ module _ (v : ℕ → View) (p : ℕ → Bool) (i : ℕ) (table : List ℕ) (k :
   pub total-take : p i ≡ true → (d : ℕ) → d ≡ countOf table (itemsOf (v i .scan)) → k + d ≡ hits table (logOf v p (i + 1))
   total-take q d e =
       ap (λ (j : ℕ). j + d) so-far
-      ∙ ap (λ (j : ℕ). hits table (logOf v p i) + j) (e ∙ sym (hits-placed table i (itemsOf (v i .scan))))
-      ∙ sym (hits-append table (logOf v p i) (placedIn i (itemsOf (v i .scan))))
+      ∙ ap (λ (j : ℕ). hits table (logOf v p i) + j) (e ∙ sym (hits-placed table (v i .layout) i (itemsOf (v i .scan))))
+      ∙ sym (hits-append table (logOf v p i) (placedIn (v i .layout) i (itemsOf (v i .scan))))
       ∙ ap (hits table) (sym (log-take v p i q))

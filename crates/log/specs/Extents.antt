@@ -120,14 +120,14 @@ module _ (v : ℕ → View) (p : ℕ → Bool) (i : ℕ) where
   unfolding logOf
   log-skip q =
       ap (logOf v p) (add-one i)
-      ∙ ap (λ (l : List Placed). logOf v p i ++ l) (pick-false (p i) (placedIn i (itemsOf (v i .scan))) [] q)
+      ∙ ap (λ (l : List Placed). logOf v p i ++ l) (pick-false (p i) (placedIn (v i .layout) i (itemsOf (v i .scan))) [] q)
       ∙ append-nil (logOf v p i)
 
-  pub log-take : p i ≡ true → logOf v p (i + 1) ≡ logOf v p i ++ placedIn i (itemsOf (v i .scan))
+  pub log-take : p i ≡ true → logOf v p (i + 1) ≡ logOf v p i ++ placedIn (v i .layout) i (itemsOf (v i .scan))
   unfolding logOf
   log-take q =
       ap (logOf v p) (add-one i)
-      ∙ ap (λ (l : List Placed). logOf v p i ++ l) (pick-true (p i) (placedIn i (itemsOf (v i .scan))) [] q)
+      ∙ ap (λ (l : List Placed). logOf v p i ++ l) (pick-true (p i) (placedIn (v i .layout) i (itemsOf (v i .scan))) [] q)
 
   pub sound-slot : both (p i) (isDamaged (v i .scan)) ≡ false → logDamaged v p i ≡ false → logDamaged v p (i + 1) ≡ false
   unfolding logDamaged

@@ -9,7 +9,7 @@ use lib.Dec.{eqb, ltb}
 use lib.ListN.{length, getD, replicate, length-set}
 use borrow.Author.Tests.{eq-eqb, eqb-true, eqb-false}
 use Rattle.segment.specs.Choice.{pick, pick-true, pick-false}
-use Rattle.segment.specs.Layout.{Layout, digestSize, versionLimit}
+use Rattle.segment.specs.Layout.{Layout, digestSize}
 use Rattle.segment.specs.Entry.{end, damage, entryAt}
 use Rattle.slot_map.specs.Bit.{withBit}
 use Rattle.model.specs.Log.{View, Item, scanned, scan, itemsOf, endOf, isDamaged, placedIn, Placed, viewsOf, logOf, versionShared}
@@ -141,42 +141,42 @@ pub record Filtering (L : Layout) (s : List ℕ) (i : ℕ) (log after : List Pla
   pub rest : List Item
   pub stop : ℕ
   pub scans : restOf L s at ≡ scanned rest stop
-  pub splits : after ≡ past ++ placedIn i rest
+  pub splits : after ≡ past ++ placedIn L i rest
   pub filtered : Filtered log past filter table
 
-pub filter-start : (L : Layout) (v : ℕ → View) (p : ℕ → Bool) (i n : ℕ) (filter table s : List ℕ) → Entering v p i n filter table → v i .scan ≡ scan L s
+pub filter-start : (L : Layout) (v : ℕ → View) (p : ℕ → Bool) (i n : ℕ) (filter table s : List ℕ) → Entering v p i n filter table → v i .layout ≡ L → v i .scan ≡ scan L s
     → Filtering L s i (logOf v p n) (logOf v p (i + 1)) (digestSize L) filter table
-filter-start L v p i n filter table s h e =
+filter-start L v p i n filter table s h own e =
     record {
       size = h .size;
       past = logOf v p i;
       rest = itemsOf (v i .scan);
       stop = endOf (v i .scan);
       scans = rest-whole L s ∙ sym e ∙ scan-whole (v i .scan) (h .undamaged);
-      splits = log-take v p i (h .picked);
+      splits = log-take v p i (h .picked) ∙ ap (λ (K : Layout). logOf v p i ++ placedIn K i (itemsOf (v i .scan))) own;
       filtered = h .filtered;
     }
 
 module _ (L : Layout) (s : List ℕ) (i : ℕ) (log after : List Placed) (at : ℕ) (filter table : List ℕ) (so-far : Filtering L s i log after at filter table) where
   module _ (inside : (u : ℕ) → count u after ≤ count u log) {w len : ℕ} (m : Meets L s at w len) where
     abbrev here : Placed
-    here = record { slot = i; offset = at; entry = m .met }
+    here = record { slot = i; layout = L; offset = at; entry = m .met }
 
     -- the entry and those after it
     pub record Ahead : Type 0 where
       pub later : List Item
       pub on : restOf L s (at + len) ≡ scanned later (so-far .stop)
-      pub whole : after ≡ so-far .past ++ (here ∷ placedIn i later)
+      pub whole : after ≡ so-far .past ++ (here ∷ placedIn L i later)
 
     ahead : Ahead
     unfolding placedIn
     ahead =
         let (js, on, all) = item-first (restOf L s (at + len)) (sym (rest-entry L s at m) ∙ so-far .scans) in
-        record { later = js; on = on; whole = so-far .splits ∙ ap (λ (l : List Item). so-far .past ++ placedIn i l) (sym all) }
+        record { later = js; on = on; whole = so-far .splits ∙ ap (λ (l : List Item). so-far .past ++ placedIn L i l) (sym all) }
 
-    counts : (u : ℕ) → count u after ≡ count u (so-far .past) + (counted u (m .met) + count u (placedIn i (ahead .later)))
+    counts : (u : ℕ) → count u after ≡ count u (so-far .past) + (counted u (m .met) + count u (placedIn L i (ahead .later)))
     unfolding total
-    counts u = ap (count u) (ahead .whole) ∙ count-append u (so-far .past) (here ∷ placedIn i (ahead .later))
+    counts u = ap (count u) (ahead .whole) ∙ count-append u (so-far .past) (here ∷ placedIn L i (ahead .later))
 
     -- the entry's version is one of the log
     pub filter-stands : 1 ≤ count w log
@@ -198,7 +198,7 @@ module _ (L : Layout) (s : List ℕ) (i : ℕ) (log after : List Placed) (at : �
           rest = ahead .later;
           stop = so-far .stop;
           scans = ahead .on;
-          splits = ahead .whole ∙ sym (append-assoc (so-far .past) (here ∷ []) (placedIn i (ahead .later)));
+          splits = ahead .whole ∙ sym (append-assoc (so-far .past) (here ∷ []) (placedIn L i (ahead .later)));
           filtered =
               subst (λ (f : List ℕ). Filtered log (so-far .past ++ (here ∷ [])) f table₁) (sym q)
               (filtered-more log (so-far .past) here filter table (so-far .size) (so-far .filtered) (λ u. omega (arith, counts u, inside u)) w
@@ -210,7 +210,7 @@ module _ (L : Layout) (s : List ℕ) (i : ℕ) (log after : List Placed) (at : �
   filter-end e =
       let none : so-far .rest ≡ [] = cc (rest-end L s at e, so-far .scans) in
       let same : so-far .past ≡ after =
-      sym (so-far .splits ∙ ap (λ (l : List Item). so-far .past ++ placedIn i l) none ∙ append-nil (so-far .past)) in
+      sym (so-far .splits ∙ ap (λ (l : List Item). so-far .past ++ placedIn L i l) none ∙ append-nil (so-far .past)) in
       subst (λ (l : List Placed). Filtered log l filter table) same (so-far .filtered)
 
   pub filter-damage : entryAt L s at ≡ damage → ⊥
@@ -232,7 +232,7 @@ module _ (v : ℕ → View) (p : ℕ → Bool) where
       go true q below = subst (λ (m : ℕ). count u (logOf v p i) ≤ count u (logOf v p m)) (eqb-true i (suc n) q) (omega arith)
       go false q below =
           let apart = eqb-false i (suc n) q in
-          omega (arith, below (omega arith), count-append u (logOf v p n) (pick (p n) (placedIn n (itemsOf (v n .scan))) []))
+          omega (arith, below (omega arith), count-append u (logOf v p n) (pick (p n) (placedIn (v n .layout) n (itemsOf (v n .scan))) []))
 
   pub slot-inside-log : (i n : ℕ) → i < n → (u : ℕ) → count u (logOf v p (i + 1)) ≤ count u (logOf v p n)
   slot-inside-log i n h u = log-inside u (i + 1) n (omega arith)

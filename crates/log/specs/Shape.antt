@@ -30,6 +30,10 @@ module _ {n s : ℕ} {area : List ℕ} (shape : Shape n s area) (i : ℕ) (below
   pub part-short : (part : List ℕ) → part ≡ segmentOf area s i → length part ≤ 2048
   part-short part e = rw e (omega (arith, length-segment area s i inside, shape .size-most))
 
--- A slot read by the edition that its byte 0 tells gives its view.
+-- The edition that a slot's byte 0 tells is that of its view.
+pub own-layout : (area : List ℕ) (s i : ℕ) (part : List ℕ) → part ≡ segmentOf area s i → (L : Layout) → L ≡ layoutIn part → L ≡ viewsOf area s i .layout
+own-layout area s i part e L own = own ∙ ap layoutIn e
+
+-- A slot read by it gives its view.
 pub own-scan : (area : List ℕ) (s i : ℕ) (part : List ℕ) → part ≡ segmentOf area s i → (L : Layout) → L ≡ layoutIn part → scan L part ≡ viewsOf area s i .scan
 own-scan area s i part e L own = ap (λ (K : Layout). scan K part) own ∙ ap (λ (l : List ℕ). scan (layoutIn l) l) e

@@ -1,6 +1,6 @@
 -- What a walk of the log tells: damage, the highest version, and whether the filter tells all versions apart.
 use Prim.Native.Nat.{ℕ, _+_, _≤_, _<_, max}
-use mathlib.Core.Path.{_≡_, refl, sym, _∙_, ap, subst}
+use mathlib.Core.Path.{_≡_, refl, sym, _∙_, ap, subst, ap₂}
 use mathlib.Core.Bool.{Bool, true, false}
 use mathlib.Core.List.{List, [], _∷_, _++_, append-nil, append-assoc}
 use native.Mathlib.Omega.{arith}
@@ -124,14 +124,14 @@ after-first is x (scanned js e) = ap (λ (l : List Item). scanned l e) (sym (app
 pub record PartTold (L : Layout) (s : List ℕ) (top₀ : ℕ) (apart₀ : Bool) (filter₀ : List ℕ) (sound : Bool) (top : ℕ) (apart : Bool) (filter : List ℕ) : Type 0 where
   pub damage : sound ≡ false → isDamaged (scan L s) ≡ true
   pub undamaged : sound ≡ true → isDamaged (scan L s) ≡ false
-  pub told : sound ≡ true → (i : ℕ) (before : List Placed) → Told before top₀ apart₀ filter₀ → Told (before ++ placedIn i (itemsOf (scan L s))) top apart filter
+  pub told : sound ≡ true → (i : ℕ) (before : List Placed) → Told before top₀ apart₀ filter₀ → Told (before ++ placedIn L i (itemsOf (scan L s))) top apart filter
 
 -- Between two of its entries.
 pub record Telling (L : Layout) (s : List ℕ) (top₀ : ℕ) (apart₀ : Bool) (filter₀ : List ℕ) (at top : ℕ) (apart : Bool) (filter : List ℕ) : Type 0 where
   pub size : length filter ≡ 512
   pub items : List Item
   pub splits : scan L s ≡ after items (restOf L s at)
-  pub told : (i : ℕ) (before : List Placed) → Told before top₀ apart₀ filter₀ → Told (before ++ placedIn i items) top apart filter
+  pub told : (i : ℕ) (before : List Placed) → Told before top₀ apart₀ filter₀ → Told (before ++ placedIn L i items) top apart filter
 
 module _ (L : Layout) (s : List ℕ) (top₀ : ℕ) (apart₀ : Bool) (filter₀ : List ℕ) where
   pub telling-start : length filter₀ ≡ 512 → Telling L s top₀ apart₀ filter₀ (digestSize L) top₀ apart₀ filter₀
@@ -158,15 +158,15 @@ module _ (L : Layout) (s : List ℕ) (top₀ : ℕ) (apart₀ : Bool) (filter₀
           told =
               λ i before h.
               subst (λ (l : List Placed). Told l top₁ apart₁ filter₁) (sym (longer i before))
-              (told-more (before ++ placedIn i (so-far .items)) (placedAt i (itemAt at (m .met))) top apart filter (so-far .told i before h) w
+              (told-more (before ++ placedIn L i (so-far .items)) (placedAt L i (itemAt at (m .met))) top apart filter (so-far .told i before h) w
               (m .its-version) top₁ t apart₁ filter₁ a);
         }
       where
-        longer : (i : ℕ) (before : List Placed) → before ++ placedIn i (so-far .items ++ (itemAt at (m .met) ∷ []))
-            ≡ (before ++ placedIn i (so-far .items)) ++ (placedAt i (itemAt at (m .met)) ∷ [])
+        longer : (i : ℕ) (before : List Placed) → before ++ placedIn L i (so-far .items ++ (itemAt at (m .met) ∷ []))
+            ≡ (before ++ placedIn L i (so-far .items)) ++ (placedAt L i (itemAt at (m .met)) ∷ [])
         longer i before =
-            ap (λ (l : List Placed). before ++ l) (placed-append i (so-far .items) (itemAt at (m .met) ∷ []))
-            ∙ sym (append-assoc before (placedIn i (so-far .items)) (placedAt i (itemAt at (m .met)) ∷ []))
+            ap (λ (l : List Placed). before ++ l) (placed-append L i (so-far .items) (itemAt at (m .met) ∷ []))
+            ∙ sym (append-assoc before (placedIn L i (so-far .items)) (placedAt L i (itemAt at (m .met)) ∷ []))
 
     pub telling-end : entryAt L s at ≡ end → PartTold L s top₀ apart₀ filter₀ true top apart filter
     unfolding after isDamaged itemsOf
@@ -176,7 +176,7 @@ module _ (L : Layout) (s : List ℕ) (top₀ : ℕ) (apart₀ : Bool) (filter₀
           undamaged = λ q. ap isDamaged whole;
           told =
               λ q i before h.
-              subst (λ (r : Scan). Told (before ++ placedIn i (itemsOf r)) top apart filter) (sym whole) (so-far .told i before h);
+              subst (λ (r : Scan). Told (before ++ placedIn L i (itemsOf r)) top apart filter) (sym whole) (so-far .told i before h);
         }
       where
         whole : scan L s ≡ scanned (so-far .items) at
@@ -200,19 +200,19 @@ pub record SlotTold (v : ℕ → View) (p : ℕ → Bool) (i : ℕ) (sound : Boo
   pub told : sound ≡ true → Told (logOf v p (i + 1)) top apart filter
 
 -- the answer after its bytes is one, where the slots before it were told
-pub slot-told : (v : ℕ → View) (p : ℕ → Bool) (i : ℕ) (L : Layout) (s : List ℕ) → v i .scan ≡ scan L s → p i ≡ true
+pub slot-told : (v : ℕ → View) (p : ℕ → Bool) (i : ℕ) (L : Layout) (s : List ℕ) → v i .layout ≡ L → v i .scan ≡ scan L s → p i ≡ true
     → (top₀ : ℕ) (apart₀ : Bool) (filter₀ : List ℕ) → Told (logOf v p i) top₀ apart₀ filter₀
     → (sound : Bool) (top : ℕ) (apart : Bool) (filter : List ℕ) → PartTold L s top₀ apart₀ filter₀ sound top apart filter
     → SlotTold v p i sound top apart filter
-slot-told v p i L s own picked top₀ apart₀ filter₀ before sound top apart filter part =
+slot-told v p i L s of own picked top₀ apart₀ filter₀ before sound top apart filter part =
     record {
       damage = λ q. ap isDamaged own ∙ part .damage q;
       undamaged = λ q. ap isDamaged own ∙ part .undamaged q;
       told = λ q. subst (λ (l : List Placed). Told l top apart filter) (sym all) (part .told q i (logOf v p i) before);
     }
   where
-    all : logOf v p (i + 1) ≡ logOf v p i ++ placedIn i (itemsOf (scan L s))
-    all = log-take v p i picked ∙ ap (λ (r : Scan). logOf v p i ++ placedIn i (itemsOf r)) own
+    all : logOf v p (i + 1) ≡ logOf v p i ++ placedIn L i (itemsOf (scan L s))
+    all = log-take v p i picked ∙ ap₂ (λ (K : Layout) (r : Scan). logOf v p i ++ placedIn K i (itemsOf r)) of own
 
 -- ---- the log
 

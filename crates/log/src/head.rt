@@ -113,7 +113,7 @@ pub fn names_no_digest(n: usize, s: usize, area: &[u8], map: u32) -> bool
 }
 
 // Whether two editions are one.
-fn same_edition(a: Edition, b: Edition) -> bool
+pub fn same_edition(a: Edition, b: Edition) -> bool
     ensures { λ r. ⌜ r ≡ sameLayout a b ⌝ }
 {
     match a {

@@ -8,15 +8,15 @@ use Rattle.segment.specs.Choice.{pick}
 use Rattle.segment.specs.Layout.{Layout}
 use Rattle.segment.specs.Entry.{Entry, isTombstone, sizeOf, keyOf}
 use Rattle.slot_map.specs.Bit.{named}
-use Rattle.model.specs.Log.{Placed, isVersion, present}
+use Rattle.model.specs.Log.{Placed, placedSize, isVersion, present}
 
 -- an entry of the log is the object that gives its key the value
 abbrev pub isPresent : List Placed → Entry → Bool
 isPresent log e = isVersion (present log (keyOf e)) (e .version)
 
--- the bytes of such an entry, all of it, and 0 of any other
-abbrev pub presentSize : Layout → List Placed → Entry → ℕ
-presentSize L log e = pick (isPresent log e) (sizeOf L e) 0
+-- the bytes of such an entry, all that it takes in its slot, and 0 of any other
+abbrev pub presentSize : List Placed → Placed → ℕ
+presentSize log x = pick (isPresent log (x .entry)) (placedSize x) 0
 
 -- n bytes more, or fewer, in the number of slot i
 abbrev pub moreBytes : ℕ → ℕ → List ℕ → List ℕ
@@ -26,13 +26,13 @@ abbrev pub fewerBytes : ℕ → ℕ → List ℕ → List ℕ
 fewerBytes i n c = set c i (getD c i 0 - n)
 
 -- What a scan of xs counts: the objects among them that give present keys of the log their values, each in the number of its slot.
-unfoldable pub tally : Layout → List Placed → List Placed → List ℕ
-tally L log [] = replicate 32 0
-tally L log (x ∷ xs) = moreBytes (x .slot) (presentSize L log (x .entry)) (tally L log xs)
+unfoldable pub tally : List Placed → List Placed → List ℕ
+tally log [] = replicate 32 0
+tally log (x ∷ xs) = moreBytes (x .slot) (presentSize log x) (tally log xs)
 
 -- The present bytes of the 32 slots, 0 for those that are not in the log.
-abbrev pub countsOf : Layout → List Placed → List ℕ
-countsOf L log = tally L log log
+abbrev pub countsOf : List Placed → List ℕ
+countsOf log = tally log log
 
 -- ---- the numbers after an operation, of which only those change that the operation touches
 
@@ -45,13 +45,13 @@ objectBytes L [] = 0
 objectBytes L (e ∷ es) = objectSize L e + objectBytes L es
 
 -- the slot of a key's live object, if it has one, loses its bytes
-unfoldable pub withoutLive : Layout → Option Placed → List ℕ → List ℕ
-withoutLive L none c = c
-withoutLive L (some x) c = fewerBytes (x .slot) (sizeOf L (x .entry)) c
+unfoldable pub withoutLive : Option Placed → List ℕ → List ℕ
+withoutLive none c = c
+withoutLive (some x) c = fewerBytes (x .slot) (placedSize x) c
 
 -- An entry that comes to slot i takes the bytes from where its key's object was and adds its own.
 abbrev pub entryCounts : Layout → List Placed → ℕ → Entry → List ℕ → List ℕ
-entryCounts L log i e c = moreBytes i (objectSize L e) (withoutLive L (present log (keyOf e)) c)
+entryCounts L log i e c = moreBytes i (objectSize L e) (withoutLive (present log (keyOf e)) c)
 
 -- the numbers of the slots from i on, those of the victims 0
 unfoldable pub withoutVictims : ℕ → ℕ → List ℕ → List ℕ

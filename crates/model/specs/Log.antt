@@ -1,14 +1,13 @@
 -- 01, "Bytes of a segment" and "The log and its map": what the bytes of an area mean.
 use Prim.Native.Nat.{ℕ, zero, suc, _+_, _*_, max}
-use mathlib.Core.Path.{_≡_}
-use mathlib.Core.Bool.{Bool, true, false, not}
+use mathlib.Core.Bool.{Bool, true, false}
 use mathlib.Core.List.{List, [], _∷_, _++_}
 use mathlib.Core.Option.{Option, none, some}
 use lib.Dec.{eqb, ltb}
 use lib.ListN.{length}
 use Rattle.segment.specs.Choice.{pick, both, either}
 use Rattle.segment.specs.Layout.{Layout, digestSize}
-use Rattle.segment.specs.Entry.{Entry, Found, entry, end, damage, entryAt, isTombstone, sizeOf, keyOf}
+use Rattle.segment.specs.Entry.{Entry, entry, end, damage, entryAt, isTombstone, sizeOf, kindOf, keyOf}
 pub use Rattle.segment.specs.Area.{segmentOf}
 use Rattle.segment.specs.Digest.{layoutIn, isDigest, digestOf}
 use Rattle.segment.specs.declared.Digest.{Digest}
@@ -94,9 +93,10 @@ headOf v (suc n) = newer (headOf v n) n (v n .digest)
 
 -- ---- the log
 
--- An entry with its slot and its offset there.
+-- An entry with its slot, the edition of that slot (02, R-11), and its offset there.
 pub record Placed : Type 0 where
   pub slot : ℕ
+  pub layout : Layout
   pub offset : ℕ
   pub entry : Entry
 
@@ -104,14 +104,21 @@ pub record Placed : Type 0 where
 abbrev pub placeOf : ℕ → Placed → ℕ
 placeOf S x = x .slot * S + x .offset
 
-unfoldable pub placedIn : ℕ → List Item → List Placed
-placedIn i [] = []
-placedIn i (x ∷ xs) = record { slot = i; offset = x .offset; entry = x .entry } ∷ placedIn i xs
+-- how many bytes it takes there, and its kind
+abbrev pub placedSize : Placed → ℕ
+placedSize x = sizeOf (x .layout) (x .entry)
+
+abbrev pub placedKind : Placed → ℕ
+placedKind x = kindOf (x .layout) (x .entry)
+
+unfoldable pub placedIn : Layout → ℕ → List Item → List Placed
+placedIn L i [] = []
+placedIn L i (x ∷ xs) = record { slot = i; layout = L; offset = x .offset; entry = x .entry } ∷ placedIn L i xs
 
 -- The log of the slots below n that p picks: ascending slot, then offset.
 unfoldable pub logOf : (ℕ → View) → (ℕ → Bool) → ℕ → List Placed
 logOf v p zero = []
-logOf v p (suc n) = logOf v p n ++ pick (p n) (placedIn n (itemsOf (v n .scan))) []
+logOf v p (suc n) = logOf v p n ++ pick (p n) (placedIn (v n .layout) n (itemsOf (v n .scan))) []
 
 -- ---- the map of a log
 

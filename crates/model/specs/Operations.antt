@@ -1,10 +1,10 @@
 -- 01, "Operations, store by store": what a start lays out, what each step stores, and the record after the last one.
 use Prim.Native.Nat.{ℕ, zero, suc, _+_, _*_, _-_, _^_, _<_}
-use mathlib.Core.Bool.{Bool, true, false, not}
+use mathlib.Core.Bool.{Bool, false, not}
 use mathlib.Core.List.{List, [], _∷_, _++_}
 use mathlib.Core.Option.{Option, none, some}
 use lib.Dec.{eqb, ltb, leb}
-use lib.ListN.{length, getD, take, drop, set}
+use lib.ListN.{length, getD, drop, set}
 use Rattle.word.specs.Number.{Bytes}
 use Rattle.segment.specs.Choice.{pick, both, either}
 use Rattle.segment.specs.Layout.{Layout, entrySize, digestSize}
@@ -22,7 +22,7 @@ use Rattle.record.specs.declared.Commit.{Commit}
 use Rattle.record.specs.declared.Pending.{Pending}
 use Rattle.record.specs.declared.Pending.the-variants.{Idle, Append, NewHead, Clean, Forget}
 use Rattle.record.specs.declared.Record.{Record}
-use Rattle.model.specs.Log.{View, Placed, viewsOf, logOf, latest, present, hasKey, keysOf, sameKey}
+use Rattle.model.specs.Log.{Placed, viewsOf, logOf, latest, present, hasKey, keysOf, sameKey}
 unfoldable pub use Rattle.model.specs.Log.{isVersion}
 use Rattle.model.specs.Counts.{entryCounts, renewedCounts}
 
@@ -143,7 +143,7 @@ laidClean L r log victims =
 unfoldable pub replaced : ℕ → Entry → List Placed → List Placed
 replaced v e [] = []
 replaced v e (x ∷ xs) =
-    record { slot = x .slot; offset = x .offset; entry = pick (eqb (x .entry .version) v) e (x .entry) } ∷ replaced v e xs
+    record { slot = x .slot; layout = x .layout; offset = x .offset; entry = pick (eqb (x .entry .version) v) e (x .entry) } ∷ replaced v e xs
 
 -- the log with an entry in the place of a live object, and the slot of the object
 unfoldable pub replacedBy : Entry → List Placed → Option Placed → List Placed
@@ -244,7 +244,7 @@ countNew log k = pick (hasKey log k) 0 1
 -- entries of a new head, where they come to stand behind its digest
 unfoldable pub placedFrom : Layout → ℕ → ℕ → List Entry → List Placed
 placedFrom L i at [] = []
-placedFrom L i at (e ∷ es) = record { slot = i; offset = at; entry = e } ∷ placedFrom L i (at + sizeOf L e) es
+placedFrom L i at (e ∷ es) = record { slot = i; layout = L; offset = at; entry = e } ∷ placedFrom L i (at + sizeOf L e) es
 
 -- What the last store makes of the head and the counters: n more bytes in the head, and the next version is taken.
 abbrev pub appendCommit : Record → ℕ → Commit

@@ -2,7 +2,7 @@
 use Prim.Native.Nat.{ℕ}
 use mathlib.Core.List.{List, [], _∷_, _++_}
 use mathlib.Core.Option.{Option, none, some}
-use lib.ListN.{length, take, replicate}
+use lib.ListN.{take, replicate}
 use Rattle.word.specs.Number.{numberOf, bytesOf}
 use Rattle.segment.specs.Choice.{pick, both, either, isNone, orZero}
 use Rattle.segment.specs.Layout.{Layout, edition1, lookup, lookBack, isSome, valueLength, goodVersion, table, sameLayout, layoutNumbered}
@@ -173,8 +173,8 @@ readCause t r area k = firstCause (readCauses (r .edition) r (logNow area r) (le
 
 abbrev pub readsWithin : Tables → List ℕ → Key → List ℕ
 readsWithin t area k =
-    said (readSaid (readAnswer (recordNow area .edition) (readCause t (recordNow area) area k) (present (log area) k))) ++
-    partOf area (valueAnswer (recordNow area .edition) 256 (readCause t (recordNow area) area k) (present (log area) k))
+    said (readSaid (readAnswer (readCause t (recordNow area) area k) (present (log area) k))) ++
+    partOf area (valueAnswer 256 (readCause t (recordNow area) area k) (present (log area) k))
 
 abbrev pub reads : List ℕ → Key → List ℕ
 reads = readsWithin allTables

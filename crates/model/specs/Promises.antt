@@ -2,8 +2,7 @@
 -- transition of the runs over which the whole promise about cuts is stated.
 use Prim.Native.Nat.{ℕ, zero, suc, _+_, _-_, _≤_, _<_}
 use mathlib.Core.Path.{_≡_}
-use mathlib.Core.Bool.{Bool, true, false}
-use mathlib.Core.List.{List, [], _∷_}
+use mathlib.Core.List.{List, []}
 use mathlib.Core.Logic.{_⊎_}
 use mathlib.Core.Option.{Option, none, some}
 use lib.Dec.{eqb}
@@ -13,11 +12,10 @@ use denote.Ref.{RefT}
 use Rattle.word.specs.Number.{Bytes}
 use Rattle.segment.specs.Choice.{pick}
 use Rattle.segment.specs.Layout.{Layout, layoutNumbered, entrySize}
-use Rattle.segment.specs.Entry.{Entry, bytesIn, kindOf}
+use Rattle.segment.specs.Entry.{bytesIn}
 use Rattle.segment.specs.declared.Key.{Key}
-use Rattle.record.specs.Answers.{Said, taken, takenWith, refusal, saidBy, formatSaid, recoverSaid, readSaid, startSaid, stepSaid, tellSaid, withPending, storesLeft}
-use Rattle.record.specs.declared.Pending.{Pending}
-use Rattle.record.specs.declared.Pending.the-variants.{Idle, Append, NewHead, Clean}
+use Rattle.record.specs.Answers.{Said, taken, takenWith, refusal, saidBy, formatSaid, recoverSaid, readSaid, startSaid, stepSaid, tellSaid, withPending}
+use Rattle.record.specs.declared.Pending.the-variants.{Idle}
 use Rattle.record.specs.declared.Refusal.{Refusal}
 use Rattle.record.specs.Refusals.{numberOfRefusal}
 use Rattle.record.specs.declared.Record.{Record}
@@ -33,7 +31,7 @@ use Rattle.record.specs.declared.Stepped.{Stepped}
 use Rattle.record.specs.declared.StepAnswer.{StepAnswer}
 use Rattle.record.specs.declared.Foretold.{Foretold}
 use Rattle.record.specs.declared.TellAnswer.{TellAnswer}
-use Rattle.model.specs.Log.{Placed, placeOf, present}
+use Rattle.model.specs.Log.{Placed, placeOf, placedKind, present}
 use Rattle.model.specs.Causes.{Cause, firstCause}
 use Rattle.model.specs.Recovery.{recovered, recovery, recoverCauses}
 use Rattle.model.specs.Index.{IndexRule}
@@ -106,18 +104,19 @@ pub record RecoverPromise (L : Layout) (n s : ℕ) (order area cells cells′ : 
 
 -- ---- read
 
-unfoldable pub presentAnswer : Layout → Option Placed → ReadAnswer
-presentAnswer L none = ReadAnswer.Present (record { 0 = 0 }) 0
-presentAnswer L (some x) = ReadAnswer.Present (record { 0 = x .entry .version }) (kindOf L (x .entry))
+-- The kind is the one that stands in the object's own slot.
+unfoldable pub presentAnswer : Option Placed → ReadAnswer
+presentAnswer none = ReadAnswer.Present (record { 0 = 0 }) 0
+presentAnswer (some x) = ReadAnswer.Present (record { 0 = x .entry .version }) (placedKind x)
 
-unfoldable pub readAnswer : Layout → Option Refusal → Option Placed → ReadAnswer
-readAnswer L none x = presentAnswer L x
-readAnswer L (some c) x = ReadAnswer.Refused c
+unfoldable pub readAnswer : Option Refusal → Option Placed → ReadAnswer
+readAnswer none x = presentAnswer x
+readAnswer (some c) x = ReadAnswer.Refused c
 
 -- what a read of that object says: its version and kind
-unfoldable pub objectSaid : Layout → Option Placed → Said
-objectSaid L none = taken
-objectSaid L (some x) = record { refused = 0; stores = 0; version = x .entry .version; kind = kindOf L (x .entry) }
+unfoldable pub objectSaid : Option Placed → Said
+objectSaid none = taken
+objectSaid (some x) = record { refused = 0; stores = 0; version = x .entry .version; kind = placedKind x }
 
 abbrev pub readLengths : List ℕ → List ℕ → Lengths
 readLengths area cells = record { area = length area; index = length cells; work = 0 }
@@ -130,10 +129,10 @@ pub record ReadPromise (L : Layout) (r : Record) (area cells : List ℕ) (t : Ta
   pub early : (c : Refusal) → firstCause (reachCauses L r (readLengths area cells) t k) ≡ some c → a .answer ≡ ReadAnswer.Refused c
   pub exact :
       Genuine L area r cells → a .answer ≡
-      readAnswer L (firstCause (readCauses L r (logNow area r) (readLengths area cells) t k)) (present (logNow area r) k)
+      readAnswer (firstCause (readCauses L r (logNow area r) (readLengths area cells) t k)) (present (logNow area r) k)
   pub says :
       Settled L area r cells (reachCauses L r (readLengths area cells) t k) → readSaid (a .answer) ≡
-      saidBy (firstCause (readCauses L r (logNow area r) (readLengths area cells) t k)) (objectSaid L (present (logNow area r) k))
+      saidBy (firstCause (readCauses L r (logNow area r) (readLengths area cells) t k)) (objectSaid (present (logNow area r) k))
 
 -- A part of the area: the place at which it starts, and how many bytes it has.
 pub record Part : Type 0 where
@@ -150,17 +149,17 @@ nowhere = record { place = 0; bytes = 0 }
 
 -- An object's value is the part of the area behind what comes before it in its entry. Beside a refusal stands the part of no bytes at
 -- place 0.
-unfoldable pub valuePart : Layout → ℕ → Option Placed → Part
-valuePart L S none = nowhere
-valuePart L S (some x) = record { place = placeOf S x + entrySize L 0; bytes = length (bytesIn (x .entry .value)) }
+unfoldable pub valuePart : ℕ → Option Placed → Part
+valuePart S none = nowhere
+valuePart S (some x) = record { place = placeOf S x + entrySize (x .layout) 0; bytes = length (bytesIn (x .entry .value)) }
 
-unfoldable pub valueAnswer : Layout → ℕ → Option Refusal → Option Placed → Part
-valueAnswer L S none x = valuePart L S x
-valueAnswer L S (some c) x = nowhere
+unfoldable pub valueAnswer : ℕ → Option Refusal → Option Placed → Part
+valueAnswer S none x = valuePart S x
+valueAnswer S (some c) x = nowhere
 
 abbrev pub promisedPart : Layout → Record → List ℕ → List ℕ → Tables → Key → Part
 promisedPart L r area cells t k =
-    valueAnswer L (r .size) (firstCause (readCauses L r (logNow area r) (readLengths area cells) t k)) (present (logNow area r) k)
+    valueAnswer (r .size) (firstCause (readCauses L r (logNow area r) (readLengths area cells) t k)) (present (logNow area r) k)
 
 -- Which part of the area the value is.
 pub record ValuePromise (L : Layout) (r : Record) (area cells : List ℕ) (t : Tables) (k : Key) (p : Part) : Type 0 where

@@ -113,7 +113,7 @@ recordUnder L v n s m h =
       map = h .digest .map;
       next = record { 0 = nextVersion (h .digest) (logUnder v n h) };
       keys = length (keysOf (logUnder v n h));
-      counts = countsOf L (logUnder v n h);
+      counts = countsOf (logUnder v n h);
       pending = Idle;
     }
 

@@ -21,7 +21,7 @@ use Rattle.model.specs.Table.{Row, row, failing, Hold, rows-hold}
 -- what a scan with N 4 and S 256 answers for a key within these tables, and the value
 abbrev scansWithin : Tables → List ℕ → Key → List ℕ
 scansWithin t area k =
-    said (readSaid (readAnswer edition1 (firstCause (scanCauses edition1 4 256 area t k)) (present (imageLog 4 256 area) k))) ++
+    said (readSaid (readAnswer (firstCause (scanCauses edition1 4 256 area t k)) (present (imageLog 4 256 area) k))) ++
     partOf area (scannedPart edition1 4 256 area t k)
 
 abbrev scans : List ℕ → Key → List ℕ

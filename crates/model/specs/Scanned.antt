@@ -40,12 +40,12 @@ scan-order L n s area t k = refl
 
 -- Version and kind of the key's object in that log, or the first cause. The answer says the same in 01's numbers.
 pub record ScanPromise (L : Layout) (n s : ℕ) (area : List ℕ) (t : Tables) (k : Key) (a : ReadAnswer) : Type 0 where
-  pub answers : a ≡ readAnswer L (firstCause (scanCauses L n s area t k)) (present (imageLog n s area) k)
-  pub says : readSaid a ≡ saidBy (firstCause (scanCauses L n s area t k)) (objectSaid L (present (imageLog n s area) k))
+  pub answers : a ≡ readAnswer (firstCause (scanCauses L n s area t k)) (present (imageLog n s area) k)
+  pub says : readSaid a ≡ saidBy (firstCause (scanCauses L n s area t k)) (objectSaid (present (imageLog n s area) k))
 
 -- the part of the area that is the value, the empty part at its start where the read is refused
 abbrev pub scannedPart : Layout → ℕ → ℕ → List ℕ → Tables → Key → Part
-scannedPart L n s area t k = valueAnswer L s (firstCause (scanCauses L n s area t k)) (present (imageLog n s area) k)
+scannedPart L n s area t k = valueAnswer s (firstCause (scanCauses L n s area t k)) (present (imageLog n s area) k)
 
 pub record ScanValue (L : Layout) (n s : ℕ) (area : List ℕ) (t : Tables) (k : Key) (p : Part) : Type 0 where
   pub exact : p ≡ scannedPart L n s area t k

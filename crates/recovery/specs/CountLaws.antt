@@ -15,11 +15,12 @@ use lib.Seq.{drop-cons}
 use borrow.Author.Tests.{eq-eqb, ne-eqb}
 use Rattle.segment.specs.Choice.{pick, pick-true, pick-false, either-false-right}
 use Rattle.segment.specs.Layout.{Layout}
-use Rattle.segment.specs.Area.{foundAt, found-within, found-place, place-slot, place-offset}
+use Rattle.segment.specs.Area.{layoutAt, foundAt, found-within, stands-place, place-slot, place-offset}
+use Rattle.segment.specs.Digest.{layoutIn}
 use Rattle.segment.specs.Entry.{Entry, Found, entry, end, damage, entryAt, isTombstone, sizeOf, keyOf, answer, kindOf}
 use Rattle.segment.specs.EntryLaws.{found-fits}
 use Rattle.segment.specs.declared.Read.{Read}
-use Rattle.model.specs.Log.{Placed, placeOf, segmentOf, latest, objectOnly, present, isVersion, hasVersion, versionShared}
+use Rattle.model.specs.Log.{Placed, placeOf, placedSize, placedKind, segmentOf, latest, objectOnly, present, isVersion, hasVersion, versionShared}
 use Rattle.model.specs.Counts.{isPresent, presentSize, moreBytes, countsOf, objectSize}
 use Rattle.model.specs.Index.{IsLatest, IndexRule}
 use Rattle.laws.specs.Members.{In, first, Once, empty, more, those, total}
@@ -92,17 +93,17 @@ sum-same f a b p q to from = omega (arith, sum-most f a b p (λ x m d. to x m), 
 
 -- ---- the numbers stay small
 
-pub object-most : (L : Layout) (S : ℕ) (area : List ℕ) (p : ℕ) → objectAt L S area p ≤ S
+pub object-most : (S : ℕ) (area : List ℕ) (p : ℕ) → objectAt S area p ≤ S
 unfolding objectLength answer
-object-most L S area p = go (foundAt L S area p) refl
+object-most S area p = go (foundAt S area p) refl
   where
-    by-kind : (e : Entry) → sizeOf L e ≤ S → (t : Bool)
+    by-kind : (L : Layout) (e : Entry) → sizeOf L e ≤ S → (t : Bool)
         → objectLength (pick t (Read.Tombstone (keyOf e) (record { 0 = e .version }) (sizeOf L e)) (Read.Object (keyOf e) (record { 0 = e .version }) (kindOf L e) (sizeOf L e))) ≤ S
-    by-kind e h true = unfold pick in omega arith
-    by-kind e h false = unfold pick in h
+    by-kind L e h true = unfold pick in omega arith
+    by-kind L e h false = unfold pick in h
 
-    go : (f : Found) → foundAt L S area p ≡ f → objectLength (answer L f) ≤ S
-    go (entry e) q = by-kind e (omega (arith, found-within L S area p e q .in-segment)) (isTombstone e)
+    go : (f : Found) → foundAt S area p ≡ f → objectLength (answer (layoutAt S area p) f) ≤ S
+    go (entry e) q = by-kind (layoutAt S area p) e (omega (arith, found-within S area p e q .in-segment)) (isTombstone e)
     go end q = omega arith
     go damage q = omega arith
 
@@ -120,48 +121,48 @@ more-most i n k m c h low j = go (decLt j (length c)) (eqb i j) refl
         past (x ∷ l) zero h = absurd (omega arith)
         past (x ∷ l) (suc j) h = past l j (omega arith)
 
-pub cell-most : (L : Layout) (S : ℕ) (area : List ℕ) (c m : ℕ) (counts : List ℕ) → S ≤ 2048 → NoneAbove m counts
-    → NoneAbove (m + 2048) (countCell L S area c counts)
+pub cell-most : (S : ℕ) (area : List ℕ) (c m : ℕ) (counts : List ℕ) → S ≤ 2048 → NoneAbove m counts
+    → NoneAbove (m + 2048) (countCell S area c counts)
 unfolding countCell
-cell-most L S area c m counts h low = go (eqb c 0)
+cell-most S area c m counts h low = go (eqb c 0)
   where
-    go : (t : Bool) → NoneAbove (m + 2048) (pick t counts (moreBytes ((c - 1) / S) (objectAt L S area (c - 1)) counts))
+    go : (t : Bool) → NoneAbove (m + 2048) (pick t counts (moreBytes ((c - 1) / S) (objectAt S area (c - 1)) counts))
     go true = unfold pick in λ j. omega (arith, low j)
-    go false = unfold pick in more-most ((c - 1) / S) (objectAt L S area (c - 1)) 2048 m counts (omega (arith, object-most L S area (c - 1))) low
+    go false = unfold pick in more-most ((c - 1) / S) (objectAt S area (c - 1)) 2048 m counts (omega (arith, object-most S area (c - 1))) low
 
 -- ---- the loop over the cells
 
-module _ (L : Layout) (S : ℕ) (area : List ℕ) where
-  pub count-free : (c : ℕ) (counts : List ℕ) → c ≡ 0 → counts ≡ countCell L S area c counts
+module _ (S : ℕ) (area : List ℕ) where
+  pub count-free : (c : ℕ) (counts : List ℕ) → c ≡ 0 → counts ≡ countCell S area c counts
   unfolding countCell
   count-free c counts e = sym (pick-true (eqb c 0) counts _ (eq-eqb c 0 e))
 
-  pub count-held : (c bytes : ℕ) (counts after : List ℕ) → (c ≡ 0 → ⊥) → bytes ≡ objectAt L S area (c - 1) → after ≡ moreBytes ((c - 1) / S) bytes counts
-      → after ≡ countCell L S area c counts
+  pub count-held : (c bytes : ℕ) (counts after : List ℕ) → (c ≡ 0 → ⊥) → bytes ≡ objectAt S area (c - 1) → after ≡ moreBytes ((c - 1) / S) bytes counts
+      → after ≡ countCell S area c counts
   unfolding countCell
   count-held c bytes counts after e b a =
       a ∙ ap (λ (n : ℕ). moreBytes ((c - 1) / S) n counts) b
-      ∙ sym (pick-false (eqb c 0) counts (moreBytes ((c - 1) / S) (objectAt L S area (c - 1)) counts) (ne-eqb c 0 e))
+      ∙ sym (pick-false (eqb c 0) counts (moreBytes ((c - 1) / S) (objectAt S area (c - 1)) counts) (ne-eqb c 0 e))
 
-  length-cell : (c : ℕ) (counts : List ℕ) → length (countCell L S area c counts) ≡ length counts
+  length-cell : (c : ℕ) (counts : List ℕ) → length (countCell S area c counts) ≡ length counts
   unfolding countCell
   length-cell c counts = go (eqb c 0)
     where
-      go : (t : Bool) → length (pick t counts (moreBytes ((c - 1) / S) (objectAt L S area (c - 1)) counts)) ≡ length counts
+      go : (t : Bool) → length (pick t counts (moreBytes ((c - 1) / S) (objectAt S area (c - 1)) counts)) ≡ length counts
       go true = unfold pick in refl
-      go false = unfold pick in length-more ((c - 1) / S) (objectAt L S area (c - 1)) counts
+      go false = unfold pick in length-more ((c - 1) / S) (objectAt S area (c - 1)) counts
 
-  length-cells : (cells counts : List ℕ) → length (countCells L S area cells counts) ≡ length counts
+  length-cells : (cells counts : List ℕ) → length (countCells S area cells counts) ≡ length counts
   unfolding countCells
   length-cells [] counts = refl
-  length-cells (c ∷ cells) counts = length-cells cells (countCell L S area c counts) ∙ length-cell c counts
+  length-cells (c ∷ cells) counts = length-cells cells (countCell S area c counts) ∙ length-cell c counts
 
   -- After i cells the 32 numbers are small, and the cells left, counted on top of them, give the whole answer.
   pub record Counting (cells : List ℕ) (i : ℕ) (counts : List ℕ) : Type 0 where
     pub few : i ≤ length cells
     pub size : length counts ≡ 32
     pub low : NoneAbove (2048 * i) counts
-    pub counted : countCells L S area (drop i cells) counts ≡ countedIn L S area cells
+    pub counted : countCells S area (drop i cells) counts ≡ countedIn S area cells
 
   pub count-starts : (cells : List ℕ) → Counting cells 0 (replicate 32 0)
   count-starts cells = record { few = omega arith; size = length-replicate {A = ℕ} 32 0; low = zeros 32; counted = refl }
@@ -173,44 +174,44 @@ module _ (L : Layout) (S : ℕ) (area : List ℕ) where
       zeros (suc n) (suc i) = zeros n i
 
   pub count-turn : (cells : List ℕ) (i : ℕ) (counts after : List ℕ) → S ≤ 2048 → i < length cells → Counting cells i counts
-      → after ≡ countCell L S area (getD cells i 0) counts → Counting cells (i + 1) after
+      → after ≡ countCell S area (getD cells i 0) counts → Counting cells (i + 1) after
   unfolding countCells
   count-turn cells i counts after h l c e =
       record {
         few = omega arith;
         size = ap length e ∙ length-cell (getD cells i 0) counts ∙ c .size;
-        low = λ j. omega (arith, ap (λ (n : List ℕ). getD n j 0) e, cell-most L S area (getD cells i 0) (2048 * i) counts h (c .low) j);
-        counted = ap (countCells L S area (drop (i + 1) cells)) e ∙ turn ∙ c .counted;
+        low = λ j. omega (arith, ap (λ (n : List ℕ). getD n j 0) e, cell-most S area (getD cells i 0) (2048 * i) counts h (c .low) j);
+        counted = ap (countCells S area (drop (i + 1) cells)) e ∙ turn ∙ c .counted;
       }
     where
-      turn : countCells L S area (drop (i + 1) cells) (countCell L S area (getD cells i 0) counts) ≡ countCells L S area (drop i cells) counts
+      turn : countCells S area (drop (i + 1) cells) (countCell S area (getD cells i 0) counts) ≡ countCells S area (drop i cells) counts
       turn = rw (add-one i, drop-cons cells i 0 l)
 
-  pub count-ends : (cells : List ℕ) (i : ℕ) (counts : List ℕ) → length cells ≤ i → Counting cells i counts → counts ≡ countedIn L S area cells
+  pub count-ends : (cells : List ℕ) (i : ℕ) (counts : List ℕ) → length cells ≤ i → Counting cells i counts → counts ≡ countedIn S area cells
   unfolding countCells
-  count-ends cells i counts h c = sym (ap (λ (l : List ℕ). countCells L S area l counts) (drop-of-length-le cells {i = i} h)) ∙ c .counted
+  count-ends cells i counts h c = sym (ap (λ (l : List ℕ). countCells S area l counts) (drop-of-length-le cells {i = i} h)) ∙ c .counted
 
   -- ---- what is counted is a sum over the cells
 
   module _ (i : ℕ) where
     -- what a cell adds to the number of slot i
     unfoldable cellBytes : ℕ → ℕ
-    cellBytes c = pick (eqb c 0) 0 (pick (eqb ((c - 1) / S) i) (objectAt L S area (c - 1)) 0)
+    cellBytes c = pick (eqb c 0) 0 (pick (eqb ((c - 1) / S) i) (objectAt S area (c - 1)) 0)
 
-    cell-at : (c : ℕ) (counts : List ℕ) → i < length counts → getD (countCell L S area c counts) i 0 ≡ getD counts i 0 + cellBytes c
+    cell-at : (c : ℕ) (counts : List ℕ) → i < length counts → getD (countCell S area c counts) i 0 ≡ getD counts i 0 + cellBytes c
     unfolding countCell cellBytes
     cell-at c counts l = go (eqb c 0)
       where
-        go : (t : Bool) → getD (pick t counts (moreBytes ((c - 1) / S) (objectAt L S area (c - 1)) counts)) i 0
-            ≡ getD counts i 0 + pick t 0 (pick (eqb ((c - 1) / S) i) (objectAt L S area (c - 1)) 0)
+        go : (t : Bool) → getD (pick t counts (moreBytes ((c - 1) / S) (objectAt S area (c - 1)) counts)) i 0
+            ≡ getD counts i 0 + pick t 0 (pick (eqb ((c - 1) / S) i) (objectAt S area (c - 1)) 0)
         go true = unfold pick in omega arith
-        go false = unfold pick in more-at ((c - 1) / S) i (objectAt L S area (c - 1)) counts l
+        go false = unfold pick in more-at ((c - 1) / S) i (objectAt S area (c - 1)) counts l
 
-    cells-at : (cells counts : List ℕ) → i < length counts → getD (countCells L S area cells counts) i 0 ≡ getD counts i 0 + sum cellBytes cells
+    cells-at : (cells counts : List ℕ) → i < length counts → getD (countCells S area cells counts) i 0 ≡ getD counts i 0 + sum cellBytes cells
     unfolding countCells sum
     cells-at [] counts l = omega arith
     cells-at (c ∷ cells) counts l =
-        omega (arith, cells-at cells (countCell L S area c counts) (omega (arith, length-cell c counts)), cell-at c counts l)
+        omega (arith, cells-at cells (countCell S area c counts) (omega (arith, length-cell c counts)), cell-at c counts l)
 
 -- ---- the log's side
 
@@ -229,29 +230,29 @@ log-once (x ∷ xs) e =
     ))
     (log-once xs (either-false-right (hasVersion xs (x .entry .version)) (versionShared xs) e))
 
-slot-sum : (f : Entry → ℕ) (i : ℕ) (log : List Placed) → slotTotal f i log ≡ sum (λ (x : Placed). pick (eqb (x .slot) i) (f (x .entry)) 0) log
+slot-sum : (f : Placed → ℕ) (i : ℕ) (log : List Placed) → slotTotal f i log ≡ sum (λ (x : Placed). pick (eqb (x .slot) i) (f x) 0) log
 unfolding sum those total
 slot-sum f i [] = refl
-slot-sum f i (x ∷ xs) = slot-total-cons f i x xs ∙ ap (λ (n : ℕ). pick (eqb (x .slot) i) (f (x .entry)) 0 + n) (slot-sum f i xs)
+slot-sum f i (x ∷ xs) = slot-total-cons f i x xs ∙ ap (λ (n : ℕ). pick (eqb (x .slot) i) (f x) 0 + n) (slot-sum f i xs)
 
 -- the latest entry of a key is present if it is an object
-latest-size : (L : Layout) (log : List Placed) (x : Placed) → IsLatest log x → presentSize L log (x .entry) ≡ objectSize L (x .entry)
+latest-size : (log : List Placed) (x : Placed) → IsLatest log x → presentSize log x ≡ objectSize (x .layout) (x .entry)
 unfolding present objectOnly
-latest-size L log x l =
-    ap (λ (o : Option Placed). pick (isVersion (objectOnly o) (x .entry .version)) (sizeOf L (x .entry)) 0) l ∙ go (isTombstone (x .entry))
+latest-size log x l =
+    ap (λ (o : Option Placed). pick (isVersion (objectOnly o) (x .entry .version)) (placedSize x) 0) l ∙ go (isTombstone (x .entry))
   where
-    go : (t : Bool) → pick (isVersion (pick t none (some x)) (x .entry .version)) (sizeOf L (x .entry)) 0 ≡ pick t 0 (sizeOf L (x .entry))
+    go : (t : Bool) → pick (isVersion (pick t none (some x)) (x .entry .version)) (placedSize x) 0 ≡ pick t 0 (placedSize x)
     go true = unfold pick isVersion in refl
-    go false = unfold pick isVersion in pick-true (eqb (x .entry .version) (x .entry .version)) (sizeOf L (x .entry)) 0 (eq-eqb (x .entry .version) (x .entry .version) refl)
+    go false = unfold pick isVersion in pick-true (eqb (x .entry .version) (x .entry .version)) (placedSize x) 0 (eq-eqb (x .entry .version) (x .entry .version) refl)
 
 -- an entry that adds something is the latest of its key
-present-latest : (L : Layout) (log : List Placed) (x : Placed) → versionShared log ≡ false → In x log → (presentSize L log (x .entry) ≡ 0 → ⊥) → IsLatest log x
+present-latest : (log : List Placed) (x : Placed) → versionShared log ≡ false → In x log → (presentSize log x ≡ 0 → ⊥) → IsLatest log x
 unfolding isVersion
-present-latest L log x apart m some-size = go (present log (keyOf (x .entry))) refl
+present-latest log x apart m some-size = go (present log (keyOf (x .entry))) refl
   where
     go : (o : Option Placed) → present log (keyOf (x .entry)) ≡ o → IsLatest log x
     go none e =
-        absurd (some-size (pick-false (isPresent log (x .entry)) (sizeOf L (x .entry)) 0 (ap (λ (o : Option Placed). isVersion o (x .entry .version)) e)))
+        absurd (some-size (pick-false (isPresent log (x .entry)) (placedSize x) 0 (ap (λ (o : Option Placed). isVersion o (x .entry .version)) e)))
     go (some z) e = by-version (ℕ-discrete (z .entry .version) (x .entry .version))
       where
         live : latest log (keyOf (x .entry)) ≡ some z
@@ -262,18 +263,19 @@ present-latest L log x apart m some-size = go (present log (keyOf (x .entry))) r
         by-version (no d) =
             absurd
             (some-size
-            (pick-false (isPresent log (x .entry)) (sizeOf L (x .entry)) 0
+            (pick-false (isPresent log (x .entry)) (placedSize x) 0
             (ap (λ (o : Option Placed). isVersion o (x .entry .version)) e ∙ ne-eqb (z .entry .version) (x .entry .version) d)))
 
 -- ---- the cells' side, under the index rule
 
-module _ (L : Layout) (S : ℕ) (area : List ℕ) (log : List Placed) (cells : List ℕ) (rule : IndexRule S log cells) (apart : versionShared log ≡ false)
-    (stands : (x : Placed) → In x log → entryAt L (segmentOf area S (x .slot)) (x .offset) ≡ entry (x .entry)) where
+module _ (S : ℕ) (area : List ℕ) (log : List Placed) (cells : List ℕ) (rule : IndexRule S log cells) (apart : versionShared log ≡ false)
+    (own : (x : Placed) → In x log → x .layout ≡ layoutIn (segmentOf area S (x .slot)))
+    (stands : (x : Placed) → In x log → entryAt (x .layout) (segmentOf area S (x .slot)) (x .offset) ≡ entry (x .entry)) where
   inside : (x : Placed) → In x log → x .offset < S
   inside x m =
       omega (
         arith,
-        found-fits L (segmentOf area S (x .slot)) (x .offset) (x .entry) (stands x m),
+        found-fits (x .layout) (segmentOf area S (x .slot)) (x .offset) (x .entry) (stands x m),
         length-take S (drop (x .slot * S) area),
       )
 
@@ -284,34 +286,35 @@ module _ (L : Layout) (S : ℕ) (area : List ℕ) (log : List Placed) (cells : L
       sym (place-slot S (x .slot) (x .offset) (inside x m)) ∙ ap (λ (p : ℕ). p / S) e ∙ place-slot S (y .slot) (y .offset) (inside y n) in
       let offset : x .offset ≡ y .offset =
       sym (place-offset S (x .slot) (x .offset) (inside x m)) ∙ ap (λ (p : ℕ). p % S) e ∙ place-offset S (y .slot) (y .offset) (inside y n) in
+      let layout : x .layout ≡ y .layout = own x m ∙ ap (λ (i : ℕ). layoutIn (segmentOf area S i)) slot ∙ sym (own y n) in
       let read : entry (x .entry) ≡ entry (y .entry) =
-      sym (stands x m) ∙ ap₂ (λ (i at : ℕ). entryAt L (segmentOf area S i) at) slot offset ∙ stands y n in
+      sym (stands x m) ∙ (λ j. entryAt (layout j) (segmentOf area S (slot j)) (offset j)) ∙ stands y n in
       let same : x .entry ≡ y .entry = cc in
-      λ j. record { slot = slot j; offset = offset j; entry = same j }
+      λ j. record { slot = slot j; layout = layout j; offset = offset j; entry = same j }
 
   member : (x : Placed) → IsLatest log x → In x log
   member x l = latest-some log (keyOf (x .entry)) x l .member
 
-  object-here : (x : Placed) → In x log → objectAt L S area (placeOf S x) ≡ objectSize L (x .entry)
+  object-here : (x : Placed) → In x log → objectAt S area (placeOf S x) ≡ objectSize (x .layout) (x .entry)
   unfolding objectLength answer
   object-here x m =
-      ap (λ (f : Found). objectLength (answer L f)) (found-place L S area (x .slot) (x .offset) (inside x m) ∙ stands x m) ∙ go (isTombstone (x .entry))
+      ap objectLength (stands-place S area (x .slot) (x .offset) (inside x m) (x .layout) (x .entry) (stands x m)) ∙ go (isTombstone (x .entry))
     where
       go : (t : Bool)
           → objectLength
-          (pick t (Read.Tombstone (keyOf (x .entry)) (record { 0 = x .entry .version }) (sizeOf L (x .entry)))
-          (Read.Object (keyOf (x .entry)) (record { 0 = x .entry .version }) (kindOf L (x .entry)) (sizeOf L (x .entry))))
-          ≡ pick t 0 (sizeOf L (x .entry))
+          (pick t (Read.Tombstone (keyOf (x .entry)) (record { 0 = x .entry .version }) (placedSize x))
+          (Read.Object (keyOf (x .entry)) (record { 0 = x .entry .version }) (placedKind x) (placedSize x)))
+          ≡ pick t 0 (placedSize x)
       go true = unfold pick in refl
       go false = unfold pick in refl
 
   module _ (i : ℕ) where
     abbrev added : ℕ → ℕ
-    added c = cellBytes L S area i c
+    added c = cellBytes S area i c
 
     -- what an entry of the log adds to the number of slot i
     abbrev share : Placed → ℕ
-    share x = pick (eqb (x .slot) i) (presentSize L log (x .entry)) 0
+    share x = pick (eqb (x .slot) i) (presentSize log x) 0
 
     free-share : (c : ℕ) → c ≡ 0 → added c ≡ 0
     unfolding cellBytes
@@ -320,10 +323,10 @@ module _ (L : Layout) (S : ℕ) (area : List ℕ) (log : List Placed) (cells : L
     held-share : (c : ℕ) (x : Placed) → IsLatest log x → c ≡ placeOf S x + 1 → added c ≡ share x
     unfolding cellBytes
     held-share c x l e =
-        pick-false (eqb c 0) 0 (pick (eqb ((c - 1) / S) i) (objectAt L S area (c - 1)) 0) (ne-eqb c 0 (λ z. omega arith))
-        ∙ ap (λ (p : ℕ). pick (eqb (p / S) i) (objectAt L S area p) 0) (ap (λ (d : ℕ). d - 1) e ∙ place-back (placeOf S x))
+        pick-false (eqb c 0) 0 (pick (eqb ((c - 1) / S) i) (objectAt S area (c - 1)) 0) (ne-eqb c 0 (λ z. omega arith))
+        ∙ ap (λ (p : ℕ). pick (eqb (p / S) i) (objectAt S area p) 0) (ap (λ (d : ℕ). d - 1) e ∙ place-back (placeOf S x))
         ∙ ap₂ (λ (j n : ℕ). pick (eqb j i) n 0) (place-slot S (x .slot) (x .offset) (inside x (member x l)))
-        (object-here x (member x l) ∙ sym (latest-size L log x l))
+        (object-here x (member x l) ∙ sym (latest-size log x l))
 
     -- the entries that the cells from n on hold
     record Gathered (n : ℕ) : Type 0 where
@@ -396,7 +399,7 @@ module _ (L : Layout) (S : ℕ) (area : List ℕ) (log : List Placed) (cells : L
         go (yes z) w = passed z w
         go (no z) w = taken z (held S log cells rule n below z) w
 
-    cells-log : sum added cells ≡ slotTotal (presentSize L log) i log
+    cells-log : sum added cells ≡ slotTotal (presentSize log) i log
     cells-log = go (gather (length cells) 0 (omega arith))
       where
         nothing : (t : Bool) → _≡_ {A = ℕ} (pick t 0 0) 0
@@ -405,24 +408,24 @@ module _ (L : Layout) (S : ℕ) (area : List ℕ) (log : List Placed) (cells : L
 
         counts : (w : Gathered 0) (x : Placed) → In x log → (share x ≡ 0 → ⊥) → In x (w .items)
         counts w x m d =
-            let l = present-latest L log x apart m (λ z. d (ap (λ (n : ℕ). pick (eqb (x .slot) i) n 0) z ∙ nothing (eqb (x .slot) i))) in
+            let l = present-latest log x apart m (λ z. d (ap (λ (n : ℕ). pick (eqb (x .slot) i) n 0) z ∙ nothing (eqb (x .slot) i))) in
             let c = rule .found x l in
             w .all (c .cell) (omega arith) (c .below) x l (c .holds)
 
-        go : Gathered 0 → sum added cells ≡ slotTotal (presentSize L log) i log
+        go : Gathered 0 → sum added cells ≡ slotTotal (presentSize log) i log
         go w =
             w .sums
             ∙ sum-same share (w .items) log (w .once) (log-once log apart) (λ x m. member x (w .from x m .0)) (counts w)
-            ∙ sym (slot-sum (presentSize L log) i log)
+            ∙ sym (slot-sum (presentSize log) i log)
 
-  pub counted-log : countedIn L S area cells ≡ countsOf L log
+  pub counted-log : countedIn S area cells ≡ countsOf log
   counted-log =
       sym
-      (counts-are L log (countedIn L S area cells) (length-cells L S area cells (replicate 32 0) ∙ length-replicate {A = ℕ} 32 0)
+      (counts-are log (countedIn S area cells) (length-cells S area cells (replicate 32 0) ∙ length-replicate {A = ℕ} 32 0)
       (λ i l.
       omega (
         arith,
-        cells-at L S area i cells (replicate 32 0) (omega (arith, length-replicate {A = ℕ} 32 0)),
+        cells-at S area i cells (replicate 32 0) (omega (arith, length-replicate {A = ℕ} 32 0)),
         getD-replicate {A = ℕ} 32 i 0 0 l,
         cells-log i,
       )))

@@ -4,7 +4,6 @@ use mathlib.Core.List.{List, [], _∷_}
 use lib.Dec.{eqb}
 use lib.ListN.{getD, replicate}
 use Rattle.segment.specs.Choice.{pick}
-use Rattle.segment.specs.Layout.{Layout}
 use Rattle.segment.specs.Area.{standsAt}
 use Rattle.segment.specs.declared.Read.{Read}
 use Rattle.model.specs.Counts.{moreBytes}
@@ -16,20 +15,20 @@ objectLength (Read.Tombstone k v n) = 0
 objectLength Read.End = 0
 objectLength Read.Damage = 0
 
-abbrev pub objectAt : Layout → ℕ → List ℕ → ℕ → ℕ
-objectAt L S area p = objectLength (standsAt L S area p)
+abbrev pub objectAt : ℕ → List ℕ → ℕ → ℕ
+objectAt S area p = objectLength (standsAt S area p)
 
 -- One cell more: it is free (0), or one higher than a place, whose object is counted in the number of the place's slot. A slot
 -- that has no number counts for nothing.
-unfoldable pub countCell : Layout → ℕ → List ℕ → ℕ → List ℕ → List ℕ
-countCell L S area c counts = pick (eqb c 0) counts (moreBytes ((c - 1) / S) (objectAt L S area (c - 1)) counts)
+unfoldable pub countCell : ℕ → List ℕ → ℕ → List ℕ → List ℕ
+countCell S area c counts = pick (eqb c 0) counts (moreBytes ((c - 1) / S) (objectAt S area (c - 1)) counts)
 
-unfoldable pub countCells : Layout → ℕ → List ℕ → List ℕ → List ℕ → List ℕ
-countCells L S area [] counts = counts
-countCells L S area (c ∷ cells) counts = countCells L S area cells (countCell L S area c counts)
+unfoldable pub countCells : ℕ → List ℕ → List ℕ → List ℕ → List ℕ
+countCells S area [] counts = counts
+countCells S area (c ∷ cells) counts = countCells S area cells (countCell S area c counts)
 
-abbrev pub countedIn : Layout → ℕ → List ℕ → List ℕ → List ℕ
-countedIn L S area cells = countCells L S area cells (replicate 32 0)
+abbrev pub countedIn : ℕ → List ℕ → List ℕ → List ℕ
+countedIn S area cells = countCells S area cells (replicate 32 0)
 
 -- none of the numbers is above m
 abbrev pub NoneAbove : ℕ → List ℕ → Type 0

@@ -5,13 +5,14 @@ use mathlib.Core.Bool.{Bool, true, false, not}
 use mathlib.Core.List.{List, [], _∷_}
 use mathlib.Core.Option.{Option, none, some}
 use native.Mathlib.Omega.{arith}
-use lib.ListN.{length, getD, take, drop, length-take}
-use Rattle.segment.specs.Area.{standsAt, found-within, found-place}
+use lib.ListN.{length, getD, drop, length-take}
+use Rattle.segment.specs.Area.{layoutAt, standsAt, found-within, stands-place}
 use Rattle.segment.specs.Choice.{pick, pick-true, pick-false, isNone}
-use Rattle.segment.specs.Layout.{Layout, entrySize}
-use Rattle.segment.specs.Entry.{bytesIn, entry, entryAt, sizeOf, keyOf, answer, isTombstone, kindOf}
+use Rattle.segment.specs.Layout.{Layout, layoutOfKind, entrySize}
+use Rattle.segment.specs.LayoutLaws.{kind-tells}
+use Rattle.segment.specs.Entry.{Entry, bytesIn, entry, entryAt, keyOf, answer, isTombstone, kindOf}
 use Rattle.segment.specs.AnswerLaws.{tells-object}
-use Rattle.segment.specs.EntryLaws.{found-fits}
+use Rattle.segment.specs.EntryLaws.{found-fits, found-known}
 use Rattle.segment.specs.declared.Key.{Key}
 use Rattle.segment.specs.declared.Read.{Read}
 use Rattle.segment.specs.declared.Version.{Version}
@@ -25,7 +26,7 @@ use Rattle.record.specs.declared.Record.{Record}
 use Rattle.record.specs.declared.ReadAnswer.{ReadAnswer}
 use Rattle.record.specs.declared.Refusal.{Refusal}
 use Rattle.record.specs.declared.Tables.{Tables}
-use Rattle.model.specs.Log.{Placed, placeOf, segmentOf, viewsOf, logOf, latest, objectOnly, present, keysOf, scan}
+use Rattle.model.specs.Log.{Placed, placeOf, placedSize, placedKind, segmentOf, viewsOf, logOf, latest, objectOnly, present, keysOf}
 use Rattle.model.specs.Causes.{Cause, when, firstCause}
 use Rattle.model.specs.Operations.{logNow}
 use Rattle.model.specs.Refused.{recordBad, keyAbsent, outsideTables, reachCauses, readCauses}
@@ -34,15 +35,15 @@ use Rattle.laws.specs.CauseLaws.{cause-first, cause-skip}
 use Rattle.laws.specs.SaidLaws.{read-settled}
 use Rattle.laws.specs.Members.{In}
 use Rattle.laws.specs.Latest.{latest-some}
-use Rattle.laws.specs.LogLaws.{AllOf, AllScanned, log-in, scan-whole}
-use Rattle.laws.specs.Scans.{scan-scans, scans-found}
+use Rattle.laws.specs.Forgotten.{present-live}
+use Rattle.laws.specs.LogLaws.{AllScanned, log-in}
 use Rattle.laws.specs.RecoverLaws.{recovered-case, recovered-keys}
 use Rattle.model.specs.Index.{startCell}
 use Rattle.index.specs.Search.{probe, searchFor, cellHas}
 use Rattle.index.specs.SearchLaws.{search-within, search-inside}
 use Rattle.index.specs.Area.{area-picks}
 use Rattle.index.specs.Finds.{Picks, search-known, search-new}
-use Rattle.index.specs.BuildLaws.{log-in-area}
+use Rattle.index.specs.BuildLaws.{log-reads, log-in-area}
 use Rattle.index.specs.declared.Found.{Found as Hit}
 use Rattle.recovery.specs.Lookups.{Reached, lookupOf, lookupAt, lookedUp, toldBy, partBy}
 use Rattle.recovery.specs.declared.Lookup.{Lookup}
@@ -60,32 +61,36 @@ module _ (L : Layout) (r : Record) (area cells : List ℕ) (t : Tables) (k : Key
   looked-outside fit out = pick-true (fitsLent L r (length area) (length cells)) _ _ fit ∙ pick-false (holdsTable t (k .table)) _ _ out
 
   module _ (fit : fitsLent L r (length area) (length cells) ≡ true) (held : holdsTable t (k .table) ≡ true) where
-    pub looked-fit : lookedUp L r area cells t k ≡ lookupAt L (r .size) area cells (searchFor L area cells k)
+    pub looked-fit : lookedUp L r area cells t k ≡ lookupAt (r .size) area cells (searchFor area cells k)
     unfolding lookedUp
     looked-fit = pick-true (fitsLent L r (length area) (length cells)) _ _ fit ∙ pick-true (holdsTable t (k .table)) _ _ held
 
-    pub looked-full : searchFor L area cells k ≡ Hit.Full → lookedUp L r area cells t k ≡ Lookup.Bad
+    pub looked-full : searchFor area cells k ≡ Hit.Full → lookedUp L r area cells t k ≡ Lookup.Bad
     unfolding lookupAt
-    looked-full e = looked-fit ∙ ap (lookupAt L (r .size) area cells) e
+    looked-full e = looked-fit ∙ ap (lookupAt (r .size) area cells) e
 
     module _ (i : ℕ) where
-      pub looked-free : searchFor L area cells k ≡ Hit.Free i → lookedUp L r area cells t k ≡ Lookup.Absent
+      pub looked-free : searchFor area cells k ≡ Hit.Free i → lookedUp L r area cells t k ≡ Lookup.Absent
       unfolding lookupAt
-      looked-free e = looked-fit ∙ ap (lookupAt L (r .size) area cells) e
+      looked-free e = looked-fit ∙ ap (lookupAt (r .size) area cells) e
 
-      module _ (e : searchFor L area cells k ≡ Hit.At i) where
-        pub looked-at : lookedUp L r area cells t k ≡ lookupOf (getD cells i 0 - 1) (standsAt L (r .size) area (getD cells i 0 - 1))
+      module _ (e : searchFor area cells k ≡ Hit.At i) where
+        pub looked-at : lookedUp L r area cells t k ≡ lookupOf (getD cells i 0 - 1) (standsAt (r .size) area (getD cells i 0 - 1))
         unfolding lookupAt
-        looked-at = looked-fit ∙ ap (lookupAt L (r .size) area cells) e
+        looked-at = looked-fit ∙ ap (lookupAt (r .size) area cells) e
 
     -- a look at where the search has ended can be made
-    pub reached : (i : ℕ) → searchFor L area cells k ≡ Hit.At i → Reached (r .size) cells i
+    pub reached : (i : ℕ) → searchFor area cells k ≡ Hit.At i → Reached (r .size) cells i
     reached i e =
         let l = lent L r (length area) (length cells) fit in
-        let w = search-inside L area cells k i e in
+        let w = search-inside area cells k i e in
         record { below = w .below; few = omega arith; taken = w .taken; some-size = omega arith; size-most = l .size-high }
 
 -- ---- where an object is found, its entry lies in the area
+
+-- the kind of an entry that is found tells the edition in which it was read
+pub found-layout : (L : Layout) (s : List ℕ) (at : ℕ) (e : Entry) → entryAt L s at ≡ entry e → layoutOfKind (kindOf L e) ≡ L
+found-layout L s at e f = kind-tells L (kindOf L e) (length (bytesIn (e .value))) (found-known L s at e f)
 
 -- what a lookup of an object says of what stands there
 object-read : (p : ℕ) (a : Read) (q : ℕ) (v : Version) (kind n : ℕ) → lookupOf p a ≡ Lookup.Object q v kind n
@@ -107,65 +112,71 @@ pub record ObjectInside (L : Layout) (area : List ℕ) (p n : ℕ) : Type 0 wher
 module _ (L : Layout) (r : Record) (area cells : List ℕ) (t : Tables) (k : Key) (p : ℕ) (v : Version) (kind n : ℕ)
     (e : lookedUp L r area cells t k ≡ Lookup.Object p v kind n) where
   at-inside :
-      fitsLent L r (length area) (length cells) ≡ true → holdsTable t (k .table) ≡ true → (i : ℕ) → searchFor L area cells k ≡ Hit.At i →
-      ObjectInside L area p n
+      fitsLent L r (length area) (length cells) ≡ true → holdsTable t (k .table) ≡ true → (i : ℕ) → searchFor area cells k ≡ Hit.At i →
+      ObjectInside (layoutOfKind kind) area p n
   at-inside fit held i f =
       let (place, key, there) = object-read (getD cells i 0 - 1) _ p v kind n (sym (looked-at L r area cells t k fit held i f) ∙ e) in
-      let x = tells-object L _ key v kind n there in
-      let within = found-within L (r .size) area (getD cells i 0 - 1) (x .told) (x .is) in
-      record { head = omega arith; whole = omega arith }
+      let own : Layout = layoutAt (r .size) area (getD cells i 0 - 1) in
+      let x = tells-object own _ key v kind n there in
+      let within = found-within (r .size) area (getD cells i 0 - 1) (x .told) (x .is) in
+      let its : layoutOfKind kind ≡ own = ap layoutOfKind (sym (x .its-kind)) ∙ found-layout own _ _ (x .told) (x .is) in
+      subst⁻¹ (λ (K : Layout). ObjectInside K area p n) its (record { head = omega arith; whole = omega arith })
 
-  pub object-inside : ObjectInside L area p n
-  object-inside = go (fitsLent L r (length area) (length cells)) refl (holdsTable t (k .table)) refl (searchFor L area cells k) refl
+  pub object-inside : ObjectInside (layoutOfKind kind) area p n
+  object-inside = go (fitsLent L r (length area) (length cells)) refl (holdsTable t (k .table)) refl (searchFor area cells k) refl
     where
       go : (x : Bool) → fitsLent L r (length area) (length cells) ≡ x → (y : Bool) → holdsTable t (k .table) ≡ y → (h : Hit) →
-          searchFor L area cells k ≡ h → ObjectInside L area p n
+          searchFor area cells k ≡ h → ObjectInside (layoutOfKind kind) area p n
       go false d y c h f = let q = looked-unfit L r area cells t k d in let z : _≡_ {A = ℕ} 0 1 = cc in absurd (omega arith)
       go true d false c h f = let q = looked-outside L r area cells t k d c in let z : _≡_ {A = ℕ} 0 1 = cc in absurd (omega arith)
       go true d true c (Hit.At i) f = at-inside d c i f
       go true d true c (Hit.Free i) f = let q = looked-free L r area cells t k d c i f in let z : _≡_ {A = ℕ} 0 1 = cc in absurd (omega arith)
       go true d true c Hit.Full f = let q = looked-full L r area cells t k d c f in let z : _≡_ {A = ℕ} 0 1 = cc in absurd (omega arith)
 
--- ---- the entries of an undamaged log of one layout stand in their segments
+-- ---- at the place of an entry of an undamaged log stands the entry
 
-pub log-stands :
-    (L : Layout) (area : List ℕ) (S : ℕ) (p : ℕ → Bool) (n : ℕ) → AllOf L (viewsOf area S) p n → AllScanned (viewsOf area S) p n →
-    (x : Placed) → In x (logOf (viewsOf area S) p n) → entryAt L (segmentOf area S (x .slot)) (x .offset) ≡ entry (x .entry)
-log-stands L area S p n editions scans x m =
-    let w = log-in (viewsOf area S) p n x m in
-    let s : List ℕ = segmentOf area S (x .slot) in
-    let own : scan L s ≡ viewsOf area S (x .slot) .scan = sym (ap (λ (K : Layout). scan K s) (editions (x .slot) (w .below) (w .picked))) in
-    scans-found (scan-scans L s (own ∙ scan-whole (viewsOf area S (x .slot) .scan) (scans (x .slot) (w .below) (w .picked)))) (w .item)
+module _ (area : List ℕ) (S : ℕ) (p : ℕ → Bool) (n : ℕ) (scans : AllScanned (viewsOf area S) p n) (x : Placed) (m : In x (logOf (viewsOf area S) p n)) where
+  pub placed-inside : x .offset < S
+  placed-inside =
+      omega (
+        arith,
+        found-fits (x .layout) (segmentOf area S (x .slot)) (x .offset) (x .entry) (log-reads area S p n scans x m),
+        length-take S (drop (x .slot * S) area),
+      )
 
--- so at its place in the area stands the entry
-pub stands-at :
-    (L : Layout) (area : List ℕ) (S : ℕ) (p : ℕ → Bool) (n : ℕ) → AllOf L (viewsOf area S) p n → AllScanned (viewsOf area S) p n →
-    (x : Placed) → In x (logOf (viewsOf area S) p n) → standsAt L S area (placeOf S x) ≡ answer L (entry (x .entry))
-stands-at L area S p n editions scans x m =
-    let s : List ℕ = segmentOf area S (x .slot) in
-    let found = log-stands L area S p n editions scans x m in
-    let inside : x .offset < S = omega (arith, found-fits L s (x .offset) (x .entry) found, length-take S (drop (x .slot * S) area)) in
-    ap (answer L) (found-place L S area (x .slot) (x .offset) inside ∙ found)
+  pub stands-at : standsAt S area (placeOf S x) ≡ answer (x .layout) (entry (x .entry))
+  stands-at =
+      stands-place S area (x .slot) (x .offset) placed-inside (x .layout) (x .entry) (log-reads area S p n scans x m)
+
+  -- and its kind tells its edition
+  pub placed-layout : layoutOfKind (placedKind x) ≡ x .layout
+  placed-layout = found-layout (x .layout) (segmentOf area S (x .slot)) (x .offset) (x .entry) (log-reads area S p n scans x m)
 
 -- ---- a genuine store
 
 -- the lookup for a key's object, or for none
-unfoldable pub lookupFor : Layout → ℕ → Option Placed → Lookup
-lookupFor L S none = Lookup.Absent
-lookupFor L S (some x) = Lookup.Object (placeOf S x) (record { 0 = x .entry .version }) (kindOf L (x .entry)) (sizeOf L (x .entry))
+unfoldable pub lookupFor : ℕ → Option Placed → Lookup
+lookupFor S none = Lookup.Absent
+lookupFor S (some x) = Lookup.Object (placeOf S x) (record { 0 = x .entry .version }) (placedKind x) (placedSize x)
 
 -- an entry at its place, as the lookup takes it
-entry-lookup : (L : Layout) (S : ℕ) (x : Placed) → lookupOf (placeOf S x) (answer L (entry (x .entry))) ≡ lookupFor L S (objectOnly (some x))
+entry-lookup : (S : ℕ) (x : Placed) → lookupOf (placeOf S x) (answer (x .layout) (entry (x .entry))) ≡ lookupFor S (objectOnly (some x))
 unfolding lookupOf answer lookupFor objectOnly pick
-entry-lookup L S x = go (isTombstone (x .entry))
+entry-lookup S x = go (isTombstone (x .entry))
   where
     go : (t : Bool)
         → lookupOf (placeOf S x)
-        (pick t (Read.Tombstone (keyOf (x .entry)) (record { 0 = x .entry .version }) (sizeOf L (x .entry)))
-        (Read.Object (keyOf (x .entry)) (record { 0 = x .entry .version }) (kindOf L (x .entry)) (sizeOf L (x .entry))))
-        ≡ lookupFor L S (pick t none (some x))
+        (pick t (Read.Tombstone (keyOf (x .entry)) (record { 0 = x .entry .version }) (placedSize x))
+        (Read.Object (keyOf (x .entry)) (record { 0 = x .entry .version }) (placedKind x) (placedSize x)))
+        ≡ lookupFor S (pick t none (some x))
     go true = refl
     go false = refl
+
+-- its log is undamaged
+pub genuine-scans : (L : Layout) (r : Record) (area cells : List ℕ) → Genuine L area r cells → AllScanned (viewsOf area (r .size)) (named (r .map)) (r .slots)
+genuine-scans L r area cells genuine =
+    recovered-case L (r .slots) (r .size) (r .cells) area (λ (q : Record). AllScanned (viewsOf area (r .size)) (named (q .map)) (r .slots))
+    (λ h a f. f .scans) (withPending r Idle) (genuine .recovers)
 
 module _ (L : Layout) (r : Record) (area cells : List ℕ) (t : Tables) (k : Key) (genuine : Genuine L area r cells)
     (fit : fitsLent L r (length area) (length cells) ≡ true) where
@@ -175,49 +186,42 @@ module _ (L : Layout) (r : Record) (area cells : List ℕ) (t : Tables) (k : Key
   abbrev log : List Placed
   log = logNow area r
 
-  pub editions : AllOf L (viewsOf area S) (named (r .map)) (r .slots)
-  editions =
-      recovered-case L (r .slots) S (r .cells) area (λ (q : Record). AllOf L (viewsOf area S) (named (q .map)) (r .slots))
-      (λ h a f. f .editions) (withPending r Idle) (genuine .recovers)
-
-  pub scans : AllScanned (viewsOf area S) (named (r .map)) (r .slots)
-  scans =
-      recovered-case L (r .slots) S (r .cells) area (λ (q : Record). AllScanned (viewsOf area S) (named (q .map)) (r .slots))
-      (λ h a f. f .scans) (withPending r Idle) (genuine .recovers)
+  scans : AllScanned (viewsOf area S) (named (r .map)) (r .slots)
+  scans = genuine-scans L r area cells genuine
 
   few : length (keysOf log) < length cells
   few =
       let l = lent L r (length area) (length cells) fit in
       omega (arith, recovered-keys L (r .slots) S (r .cells) area (withPending r Idle) (genuine .recovers))
 
-  pub at-place : (x : Placed) → In x log → standsAt L S area (placeOf S x) ≡ answer L (entry (x .entry))
-  at-place x m = stands-at L area S (named (r .map)) (r .slots) editions scans x m
+  pub at-place : (x : Placed) → In x log → standsAt S area (placeOf S x) ≡ answer (x .layout) (entry (x .entry))
+  at-place x m = stands-at area S (named (r .map)) (r .slots) scans x m
 
-  pub genuine-lookup : holdsTable t (k .table) ≡ true → lookedUp L r area cells t k ≡ lookupFor L S (present log k)
+  pub genuine-lookup : holdsTable t (k .table) ≡ true → lookedUp L r area cells t k ≡ lookupFor S (present log k)
   unfolding present
   genuine-lookup held = go (latest log k) refl
     where
-      picks : Picks (cellHas L area k) S log k
-      picks = area-picks L area S log k (log-in-area L area S (named (r .map)) (r .slots) editions scans)
+      picks : Picks (cellHas area k) S log k
+      picks = area-picks area S log k (log-in-area area S (named (r .map)) (r .slots) scans)
 
-      within : searchFor L area cells k ≡ probe (cellHas L area k) cells (length cells) (startCell (length cells) k)
-      within = let l = lent L r (length area) (length cells) fit in search-within L area cells k (omega (arith, l .index-own, l .cells-high))
+      within : searchFor area cells k ≡ probe (cellHas area k) cells (length cells) (startCell (length cells) k)
+      within = let l = lent L r (length area) (length cells) fit in search-within area cells k (omega (arith, l .index-own, l .cells-high))
 
-      go : (o : Option Placed) → latest log k ≡ o → lookedUp L r area cells t k ≡ lookupFor L S (objectOnly (latest log k))
+      go : (o : Option Placed) → latest log k ≡ o → lookedUp L r area cells t k ≡ lookupFor S (objectOnly (latest log k))
       go none e =
-          let (c, f) = search-new S log cells (genuine .rule) (cellHas L area k) k picks e few in
-          looked-free L r area cells t k fit held (c .cell) (within ∙ f) ∙ sym (ap (λ (o : Option Placed). lookupFor L S (objectOnly o)) e ∙ absent)
+          let (c, f) = search-new S log cells (genuine .rule) (cellHas area k) k picks e few in
+          looked-free L r area cells t k fit held (c .cell) (within ∙ f) ∙ sym (ap (λ (o : Option Placed). lookupFor S (objectOnly o)) e ∙ absent)
         where
-          absent : lookupFor L S (objectOnly none) ≡ Lookup.Absent
+          absent : lookupFor S (objectOnly none) ≡ Lookup.Absent
           absent = unfold lookupFor objectOnly in refl
       go (some x) e =
-          let (c, f) = search-known S log cells (genuine .rule) (cellHas L area k) k picks x e in
+          let (c, f) = search-known S log cells (genuine .rule) (cellHas area k) k picks x e in
           let place : getD cells (c .cell) 0 - 1 ≡ placeOf S x = omega (arith, c .holds) in
           looked-at L r area cells t k fit held (c .cell) (within ∙ f)
-          ∙ ap (λ (p : ℕ). lookupOf p (standsAt L S area p)) place
+          ∙ ap (λ (p : ℕ). lookupOf p (standsAt S area p)) place
           ∙ ap (lookupOf (placeOf S x)) (at-place x (latest-some log k x e .member))
-          ∙ entry-lookup L S x
-          ∙ sym (ap (λ (o : Option Placed). lookupFor L S (objectOnly o)) e)
+          ∙ entry-lookup S x
+          ∙ sym (ap (λ (o : Option Placed). lookupFor S (objectOnly o)) e)
 
 -- ---- an object that is looked up within reach, or none: 8
 
@@ -230,17 +234,20 @@ unfolding firstCause isNone pick ifAbsent
 only-absent none = refl
 only-absent (some x) = refl
 
-told-object : (L : Layout) (S : ℕ) (o : Option Placed) → toldBy (lookupFor L S o) ≡ readAnswer L (ifAbsent o) o
+told-object : (S : ℕ) (o : Option Placed) → toldBy (lookupFor S o) ≡ readAnswer (ifAbsent o) o
 unfolding toldBy lookupFor readAnswer presentAnswer ifAbsent
-told-object L S none = refl
-told-object L S (some x) = refl
+told-object S none = refl
+told-object S (some x) = refl
 
-part-object : (L : Layout) (S : ℕ) (o : Option Placed) → partBy L (lookupFor L S o) ≡ valueAnswer L S (ifAbsent o) o
+part-object : (S : ℕ) (o : Option Placed) → ((x : Placed) → o ≡ some x → layoutOfKind (placedKind x) ≡ x .layout)
+    → partBy (lookupFor S o) ≡ valueAnswer S (ifAbsent o) o
 unfolding partBy lookupFor valueAnswer valuePart ifAbsent
-part-object L S none = refl
-part-object L S (some x) = ap (λ (n : ℕ). record { place = placeOf S x + entrySize L 0; bytes = n }) (value-length (length (bytesIn (x .entry .value))))
+part-object S none own = refl
+part-object S (some x) own =
+    ap (λ (K : Layout). record { place = placeOf S x + entrySize K 0; bytes = placedSize x - entrySize K 0 }) (own x refl)
+    ∙ ap (λ (n : ℕ). record { place = placeOf S x + entrySize (x .layout) 0; bytes = n }) (value-length (length (bytesIn (x .entry .value))))
   where
-    value-length : (n : ℕ) → entrySize L n - entrySize L 0 ≡ n
+    value-length : (n : ℕ) → entrySize (x .layout) n - entrySize (x .layout) 0 ≡ n
     value-length n = omega arith
 
 some-is : {c d : Refusal} → _≡_ {A = Option Refusal} (some c) (some d) → c ≡ d
@@ -265,7 +272,7 @@ module _ (L : Layout) (r : Record) (area cells : List ℕ) (t : Tables) (k : Key
   data Case : Lookup → Option Refusal → Option Refusal → Type 0 where
     unfit : Case Lookup.Bad (some Refusal.BadRecord) (some Refusal.BadRecord)
     outside : Case Lookup.Outside (some Refusal.OutsideTables) (some Refusal.OutsideTables)
-    within : (x : Lookup) (c : Option Refusal) → (Genuine L area r cells → (x ≡ lookupFor L (r .size) object) × (c ≡ ifAbsent object)) → Case x none c
+    within : (x : Lookup) (c : Option Refusal) → (Genuine L area r cells → (x ≡ lookupFor (r .size) object) × (c ≡ ifAbsent object)) → Case x none c
 
   abbrev bad : Cause
   bad = when (recordBad L r (readLengths area cells)) Refusal.BadRecord
@@ -322,27 +329,33 @@ module _ (L : Layout) (r : Record) (area cells : List ℕ) (t : Tables) (k : Key
       at-first outside c q = ap ReadAnswer.Refused (some-is q)
       at-first (within x d h) c q = let z : _≡_ {A = ℕ} 0 1 = cc in absurd (omega arith)
 
-      at-genuine : {x : Lookup} {e d : Option Refusal} → Case x e d → Genuine L area r cells → toldBy x ≡ readAnswer L d object
+      at-genuine : {x : Lookup} {e d : Option Refusal} → Case x e d → Genuine L area r cells → toldBy x ≡ readAnswer d object
       at-genuine unfit g = refl
       at-genuine outside g = refl
       at-genuine (within x d h) g =
-          ap toldBy (h g .0) ∙ told-object L (r .size) object ∙ sym (ap (λ (c : Option Refusal). readAnswer L c object) (h g .1))
+          ap toldBy (h g .0) ∙ told-object (r .size) object ∙ sym (ap (λ (c : Option Refusal). readAnswer c object) (h g .1))
 
-  pub value-promise : (found : Lookup) → found ≡ lookedUp L r area cells t k → ValuePromise L r area cells t k (partBy L found)
+  pub value-promise : (found : Lookup) → found ≡ lookedUp L r area cells t k → ValuePromise L r area cells t k (partBy found)
   unfolding partBy valueAnswer
   value-promise found same =
       record {
-        early = λ c e. ap (partBy L) same ∙ at-first looked-promised c e;
-        exact = λ g. ap (partBy L) same ∙ at-genuine looked-promised g;
+        early = λ c e. ap partBy same ∙ at-first looked-promised c e;
+        exact = λ g. ap partBy same ∙ at-genuine looked-promised g;
       }
     where
-      at-first : {x : Lookup} {e d : Option Refusal} → Case x e d → (c : Refusal) → e ≡ some c → partBy L x ≡ nowhere
+      -- the kind of the object that the map has tells its edition
+      present-kind : Genuine L area r cells → (x : Placed) → object ≡ some x → layoutOfKind (placedKind x) ≡ x .layout
+      present-kind g x q =
+          let m = latest-some (logNow area r) k x (present-live (logNow area r) k x q .latest-of) .member in
+          placed-layout area (r .size) (named (r .map)) (r .slots) (genuine-scans L r area cells g) x m
+
+      at-first : {x : Lookup} {e d : Option Refusal} → Case x e d → (c : Refusal) → e ≡ some c → partBy x ≡ nowhere
       at-first unfit c q = refl
       at-first outside c q = refl
       at-first (within x d h) c q = let z : _≡_ {A = ℕ} 0 1 = cc in absurd (omega arith)
 
-      at-genuine : {x : Lookup} {e d : Option Refusal} → Case x e d → Genuine L area r cells → partBy L x ≡ valueAnswer L (r .size) d object
+      at-genuine : {x : Lookup} {e d : Option Refusal} → Case x e d → Genuine L area r cells → partBy x ≡ valueAnswer (r .size) d object
       at-genuine unfit g = refl
       at-genuine outside g = refl
       at-genuine (within x d h) g =
-          ap (partBy L) (h g .0) ∙ part-object L (r .size) object ∙ sym (ap (λ (c : Option Refusal). valueAnswer L (r .size) c object) (h g .1))
+          ap partBy (h g .0) ∙ part-object (r .size) object (present-kind g) ∙ sym (ap (λ (c : Option Refusal). valueAnswer (r .size) c object) (h g .1))

@@ -3,7 +3,7 @@ use Prim.Native.Nat.{ℕ, _+_, _-_, _≤_, _<_}
 use mathlib.Core.List.{List}
 use lib.ListN.{length, getD}
 use Rattle.segment.specs.Choice.{pick}
-use Rattle.segment.specs.Layout.{Layout, entrySize}
+use Rattle.segment.specs.Layout.{Layout, layoutOfKind, entrySize}
 use Rattle.segment.specs.Area.{standsAt}
 use Rattle.segment.specs.declared.Key.{Key}
 use Rattle.segment.specs.declared.Read.{Read}
@@ -32,16 +32,16 @@ pub record Reached (S : ℕ) (cells : List ℕ) (i : ℕ) : Type 0 where
   pub some-size : 0 < S
   pub size-most : S ≤ 2048
 
-unfoldable pub lookupAt : Layout → ℕ → List ℕ → List ℕ → Found → Lookup
-lookupAt L S area cells (Found.At i) = lookupOf (getD cells i 0 - 1) (standsAt L S area (getD cells i 0 - 1))
-lookupAt L S area cells (Found.Free i) = Lookup.Absent
-lookupAt L S area cells Found.Full = Lookup.Bad
+unfoldable pub lookupAt : ℕ → List ℕ → List ℕ → Found → Lookup
+lookupAt S area cells (Found.At i) = lookupOf (getD cells i 0 - 1) (standsAt S area (getD cells i 0 - 1))
+lookupAt S area cells (Found.Free i) = Lookup.Absent
+lookupAt S area cells Found.Full = Lookup.Bad
 
 -- a record that does not fit what is lent is bad; then, a key out of the caller's reach is not looked for
 unfoldable pub lookedUp : Layout → Record → List ℕ → List ℕ → Tables → Key → Lookup
 lookedUp L r area cells t k =
     pick (fitsLent L r (length area) (length cells))
-    (pick (holdsTable t (k .table)) (lookupAt L (r .size) area cells (searchFor L area cells k)) Lookup.Outside) Lookup.Bad
+    (pick (holdsTable t (k .table)) (lookupAt (r .size) area cells (searchFor area cells k)) Lookup.Outside) Lookup.Bad
 
 unfoldable pub toldBy : Lookup → ReadAnswer
 toldBy (Lookup.Object p v kind n) = ReadAnswer.Present v kind
@@ -49,9 +49,9 @@ toldBy Lookup.Absent = ReadAnswer.Refused Refusal.Absent
 toldBy Lookup.Outside = ReadAnswer.Refused Refusal.OutsideTables
 toldBy Lookup.Bad = ReadAnswer.Refused Refusal.BadRecord
 
--- the value's part of the area
-unfoldable pub partBy : Layout → Lookup → Part
-partBy L (Lookup.Object p v kind n) = record { place = p + entrySize L 0; bytes = n - entrySize L 0 }
-partBy L Lookup.Absent = nowhere
-partBy L Lookup.Outside = nowhere
-partBy L Lookup.Bad = nowhere
+-- the value's part of the area; where it starts is told by the object's kind (02, R-11)
+unfoldable pub partBy : Lookup → Part
+partBy (Lookup.Object p v kind n) = record { place = p + entrySize (layoutOfKind kind) 0; bytes = n - entrySize (layoutOfKind kind) 0 }
+partBy Lookup.Absent = nowhere
+partBy Lookup.Outside = nowhere
+partBy Lookup.Bad = nowhere

@@ -9,11 +9,10 @@ use lib.Dec.{eqb}
 use lib.ListN.{length, replicate, length-replicate}
 use borrow.Author.Tests.{not-false, ltb-false}
 use Rattle.segment.specs.Choice.{pick, pick-true, pick-false}
-use Rattle.segment.specs.Layout.{Layout, versionLimit, table}
+use Rattle.segment.specs.Layout.{Layout}
 use Rattle.segment.specs.LayoutLaws.{version-below, limit-high}
 use Rattle.segment.specs.EntryLaws.{found-readable}
 use Rattle.segment.specs.declared.Digest.{Digest}
-use Rattle.segment.specs.declared.Edition.the-variants.{First, Second}
 use Rattle.segment.specs.declared.Version.{Version}
 use Rattle.slot_map.specs.Bit.{named}
 use Rattle.record.specs.Range.{mapGood, cellsGood}
@@ -36,13 +35,12 @@ use Rattle.laws.specs.CauseLaws.{cause-first, cause-none, first-some, first-non
 use Rattle.laws.specs.Passed.{LentPassed, lent-passed, ImagePassed, image-passed}
 use Rattle.laws.specs.SaidLaws.{recover-says}
 use Rattle.laws.specs.Versions.{highest-below}
-use Rattle.laws.specs.LogLaws.{AllOf, AllScanned, editions-one, undamaged-scans}
+use Rattle.laws.specs.LogLaws.{AllOf, AllScanned, editions-one, undamaged-scans, log-in}
 use Rattle.log.specs.Shape.{Shape}
 use Rattle.index.specs.Build.{Rebuilt, built}
-use Rattle.index.specs.BuildLaws.{Holds, built-rule, built-over}
+use Rattle.index.specs.BuildLaws.{Holds, built-rule, built-over, log-reads}
 use Rattle.index.specs.declared.Built.{Built}
 use Rattle.recovery.specs.FormatLaws.{Fits, geometry-fits}
-use Rattle.recovery.specs.LookupLaws.{log-stands}
 use Rattle.recovery.specs.Counting.{countedIn}
 use Rattle.recovery.specs.CountLaws.{counted-log}
 use Rattle.recovery.specs.Recovering.{lentFirst, imageFor, imageOf, recordWith, refusedWith}
@@ -122,11 +120,6 @@ module _ (L : Layout) (v : ℕ → View) (n i : ℕ) (d : Digest) (top : Version
 
   image-versions : versionShared (logOf v (named (d .map)) n) ≡ false
   image-versions = subst (λ (h : Head). versionShared (logUnder v n h) ≡ false) (s .head) (passed .versions-apart)
-
-limit-some : (L : Layout) → 0 < versionLimit L
-unfolding table
-limit-some First = omega arith
-limit-some Second = omega arith
 
 -- ---- what is lent
 
@@ -216,21 +209,21 @@ module _ (L : Layout) (n s : ℕ) (order area cells : List ℕ) where
           → RecoverPromise (imageLayout n s area) n s order area cells cells′ r
       by-head {cells′} {r} p = subst (λ (K : Layout). RecoverPromise K n s order area cells cells′ r) (sym (image .edition)) p
 
-      -- the head is of the edition, so its entries are read by it
+      -- the edition is the head's, so its entries are read by it
       head-end : endOf (scan L (segmentOf area s i)) ≡ endOf (v i .scan)
       head-end =
           ap (λ (K : Layout). endOf (scan K (segmentOf area s i)))
-          (sym (image-editions L v n i d top image i head-inside (map-in n i (d .map) (image-map L v n i d top image) .head-named)))
+          (sym (subst (λ (h : Head). v (h .slot) .layout ≡ L) (image .head) (image .edition)))
 
-      rebuilt : keysBad m log ≡ false → Holds s m log (built L area s (d .map) order m)
+      rebuilt : keysBad m log ≡ false → Holds s m log (built area s (d .map) order m)
       rebuilt few =
-          built-rule L area s (d .map) n m order (lent-fits n s order area cells passed .area-own) (map-in n i (d .map) (image-map L v n i d top image) .below)
-          (image-editions L v n i d top image) (image-scans L v n i d top image) (image-versions L v n i d top image) (lent-tested n s order area cells passed .order-good) (cells-some n s order area cells passed) (omega (arith, cells-few n s order area cells passed)) few
+          built-rule area s (d .map) n m order (lent-fits n s order area cells passed .area-own) (map-in n i (d .map) (image-map L v n i d top image) .below)
+          (image-scans L v n i d top image) (image-versions L v n i d top image) (lent-tested n s order area cells passed .order-good) (cells-some n s order area cells passed) (omega (arith, cells-few n s order area cells passed)) few
 
-      overfull : keysBad m log ≡ true → built L area s (d .map) order m ≡ record { answer = Built.TooMany; cells = replicate m 0 }
+      overfull : keysBad m log ≡ true → built area s (d .map) order m ≡ record { answer = Built.TooMany; cells = replicate m 0 }
       overfull many =
-          built-over L area s (d .map) n m order (lent-fits n s order area cells passed .area-own) (map-in n i (d .map) (image-map L v n i d top image) .below)
-          (image-editions L v n i d top image) (image-scans L v n i d top image) (image-versions L v n i d top image) (lent-tested n s order area cells passed .order-good) (cells-some n s order area cells passed) (omega (arith, cells-few n s order area cells passed)) many
+          built-over area s (d .map) n m order (lent-fits n s order area cells passed .area-own) (map-in n i (d .map) (image-map L v n i d top image) .below)
+          (image-scans L v n i d top image) (image-versions L v n i d top image) (lent-tested n s order area cells passed .order-good) (cells-some n s order area cells passed) (omega (arith, cells-few n s order area cells passed)) many
 
       -- the highest version in the log, and so the next, fits
       pub highest-fits : top .0 < 18446744073709551615
@@ -238,17 +231,20 @@ module _ (L : Layout) (n s : ℕ) (order area cells : List ℕ) where
           omega (
             arith,
             ap (λ (x : Version). x .0) (image .top-is),
-            highest-below log (versionLimit L) (limit-some L)
+            highest-below log 18446744073709551615 (omega arith)
                 (λ x w.
-                version-below L (x .entry .version)
-                (found-readable L (segmentOf area s (x .slot)) (x .offset) (x .entry)
-                (log-stands L area s (named (d .map)) n (image-editions L v n i d top image) (image-scans L v n i d top image) x w) .good)),
-            limit-high L,
+                omega (
+                  arith,
+                  version-below (x .layout) (x .entry .version)
+                      (found-readable (x .layout) (segmentOf area s (x .slot)) (x .offset) (x .entry)
+                      (log-reads area s (named (d .map)) n (image-scans L v n i d top image) x w) .good),
+                  limit-high (x .layout),
+                )),
           )
 
       -- what the rebuilding answers, and the cells that it leaves
       abbrev Rebuilds : Built → List ℕ → Type 0
-      Rebuilds a cells′ = _≡_ {A = Rebuilt} (record { answer = a; cells = cells′ }) (built L area s (d .map) order m)
+      Rebuilds a cells′ = _≡_ {A = Rebuilt} (record { answer = a; cells = cells′ }) (built area s (d .map) order m)
 
       pub over-promise : (a : Built) (cells′ : List ℕ) (r : Recovery) → Rebuilds a cells′ → a ≡ Built.TooMany → r ≡ refusedWith TooManyKeys
           → RecoverPromise (imageLayout n s area) n s order area cells cells′ r
@@ -287,7 +283,7 @@ module _ (L : Layout) (n s : ℕ) (order area cells : List ℕ) where
           go false q =
               let h = rebuilt q in
               let says : a ≡ Built.Keys (length (keysOf log)) = ap (λ (r : Rebuilt). r .answer) e ∙ h .answers in
-              let its : cells′ ≡ built L area s (d .map) order m .cells = ap (λ (r : Rebuilt). r .cells) e in
+              let its : cells′ ≡ built area s (d .map) order m .cells = ap (λ (r : Rebuilt). r .cells) e in
               record { few = q; keys = cc; rule = subst (IndexRule s log) (sym its) (h .rule); long = ap length its ∙ h .long }
 
       -- the number of keys fits
@@ -301,10 +297,10 @@ module _ (L : Layout) (n s : ℕ) (order area cells : List ℕ) where
       cells-kept a k cells′ e counts = omega (arith, told a k cells′ e counts .long, cells-few n s order area cells passed)
 
       -- the present bytes that are counted over the cells
-      counts-told : (a : Built) (k : ℕ) (cells′ : List ℕ) → Rebuilds a cells′ → a ≡ Built.Keys k → countedIn L s area cells′ ≡ countsOf L log
+      counts-told : (a : Built) (k : ℕ) (cells′ : List ℕ) → Rebuilds a cells′ → a ≡ Built.Keys k → countedIn s area cells′ ≡ countsOf log
       counts-told a k cells′ e counts =
-          counted-log L s area log cells′ (told a k cells′ e counts .rule) (image-versions L v n i d top image)
-          (log-stands L area s (named (d .map)) n (image-editions L v n i d top image) (image-scans L v n i d top image))
+          counted-log s area log cells′ (told a k cells′ e counts .rule) (image-versions L v n i d top image)
+          (λ x w. log-in v (named (d .map)) n x w .layout) (log-reads area s (named (d .map)) n (image-scans L v n i d top image))
 
       -- the record with each part that the code finds
       abbrev recordAt : ℕ → ℕ → Version → ℕ → List ℕ → Record
@@ -325,12 +321,12 @@ module _ (L : Layout) (n s : ℕ) (order area cells : List ℕ) where
           }
 
       pub keys-promise : (a : Built) (k : ℕ) (cells′ counts : List ℕ) (rec : Record) → Rebuilds a cells′ → a ≡ Built.Keys k
-          → counts ≡ countedIn L s area cells′ → rec ≡ recordWith L n s (length cells′) area i d top k counts
+          → counts ≡ countedIn s area cells′ → rec ≡ recordWith L n s (length cells′) area i d top k counts
           → RecoverPromise (imageLayout n s area) n s order area cells cells′ (record { answer = RecoverAnswer.Recovered; rec = rec })
       unfolding recovery recoveryFor IndexAfter
       keys-promise a k cells′ bytes rec e counts number its =
           let t = told a k cells′ e counts in
-          let present-bytes : bytes ≡ countsOf L log = number ∙ counts-told a k cells′ e counts in
+          let present-bytes : bytes ≡ countsOf log = number ∙ counts-told a k cells′ e counts in
           let nothing : cause ≡ none = on-keys ∙ cause-none (when (keysBad m log) TooManyKeys) [] (t .few) nil in
           let same : rec ≡ recordUnder L v n s m (record { slot = i; digest = d }) =
           its ∙ (λ j. recordAt (t .long j) (head-end j) (image .top-is j) (t .keys j) (present-bytes j)) in

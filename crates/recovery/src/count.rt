@@ -1,5 +1,4 @@
 // Counting (02, R-5): how many bytes of each slot are present objects, from an index that was just built.
-use segment::Edition;
 use segment::Read;
 use segment::area::entry_at;
 ghost use Prim.Native.Nat.{_≤_, _<_};
@@ -9,11 +8,11 @@ ghost use Rattle.model.specs.Counts.{moreBytes};
 ghost use Rattle.recovery.specs.Counting.{objectAt, countCell, countedIn, NoneAbove};
 
 // The whole length of the object at a place, and 0 where none stands.
-fn object_length(edition: Edition, s: usize, area: &[u8], place: usize) -> usize
+fn object_length(s: usize, area: &[u8], place: usize) -> usize
     requires { ⌜ (0 < s) × (s ≤ 2048) × (place < 4294967296) ⌝ }
-    ensures { λ r. ⌜ r ≡ objectAt edition s (now (area .entry)) place ⌝ }
+    ensures { λ r. ⌜ r ≡ objectAt s (now (area .entry)) place ⌝ }
 {
-    match entry_at(edition, s, area, place) {
+    match entry_at(s, area, place) {
         Read::Object {
             key: _,
             version: _,
@@ -42,27 +41,27 @@ fn add_bytes(counts: &mut [u32], slot: u32, bytes: u32)
 }
 
 // One cell more.
-fn count_cell(edition: Edition, s: u32, area: &[u8], cell: u32, counts: &mut [u32])
+fn count_cell(s: u32, area: &[u8], cell: u32, counts: &mut [u32])
     requires { ⌜ (0 < s) × (s ≤ 2048) × NoneAbove 8388608 (now counts) ⌝ }
-    ensures { λ _. ⌜ now (counts .exit) ≡ countCell edition s (now (area .entry)) cell (now (counts .entry)) ⌝ }
+    ensures { λ _. ⌜ now (counts .exit) ≡ countCell s (now (area .entry)) cell (now (counts .entry)) ⌝ }
 {
     if cell == 0 {
         return;
     }
     let place = cell - 1;
-    let bytes = object_length(edition, s as usize, area, place as usize);
+    let bytes = object_length(s as usize, area, place as usize);
     add_bytes(counts, place / s, bytes as u32);
 }
 
 // The present bytes of the 32 slots.
-pub fn count(edition: Edition, s: u32, area: &[u8], cells: &[u32]) -> [u32; 32]
+pub fn count(s: u32, area: &[u8], cells: &[u32]) -> [u32; 32]
     requires { ⌜ (0 < s) × (s ≤ 2048) × (length (now cells) ≤ 4096) ⌝ }
-    ensures { λ r. ⌜ r ≡ countedIn edition s (now (area .entry)) (now (cells .entry)) ⌝ }
+    ensures { λ r. ⌜ r ≡ countedIn s (now (area .entry)) (now (cells .entry)) ⌝ }
 {
     let mut counts = [0; 32];
     let mut i = 0;
     while i < cells.len() {
-        count_cell(edition, s, area, cells[i], &mut counts);
+        count_cell(s, area, cells[i], &mut counts);
         i += 1;
     }
     counts

@@ -9,10 +9,10 @@ use record::Refusal;
 use record::Tables;
 use record::range::fits_lent;
 use record::reach::holds_table;
-use segment::Edition;
 use segment::Key;
 use segment::Read;
 use segment::area::entry_at;
+use segment::layout::edition_of_kind;
 use segment::layout::head_size;
 ghost use Prim.Native.Nat.{ℕ, _≤_, _<_};
 ghost use mathlib.Core.Path.{_≡_};
@@ -22,11 +22,11 @@ ghost use Rattle.index.specs.declared.Found.{Found};
 ghost use Rattle.recovery.specs.Lookups.{lookupOf, lookupAt, lookedUp, toldBy, Reached};
 
 // What stands at a place of the area.
-fn look(edition: Edition, s: usize, area: &[u8], place: usize) -> Lookup
+fn look(s: usize, area: &[u8], place: usize) -> Lookup
     requires { ⌜ (0 < s) × (s ≤ 2048) × (place < 4294967296) ⌝ }
-    ensures { λ r. ⌜ r ≡ lookupOf place (standsAt edition s (now (area .entry)) place) ⌝ }
+    ensures { λ r. ⌜ r ≡ lookupOf place (standsAt s (now (area .entry)) place) ⌝ }
 {
-    match entry_at(edition, s, area, place) {
+    match entry_at(s, area, place) {
         Read::Object {
             key: _,
             version,
@@ -49,14 +49,14 @@ fn look(edition: Edition, s: usize, area: &[u8], place: usize) -> Lookup
 }
 
 // What stands where a search has ended. A place at which no entry stands, and a search without an end, are bad.
-pub fn look_at(edition: Edition, s: usize, area: &[u8], index: &[u32], found: Found) -> Lookup
+pub fn look_at(s: usize, area: &[u8], index: &[u32], found: Found) -> Lookup
     requires { ⌜ ((i : ℕ) → found ≡ Found.At i → Reached s (now index) i) ⌝ }
-    ensures { λ r. ⌜ r ≡ lookupAt edition s (now (area .entry)) (now (index .entry)) found ⌝ }
+    ensures { λ r. ⌜ r ≡ lookupAt s (now (area .entry)) (now (index .entry)) found ⌝ }
 {
     match found {
         Found::Full => Lookup::Bad,
         Found::Free(_) => Lookup::Absent,
-        Found::At(i) => look(edition, s, area, (index[i] - 1) as usize),
+        Found::At(i) => look(s, area, (index[i] - 1) as usize),
     }
 }
 
@@ -64,20 +64,13 @@ pub fn look_at(edition: Edition, s: usize, area: &[u8], index: &[u32], found: Fo
 pub fn find(rec: Record, area: &[u8], index: &[u32], tables: Tables, key: Key) -> Lookup
     ensures { λ r. ⌜ r ≡ lookedUp (rec .edition) rec (now (area .entry)) (now (index .entry)) tables key ⌝ }
 {
-    let edition = rec.edition;
     if !fits_lent(rec, area.len(), index.len()) {
         return Lookup::Bad;
     }
     if !holds_table(tables, key.table) {
         return Lookup::Outside;
     }
-    look_at(
-        edition,
-        rec.size as usize,
-        area,
-        index,
-        search(edition, area, index, key),
-    )
+    look_at(rec.size as usize, area, index, search(area, index, key))
 }
 
 // The read's answer.
@@ -105,7 +98,8 @@ pub fn read(rec: Record, area: &[u8], index: &[u32], tables: Tables, key: Key) -
     Reading { answer, rec }
 }
 
-// The value of a key's object, as a part of the area; the empty part at its start where `read` refuses.
+// The value of a key's object, as a part of the area; the empty part at its start where `read` refuses. The object's kind tells
+// where the value starts (02, R-11).
 pub fn read_value<'a>(
     rec: Record,
     area: &'a [u8],
@@ -115,14 +109,13 @@ pub fn read_value<'a>(
 ) -> &'a [u8]
     ensures { λ r. ⌜ ValueReference (rec .edition) rec (area .entry) (now (index .entry)) tables key r ⌝ }
 {
-    let edition = rec.edition;
     match find(rec, area, index, tables, key) {
         Lookup::Object {
             place,
             version: _,
-            kind: _,
+            kind,
             length,
-        } => &area[place + head_size(edition)..place + length],
+        } => &area[place + head_size(edition_of_kind(kind))..place + length],
         Lookup::Absent => &area[0..0],
         Lookup::Outside => &area[0..0],
         Lookup::Bad => &area[0..0],

@@ -262,7 +262,7 @@ fn recover_image(n: u32, s: u32, order: &[u8], area: &[u8], index: &mut [u32]) -
             highest,
         } => {
             let map = digest.map;
-            match build(edition, area, index, order, s as usize, map) {
+            match build(area, index, order, s as usize, map) {
                 Built::TooMany => refused(Refusal::TooManyKeys),
                 Built::Keys(keys) => Recovery {
                     answer: RecoverAnswer::Recovered,
@@ -276,7 +276,7 @@ fn recover_image(n: u32, s: u32, order: &[u8], area: &[u8], index: &mut [u32]) -
                         digest,
                         highest,
                         keys as u32,
-                        count(edition, s, area, index),
+                        count(s, area, index),
                     ),
                 },
             }

@@ -1,20 +1,20 @@
 -- The cells of an index that keeps its rule give the ranks of the present keys, each once.
-use Prim.Native.Nat.{ℕ, _+_, _*_, _-_, _/_, _%_, _<_, _≤_}
+use Prim.Native.Nat.{ℕ, _+_, _*_, _-_, _<_, _≤_}
 use mathlib.Core.Path.{_≡_, refl, sym, _∙_, ap, subst}
 use mathlib.Core.Bool.{Bool, true, false}
 use mathlib.Core.List.{List}
 use mathlib.Core.Option.{Option, none, some}
 use native.Mathlib.Omega.{arith}
 use lib.Dec.{eqb}
-use lib.ListN.{length, getD, drop, length-take}
+use lib.ListN.{length, getD, drop}
 use borrow.Author.Tests.{ne-eqb, eq-eqb}
 use Rattle.word.specs.Number.{Bytes}
 use Rattle.word.specs.Laws.{bytes-take, bytes-drop}
-use Rattle.segment.specs.Area.{standsAt, place-slot}
+use Rattle.segment.specs.Area.{standsAt}
 use Rattle.segment.specs.Choice.{pick, pick-true, pick-false}
 use Rattle.segment.specs.Layout.{Layout}
-use Rattle.segment.specs.Entry.{entry, entryAt, answer, keyOf, sizeOf, isTombstone, kindOf}
-use Rattle.segment.specs.EntryLaws.{found-stands, found-fits}
+use Rattle.segment.specs.Entry.{entry, answer, keyOf, isTombstone}
+use Rattle.segment.specs.EntryLaws.{found-stands}
 use Rattle.segment.specs.declared.Key.{Key}
 use Rattle.segment.specs.declared.Read.{Read}
 use Rattle.slot_map.specs.Bit.{named}
@@ -22,17 +22,16 @@ use Rattle.record.specs.Reach.{allTables}
 use Rattle.record.specs.Range.{fitsLent}
 use Rattle.record.specs.RangeLaws.{Lent, lent}
 use Rattle.record.specs.declared.Record.{Record}
-use Rattle.model.specs.Log.{Placed, placeOf, segmentOf, viewsOf, latest, objectOnly, present}
+use Rattle.model.specs.Log.{Placed, placeOf, placedKind, placedSize, segmentOf, latest, objectOnly, present}
 use Rattle.model.specs.Index.{IsLatest, HasCell}
 use Rattle.model.specs.Operations.{logNow, TypedKey}
 use Rattle.model.specs.Promises.{Genuine}
 use Rattle.laws.specs.Members.{In}
 use Rattle.laws.specs.Latest.{latest-some, same-key}
-use Rattle.laws.specs.LogLaws.{log-in}
-use Rattle.laws.specs.Stores.{slot-inside}
 use Rattle.index.specs.Area.{place-back}
+use Rattle.index.specs.BuildLaws.{log-reads}
 use Rattle.index.specs.Finds.{held}
-use Rattle.recovery.specs.LookupLaws.{log-stands, editions, scans, at-place}
+use Rattle.recovery.specs.LookupLaws.{genuine-scans, at-place}
 use Rattle.report.specs.Ascent.{gathered, Gives, GivesOnce, gathered-given, given-gathered, gathered-ascending, ascending-one}
 use Rattle.report.specs.Ordered.{rank, ranks, rank-one, AllTyped, HasObject, present-latest, present-typed, present-ranked}
 use Rattle.report.specs.Listing.{presentKeys}
@@ -47,27 +46,20 @@ rankRead Read.End = none
 rankRead Read.Damage = none
 
 -- of the entry at a cell's place
-unfoldable pub cellRank : Layout → ℕ → List ℕ → ℕ → Option ℕ
-cellRank L S area c = pick (eqb c 0) none (rankRead (standsAt L S area (c - 1)))
+unfoldable pub cellRank : ℕ → List ℕ → ℕ → Option ℕ
+cellRank S area c = pick (eqb c 0) none (rankRead (standsAt S area (c - 1)))
 
-pub cell-free : (L : Layout) (S : ℕ) (area : List ℕ) (c : ℕ) → c ≡ 0 → cellRank L S area c ≡ none
+pub cell-free : (S : ℕ) (area : List ℕ) (c : ℕ) → c ≡ 0 → cellRank S area c ≡ none
 unfolding cellRank
-cell-free L S area c e = pick-true (eqb c 0) _ _ (eq-eqb c 0 e)
+cell-free S area c e = pick-true (eqb c 0) _ _ (eq-eqb c 0 e)
 
-pub cell-taken : (L : Layout) (S : ℕ) (area : List ℕ) (c : ℕ) → (c ≡ 0 → ⊥) → cellRank L S area c ≡ rankRead (standsAt L S area (c - 1))
+pub cell-taken : (S : ℕ) (area : List ℕ) (c : ℕ) → (c ≡ 0 → ⊥) → cellRank S area c ≡ rankRead (standsAt S area (c - 1))
 unfolding cellRank
-cell-taken L S area c e = pick-false (eqb c 0) _ _ (ne-eqb c 0 e)
+cell-taken S area c e = pick-false (eqb c 0) _ _ (ne-eqb c 0 e)
 
--- what the reader answers at the place, in its slot's part
-pub cell-read : (L : Layout) (S : ℕ) (area : List ℕ) (c : ℕ) (part : List ℕ) (found : Read) → (c ≡ 0 → ⊥) → part ≡ segmentOf area S ((c - 1) / S)
-    → found ≡ answer L (entryAt L part ((c - 1) % S)) → cellRank L S area c ≡ rankRead found
-cell-read L S area c part found taken whole e =
-    cell-taken L S area c taken
-    ∙ sym (ap rankRead (e ∙ ap (λ (p : List ℕ). answer L (entryAt L p ((c - 1) % S))) whole))
-
--- The slot of every cell's place lies in the area.
-abbrev pub CellsInside : ℕ → List ℕ → List ℕ → Type 0
-CellsInside S area cells = (i : ℕ) → i < length cells → (getD cells i 0 ≡ 0 → ⊥) → (getD cells i 0 - 1) / S * S + S ≤ length area
+-- what the reader answers at the place
+pub cell-read : (S : ℕ) (area : List ℕ) (c : ℕ) (found : Read) → (c ≡ 0 → ⊥) → found ≡ standsAt S area (c - 1) → cellRank S area c ≡ rankRead found
+cell-read S area c found taken e = cell-taken S area c taken ∙ ap rankRead (sym e)
 
 -- ---- the index of a recovered area
 
@@ -94,32 +86,20 @@ module _ (L : Layout) (area : List ℕ) (r : Record) (cells : List ℕ) (ready :
   pub size-some : 0 < S
   size-some = omega (arith, limits .size-low)
 
+  pub size-most : S ≤ 2048
+  size-most = limits .size-high
+
   pub cells-few : length cells ≤ 4096
   cells-few = omega (arith, limits .index-own, limits .cells-high)
 
   -- ---- the entries of the log
 
-  module _ (x : Placed) (m : In x log) where
-    abbrev s : List ℕ
-    s = segmentOf area S (x .slot)
-
-    stands : entryAt L s (x .offset) ≡ entry (x .entry)
-    stands =
-        log-stands L area S (named (r .map)) (r .slots) (editions L r area cells allTables (keyOf (x .entry)) (ready .genuine) (ready .fit))
-        (scans L r area cells allTables (keyOf (x .entry)) (ready .genuine) (ready .fit)) x m
-
-    typed-entry : TypedKey (keyOf (x .entry))
-    typed-entry =
-        let formed = found-stands L s (x .offset) (x .entry) stands (bytes-take S (drop (x .slot * S) area) (bytes-drop (x .slot * S) area (ready .bytes))) .formed in
-        (formed .table-fits, formed .key-fits)
-
-    offset-inside : x .offset < S
-    offset-inside = omega (arith, found-fits L s (x .offset) (x .entry) stands, length-take S (drop (x .slot * S) area))
-
-    slot-there : x .slot * S + S ≤ length area
-    slot-there =
-        slot-inside area (r .slots) S (x .slot) (limits .area-own)
-        (log-in (viewsOf area S) (named (r .map)) (r .slots) x m .below)
+  typed-entry : (x : Placed) → In x log → TypedKey (keyOf (x .entry))
+  typed-entry x m =
+      let found = log-reads area S (named (r .map)) (r .slots) (genuine-scans L r area cells (ready .genuine)) x m in
+      let formed = found-stands (x .layout) (segmentOf area S (x .slot)) (x .offset) (x .entry) found
+      (bytes-take S (drop (x .slot * S) area) (bytes-drop (x .slot * S) area (ready .bytes))) .formed in
+      (formed .table-fits, formed .key-fits)
 
   -- ---- a key's latest entry
 
@@ -131,18 +111,18 @@ module _ (L : Layout) (area : List ℕ) (r : Record) (cells : List ℕ) (ready :
     unfolding present objectOnly
     its-present = ap objectOnly l
 
-    its-rank : cellRank L S area (placeOf S x + 1) ≡ pick (isTombstone (x .entry)) none (some (rank (keyOf (x .entry))))
+    its-rank : cellRank S area (placeOf S x + 1) ≡ pick (isTombstone (x .entry)) none (some (rank (keyOf (x .entry))))
     its-rank =
-        cell-taken L S area (placeOf S x + 1) (λ e. omega arith)
-        ∙ ap (λ (p : ℕ). rankRead (standsAt L S area p)) (place-back (placeOf S x))
+        cell-taken S area (placeOf S x + 1) (λ e. omega arith)
+        ∙ ap (λ (p : ℕ). rankRead (standsAt S area p)) (place-back (placeOf S x))
         ∙ ap rankRead (at-place L r area cells allTables (keyOf (x .entry)) (ready .genuine) (ready .fit) x member)
         ∙ of-answer
       where
-        of-answer : rankRead (answer L (entry (x .entry))) ≡ pick (isTombstone (x .entry)) none (some (rank (keyOf (x .entry))))
+        of-answer : rankRead (answer (x .layout) (entry (x .entry))) ≡ pick (isTombstone (x .entry)) none (some (rank (keyOf (x .entry))))
         of-answer = unfold rankRead answer pick in go (isTombstone (x .entry))
           where
-            go : (t : Bool) → rankRead (pick t (Read.Tombstone (keyOf (x .entry)) (record { 0 = x .entry .version }) (sizeOf L (x .entry)))
-                (Read.Object (keyOf (x .entry)) (record { 0 = x .entry .version }) (kindOf L (x .entry)) (sizeOf L (x .entry))))
+            go : (t : Bool) → rankRead (pick t (Read.Tombstone (keyOf (x .entry)) (record { 0 = x .entry .version }) (placedSize x))
+                (Read.Object (keyOf (x .entry)) (record { 0 = x .entry .version }) (placedKind x) (placedSize x)))
                 ≡ pick t none (some (rank (keyOf (x .entry))))
             go true = unfold rankRead pick in refl
             go false = unfold rankRead pick in refl
@@ -155,14 +135,14 @@ module _ (L : Layout) (area : List ℕ) (r : Record) (cells : List ℕ) (ready :
     pub is-present : present log (keyOf (object .entry)) ≡ some object
     pub ranks-so : z ≡ rank (keyOf (object .entry))
 
-  given-behind : (i z : ℕ) → i < length cells → cellRank L S area (getD cells i 0) ≡ some z → Behind i z
+  given-behind : (i z : ℕ) → i < length cells → cellRank S area (getD cells i 0) ≡ some z → Behind i z
   given-behind i z below e = from (held S log cells (ready .genuine .rule) i below taken)
     where
       taken : getD cells i 0 ≡ 0 → ⊥
-      taken q = let d = cell-free L S area (getD cells i 0) q in let w : _≡_ {A = ℕ} 0 1 = cc in absurd (omega arith)
+      taken q = let d = cell-free S area (getD cells i 0) q in let w : _≡_ {A = ℕ} 0 1 = cc in absurd (omega arith)
 
       from : (x : Placed) × IsLatest log x × (getD cells i 0 ≡ placeOf S x + 1) → Behind i z
-      from (x, l, c) = go (isTombstone (x .entry)) (sym (its-rank x l) ∙ ap (cellRank L S area) (sym c) ∙ e) (its-present x l)
+      from (x, l, c) = go (isTombstone (x .entry)) (sym (its-rank x l) ∙ ap (cellRank S area) (sym c) ∙ e) (its-present x l)
         where
           go : (t : Bool) → pick t none (some (rank (keyOf (x .entry)))) ≡ some z → present log (keyOf (x .entry)) ≡ pick t none (some x) → Behind i z
           go true q p = unfold pick in (let w : _≡_ {A = ℕ} 0 1 = cc in absurd (omega arith))
@@ -170,7 +150,7 @@ module _ (L : Layout) (area : List ℕ) (r : Record) (cells : List ℕ) (ready :
               let q′ : some (rank (keyOf (x .entry))) ≡ some z = sym (pick-false false _ _ refl) ∙ q in
               record { object = x; is-latest = l; holds = c; is-present = p ∙ pick-false false _ _ refl; ranks-so = cc }
 
-  gives-once : GivesOnce (cellRank L S area) cells
+  gives-once : GivesOnce (cellRank S area) cells
   gives-once i j z bi bj p q =
       let a = given-behind i z bi p in
       let b = given-behind j z bj q in
@@ -190,7 +170,7 @@ module _ (L : Layout) (area : List ℕ) (r : Record) (cells : List ℕ) (ready :
   typed-object k (x, e) =
       subst TypedKey (sym (object-key k x e)) (typed-entry x (latest-some log k x (present-latest log k x e) .member))
 
-  object-gives : (k : Key) → HasObject log k → Gives (cellRank L S area) cells (rank k)
+  object-gives : (k : Key) → HasObject log k → Gives (cellRank S area) cells (rank k)
   object-gives k (x, e) = at (ready .genuine .rule .found x is-latest)
     where
       is-latest : IsLatest log x
@@ -203,41 +183,31 @@ module _ (L : Layout) (area : List ℕ) (r : Record) (cells : List ℕ) (ready :
       go true q = unfold pick in (let w : _≡_ {A = ℕ} 0 1 = cc in absurd (omega arith))
       go false q = pick-false false _ _ refl ∙ ap (λ (j : Key). some (rank j)) (sym (object-key k x e))
 
-      at : HasCell S cells x → Gives (cellRank L S area) cells (rank k)
-      at c = (c .cell, c .below, ap (cellRank L S area) (c .holds) ∙ its-rank x is-latest ∙ go (isTombstone (x .entry)) its)
+      at : HasCell S cells x → Gives (cellRank S area) cells (rank k)
+      at c = (c .cell, c .below, ap (cellRank S area) (c .holds) ∙ its-rank x is-latest ∙ go (isTombstone (x .entry)) its)
 
   -- ---- what the walk over the index gathers
 
-  pub index-gathers : gathered (cellRank L S area) cells ≡ presentRanks area r
+  pub index-gathers : gathered (cellRank S area) cells ≡ presentRanks area r
   index-gathers =
       let o = present-ranked log typed-object in
-      ascending-one (gathered (cellRank L S area) cells) (ranks (presentKeys log))
-      (gathered-ascending (cellRank L S area) cells gives-once) (o .ascend)
+      ascending-one (gathered (cellRank S area) cells) (ranks (presentKeys log))
+      (gathered-ascending (cellRank S area) cells gives-once) (o .ascend)
       (record {
-        to = λ z m. to z (gathered-given (cellRank L S area) cells z m);
+        to = λ z m. to z (gathered-given (cellRank S area) cells z m);
         from = λ z m. from z (o .only z m);
       })
     where
-      to : (z : ℕ) → Gives (cellRank L S area) cells z → In z (ranks (presentKeys log))
+      to : (z : ℕ) → Gives (cellRank S area) cells z → In z (ranks (presentKeys log))
       to z (i, l, e) =
           let b = given-behind i z l e in
           subst (λ (w : ℕ). In w (ranks (presentKeys log))) (sym (b .ranks-so))
           (present-ranked log typed-object .all (keyOf (b .object .entry)) (b .object, b .is-present))
 
-      from : (z : ℕ) → (k : Key) × HasObject log k × (z ≡ rank k) → In z (gathered (cellRank L S area) cells)
+      from : (z : ℕ) → (k : Key) × HasObject log k × (z ≡ rank k) → In z (gathered (cellRank S area) cells)
       from z (k, h, e) =
-          subst (λ (w : ℕ). In w (gathered (cellRank L S area) cells)) (sym e)
-          (given-gathered (cellRank L S area) cells (rank k) (object-gives k h))
+          subst (λ (w : ℕ). In w (gathered (cellRank S area) cells)) (sym e)
+          (given-gathered (cellRank S area) cells (rank k) (object-gives k h))
 
   pub keys-typed : AllTyped (presentKeys log)
   keys-typed = present-typed log typed-object
-
-  pub cells-inside : CellsInside S area cells
-  cells-inside i below taken = from (held S log cells (ready .genuine .rule) i below taken)
-    where
-      from : (x : Placed) × IsLatest log x × (getD cells i 0 ≡ placeOf S x + 1) → (getD cells i 0 - 1) / S * S + S ≤ length area
-      from (x, l, c) =
-          let place : getD cells i 0 - 1 ≡ placeOf S x = omega (arith, c) in
-          let slot : (getD cells i 0 - 1) / S ≡ x .slot =
-          ap (λ (p : ℕ). p / S) place ∙ place-slot S (x .slot) (x .offset) (offset-inside x (member x l)) in
-          subst (λ (i : ℕ). i * S + S ≤ length area) (sym slot) (slot-there x (member x l))

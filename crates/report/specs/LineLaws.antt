@@ -34,11 +34,11 @@ lineFound k Lookup.Outside = []
 lineFound k Lookup.Bad = []
 
 pub line-found : (L : Layout) (area : List ℕ) (r : Record) (cells : List ℕ) (k : Key) (found : Lookup) → RecoveredArea L area r cells
-    → found ≡ lookedUp L r area cells (tableAlone (k .table)) k → lineFound k found ≡ lineOf L k (present (logNow area r) k)
+    → found ≡ lookedUp L r area cells (tableAlone (k .table)) k → lineFound k found ≡ lineOf k (present (logNow area r) k)
 line-found L area r cells k found ready e =
     ap (lineFound k) (e ∙ genuine-lookup L r area cells (tableAlone (k .table)) k (ready .genuine) (ready .fit) (alone-holds (k .table))) ∙ go (present (logNow area r) k)
   where
-    go : (o : Option Placed) → lineFound k (lookupFor L (r .size) o) ≡ lineOf L k o
+    go : (o : Option Placed) → lineFound k (lookupFor (r .size) o) ≡ lineOf k o
     go none = unfold lineFound lookupFor lineOf in refl
     go (some x) = unfold lineFound lookupFor lineOf in refl
 
@@ -59,14 +59,14 @@ key-at (k ∷ ks) (suc i) h =
     record { key = a .key; member = List·Memᴰ·tail (a .member); its-rank = a .its-rank; rest = a .rest }
 
 -- To put what is left of the text at `end` is to have put the whole of it at `at`.
-pub record LinesLeft (L : Layout) (log : List Placed) (ks : List Key) (out₀ : List ℕ) (at : ℕ) (out : List ℕ) (end i : ℕ) : Type 0 where
+pub record LinesLeft (log : List Placed) (ks : List Key) (out₀ : List ℕ) (at : ℕ) (out : List ℕ) (end i : ℕ) : Type 0 where
   pub long : length out ≡ length out₀
   pub inside : i ≤ length (ranks ks)
   pub within : end ≤ at + 54 * i
-  pub finishes : (out′ : List ℕ) (r : ℕ) → Put out out′ end r (linesOf L log (drop i ks)) → Put out₀ out′ at r (linesOf L log ks)
+  pub finishes : (out′ : List ℕ) (r : ℕ) → Put out out′ end r (linesOf log (drop i ks)) → Put out₀ out′ at r (linesOf log ks)
 
-pub lines-start : (L : Layout) (log : List Placed) (ks : List Key) (out : List ℕ) (at : ℕ) → LinesLeft L log ks out at out at 0
-lines-start L log ks out at = record { long = refl; inside = omega arith; within = omega arith; finishes = λ out′ r p. p }
+pub lines-start : (log : List Placed) (ks : List Key) (out : List ℕ) (at : ℕ) → LinesLeft log ks out at out at 0
+lines-start log ks out at = record { long = refl; inside = omega arith; within = omega arith; finishes = λ out′ r p. p }
 
 -- their ranks, one after the other
 module _ (ks : List Key) (xs : List ℕ) (same : xs ≡ ranks ks) (typed : AllTyped ks) (i : ℕ) (h : i < length xs) where
@@ -84,25 +84,25 @@ module _ (ks : List Key) (xs : List ℕ) (same : xs ≡ ranks ks) (typed : AllTy
       let t : TypedKey (here .key) = typed (here .key) (here .member) in
       omega (arith, here-rank, t .0, t .1)
 
-  pub next-line : (L : Layout) (log : List Placed) (key : Key) → key ≡ ranked (getD xs i 0)
-      → lineOf L key (present log key) ++ linesOf L log (drop (i + 1) ks) ≡ linesOf L log (drop i ks)
+  pub next-line : (log : List Placed) (key : Key) → key ≡ ranked (getD xs i 0)
+      → lineOf key (present log key) ++ linesOf log (drop (i + 1) ks) ≡ linesOf log (drop i ks)
   unfolding linesOf
-  next-line L log key e =
-      ap (λ (k : Key). lineOf L k (present log k) ++ linesOf L log (drop (i + 1) ks)) (e ∙ here-key)
-      ∙ ap (λ (j : ℕ). lineOf L (here .key) (present log (here .key)) ++ linesOf L log (drop j ks)) (add-one i)
-      ∙ sym (ap (linesOf L log) (here .rest))
+  next-line log key e =
+      ap (λ (k : Key). lineOf k (present log k) ++ linesOf log (drop (i + 1) ks)) (e ∙ here-key)
+      ∙ ap (λ (j : ℕ). lineOf (here .key) (present log (here .key)) ++ linesOf log (drop j ks)) (add-one i)
+      ∙ sym (ap (linesOf log) (here .rest))
 
 length-ranks : (ks : List Key) → length (ranks ks) ≡ length ks
 length-ranks [] = refl
 length-ranks (k ∷ ks) = ap suc (length-ranks ks)
 
-module _ (L : Layout) (log : List Placed) (ks : List Key) (xs : List ℕ) (same : xs ≡ ranks ks) (out₀ : List ℕ) (at : ℕ) (out : List ℕ) (end i : ℕ)
-    (left : LinesLeft L log ks out₀ at out end i) where
-  pub lines-end : length xs ≤ i → PutWithin out₀ out at end (linesOf L log ks) (54 * length xs)
+module _ (log : List Placed) (ks : List Key) (xs : List ℕ) (same : xs ≡ ranks ks) (out₀ : List ℕ) (at : ℕ) (out : List ℕ) (end i : ℕ)
+    (left : LinesLeft log ks out₀ at out end i) where
+  pub lines-end : length xs ≤ i → PutWithin out₀ out at end (linesOf log ks) (54 * length xs)
   unfolding linesOf
   lines-end h =
       record {
-        put = left .finishes out end (subst (λ (js : List Key). Put out out end end (linesOf L log js)) (sym none-left) (put-none out end));
+        put = left .finishes out end (subst (λ (js : List Key). Put out out end end (linesOf log js)) (sym none-left) (put-none out end));
         within = omega (arith, left .within, left .inside, ap length same);
       }
     where
@@ -110,14 +110,14 @@ module _ (L : Layout) (log : List Placed) (ks : List Key) (xs : List ℕ) (same 
       none-left = drop-of-length-le ks {i = i} (omega (arith, ap length same, length-ranks ks))
 
   pub lines-turn : (typed : AllTyped ks) → i < length xs → (key : Key) → key ≡ ranked (getD xs i 0) → (out₁ : List ℕ) (e : ℕ)
-      → length out₁ ≡ length out → PutWithin out out₁ end e (lineOf L key (present log key)) 54 → LinesLeft L log ks out₀ at out₁ e (i + 1)
+      → length out₁ ≡ length out → PutWithin out out₁ end e (lineOf key (present log key)) 54 → LinesLeft log ks out₀ at out₁ e (i + 1)
   lines-turn typed h key its out₁ e long p =
       record {
         long = long ∙ left .long;
         inside = omega (arith, ap length same);
         within = omega (arith, p .within, left .within);
         finishes = λ out′ r q.
-            left .finishes out′ r (subst (Put out out′ end r) (next-line ks xs same typed i h L log key its) (put-then (p .put) q));
+            left .finishes out′ r (subst (Put out out′ end r) (next-line ks xs same typed i h log key its) (put-then (p .put) q));
       }
 
 -- ---- what is gathered from a recovered area
@@ -131,7 +131,7 @@ pub record Listed (area : List ℕ) (r : Record) (xs : List ℕ) (n : ℕ) : Typ
   pub counts : n ≡ length (presentKeys (logNow area r))
 
 pub gathered-listed : (L : Layout) (area : List ℕ) (r : Record) (cells xs : List ℕ) (n : ℕ) → RecoveredArea L area r cells → length xs ≡ 4096
-    → Gathered (cellRank L (r .size) area) cells xs 0 n → Listed area r xs n
+    → Gathered (cellRank (r .size) area) cells xs 0 n → Listed area r xs n
 gathered-listed L area r cells xs n ready long g =
     let few : n ≤ 4096 = omega (arith, cells-few L area r cells ready, g .few) in
     let cut : length (take n xs) ≡ n = length-take-le n xs (omega arith) in

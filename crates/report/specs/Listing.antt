@@ -5,6 +5,7 @@ use mathlib.Core.List.{List, [], _∷_}
 use lib.Dec.{eqb, ltb}
 use lib.ListN.{replicate}
 use Rattle.segment.specs.Choice.{pick, both, either}
+use Rattle.segment.specs.Layout.{edition1}
 use Rattle.segment.specs.Entry.{Entry}
 use Rattle.segment.specs.declared.Key.{Key}
 use Rattle.model.specs.Log.{Placed, keysOf}
@@ -36,7 +37,7 @@ presentKeys log = ascending (presentOf log (keysOf log))
 -- ---- at work on a log
 
 abbrev placed : Entry → Placed
-placed e = record { slot = 0; offset = 13; entry = e }
+placed e = record { slot = 0; layout = edition1; offset = 13; entry = e }
 
 -- The table comes first, the older entry of a key does not count twice, and a key whose latest entry is a tombstone is not there.
 listed : presentKeys

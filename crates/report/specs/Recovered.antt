@@ -106,7 +106,7 @@ module _ (n s : ℕ) (area cells cells′ : List ℕ) (r : Recovery) (long : len
   text-refused c e = go (cause L n s cellsUsed area) (ap (λ (x : Recovery). x .answer) (sym answered) ∙ e)
     where
       go : (o : Option Refusal) → recoveryFor o (rec L n s cellsUsed area) .answer ≡ RecoverAnswer.Refused c
-          → refusedLine c ≡ textUnless o (listingText L area (rec L n s cellsUsed area))
+          → refusedLine c ≡ textUnless o (listingText area (rec L n s cellsUsed area))
       go none q = unfold recoveryFor in (let z : _≡_ {A = ℕ} 0 1 = cc in absurd (omega arith))
       go (some d) q = unfold recoveryFor in (let same : d ≡ c = cc in ap refusedLine (sym same))
 
@@ -122,11 +122,11 @@ module _ (n s : ℕ) (area cells cells′ : List ℕ) (r : Recovery) (long : len
             let z : _≡_ {A = ℕ} 0 1 = cc in
             absurd (omega arith))
 
-    pub text-recovered : listingText (r .rec .edition) area (r .rec) ≡ areaText n s area
+    pub text-recovered : listingText area (r .rec) ≡ areaText n s area
     unfolding areaText textUnless
     text-recovered =
-        ap (λ (x : Record). listingText (x .edition) area x) (accepted .1)
-        ∙ sym (ap (λ (o : Option Refusal). textUnless o (listingText L area (rec L n s cellsUsed area))) (accepted .0))
+        ap (listingText area) (accepted .1)
+        ∙ sym (ap (λ (o : Option Refusal). textUnless o (listingText area (rec L n s cellsUsed area))) (accepted .0))
 
     recovers : recovered L n s cellsUsed area ≡ some (rec L n s cellsUsed area)
     unfolding recovered ifNone

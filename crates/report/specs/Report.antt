@@ -7,15 +7,13 @@ use lib.Dec.{ltb}
 use lib.ListN.{length, getD, take, drop}
 use Rattle.word.specs.Number.{numberOf}
 use Rattle.segment.specs.Choice.{pick}
-use Rattle.segment.specs.Layout.{Layout}
 use Rattle.segment.specs.declared.DigestNumber.{DigestNumber}
 use Rattle.segment.specs.declared.Key.{Key}
 use Rattle.segment.specs.declared.Version.{Version}
-use Rattle.segment.specs.Entry.{kindOf}
 use Rattle.record.specs.Refusals.{numberOfRefusal}
 use Rattle.record.specs.declared.Refusal.{Refusal}
 use Rattle.record.specs.declared.Record.{Record}
-use Rattle.model.specs.Log.{Placed, present}
+use Rattle.model.specs.Log.{Placed, placedKind, present}
 use Rattle.model.specs.Causes.{firstCause}
 use Rattle.model.specs.Recovery.{imageLayout, areaCauses, recordFrom}
 use Rattle.model.specs.Operations.{logNow}
@@ -40,22 +38,22 @@ abbrev pub keyLine : Key → Version → ℕ → List ℕ
 keyLine k version kind =
     field (k .table) (ascii " ") ++ field (k .key) (ascii " ") ++ field (version .0) (ascii " ") ++ field kind (ascii "\n")
 
--- the line of a key that has this object; a key that has none has no line
-unfoldable pub lineOf : Layout → Key → Option Placed → List ℕ
-lineOf L k none = []
-lineOf L k (some x) = keyLine k (record { 0 = x .entry .version }) (kindOf L (x .entry))
+-- the line of a key that has this object, with the kind that stands in its slot; a key that has none has no line
+unfoldable pub lineOf : Key → Option Placed → List ℕ
+lineOf k none = []
+lineOf k (some x) = keyLine k (record { 0 = x .entry .version }) (placedKind x)
 
-unfoldable pub linesOf : Layout → List Placed → List Key → List ℕ
-linesOf L log [] = []
-linesOf L log (k ∷ ks) = lineOf L k (present log k) ++ linesOf L log ks
+unfoldable pub linesOf : List Placed → List Key → List ℕ
+linesOf log [] = []
+linesOf log (k ∷ ks) = lineOf k (present log k) ++ linesOf log ks
 
-abbrev pub presentLines : Layout → List ℕ → Record → List ℕ
-presentLines L area r = linesOf L (logNow area r) (presentKeys (logNow area r))
+abbrev pub presentLines : List ℕ → Record → List ℕ
+presentLines area r = linesOf (logNow area r) (presentKeys (logNow area r))
 
 -- The listing of an area with this record: the head line, then a line for each present key of its log.
-abbrev pub listingText : Layout → List ℕ → Record → List ℕ
-listingText L area r =
-    headLine (r .next) (r .digest) (length (presentKeys (logNow area r))) ++ presentLines L area r
+abbrev pub listingText : List ℕ → Record → List ℕ
+listingText area r =
+    headLine (r .next) (r .digest) (length (presentKeys (logNow area r))) ++ presentLines area r
 
 -- M
 abbrev pub cellsUsed : ℕ
@@ -69,7 +67,7 @@ textUnless (some c) text = refusedLine c
 unfoldable pub areaText : ℕ → ℕ → List ℕ → List ℕ
 areaText n s area =
     textUnless (firstCause (areaCauses (imageLayout n s area) n s cellsUsed area))
-    (listingText (imageLayout n s area) area (recordFrom (imageLayout n s area) n s cellsUsed area))
+    (listingText area (recordFrom (imageLayout n s area) n s cellsUsed area))
 
 -- An input too short to hold N and S is of a wrong length, like one whose area is not N × S bytes long.
 unfoldable pub dumpText : List ℕ → List ℕ

@@ -23,7 +23,7 @@ fn put_line(rec: Record, area: &[u8], index: &[u32], key: Key, out: &mut [u8], a
     requires { ⌜ RecoveredArea (rec .edition) (now area) rec (now index) × (at + 54 ≤ length (now out)) ⌝ }
     ensures { λ r.
         ⌜ PutWithin (now (out .entry)) (now (out .exit)) at r
-        (lineOf (rec .edition) key (present (logNow (now (area .entry)) rec) key)) 54 ⌝ }
+        (lineOf key (present (logNow (now (area .entry)) rec) key)) 54 ⌝ }
 {
     let table = key.table;
     let own = Tables {
@@ -56,7 +56,7 @@ fn put_lines(
         × (now ranks ≡ presentRanks (now area) rec)
         × (at + 54 * length (now ranks) ≤ length (now out)) ⌝ }
     ensures { λ r.
-        ⌜ PutWithin (now (out .entry)) (now (out .exit)) at r (presentLines (rec .edition) (now (area .entry)) rec)
+        ⌜ PutWithin (now (out .entry)) (now (out .exit)) at r (presentLines (now (area .entry)) rec)
         (54 * length (now (ranks .entry))) ⌝ }
 {
     let mut end = at;
@@ -72,13 +72,12 @@ fn put_lines(
 pub fn put_listing(rec: Record, area: &[u8], index: &[u32], out: &mut [u8]) -> usize
     requires { ⌜ RecoveredArea (rec .edition) (now area) rec (now index) × (textRoom ≤ length (now out)) ⌝ }
     ensures { λ r.
-        ⌜ PutWithin (now (out .entry)) (now (out .exit)) 0 r (listingText (rec .edition) (now (area .entry)) rec) textRoom ⌝ }
+        ⌜ PutWithin (now (out .entry)) (now (out .exit)) 0 r (listingText (now (area .entry)) rec) textRoom ⌝ }
 {
-    let edition = rec.edition;
     let digest = rec.digest;
     let next = rec.next;
     let mut ranks = [0; CELLS];
-    let keys = gather(edition, rec.size as usize, area, index, &mut ranks);
+    let keys = gather(rec.size as usize, area, index, &mut ranks);
     let at = put_head(out, next, digest, keys as u32);
     put_lines(rec, area, index, &ranks[..keys], out, at)
 }

@@ -114,14 +114,14 @@ module _ (area : List ℕ) (r : Record) (cells : List ℕ) (y : Ready area r cel
     cause = rw (fits, all-hold (k .table) h)
 
     module _ (a : Reading) (p : ReadPromise (r .edition) r area cells allTables k a) (held : Held) where
-      told : a .answer ≡ readAnswer (r .edition) (pick (keyAbsent log k) (some Absent) none) (present log k)
-      told = p .exact (ready-genuine area r cells y) ∙ ap (λ (o : Option Refusal). readAnswer (r .edition) o (present log k)) cause
+      told : a .answer ≡ readAnswer (pick (keyAbsent log k) (some Absent) none) (present log k)
+      told = p .exact (ready-genuine area r cells y) ∙ ap (λ (o : Option Refusal). readAnswer o (present log k)) cause
 
       pub absent-as : (c : Refusal) → a .answer ≡ ReadAnswer.Refused c → eqb (held .version) 0 ≡ keyAs (present log k) held
       unfolding keyAs isNone pick readAnswer presentAnswer
       absent-as c e = go (present log k) (sym told ∙ e)
         where
-          go : (x : Option Placed) → readAnswer (r .edition) (pick (isNone x) (some Absent) none) x ≡ ReadAnswer.Refused c → eqb (held .version) 0 ≡ keyAs x held
+          go : (x : Option Placed) → readAnswer (pick (isNone x) (some Absent) none) x ≡ ReadAnswer.Refused c → eqb (held .version) 0 ≡ keyAs x held
           go none q = refl
           go (some x) q = let z : _≡_ {A = ℕ} 0 1 = cc in absurd (omega arith)
 
@@ -135,7 +135,7 @@ module _ (area : List ℕ) (r : Record) (cells : List ℕ) (y : Ready area r cel
       unfolding isNone pick readAnswer presentAnswer
       present-object v kind e = go (present log k) refl (sym told ∙ e)
         where
-          go : (x : Option Placed) → present log k ≡ x → readAnswer (r .edition) (pick (isNone x) (some Absent) none) x ≡ ReadAnswer.Present v kind → Object (v .0)
+          go : (x : Option Placed) → present log k ≡ x → readAnswer (pick (isNone x) (some Absent) none) x ≡ ReadAnswer.Present v kind → Object (v .0)
           go none f q = let z : _≡_ {A = ℕ} 0 1 = cc in absurd (omega arith)
           go (some x) f q = record { object = x; is-present = f; its-version = ap versionOf q }
             where
@@ -157,14 +157,14 @@ module _ (area : List ℕ) (r : Record) (cells : List ℕ) (y : Ready area r cel
       value-as v kind e same whole value w ref t its =
           let o = present-object v kind e in
           let x = o .object in
-          let part-is : ref .part ≡ valuePart (r .edition) (r .size) (some x) =
+          let part-is : ref .part ≡ valuePart (r .size) (some x) =
           subst (λ (z : List ℕ). (Genuine (r .edition) z r cells → ref .part ≡ promisedPart (r .edition) r z cells allTables k)) w (ref .promised .exact) (ready-genuine area r cells y)
-          ∙ ap (λ (c : Option Refusal). valueAnswer (r .edition) (r .size) c (present log k)) cause
-          ∙ ap (λ (p : Option Placed). valueAnswer (r .edition) (r .size) (pick (isNone p) (some Absent) none) p) (o .is-present) in
+          ∙ ap (λ (c : Option Refusal). valueAnswer (r .size) c (present log k)) cause
+          ∙ ap (λ (p : Option Placed). valueAnswer (r .size) (pick (isNone p) (some Absent) none) p) (o .is-present) in
           let bytes : value .now ≡ bytesIn (x .entry .value) =
           ref .refers .holds
           ∙ ap (λ (p : Part). partOf (whole .now) p) part-is
-          ∙ ap (λ (z : List ℕ). partOf z (valuePart (r .edition) (r .size) (some x))) w
+          ∙ ap (λ (z : List ℕ). partOf z (valuePart (r .size) (some x))) w
           ∙ edition-laws (r .edition) .value-part area r (y .bytes) (own-geometry (r .edition) 4 256 16 area r (y .recovers)) k x (o .is-present) in
           its
           ∙ ap (λ (z : List ℕ). eightAre z (held .byte)) bytes

@@ -89,9 +89,8 @@ fn store_as(rec: Record, area: &[u8], index: &[u32], book: Book, faulty: bool) -
     if next_of(rec, area, faulty) != book.next {
         return false;
     }
-    let edition = rec.edition;
     let mut ranks = [0; 4096];
-    if gather(edition, rec.size as usize, area, index, &mut ranks) != book::count(book) {
+    if gather(rec.size as usize, area, index, &mut ranks) != book::count(book) {
         return false;
     }
     let first = book.first;

@@ -1,6 +1,6 @@
 -- What a walk over the log has seen of a key is the newest entry of the key.
 use Prim.Native.Nat.{ℕ, _+_, _*_, _≤_, _<_}
-use mathlib.Core.Path.{_≡_, refl, sym, _∙_, ap}
+use mathlib.Core.Path.{_≡_, refl, sym, _∙_, ap, ap₂}
 use mathlib.Core.Bool.{Bool, true, false}
 use mathlib.Core.List.{List, [], _∷_, _++_, append-nil, List·Memᴰ·tail}
 use mathlib.Core.Option.{Option, none, some}
@@ -12,6 +12,7 @@ use Rattle.word.specs.Number.{numberOf}
 use Rattle.segment.specs.Choice.{pick, pick-true, pick-false, both, both-false-right}
 use Rattle.segment.specs.Layout.{Layout, digestSize}
 use Rattle.segment.specs.LayoutLaws.{entry-not-end}
+use Rattle.segment.specs.Digest.{layoutIn}
 use Rattle.segment.specs.Kinds.{sizeOrZero, kindSize, no-size, has-size}
 use Rattle.segment.specs.Entry.{Entry, Found, entry, end, damage, entryAt, keyOf, sizeOf, bytesIn}
 use Rattle.segment.specs.EntryLaws.{decoded-at, past-end, at-end, kind-unknown, Reading, is-entry, is-end, is-damage, reading}
@@ -19,10 +20,11 @@ use Rattle.segment.specs.Entries.{nextOf}
 use Rattle.segment.specs.declared.Key.{Key}
 use Rattle.segment.specs.declared.Next.{Next}
 use Rattle.segment.specs.declared.Version.{Version}
-use Rattle.model.specs.Log.{View, Item, Placed, placeOf, Scan, damaged, scanned, itemFirst, scan, itemsOf, isDamaged, placedIn, logOf, sameKeys, sameKey, laterOf, latest}
+use Rattle.model.specs.Log.{View, Item, Placed, segmentOf, viewsOf, Scan, damaged, scanned, itemFirst, scan, itemsOf, isDamaged, placedIn, logOf, sameKeys, sameKey, laterOf, latest}
 use Rattle.laws.specs.Members.{clash, In, first}
 use Rattle.laws.specs.LogLaws.{placedAt, placed-append}
 use Rattle.laws.specs.Scans.{itemAt}
+use Rattle.log.specs.Shape.{own-layout, own-scan}
 use Rattle.log.specs.Extents.{Meets, restOf, rest-whole, rest-entry, rest-end, rest-damage, log-skip, log-take}
 use Rattle.log.specs.Surveys.{after, after-none, after-first}
 use Rattle.scanning.specs.Seeing.{seenWith, seenNext, seeing, seenIn, seenOf}
@@ -93,7 +95,7 @@ seen-append S k a (x ∷ xs) ys = seen-append S k (seeing S k a x) xs ys
 pub record Seeing (L : Layout) (bytes : List ℕ) (S i : ℕ) (k : Key) (before : Seen) (at : ℕ) (now : Seen) : Type 0 where
   pub items : List Item
   pub splits : scan L bytes ≡ after items (restOf L bytes at)
-  pub seen : now ≡ seenIn S k before (placedIn i items)
+  pub seen : now ≡ seenIn S k before (placedIn L i items)
 
 module _ (L : Layout) (bytes : List ℕ) (S i : ℕ) (k : Key) (before : Seen) where
   pub see-start : Seeing L bytes S i k before (digestSize L) before
@@ -102,7 +104,7 @@ module _ (L : Layout) (bytes : List ℕ) (S i : ℕ) (k : Key) (before : Seen) w
 
   -- what the whole slot leaves
   abbrev whole : Seen
-  whole = seenIn S k before (placedIn i (itemsOf (scan L bytes)))
+  whole = seenIn S k before (placedIn L i (itemsOf (scan L bytes)))
 
   module _ (at : ℕ) (now : Seen) (so-far : Seeing L bytes S i k before at now) where
     pub see-turn : {v len : ℕ} (m : Meets L bytes at v len) (then : Seen)
@@ -116,19 +118,26 @@ module _ (L : Layout) (bytes : List ℕ) (S i : ℕ) (k : Key) (before : Seen) w
               so-far .splits ∙ ap (after (so-far .items)) (rest-entry L bytes at m) ∙
               after-first (so-far .items) item (restOf L bytes (at + len));
           seen =
-              t ∙ seen-entry L bytes at k now (i * S + at) (m .met) (m .is) ∙ ap (λ (a : Seen). seeing S k a (placedAt i item)) (so-far .seen) ∙
+              t ∙ seen-entry L bytes at k now (i * S + at) (m .met) (m .is) ∙ ap (λ (a : Seen). seeing S k a (placedAt L i item)) (so-far .seen) ∙
               sym
-              (ap (seenIn S k before) (placed-append i (so-far .items) (item ∷ [])) ∙
-              seen-append S k before (placedIn i (so-far .items)) (placedAt i item ∷ []));
+              (ap (seenIn S k before) (placed-append L i (so-far .items) (item ∷ [])) ∙
+              seen-append S k before (placedIn L i (so-far .items)) (placedAt L i item ∷ []));
         }
 
     pub see-end : entryAt L bytes at ≡ end → now ≡ whole
     unfolding after itemsOf
     see-end e =
         so-far .seen ∙
-        ap (λ (r : Scan). seenIn S k before (placedIn i (itemsOf r)))
+        ap (λ (r : Scan). seenIn S k before (placedIn L i (itemsOf r)))
         (sym
         (so-far .splits ∙ ap (after (so-far .items)) (rest-end L bytes at e) ∙ ap (λ (l : List Item). scanned l at) (append-nil (so-far .items))))
+
+-- A slot read by the edition that its byte 0 tells is seen as its view has it.
+pub own-seen :
+    (area : List ℕ) (S i : ℕ) (k : Key) (before : Seen) (part : List ℕ) → part ≡ segmentOf area S i → (L : Layout) → L ≡ layoutIn part →
+    seenIn S k before (placedIn L i (itemsOf (scan L part))) ≡ seenIn S k before (placedIn (viewsOf area S i .layout) i (itemsOf (viewsOf area S i .scan)))
+own-seen area S i k before part e L own =
+    ap₂ (λ (K : Layout) (r : Scan). seenIn S k before (placedIn K i (itemsOf r))) (own-layout area S i part e L own) (own-scan area S i part e L own)
 
 -- ---- an undamaged slot from an offset on
 
@@ -212,12 +221,12 @@ module _ (S : ℕ) (k : Key) (v : ℕ → View) (p : ℕ → Bool) where
     pub walk-skip : p i ≡ false → now ≡ seenBelow S k v p (i + 1)
     walk-skip q = so-far ∙ ap (seenIn S k (seenOf S none)) (sym (log-skip v p i q))
 
-    pub walk-take : p i ≡ true → (then : Seen) → then ≡ seenIn S k now (placedIn i (itemsOf (v i .scan))) → then ≡ seenBelow S k v p (i + 1)
+    pub walk-take : p i ≡ true → (then : Seen) → then ≡ seenIn S k now (placedIn (v i .layout) i (itemsOf (v i .scan))) → then ≡ seenBelow S k v p (i + 1)
     walk-take q then t =
-        t ∙ ap (λ (a : Seen). seenIn S k a (placedIn i (itemsOf (v i .scan)))) so-far ∙
+        t ∙ ap (λ (a : Seen). seenIn S k a (placedIn (v i .layout) i (itemsOf (v i .scan)))) so-far ∙
         sym
         (ap (seenIn S k (seenOf S none)) (log-take v p i q) ∙
-        seen-append S k (seenOf S none) (logOf v p i) (placedIn i (itemsOf (v i .scan))))
+        seen-append S k (seenOf S none) (logOf v p i) (placedIn (v i .layout) i (itemsOf (v i .scan))))
 
 -- ---- the newest entry
 

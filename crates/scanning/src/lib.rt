@@ -1,6 +1,5 @@
 // Reads by scan (02, R-9): what the log holds of a key, with nothing lent but the area. The checks of the image are recovery's.
 use record::Refusal;
-use segment::Edition;
 use segment::Version;
 
 pub mod newest;
@@ -13,12 +12,11 @@ pub struct Seen {
     pub place: usize,
 }
 
-// What is found of a key: the first cause that refuses the read, or its object at a place of the area, with its edition and the
-// length of the whole entry.
+// What is found of a key: the first cause that refuses the read, or its object at a place of the area, with the length of the
+// whole entry.
 pub enum Sought {
     Refused(Refusal),
     Object {
-        edition: Edition,
         place: usize,
         version: Version,
         kind: u8,

@@ -84,7 +84,7 @@ fn see_slot(s: usize, area: &[u8], slot: usize, key: Key, before: Seen) -> Seen
     requires { ⌜ slot * s + s ≤ length (now area) ⌝ }
     requires { ⌜ isDamaged (viewsOf (now area) s slot .scan) ≡ false ⌝ }
     ensures { λ r.
-        ⌜ r ≡ seenIn s key before (placedIn slot (itemsOf (viewsOf (now (area .entry)) s slot .scan))) ⌝ }
+        ⌜ r ≡ seenIn s key before (placedIn (viewsOf (now (area .entry)) s slot .layout) slot (itemsOf (viewsOf (now (area .entry)) s slot .scan))) ⌝ }
 {
     let part = cut(s, area, slot);
     let start = slot * s;

@@ -8,10 +8,10 @@ use record::reach::holds_table;
 use recovery::Image;
 use recovery::format::geometry_bad;
 use recovery::recover::look_at;
-use segment::Edition;
 use segment::Key;
 use segment::Read;
 use segment::area::entry_at;
+use segment::layout::edition_of_kind;
 use segment::layout::head_size;
 ghost use Prim.Native.Nat.{_≤_, _<_};
 ghost use mathlib.Core.Path.{_≡_};
@@ -20,23 +20,22 @@ ghost use Rattle.slot_map.specs.Bit.{named};
 ghost use Rattle.model.specs.Log.{viewsOf, logOf};
 ghost use Rattle.model.specs.Recovery.{imageLayout};
 ghost use Rattle.model.specs.Scanned.{ScanPromise, ScanReference};
-ghost use Rattle.laws.specs.LogLaws.{AllOf, AllScanned};
+ghost use Rattle.laws.specs.LogLaws.{AllScanned};
 ghost use Rattle.log.specs.Shape.{Shape};
 ghost use Rattle.scanning.specs.Seeking.{soughtRead, soughtIn, sought};
 
 // The object that stands at a place of the area; a tombstone is none.
-fn found_at(edition: Edition, s: usize, area: &[u8], place: usize) -> Sought
+fn found_at(s: usize, area: &[u8], place: usize) -> Sought
     requires { ⌜ (0 < s) × (s ≤ 2048) × (place < 4294967296) ⌝ }
-    ensures { λ r. ⌜ r ≡ soughtRead edition place (standsAt edition s (now (area .entry)) place) ⌝ }
+    ensures { λ r. ⌜ r ≡ soughtRead place (standsAt s (now (area .entry)) place) ⌝ }
 {
-    match entry_at(edition, s, area, place) {
+    match entry_at(s, area, place) {
         Read::Object {
             key: _,
             version,
             kind,
             length,
         } => Sought::Object {
-            edition,
             place,
             version,
             kind,
@@ -52,20 +51,11 @@ fn found_at(edition: Edition, s: usize, area: &[u8], place: usize) -> Sought
     }
 }
 
-// 22 and 8, in the undamaged log of a map, all of one edition.
-fn seek_in(
-    edition: Edition,
-    n: usize,
-    s: usize,
-    area: &[u8],
-    map: u32,
-    tables: Tables,
-    key: Key,
-) -> Sought
+// 22 and 8, in the undamaged log of a map.
+fn seek_in(n: usize, s: usize, area: &[u8], map: u32, tables: Tables, key: Key) -> Sought
     requires { ⌜ Shape n s (now area) × AllScanned (viewsOf (now area) s) (named map) n ⌝ }
-    requires { ⌜ AllOf edition (viewsOf (now area) s) (named map) n ⌝ }
     ensures { λ r.
-        ⌜ r ≡ soughtIn edition s (logOf (viewsOf (now (area .entry)) s) (named map) n) tables key ⌝ }
+        ⌜ r ≡ soughtIn s (logOf (viewsOf (now (area .entry)) s) (named map) n) tables key ⌝ }
 {
     if !holds_table(tables, key.table) {
         return Sought::Refused(Refusal::OutsideTables);
@@ -75,7 +65,7 @@ fn seek_in(
     if version.0 == 0 {
         return Sought::Refused(Refusal::Absent);
     }
-    found_at(edition, s, area, seen.place)
+    found_at(s, area, seen.place)
 }
 
 // What the log of the area's head holds of a key, if the image passes.
@@ -88,19 +78,11 @@ pub fn seek(n: u32, s: u32, area: &[u8], tables: Tables, key: Key) -> Sought
     match look_at(n as usize, s as usize, area) {
         Image::Refused(cause) => Sought::Refused(cause),
         Image::Sound {
-            edition,
+            edition: _,
             slot: _,
             digest,
             highest: _,
-        } => seek_in(
-            edition,
-            n as usize,
-            s as usize,
-            area,
-            digest.map,
-            tables,
-            key,
-        ),
+        } => seek_in(n as usize, s as usize, area, digest.map, tables, key),
     }
 }
 
@@ -111,7 +93,6 @@ pub fn scan_read(n: u32, s: u32, area: &[u8], tables: Tables, key: Key) -> ReadA
     match seek(n, s, area, tables, key) {
         Sought::Refused(cause) => ReadAnswer::Refused(cause),
         Sought::Object {
-            edition: _,
             place: _,
             version,
             kind,
@@ -120,18 +101,18 @@ pub fn scan_read(n: u32, s: u32, area: &[u8], tables: Tables, key: Key) -> ReadA
     }
 }
 
-// The value of a key's object, as a part of the area; the empty part at its start where `scan_read` refuses.
+// The value of a key's object, as a part of the area; the empty part at its start where `scan_read` refuses. The object's kind
+// tells where the value starts (02, R-11).
 pub fn scan_read_value<'a>(n: u32, s: u32, area: &'a [u8], tables: Tables, key: Key) -> &'a [u8]
     ensures { λ r. ⌜ ScanReference (imageLayout n s (now (area .entry))) n s (area .entry) tables key r ⌝ }
 {
     match seek(n, s, area, tables, key) {
         Sought::Refused(_) => &area[0..0],
         Sought::Object {
-            edition,
             place,
             version: _,
-            kind: _,
+            kind,
             length,
-        } => &area[place + head_size(edition)..place + length],
+        } => &area[place + head_size(edition_of_kind(kind))..place + length],
     }
 }

@@ -4,24 +4,30 @@ use mathlib.Core.Path.{_≡_, sym, _∙_, ap, ap₂}
 use mathlib.Core.List.{List, []}
 use native.Mathlib.Nat.{add-zero, div-add-mod', mul-add-div-right, div-eq-of-lt, mul-add-mod-self-right, mod-eq-of-lt}
 use native.Mathlib.Omega.{arith}
-use lib.ListN.{length, take, drop, length-take, length-drop, drop-of-length-le}
+use lib.ListN.{length, take, drop, length-take, length-drop, drop-of-length-le, getD, List·getD-eq-default}
 use lib.Seq.{take-all, take-nil}
-use Rattle.segment.specs.Layout.{Layout}
-use Rattle.segment.specs.Entry.{Entry, Found, entry, entryAt, sizeOf, answer}
-use Rattle.segment.specs.EntryLaws.{found-fits}
+use Rattle.segment.specs.Layout.{Layout, edition1, layoutOfKind, table}
+use Rattle.segment.specs.Entry.{Entry, Found, entry, entryAt, sizeOf, answer, bytesIn}
+use Rattle.segment.specs.EntryLaws.{found-fits, found-readable}
 use Rattle.segment.specs.declared.Read.{Read}
+use Rattle.segment.specs.LayoutLaws.{kind-tells}
+use Rattle.segment.specs.Choice.{pick}
 
 -- The segment of a slot, as a part of the area (01, "Bytes of a segment").
 abbrev pub segmentOf : List ℕ → ℕ → ℕ → List ℕ
 segmentOf area S i = take S (drop (i * S) area)
 
--- What stands at a place of the area: the entry is read in the segment of the place's slot.
-abbrev pub foundAt : Layout → ℕ → List ℕ → ℕ → Found
-foundAt L S area p = entryAt L (segmentOf area S (p / S)) (p % S)
+-- The edition of an entry, which is its slot's, is told by its kind (02, R-11): no kind is one of both.
+abbrev pub layoutAt : ℕ → List ℕ → ℕ → Layout
+layoutAt S area p = layoutOfKind (getD (segmentOf area S (p / S)) (p % S) 0)
+
+-- What stands at a place of the area: the entry is read in the segment of the place's slot, by that edition.
+abbrev pub foundAt : ℕ → List ℕ → ℕ → Found
+foundAt S area p = entryAt (layoutAt S area p) (segmentOf area S (p / S)) (p % S)
 
 -- the reader's enum for it
-abbrev pub standsAt : Layout → ℕ → List ℕ → ℕ → Read
-standsAt L S area p = answer L (foundAt L S area p)
+abbrev pub standsAt : ℕ → List ℕ → ℕ → Read
+standsAt S area p = answer (layoutAt S area p) (foundAt S area p)
 
 -- ---- a place and the slot and offset that it stands for
 
@@ -47,28 +53,51 @@ module _ (n at : ℕ) (l : List ℕ) where
 
 -- ---- what the code reads at a place, from the place's offset o
 
-module _ (L : Layout) (S : ℕ) (area : List ℕ) (p o : ℕ) (is : o ≡ p % S) where
-  pub reads-place : (part : List ℕ) → part ≡ take S (drop (p - o) area) → (r : Read) → r ≡ answer L (entryAt L part o) → r ≡ standsAt L S area p
-  reads-place part cut r read =
+-- what the reader says of an offset, by the edition of the kind that stands there
+abbrev readIn : List ℕ → ℕ → Read
+readIn s at = answer (layoutOfKind (getD s at 0)) (entryAt (layoutOfKind (getD s at 0)) s at)
+
+-- past the end no entry stands, of any edition
+pub layout-past : (s : List ℕ) (at : ℕ) → length s ≤ at → edition1 ≡ layoutOfKind (getD s at 0)
+unfolding layoutOfKind table pick
+layout-past s at h = ap layoutOfKind (sym (List·getD-eq-default s 0 {n = at} h))
+
+module _ (S : ℕ) (area : List ℕ) (p o : ℕ) (is : o ≡ p % S) where
+  pub reads-place : (part : List ℕ) → part ≡ take S (drop (p - o) area) → (L : Layout) → L ≡ layoutOfKind (getD part o 0) → (r : Read) →
+      r ≡ answer L (entryAt L part o) → r ≡ standsAt S area p
+  reads-place part cut L own r read =
       let start : p - o ≡ p / S * S = omega (arith, div-add-mod' p S, is) in
       read
-      ∙ ap (λ (l : List ℕ). answer L (entryAt L l o)) cut
-      ∙ ap₂ (λ (q at : ℕ). answer L (entryAt L (take S (drop q area)) at)) start is
+      ∙ ap (λ (K : Layout). answer K (entryAt K part o)) own
+      ∙ ap (λ (l : List ℕ). readIn l o) cut
+      ∙ ap₂ (λ (q at : ℕ). readIn (take S (drop q area)) at) start is
 
 -- ---- an entry that is found
 
 -- It lies within its segment and within the area.
-pub record Within (L : Layout) (S : ℕ) (area : List ℕ) (p : ℕ) (e : Entry) : Type 0 where
-  pub in-segment : p % S + sizeOf L e ≤ S
-  pub in-area : p + sizeOf L e ≤ length area
+pub record Within (S : ℕ) (area : List ℕ) (p : ℕ) (e : Entry) : Type 0 where
+  pub in-segment : p % S + sizeOf (layoutAt S area p) e ≤ S
+  pub in-area : p + sizeOf (layoutAt S area p) e ≤ length area
 
-module _ (L : Layout) (S : ℕ) (area : List ℕ) where
-  pub found-within : (p : ℕ) (e : Entry) → foundAt L S area p ≡ entry e → Within L S area p e
+module _ (S : ℕ) (area : List ℕ) where
+  pub found-within : (p : ℕ) (e : Entry) → foundAt S area p ≡ entry e → Within S area p e
   found-within p e f =
-      let own : p % S + sizeOf L e ≤ min S (length area - p / S * S) =
-      simp (length-take, length-drop) at (found-fits L (segmentOf area S (p / S)) (p % S) e f) in
+      let own : p % S + sizeOf (layoutAt S area p) e ≤ min S (length area - p / S * S) =
+      simp (length-take, length-drop) at (found-fits (layoutAt S area p) (segmentOf area S (p / S)) (p % S) e f) in
       record { in-segment = omega arith; in-area = omega (arith, div-add-mod' p S) }
 
-  -- at the place of an offset of a slot
-  pub found-place : (i at : ℕ) → at < S → foundAt L S area (i * S + at) ≡ entryAt L (segmentOf area S i) at
-  found-place i at inside = ap₂ (λ (j o : ℕ). entryAt L (segmentOf area S j) o) (place-slot S i at inside) (place-offset S i at inside)
+  -- at the place of an offset of a slot where an entry stands
+  module _ (i at : ℕ) (inside : at < S) (L : Layout) (e : Entry) (stands : entryAt L (segmentOf area S i) at ≡ entry e) where
+    own-kind : layoutOfKind (getD (segmentOf area S i) at 0) ≡ L
+    own-kind = kind-tells L (getD (segmentOf area S i) at 0) (length (bytesIn (e .value))) (found-readable L (segmentOf area S i) at e stands .known)
+
+    pub place-layout : layoutAt S area (i * S + at) ≡ L
+    place-layout =
+        ap₂ (λ (j o : ℕ). layoutOfKind (getD (segmentOf area S j) o 0)) (place-slot S i at inside) (place-offset S i at inside) ∙ own-kind
+
+    pub found-place : foundAt S area (i * S + at) ≡ entry e
+    found-place =
+        (λ k. entryAt (place-layout k) (segmentOf area S (place-slot S i at inside k)) (place-offset S i at inside k)) ∙ stands
+
+    pub stands-place : standsAt S area (i * S + at) ≡ answer L (entry e)
+    stands-place = ap₂ answer place-layout found-place

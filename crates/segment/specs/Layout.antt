@@ -96,6 +96,10 @@ unfoldable pub otherLayout : Layout → Layout
 otherLayout First = edition2
 otherLayout Second = edition1
 
+-- No kind is one of both editions, so that the kind of an entry tells its edition: those of the second are above its digest's.
+unfoldable pub layoutOfKind : ℕ → Layout
+layoutOfKind k = pick (ltb k (table edition2 .digestKind)) edition1 edition2
+
 -- the layout that a number names
 unfoldable pub layoutNumbered : ℕ → Option Layout
 layoutNumbered e = pick (eqb e 1) (some edition1) (pick (eqb e 2) (some edition2) none)

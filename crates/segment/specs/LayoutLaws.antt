@@ -12,7 +12,7 @@ use borrow.Author.Tests.{eq-eqb, ne-eqb, eqb-true, eqb-false, ltb-true, lt-ltb, 
 use Rattle.segment.specs.Digest.{layoutIn}
 use Rattle.segment.specs.declared.Edition.the-variants.{First, Second}
 use Rattle.segment.specs.Choice.{pick, pick-true, pick-false, both, both-left, both-right, both-true, both-false-left, both-false-right, isNone}
-use Rattle.segment.specs.Layout.{Layout, lookup, lookBack, isSome, soundObjects, valueLength, objectKind, isTombstoneKind, versionLimit, goodVersion, tombstone-not-end, tombstone-byte, edition1, edition2, otherLayout, sameLayout, layoutNumbered, numberOfLayout, table}
+use Rattle.segment.specs.Layout.{Layout, lookup, lookBack, isSome, soundObjects, valueLength, objectKind, isTombstoneKind, versionLimit, goodVersion, tombstone-not-end, tombstone-byte, edition1, edition2, otherLayout, sameLayout, layoutOfKind, layoutNumbered, numberOfLayout, table}
 
 -- ---- the table of objects
 
@@ -203,6 +203,36 @@ pub layout-same : (L : Layout) → sameLayout L L ≡ true
 unfolding sameLayout
 layout-same First = refl
 layout-same Second = refl
+
+-- ---- which edition a kind is of
+
+tells : Layout → ℕ → Bool
+tells L k = sameLayout (layoutOfKind k) L
+
+allKinds : (ℕ → Bool) → List (ℕ × ℕ) → Bool
+allKinds t [] = true
+allKinds t (p ∷ ps) = both (t (p .0)) (allKinds t ps)
+
+of-all : (t : ℕ → Bool) {ps : List (ℕ × ℕ)} (k n : ℕ) → List·Memᴰ (k, n) ps → allKinds t ps ≡ true → t k ≡ true
+unfolding allKinds
+of-all t k n (List·Memᴰ·head {x = p} {xs = ps} q) e = ap (λ (x : ℕ × ℕ). t (x .0)) q ∙ both-left (t (p .0)) (allKinds t ps) e
+of-all t k n (List·Memᴰ·tail {x = p} {xs = ps} m) e = of-all t k n m (both-right (t (p .0)) (allKinds t ps) e)
+
+kinds-told : (L : Layout) → both (tells L (table L .tombstoneKind)) (allKinds (tells L) (table L .objects)) ≡ true
+unfolding table both tells allKinds layoutOfKind pick sameLayout
+kinds-told First = refl
+kinds-told Second = refl
+
+pub kind-tells : (L : Layout) (k n : ℕ) → valueLength L k ≡ some n → layoutOfKind k ≡ L
+unfolding valueLength tells
+kind-tells L k n e = same-layout (layoutOfKind k) L (go (eqb k (table L .tombstoneKind)) refl)
+  where
+    go : (t : Bool) → eqb k (table L .tombstoneKind) ≡ t → tells L k ≡ true
+    go true q = ap (tells L) (eqb-true k (table L .tombstoneKind) q) ∙ both-left _ (allKinds (tells L) (table L .objects)) (kinds-told L)
+    go false q =
+        of-all (tells L) k n
+        (lookup-member k n (table L .objects) (sym (pick-false (eqb k (table L .tombstoneKind)) (some 0) (lookup k (table L .objects)) q) ∙ e))
+        (both-right (tells L (table L .tombstoneKind)) _ (kinds-told L))
 
 -- the other of the other is the first
 pub other-other : (L : Layout) → otherLayout (otherLayout L) ≡ L

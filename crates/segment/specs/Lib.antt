@@ -16,3 +16,4 @@ pub mod Area
 pub mod Entries
 pub mod Written
 pub mod Copied
+pub mod Rewritten

@@ -1,11 +1,13 @@
 // The segments of an area: each is handed on as its own part, and an entry is read in the segment in which its place lies.
 use crate::Edition;
 use crate::Read;
+use crate::layout::edition_of_kind;
 use crate::reader::read;
 use word::remainder::remainder32;
 ghost use Prim.Native.Nat.{_+_, _*_, _≤_, _<_};
 ghost use mathlib.Core.Path.{_≡_};
-ghost use lib.ListN.{length, take, drop};
+ghost use lib.ListN.{length, take, drop, getD};
+ghost use Rattle.segment.specs.Layout.{layoutOfKind};
 ghost use Rattle.segment.specs.Area.{segmentOf, standsAt};
 
 // At most `size` bytes from a place on: those that the area has.
@@ -30,11 +32,22 @@ pub fn cut(size: usize, area: &[u8], slot: usize) -> &[u8]
     part(size, area, slot * size)
 }
 
-// What stands at a place of the area.
-pub fn entry_at(edition: Edition, size: usize, area: &[u8], place: usize) -> Read
+// The edition of the entry at an offset, by its kind. Its slot's byte 0, which would tell it too, lies elsewhere in memory.
+fn edition_at(s: &[u8], at: usize) -> Edition
+    ensures { λ r. ⌜ r ≡ layoutOfKind (getD (now (s .entry)) at 0) ⌝ }
+{
+    if s.len() <= at {
+        return Edition::First;
+    }
+    edition_of_kind(s[at])
+}
+
+// What stands at a place of the area, by the edition of its slot.
+pub fn entry_at(size: usize, area: &[u8], place: usize) -> Read
     requires { ⌜ (0 < size) × (size < 4294967296) × (place < 4294967296) ⌝ }
-    ensures { λ r. ⌜ r ≡ standsAt edition size (now (area .entry)) place ⌝ }
+    ensures { λ r. ⌜ r ≡ standsAt size (now (area .entry)) place ⌝ }
 {
     let offset = remainder32(place as u32, size as u32) as usize;
-    read(edition, part(size, area, place - offset), offset)
+    let s = part(size, area, place - offset);
+    read(edition_at(s, offset), s, offset)
 }

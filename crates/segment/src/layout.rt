@@ -3,7 +3,7 @@
 use crate::Edition;
 use crate::Version;
 ghost use mathlib.Core.Path.{_≡_};
-ghost use Rattle.segment.specs.Layout.{edition1, edition2, otherLayout, table, entrySize, digestSize, versionLimit, objectKind, goodVersion};
+ghost use Rattle.segment.specs.Layout.{edition1, edition2, otherLayout, layoutOfKind, table, entrySize, digestSize, versionLimit, objectKind, goodVersion};
 ghost use Rattle.segment.specs.Choice.{orZero};
 ghost use Rattle.segment.specs.Kinds.{kindSize};
 
@@ -71,6 +71,16 @@ pub fn other(edition: Edition) -> Edition
         Edition::First => Edition::Second,
         Edition::Second => Edition::First,
     }
+}
+
+// The edition that a kind is of.
+pub fn edition_of_kind(kind: u8) -> Edition
+    ensures { λ r. ⌜ r ≡ layoutOfKind kind ⌝ }
+{
+    if kind < SECOND_DIGEST {
+        return Edition::First;
+    }
+    Edition::Second
 }
 
 fn first_size(kind: u8) -> usize

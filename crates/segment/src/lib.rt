@@ -3,6 +3,7 @@ pub mod area;
 pub mod entries;
 pub mod layout;
 pub mod reader;
+pub mod rewrite;
 pub mod writer;
 
 // A version of an object or tombstone. Versions and digest numbers are counted apart (01, "Bytes of a segment").

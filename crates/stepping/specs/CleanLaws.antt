@@ -61,10 +61,10 @@ ascending-good n h =
 
 pub recovered-built :
     (L : Layout) (n s m : ℕ) (area order : List ℕ) (r : Record) → recovered L n s m area ≡ some r → orderBad n order ≡ false → 0 < m →
-    Holds s m (logOf (viewsOf area s) (named (r .map)) n) (built L area s (r .map) order m)
+    Holds s m (logOf (viewsOf area s) (named (r .map)) n) (built area s (r .map) order m)
 recovered-built L n s m area order r e good some-cell =
-    recovered-case L n s m area (λ (k : Record). Holds s m (logOf (viewsOf area s) (named (k .map)) n) (built L area s (k .map) order m))
+    recovered-case L n s m area (λ (k : Record). Holds s m (logOf (viewsOf area s) (named (k .map)) n) (built area s (k .map) order m))
     (λ h l f.
-    built-rule L area s (h .digest .map) n m order (l .long) (map-in n (h .slot) (h .digest .map) (f .map-good) .below) (f .editions) (f .scans) (f .versions) good
+    built-rule area s (h .digest .map) n m order (l .long) (map-in n (h .slot) (h .digest .map) (f .map-good) .below) (f .scans) (f .versions) good
     some-cell (between-high 16 4096 m (recovered-facts L n s m area r e .lent .cells-good)) (le-ltb (m - 1) (length (keysOf (logUnder (viewsOf area s) n h))) (f .keys)))
     r e

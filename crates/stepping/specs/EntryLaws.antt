@@ -10,6 +10,7 @@ use lib.ListN.{length, drop, length-take}
 use borrow.Author.Tests.{lt-ltb, ltb-true, ltb-false}
 use Rattle.segment.specs.Choice.{pick-true}
 use Rattle.segment.specs.Layout.{Layout}
+use Rattle.segment.specs.Digest.{layoutIn}
 use Rattle.segment.specs.Entry.{entry, entryAt, keyOf}
 use Rattle.segment.specs.EntryLaws.{found-fits}
 use Rattle.slot_map.specs.Bit.{named}
@@ -23,9 +24,8 @@ use Rattle.model.specs.Index.{IndexRule}
 use Rattle.model.specs.Recovery.{recovered}
 use Rattle.laws.specs.Members.{In, same-sym, Added, added-same}
 use Rattle.laws.specs.LogLaws.{log-in}
-use Rattle.laws.specs.Scans.{scan-scans, scans-found}
 use Rattle.laws.specs.Latest.{Apart, apart-same, latest-some}
-use Rattle.laws.specs.RecoverLaws.{recovered-case, log-whole}
+use Rattle.laws.specs.RecoverLaws.{recovered-case, placed-found}
 use Rattle.index.specs.Area.{AllIn}
 use Rattle.index.specs.Search.{mostCells}
 use Rattle.index.specs.Insert.{Insertion, inserted, counted, over, tallied}
@@ -66,18 +66,16 @@ module _ (S m : ℕ) (log : List Placed) (few : length (keysOf log) < m) where
 
 -- ---- an entry more in a recovered log
 
--- The reader finds every entry of a log at its place.
-abbrev pub AllFound : Layout → List ℕ → ℕ → List Placed → Type 0
-AllFound L area S log = (x : Placed) → In x log → entryAt L (segmentOf area S (x .slot)) (x .offset) ≡ entry (x .entry)
+-- The reader finds every entry of a log at its place, by the edition of its slot.
+abbrev pub AllFound : List ℕ → ℕ → List Placed → Type 0
+AllFound area S log = (x : Placed) → In x log → entryAt (x .layout) (segmentOf area S (x .slot)) (x .offset) ≡ entry (x .entry)
 
 pub recovered-found :
     (L : Layout) (n s m : ℕ) (area : List ℕ) (r : Record) → recovered L n s m area ≡ some r →
-    AllFound L area s (logOf (viewsOf area s) (named (r .map)) n)
+    AllFound area s (logOf (viewsOf area s) (named (r .map)) n)
 recovered-found L n s m area r e =
-    recovered-case L n s m area (λ (k : Record). AllFound L area s (logOf (viewsOf area s) (named (k .map)) n))
-    (λ h l f x i.
-    let w = log-in (viewsOf area s) (named (h .digest .map)) n x i in
-    scans-found (scan-scans L (segmentOf area s (x .slot)) (log-whole L n s m area h f (x .slot) (w .below) (w .picked))) (w .item)) r e
+    recovered-case L n s m area (λ (k : Record). AllFound area s (logOf (viewsOf area s) (named (k .map)) n))
+    (λ h l f x i. placed-found L n s m area h f x i) r e
 
 -- What the last step gives where the entry goes in: the version, the record with k keys and these present bytes, and cells that keep
 -- the rule.
@@ -90,73 +88,73 @@ pub told-known : (r : Record) (done : Commit) (version k : ℕ) (counts : List �
 unfolding answeredWith
 told-known r done version k counts h = pick-true (ltb k (r .cells)) _ _ (lt-ltb k (r .cells) h)
 
-module _ (L : Layout) (r : Record) (done : Commit) (log log′ : List Placed) (area′ cells : List ℕ) (x : Placed) (added : Added log x log′)
-    (apart : Apart log′) (found : AllFound L area′ (r .size) log′) (version : x .entry .version ≡ r .next .0)
+module _ (r : Record) (done : Commit) (log log′ : List Placed) (area′ cells : List ℕ) (x : Placed) (added : Added log x log′)
+    (apart : Apart log′) (found : AllFound area′ (r .size) log′) (version : x .entry .version ≡ r .next .0)
     (ix : Indexed (r .size) (r .cells) log cells (r .keys)) (few : length (keysOf log′) < r .cells) (most : r .cells ≤ mostCells)
     (above : (y : Placed) → In y log → y .entry .version < x .entry .version)
   where
-    all-there : AllIn L area′ (r .size) (x ∷ log)
+    all-there : AllIn area′ (r .size) (x ∷ log)
     all-there y m =
-        found-in-area L area′ (r .size) (y .slot) (y .offset) (y .entry) (found y (added-same added .to y m))
+        found-in-area (y .layout) area′ (r .size) (y .slot) (y .offset) (y .entry) (found y (added-same added .to y m))
 
     all-apart : Apart (x ∷ log)
     all-apart = apart-same (same-sym (added-same added)) apart
 
     abbrev put : Insertion
-    put = inserted L area′ cells (placeOf (r .size) x) (keyOf (x .entry)) (x .entry .version)
+    put = inserted area′ cells (placeOf (r .size) x) (keyOf (x .entry)) (x .entry .version)
 
     told : Tells (r .size) (r .cells) log′ (tallied (put .answer) (put .cells) (r .keys))
     unfolding Tells
     told =
         tells-same (r .size) (r .cells) (x ∷ log) log′ (added-same added) all-apart (tallied (put .answer) (put .cells) (r .keys))
-        (subst (Tells (r .size) (r .cells) (x ∷ log)) (insert-next L area′ (r .size) x cells (r .keys) put refl)
-        (tells-next L area′ (r .size) (r .cells) log x most all-there all-apart (counted cells (r .keys)) ix))
+        (subst (Tells (r .size) (r .cells) (x ∷ log)) (insert-next area′ (r .size) x cells (r .keys) put refl)
+        (tells-next area′ (r .size) (r .cells) log x most all-there all-apart (counted cells (r .keys)) ix))
 
     -- the version that the code goes by is the entry's
-    same-put : inserted L area′ cells (placeOf (r .size) x) (keyOf (x .entry)) (r .next .0) ≡ put
-    same-put = ap (inserted L area′ cells (placeOf (r .size) x) (keyOf (x .entry))) (sym version)
+    same-put : inserted area′ cells (placeOf (r .size) x) (keyOf (x .entry)) (r .next .0) ≡ put
+    same-put = ap (inserted area′ cells (placeOf (r .size) x) (keyOf (x .entry))) (sym version)
 
     -- the object that the key had counts no longer
-    lost : lostBy L (r .size) area′ (put .answer) (r .counts) ≡ withoutLive L (present log (keyOf (x .entry))) (r .counts)
+    lost : lostBy (r .size) area′ (put .answer) (r .counts) ≡ withoutLive (present log (keyOf (x .entry))) (r .counts)
     lost = go (latest log (keyOf (x .entry))) refl
       where
-        kept-none : (o : Option Placed) → latest log (keyOf (x .entry)) ≡ o → o ≡ none → r .counts ≡ withoutLive L (present log (keyOf (x .entry))) (r .counts)
+        kept-none : (o : Option Placed) → latest log (keyOf (x .entry)) ≡ o → o ≡ none → r .counts ≡ withoutLive (present log (keyOf (x .entry))) (r .counts)
         kept-none o p q = unfold present objectOnly withoutLive in rw (p ∙ q)
 
         inside : (z : Placed) → In z log → z .offset < r .size
         inside z i =
             omega (
               arith,
-              found-fits L (segmentOf area′ (r .size) (z .slot)) (z .offset) (z .entry) (found z (added .old z i)),
+              found-fits (z .layout) (segmentOf area′ (r .size) (z .slot)) (z .offset) (z .entry) (found z (added .old z i)),
               length-take (r .size) (drop (z .slot * r .size) area′),
             )
 
-        go : (o : Option Placed) → latest log (keyOf (x .entry)) ≡ o → lostBy L (r .size) area′ (put .answer) (r .counts) ≡ withoutLive L (present log (keyOf (x .entry))) (r .counts)
+        go : (o : Option Placed) → latest log (keyOf (x .entry)) ≡ o → lostBy (r .size) area′ (put .answer) (r .counts) ≡ withoutLive (present log (keyOf (x .entry))) (r .counts)
         go none p =
-            ap (λ (a : Inserted). lostBy L (r .size) area′ a (r .counts)) (comes-new L area′ (r .size) (r .cells) log x most all-there all-apart cells (r .keys) ix p)
+            ap (λ (a : Inserted). lostBy (r .size) area′ a (r .counts)) (comes-new area′ (r .size) (r .cells) log x most all-there all-apart cells (r .keys) ix p)
             ∙ unfold lostBy in kept-none none p refl
         go (some z) p =
             let member = latest-some log (keyOf (x .entry)) z p .member in
-            ap (λ (a : Inserted). lostBy L (r .size) area′ a (r .counts))
-            (replaces L area′ (r .size) (r .cells) log x most all-there all-apart cells (r .keys) ix z p (above z member))
+            ap (λ (a : Inserted). lostBy (r .size) area′ a (r .counts))
+            (replaces area′ (r .size) (r .cells) log x most all-there all-apart cells (r .keys) ix z p (above z member))
             ∙ unfold lostBy in
-            lost-latest L (r .size) area′ log (keyOf (x .entry)) z (r .counts) p (inside z member) (found z (added .old z member))
+            lost-latest (r .size) area′ log (keyOf (x .entry)) z (r .counts) p (inside z member) (found z (added .old z member))
 
     pub entry-finished :
-        Finished (r .size) log′ r done (r .next .0) (length (keysOf log′)) (entryCounts L log (x .slot) (x .entry) (r .counts))
-        (finishEntry L r done area′ cells (x .slot) (x .offset))
+        Finished (r .size) log′ r done (r .next .0) (length (keysOf log′)) (entryCounts (x .layout) log (x .slot) (x .entry) (r .counts))
+        (finishEntry (x .layout) r done area′ cells (x .slot) (x .offset))
     unfolding finishEntry foundIn
     entry-finished =
         let c = tally-counted (r .size) (r .cells) log′ few (put .answer) (put .cells) (r .keys) told in
-        let counts : List ℕ = countsAfter L r area′ (put .answer) (x .slot) (objectSize L (x .entry)) in
-        subst (Finished (r .size) log′ r done (r .next .0) (length (keysOf log′)) (entryCounts L log (x .slot) (x .entry) (r .counts)))
+        let counts : List ℕ = countsAfter r area′ (put .answer) (x .slot) (objectSize (x .layout) (x .entry)) in
+        subst (Finished (r .size) log′ r done (r .next .0) (length (keysOf log′)) (entryCounts (x .layout) log (x .slot) (x .entry) (r .counts)))
         (sym
-        (ap (foundIn L r done area′ cells (x .slot) (placeOf (r .size) x)) (found x (added-same added .to x (List·Memᴰ·head refl)))
+        (ap (foundIn (x .layout) r done area′ cells (x .slot) (placeOf (r .size) x)) (found x (added-same added .to x (List·Memᴰ·head refl)))
         ∙ ap
         (λ (i : Insertion).
         record {
           stepped =
-              answeredWith r done (r .next .0) (countsAfter L r area′ (i .answer) (x .slot) (objectSize L (x .entry))) (keysAfter (i .answer) (r .keys));
+              answeredWith r done (r .next .0) (countsAfter r area′ (i .answer) (x .slot) (objectSize (x .layout) (x .entry))) (keysAfter (i .answer) (r .keys));
           cells = i .cells;
         }) same-put))
         (record {
@@ -166,7 +164,7 @@ module _ (L : Layout) (r : Record) (done : Commit) (log log′ : List Placed) (a
               (λ (l : List ℕ).
               record {
                 answer = StepAnswer.Done (record { 0 = r .next .0 });
-                rec = committed r done (length (keysOf log′)) (moreBytes (x .slot) (objectSize L (x .entry)) l);
+                rec = committed r done (length (keysOf log′)) (moreBytes (x .slot) (objectSize (x .layout) (x .entry)) l);
               }) lost;
           rule = c .1;
         })

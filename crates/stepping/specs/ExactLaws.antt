@@ -16,14 +16,14 @@ use Rattle.segment.specs.Entry.{Entry, encoded, sizeOf}
 use Rattle.segment.specs.Digest.{encodedDigest}
 use Rattle.segment.specs.declared.Key.{Key}
 use Rattle.segment.specs.declared.Version.{Version}
-use Rattle.slot_map.specs.Bit.{withBit, less, within}
+use Rattle.slot_map.specs.Bit.{withBit, within}
 use Rattle.slot_map.specs.BitLaws.{with-clear}
 use Rattle.slot_map.specs.CountLaws.{with-less}
 use Rattle.slot_map.specs.NextLaws.{next-clear}
 use Rattle.record.specs.Answers.{withPending}
 use Rattle.record.specs.Committed.{committed}
 use Rattle.record.specs.declared.Commit.{Commit}
-use Rattle.record.specs.RangeLaws.{Lent, lent}
+use Rattle.record.specs.RangeLaws.{Lent}
 use Rattle.record.specs.declared.Pending.{Pending}
 use Rattle.record.specs.declared.Pending.the-variants.{Append, NewHead}
 use Rattle.record.specs.declared.StepAnswer.{StepAnswer}
@@ -38,9 +38,9 @@ use Rattle.laws.specs.Operated.{Accepted, planAt}
 use Rattle.laws.specs.Entering.{Roomy, Entering, idle-lent, write-enters, delete-enters}
 use Rattle.laws.specs.Cleanings.{clean-cleans, forget-cleans}
 use Rattle.laws.specs.EntryDone.{appended-added, headed-added}
-use Rattle.laws.specs.OperationsKept.{finishes, clean-scan}
+use Rattle.laws.specs.OperationsKept.{finishes, clean-scan, clean-layout}
 use Rattle.index.specs.InsertLaws.{Indexed}
-use Rattle.counting.specs.Counting.{segmentBytes, renewedAt}
+use Rattle.counting.specs.Counting.{renewedAt, ownBytes}
 use Rattle.counting.specs.CountingLaws.{segment-new}
 use Rattle.index.specs.declared.Built.{Built}
 use Rattle.index.specs.Build.{built}
@@ -93,11 +93,11 @@ module _ (L : Layout) (roomy : Roomy L) (before cells : List ℕ) (idle : Record
           let r : Record = withPending idle (Append (sizeOf L e) k) in
           let after : List ℕ = stored before (commit (idle .size) (idle .head) (idle .end) (encoded L e)) in
           let fin : Record = appendedRecord L idle (logNow before idle) e in
-          let x : Placed = record { slot = idle .head; offset = idle .end; entry = e } in
+          let x : Placed = record { slot = idle .head; layout = L; offset = idle .end; entry = e } in
           let keys = recovered-keys L (idle .slots) (idle .size) (idle .cells) after fin q in
           let few = few-keys after fin refl refl refl q in
           let done : Commit = appendCommit r (sizeOf L e) in
-          let w = entry-finished L r done (logNow before idle) (logNow after fin) after cells x
+          let w = entry-finished r done (logNow before idle) (logNow after fin) after cells x
           (appended-added L roomy before idle e recovers bytes f (leb-true (idle .end + sizeOf L e) (idle .size) t))
           (recovered-apart L (idle .slots) (idle .size) (idle .cells) after fin q)
           (recovered-found L (idle .slots) (idle .size) (idle .cells) after fin q) (f .takes .version) indexed (omega arith) (facts .cells-high)
@@ -123,11 +123,11 @@ module _ (L : Layout) (roomy : Roomy L) (before cells : List ℕ) (idle : Record
           stored before
           ((newSlot idle * idle .size, 0) ∷ commit (idle .size) (newSlot idle) 0 (encodedDigest L (newDigest idle 0) ++ encoded L e)) in
           let fin : Record = headedRecord L idle (logNow before idle) e in
-          let x : Placed = record { slot = newSlot idle; offset = digestSize L; entry = e } in
+          let x : Placed = record { slot = newSlot idle; layout = L; offset = digestSize L; entry = e } in
           let done : ℕ → Commit = λ m. headCommit r (newSlot idle) (digestSize L + sizeOf L e) m (record { 0 = idle .next .0 + 1 }) in
           let keys = recovered-keys L (idle .slots) (idle .size) (idle .cells) after fin q in
           let few = few-keys after fin refl refl refl q in
-          let w = entry-finished L r (done (withBit (idle .map) (newSlot idle))) (logNow before idle) (logNow after fin) after cells x
+          let w = entry-finished r (done (withBit (idle .map) (newSlot idle))) (logNow before idle) (logNow after fin) after cells x
           (headed-added L roomy before idle e recovers bytes f t)
           (recovered-apart L (idle .slots) (idle .size) (idle .cells) after fin q)
           (recovered-found L (idle .slots) (idle .size) (idle .cells) after fin q) (f .takes .version) indexed (omega arith) (facts .cells-high)
@@ -170,14 +170,14 @@ module _ (L : Layout) (roomy : Roomy L) (before cells : List ℕ) (idle : Record
 
       pub rebuilt-ends :
           recovered L (idle .slots) (idle .size) (idle .cells) after ≡ some fin →
-          segmentBytes L (segmentOf after (idle .size) (newSlot idle)) ≡ objectBytes L es →
-          Ends L after fin version (finishRebuilt L r after cells (newSlot idle) victims (done (cleanMap r (newSlot idle) victims)) version)
+          ownBytes (segmentOf after (idle .size) (newSlot idle)) ≡ objectBytes L es →
+          Ends L after fin version (finishRebuilt r after cells (newSlot idle) victims (done (cleanMap r (newSlot idle) victims)) version)
       unfolding renewedAt
       rebuilt-ends q held =
-          subst (λ (m : ℕ). Ends L after fin version (finishRebuilt L r after cells (newSlot idle) victims (done m) version)) (sym clean-map)
+          subst (λ (m : ℕ). Ends L after fin version (finishRebuilt r after cells (newSlot idle) victims (done m) version)) (sym clean-map)
           (record {
             answers =
-                ap (answeredWith r (done (newDigest idle victims .map)) version (renewedAt L (idle .size) after (newSlot idle) victims (idle .counts))) (holds .answers)
+                ap (answeredWith r (done (newDigest idle victims .map)) version (renewedAt (idle .size) after (newSlot idle) victims (idle .counts))) (holds .answers)
                 ∙ ap (λ (n : ℕ). answeredWith r (done (newDigest idle victims .map)) version (set (withoutVictims victims 0 (idle .counts)) (newSlot idle) n) (Built.Keys (length (keysOf (logNow after fin))))) held
                 ∙ told-known r (done (newDigest idle victims .map)) version (length (keysOf (logNow after fin))) (fin .counts) (omega (arith, few, keys))
                 ∙ ap (λ (s : Record). record { answer = StepAnswer.Done (record { 0 = version }); rec = s })
@@ -191,11 +191,11 @@ module _ (L : Layout) (roomy : Roomy L) (before cells : List ℕ) (idle : Record
           few : fin .keys < idle .cells
           few = omega (arith, recovered-holds L (idle .slots) (idle .size) (idle .cells) after fin q)
 
-          holds : Holds (idle .size) (length cells) (logNow after fin) (rebuilt L r after cells (newDigest idle victims .map))
+          holds : Holds (idle .size) (length cells) (logNow after fin) (rebuilt r after cells (newDigest idle victims .map))
           holds =
               subst
               (λ (m : ℕ).
-              Holds (idle .size) m (logNow after fin) (built L after (idle .size) (newDigest idle victims .map) (ascending (idle .slots)) m))
+              Holds (idle .size) m (logNow after fin) (built after (idle .size) (newDigest idle victims .map) (ascending (idle .slots)) m))
               (sym long)
               (recovered-built L (idle .slots) (idle .size) (idle .cells) after (ascending (idle .slots)) fin q
               (ascending-good (idle .slots) (facts .slots-high)) (omega (arith, facts .cells-low)))
@@ -227,7 +227,8 @@ module _ (L : Layout) (roomy : Roomy L) (before cells : List ℕ) (idle : Record
       go true full q =
           rebuilt-ends L roomy before cells idle (a .recovers) (a .area-bytes) (idle-lent L before idle (delete key) a) long rule _
           (forget-cleans L before idle key a full .sub) _ (nextAfter idle) (idle .next .0) _ _ q
-          (segment-new L _ _ _ (clean-scan L before idle _ _ _ (forget-cleans L before idle key a full)))
+          (segment-new L _ _ _ (clean-layout L before idle _ _ _ (forget-cleans L before idle key a full))
+          (clean-scan L before idle _ _ _ (forget-cleans L before idle key a full)))
       go false room q =
           entry-ends L roomy before cells idle (a .recovers) (a .area-bytes) (idle-lent L before idle (delete key) a) long rule
           (tombstoneEntry idle key) (delete-enters L before idle key a room) k q
@@ -245,4 +246,5 @@ module _ (L : Layout) (roomy : Roomy L) (before cells : List ℕ) (idle : Record
   operation-ends (clean victims) a long rule k =
       rebuilt-ends L roomy before cells idle (a .recovers) (a .area-bytes) (idle-lent L before idle (clean victims) a) long rule victims
       (clean-cleans L before idle victims a .sub) _ (idle .next) 0 _ _ (finishes L roomy before idle (clean victims) a .0)
-      (segment-new L _ _ _ (clean-scan L before idle _ _ _ (clean-cleans L before idle victims a)))
+      (segment-new L _ _ _ (clean-layout L before idle _ _ _ (clean-cleans L before idle victims a))
+      (clean-scan L before idle _ _ _ (clean-cleans L before idle victims a)))

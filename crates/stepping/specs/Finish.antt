@@ -55,28 +55,28 @@ answeredWith r done version counts (Built.Keys n) =
 answeredWith r done version counts Built.TooMany = refusedStep r Refusal.BadRecord
 
 -- 02, R-5: where an insertion replaces an older entry of the key, the object that stands there counts no longer,
-unfoldable pub lostBy : Layout → ℕ → List ℕ → Inserted → List ℕ → List ℕ
-lostBy L S area Inserted.New c = c
-lostBy L S area (Inserted.Newer old) c = lostAt L S area old c
-lostBy L S area Inserted.Older c = c
-lostBy L S area Inserted.Full c = c
+unfoldable pub lostBy : ℕ → List ℕ → Inserted → List ℕ → List ℕ
+lostBy S area Inserted.New c = c
+lostBy S area (Inserted.Newer old) c = lostAt S area old c
+lostBy S area Inserted.Older c = c
+lostBy S area Inserted.Full c = c
 
 -- and n bytes more count in a slot.
-abbrev pub countsAfter : Layout → Record → List ℕ → Inserted → ℕ → ℕ → List ℕ
-countsAfter L r area a slot n = moreBytes slot n (lostBy L (r .size) area a (r .counts))
+abbrev pub countsAfter : Record → List ℕ → Inserted → ℕ → ℕ → List ℕ
+countsAfter r area a slot n = moreBytes slot n (lostBy (r .size) area a (r .counts))
 
 -- The entry of a key at a place of a slot goes into the index; n of its bytes count.
-abbrev pub entryIn : Layout → Record → Commit → List ℕ → List ℕ → ℕ → ℕ → ℕ → Key → After
-entryIn L r done area cells slot n place k =
-    let i = inserted L area cells place k (r .next .0) in
+abbrev pub entryIn : Record → Commit → List ℕ → List ℕ → ℕ → ℕ → ℕ → Key → After
+entryIn r done area cells slot n place k =
+    let i = inserted area cells place k (r .next .0) in
     record {
-      stepped = answeredWith r done (r .next .0) (countsAfter L r area (i .answer) slot n) (keysAfter (i .answer) (r .keys));
+      stepped = answeredWith r done (r .next .0) (countsAfter r area (i .answer) slot n) (keysAfter (i .answer) (r .keys));
       cells = i .cells;
     }
 
 -- what the reader finds where the entry came to stand
 unfoldable pub foundIn : Layout → Record → Commit → List ℕ → List ℕ → ℕ → ℕ → Found → After
-foundIn L r done area cells slot place (entry e) = entryIn L r done area cells slot (objectSize L e) place (keyOf e)
+foundIn L r done area cells slot place (entry e) = entryIn r done area cells slot (objectSize L e) place (keyOf e)
 foundIn L r done area cells slot place end = unfit r cells
 foundIn L r done area cells slot place damage = unfit r cells
 
@@ -104,29 +104,29 @@ abbrev pub ascending : ℕ → List ℕ
 ascending n = take n (upFrom 0 32)
 
 -- The index is rebuilt under the new map.
-abbrev pub rebuilt : Layout → Record → List ℕ → List ℕ → ℕ → Rebuilt
-rebuilt L r area cells map = built L area (r .size) map (ascending (r .slots)) (length cells)
+abbrev pub rebuilt : Record → List ℕ → List ℕ → ℕ → Rebuilt
+rebuilt r area cells map = built area (r .size) map (ascending (r .slots)) (length cells)
 
 abbrev pub cleanMap : Record → ℕ → ℕ → ℕ
 cleanMap r slot victims = withBit (less (r .map) victims) slot
 
 -- The victims have no present bytes, and the new head those of what it holds.
-abbrev pub finishRebuilt : Layout → Record → List ℕ → List ℕ → ℕ → ℕ → Commit → ℕ → After
-finishRebuilt L r area cells slot victims done version =
+abbrev pub finishRebuilt : Record → List ℕ → List ℕ → ℕ → ℕ → Commit → ℕ → After
+finishRebuilt r area cells slot victims done version =
     record {
       stepped =
-          answeredWith r done version (renewedAt L (r .size) area slot victims (r .counts)) (rebuilt L r area cells (done .map) .answer);
-      cells = rebuilt L r area cells (done .map) .cells;
+          answeredWith r done version (renewedAt (r .size) area slot victims (r .counts)) (rebuilt r area cells (done .map) .answer);
+      cells = rebuilt r area cells (done .map) .cells;
     }
 
 -- A cleaning has no version of its own; a delete tells its own, and the next version goes up.
-unfoldable pub finishClean : Layout → Record → List ℕ → List ℕ → ℕ → ℕ → ℕ → After
-finishClean L r area cells slot victims n =
-    finishRebuilt L r area cells slot victims (headCommit r slot n (cleanMap r slot victims) (r .next)) 0
+unfoldable pub finishClean : Record → List ℕ → List ℕ → ℕ → ℕ → ℕ → After
+finishClean r area cells slot victims n =
+    finishRebuilt r area cells slot victims (headCommit r slot n (cleanMap r slot victims) (r .next)) 0
 
-unfoldable pub finishForget : Layout → Record → List ℕ → List ℕ → ℕ → ℕ → ℕ → After
-finishForget L r area cells slot victims n =
-    finishRebuilt L r area cells slot victims (headCommit r slot n (cleanMap r slot victims) (nextAfter r)) (r .next .0)
+unfoldable pub finishForget : Record → List ℕ → List ℕ → ℕ → ℕ → ℕ → After
+finishForget r area cells slot victims n =
+    finishRebuilt r area cells slot victims (headCommit r slot n (cleanMap r slot victims) (nextAfter r)) (r .next .0)
 
 -- ---- what comes after the store of a step
 
@@ -142,8 +142,8 @@ unfoldable pub finishWith : Layout → Record → List ℕ → List ℕ → Pend
 finishWith L r area cells Idle = unfit r cells
 finishWith L r area cells (Append n k) = finishAppend L r area cells n
 finishWith L r area cells (NewHead i n k) = finishHead L r area cells i n
-finishWith L r area cells (Clean i v n k) = finishClean L r area cells i v n
-finishWith L r area cells (Forget i v n k) = finishForget L r area cells i v n
+finishWith L r area cells (Clean i v n k) = finishClean r area cells i v n
+finishWith L r area cells (Forget i v n k) = finishForget r area cells i v n
 
 -- With stores left, they are one less and the index stays; else the operation is finished.
 unfoldable pub advanced : Layout → Record → List ℕ → List ℕ → After

@@ -5,7 +5,7 @@ use mathlib.Core.List.{List}
 use native.Mathlib.Nat.{mul-le-mul, mul-le-mul-right, suc-mul}
 use native.Mathlib.Omega.{arith}
 use lib.Dec.{ltb}
-use lib.ListN.{length, getD, take, drop, length-take}
+use lib.ListN.{getD, drop, length-take}
 use borrow.Author.Tests.{lt-ltb, le-ltb}
 use Rattle.segment.specs.Choice.{pick-true, pick-false}
 use Rattle.segment.specs.Layout.{Layout, digestSize}
@@ -27,8 +27,8 @@ use Rattle.record.specs.declared.StepAnswer.{StepAnswer}
 use Rattle.record.specs.declared.Record.{Record}
 use Rattle.model.specs.Log.{segmentOf}
 use Rattle.model.specs.Operations.{nextAfter, appendCommit, headCommit}
-use Rattle.model.specs.Counts.{moreBytes, objectSize}
-use Rattle.segment.specs.Area.{foundAt}
+use Rattle.model.specs.Counts.{objectSize}
+use Rattle.segment.specs.Area.{foundAt, layoutAt}
 use Rattle.counting.specs.Counting.{foundBytes, lostAt, renewedAt}
 use Rattle.laws.specs.Counted.{fewer-most}
 use Rattle.index.specs.Insert.{Insertion, inserted}
@@ -80,63 +80,63 @@ module _ (r : Record) (done : Commit) (version : Version) (counts : List ℕ) {b
 
 -- ---- the present bytes after an insertion
 
-module _ (L : Layout) (S : ℕ) (area c : List ℕ) {a : Inserted} where
-  pub lost-new : a ≡ Inserted.New → c ≡ lostBy L S area a c
+module _ (S : ℕ) (area c : List ℕ) {a : Inserted} where
+  pub lost-new : a ≡ Inserted.New → c ≡ lostBy S area a c
   unfolding lostBy
   lost-new e = rw e
 
-  pub lost-newer : {old : ℕ} → a ≡ Inserted.Newer old → {c′ : List ℕ} → c′ ≡ lostAt L S area old c → c′ ≡ lostBy L S area a c
+  pub lost-newer : {old : ℕ} → a ≡ Inserted.Newer old → {c′ : List ℕ} → c′ ≡ lostAt S area old c → c′ ≡ lostBy S area a c
   unfolding lostBy
   lost-newer e h = rw e h
 
-  pub lost-older : a ≡ Inserted.Older → c ≡ lostBy L S area a c
+  pub lost-older : a ≡ Inserted.Older → c ≡ lostBy S area a c
   unfolding lostBy
   lost-older e = rw e
 
-  pub lost-full : a ≡ Inserted.Full → c ≡ lostBy L S area a c
+  pub lost-full : a ≡ Inserted.Full → c ≡ lostBy S area a c
   unfolding lostBy
   lost-full e = rw e
 
 -- no number rises
-pub lost-few : (L : Layout) (S : ℕ) (area c : List ℕ) (a : Inserted) (j : ℕ) → getD (lostBy L S area a c) j 0 ≤ getD c j 0
+pub lost-few : (S : ℕ) (area c : List ℕ) (a : Inserted) (j : ℕ) → getD (lostBy S area a c) j 0 ≤ getD c j 0
 unfolding lostBy lostAt
-lost-few L S area c Inserted.New j = omega arith
-lost-few L S area c (Inserted.Newer old) j = fewer-most (old / S) j (foundBytes L (foundAt L S area old)) c
-lost-few L S area c Inserted.Older j = omega arith
-lost-few L S area c Inserted.Full j = omega arith
+lost-few S area c Inserted.New j = omega arith
+lost-few S area c (Inserted.Newer old) j = fewer-most (old / S) j (foundBytes (layoutAt S area old) (foundAt S area old)) c
+lost-few S area c Inserted.Older j = omega arith
+lost-few S area c Inserted.Full j = omega arith
 
 -- ---- an entry put into the index
 
-module _ (L : Layout) (r : Record) (done : Commit) (area cells : List ℕ) (slot place : ℕ) where
+module _ (r : Record) (done : Commit) (area cells : List ℕ) (slot place : ℕ) where
   pub entry-put :
-      (k : Key) (n : ℕ) {a : Inserted} {cells′ : List ℕ} → record { answer = a; cells = cells′ } ≡ inserted L area cells place k (r .next .0) → {b : Built} →
-      b ≡ keysAfter a (r .keys) → {counts : List ℕ} → counts ≡ countsAfter L r area a slot n → {x : Stepped} →
-      x ≡ answeredWith r done (r .next .0) counts b → record { stepped = x; cells = cells′ } ≡ entryIn L r done area cells slot n place k
+      (k : Key) (n : ℕ) {a : Inserted} {cells′ : List ℕ} → record { answer = a; cells = cells′ } ≡ inserted area cells place k (r .next .0) → {b : Built} →
+      b ≡ keysAfter a (r .keys) → {counts : List ℕ} → counts ≡ countsAfter r area a slot n → {x : Stepped} →
+      x ≡ answeredWith r done (r .next .0) counts b → record { stepped = x; cells = cells′ } ≡ entryIn r done area cells slot n place k
   entry-put k n {a} {cells′} e eb ec ex =
       ap (λ (s : Stepped). record { stepped = s; cells = cells′ }) (ex ∙ ap₂ (answeredWith r done (r .next .0)) ec eb)
       ∙ ap
       (λ (i : Insertion).
       record {
-        stepped = answeredWith r done (r .next .0) (countsAfter L r area (i .answer) slot n) (keysAfter (i .answer) (r .keys));
+        stepped = answeredWith r done (r .next .0) (countsAfter r area (i .answer) slot n) (keysAfter (i .answer) (r .keys));
         cells = i .cells;
       }) e
 
-  found-entry : (f : Found) (e : Entry) → f ≡ entry e → {k : Key} → keyOf e ≡ k → {n : ℕ} → objectSize L e ≡ n → {a : After} →
-      a ≡ entryIn L r done area cells slot n place k → a ≡ foundIn L r done area cells slot place f
+  found-entry : (L : Layout) (f : Found) (e : Entry) → f ≡ entry e → {k : Key} → keyOf e ≡ k → {n : ℕ} → objectSize L e ≡ n → {a : After} →
+      a ≡ entryIn r done area cells slot n place k → a ≡ foundIn L r done area cells slot place f
   unfolding foundIn
-  found-entry f e is key size h =
-      h ∙ sym (ap₂ (λ (m : ℕ) (j : Key). entryIn L r done area cells slot m place j) size key) ∙ sym (ap (foundIn L r done area cells slot place) is)
+  found-entry L f e is key size h =
+      h ∙ sym (ap₂ (λ (m : ℕ) (j : Key). entryIn r done area cells slot m place j) size key) ∙ sym (ap (foundIn L r done area cells slot place) is)
 
 -- what the reader gives in the slot's segment
 module _ (L : Layout) (r : Record) (done : Commit) (area cells : List ℕ) (slot offset : ℕ) {t : Read}
     (given : t ≡ answer L (entryAt L (segmentOf area (r .size) slot) offset)) where
   pub entry-object :
       {k : Key} {v : Version} {kind n : ℕ} → t ≡ Read.Object k v kind n → {a : After} →
-      a ≡ entryIn L r done area cells slot n (slot * r .size + offset) k → a ≡ finishEntry L r done area cells slot offset
+      a ≡ entryIn r done area cells slot n (slot * r .size + offset) k → a ≡ finishEntry L r done area cells slot offset
   unfolding finishEntry
   entry-object {k} {v} {kind} {n} e h =
       let w = tells-object L (entryAt L (segmentOf area (r .size) slot) offset) k v kind n (sym given ∙ e) in
-      found-entry L r done area cells slot (slot * r .size + offset) (entryAt L (segmentOf area (r .size) slot) offset) (w .told) (w .is) (w .its-key)
+      found-entry r done area cells slot (slot * r .size + offset) L (entryAt L (segmentOf area (r .size) slot) offset) (w .told) (w .is) (w .its-key)
       (pick-false (isTombstone (w .told)) 0 (sizeOf L (w .told)) (w .tombstone) ∙ w .its-size) h
 
   -- an entry is no longer than its segment
@@ -152,11 +152,11 @@ module _ (L : Layout) (r : Record) (done : Commit) (area cells : List ℕ) (slot
 
   pub entry-tombstone :
       {k : Key} {v : Version} {n : ℕ} → t ≡ Read.Tombstone k v n → {a : After} →
-      a ≡ entryIn L r done area cells slot 0 (slot * r .size + offset) k → a ≡ finishEntry L r done area cells slot offset
+      a ≡ entryIn r done area cells slot 0 (slot * r .size + offset) k → a ≡ finishEntry L r done area cells slot offset
   unfolding finishEntry
   entry-tombstone {k} {v} {n} e h =
       let w = tells-tombstone L (entryAt L (segmentOf area (r .size) slot) offset) k v n (sym given ∙ e) in
-      found-entry L r done area cells slot (slot * r .size + offset) (entryAt L (segmentOf area (r .size) slot) offset) (w .told) (w .is) (w .its-key)
+      found-entry r done area cells slot (slot * r .size + offset) L (entryAt L (segmentOf area (r .size) slot) offset) (w .told) (w .is) (w .its-key)
       (pick-true (isTombstone (w .told)) 0 (sizeOf L (w .told)) (w .tombstone)) h
 
   module _ {x : Stepped} (ex : x ≡ refusedStep r Refusal.BadRecord) where
@@ -204,17 +204,17 @@ module _ (L : Layout) (r : Record) (area cells : List ℕ) (n : ℕ) where
 
 -- ---- a cleaning, and a delete that cleans
 
-module _ (L : Layout) (r : Record) (area cells : List ℕ) where
+module _ (r : Record) (area cells : List ℕ) where
   pub rebuilt-goes :
       (slot victims : ℕ) (d : Commit) (version : ℕ) {b : Built} {cells′ : List ℕ} →
-      _≡_ {A = Rebuilt} (record { answer = b; cells = cells′ }) (rebuilt L r area cells (d .map)) → {counts : List ℕ} →
-      counts ≡ renewedAt L (r .size) area slot victims (r .counts) → {x : Stepped} → x ≡ answeredWith r d version counts b →
-      record { stepped = x; cells = cells′ } ≡ finishRebuilt L r area cells slot victims d version
+      _≡_ {A = Rebuilt} (record { answer = b; cells = cells′ }) (rebuilt r area cells (d .map)) → {counts : List ℕ} →
+      counts ≡ renewedAt (r .size) area slot victims (r .counts) → {x : Stepped} → x ≡ answeredWith r d version counts b →
+      record { stepped = x; cells = cells′ } ≡ finishRebuilt r area cells slot victims d version
   rebuilt-goes slot victims d version {b} {cells′} eb ec ex =
       ap (λ (s : Stepped). record { stepped = s; cells = cells′ }) (ex ∙ ap (λ (l : List ℕ). answeredWith r d version l b) ec)
       ∙ ap
       (λ (a : Rebuilt).
-      record { stepped = answeredWith r d version (renewedAt L (r .size) area slot victims (r .counts)) (a .answer); cells = a .cells }) eb
+      record { stepped = answeredWith r d version (renewedAt (r .size) area slot victims (r .counts)) (a .answer); cells = a .cells }) eb
 
   module _ (slot victims n : ℕ) {w m : ℕ} (ew : w ≡ less (r .map) victims) (em : m ≡ withBit w slot) where
     -- d is what the code makes of the record's head and counters
@@ -222,16 +222,16 @@ module _ (L : Layout) (r : Record) (area cells : List ℕ) where
     new-commit next ed = ed ∙ ap (λ (j : ℕ). headCommit r slot n j next) (em ∙ ap (λ (j : ℕ). withBit j slot) ew)
 
     pub clean-goes :
-        {d : Commit} → d ≡ headCommit r slot n m (r .next) → {a : After} → a ≡ finishRebuilt L r area cells slot victims d 0 →
-        a ≡ finishClean L r area cells slot victims n
+        {d : Commit} → d ≡ headCommit r slot n m (r .next) → {a : After} → a ≡ finishRebuilt r area cells slot victims d 0 →
+        a ≡ finishClean r area cells slot victims n
     unfolding finishClean
-    clean-goes ed e = e ∙ ap (λ (c : Commit). finishRebuilt L r area cells slot victims c 0) (new-commit (r .next) ed)
+    clean-goes ed e = e ∙ ap (λ (c : Commit). finishRebuilt r area cells slot victims c 0) (new-commit (r .next) ed)
 
     pub forget-goes :
-        {d : Commit} → d ≡ headCommit r slot n m (nextAfter r) → {a : After} → a ≡ finishRebuilt L r area cells slot victims d (r .next .0) →
-        a ≡ finishForget L r area cells slot victims n
+        {d : Commit} → d ≡ headCommit r slot n m (nextAfter r) → {a : After} → a ≡ finishRebuilt r area cells slot victims d (r .next .0) →
+        a ≡ finishForget r area cells slot victims n
     unfolding finishForget
-    forget-goes ed e = e ∙ ap (λ (c : Commit). finishRebuilt L r area cells slot victims c (r .next .0)) (new-commit (nextAfter r) ed)
+    forget-goes ed e = e ∙ ap (λ (c : Commit). finishRebuilt r area cells slot victims c (r .next .0)) (new-commit (nextAfter r) ed)
 
 -- ---- after the store
 
@@ -292,11 +292,11 @@ module _ (L : Layout) (r : Record) (area cells : List ℕ) where
   unfolding finishWith
   with-head e h = h ∙ sym (ap (finishWith L r area cells) e)
 
-  pub with-clean : {i v n k : ℕ} → r .pending ≡ Clean i v n k → {a : After} → a ≡ finishClean L r area cells i v n → a ≡ finishWith L r area cells (r .pending)
+  pub with-clean : {i v n k : ℕ} → r .pending ≡ Clean i v n k → {a : After} → a ≡ finishClean r area cells i v n → a ≡ finishWith L r area cells (r .pending)
   unfolding finishWith
   with-clean e h = h ∙ sym (ap (finishWith L r area cells) e)
 
-  pub with-forget : {i v n k : ℕ} → r .pending ≡ Forget i v n k → {a : After} → a ≡ finishForget L r area cells i v n → a ≡ finishWith L r area cells (r .pending)
+  pub with-forget : {i v n k : ℕ} → r .pending ≡ Forget i v n k → {a : After} → a ≡ finishForget r area cells i v n → a ≡ finishWith L r area cells (r .pending)
   unfolding finishWith
   with-forget e h = h ∙ sym (ap (finishWith L r area cells) e)
 

@@ -95,13 +95,13 @@ fn keys_after(answer: Inserted, keys: u32) -> Built
 }
 
 // Where an older entry of the key was indexed, the object there counts no longer.
-fn lost_by(edition: Edition, counts: &mut [u32], size: usize, area: &[u8], answer: Inserted)
+fn lost_by(counts: &mut [u32], size: usize, area: &[u8], answer: Inserted)
     requires { ⌜ (0 < size) × (size ≤ 2048) ⌝ }
-    ensures { λ _. ⌜ now (counts .exit) ≡ lostBy edition size (now (area .entry)) answer (now (counts .entry)) ⌝ }
+    ensures { λ _. ⌜ now (counts .exit) ≡ lostBy size (now (area .entry)) answer (now (counts .entry)) ⌝ }
 {
     match answer {
         Inserted::New => {}
-        Inserted::Newer(old) => lost_at(edition, counts, size, area, old as usize),
+        Inserted::Newer(old) => lost_at(counts, size, area, old as usize),
         Inserted::Older => {}
         Inserted::Full => {}
     }
@@ -115,11 +115,10 @@ fn entry_counts(rec: Record, area: &[u8], answer: Inserted, slot: u32, bytes: us
         × (bytes ≤ 2048)
         × (countsGood (rec .size - digestSize (rec .edition)) (rec .counts) ≡ true)
         ⌝ }
-    ensures { λ r. ⌜ r ≡ countsAfter (rec .edition) rec (now (area .entry)) answer slot bytes ⌝ }
+    ensures { λ r. ⌜ r ≡ countsAfter rec (now (area .entry)) answer slot bytes ⌝ }
 {
-    let edition = rec.edition;
     let mut counts = rec.counts;
-    lost_by(edition, &mut counts, rec.size as usize, area, answer);
+    lost_by(&mut counts, rec.size as usize, area, answer);
     more(&mut counts, slot as usize, bytes);
     counts
 }
@@ -163,12 +162,11 @@ fn put_entry(
     ensures { λ r.
         ⌜
         record { stepped = r; cells = now (index .exit) }
-        ≡ entryIn (rec .edition) rec done (now (area .entry)) (now (index .entry)) slot bytes place key
+        ≡ entryIn rec done (now (area .entry)) (now (index .entry)) slot bytes place key
         ⌝ }
 {
-    let edition = rec.edition;
     let version = rec.next;
-    let answer = insert(edition, area, index, place, key, version);
+    let answer = insert(area, index, place, key, version);
     let keys = keys_after(answer, rec.keys);
     let counts = entry_counts(rec, area, answer, slot, bytes);
     answered(rec, done, version, counts, keys)
@@ -303,36 +301,20 @@ fn rebuild(rec: Record, area: &[u8], index: &mut [u32], order: &[u8], map: u32) 
     ensures { λ r.
         ⌜
         _≡_ {A = Rebuilt} (record { answer = r; cells = now (index .exit) })
-        (built (rec .edition) (now (area .entry)) (rec .size) map (take (rec .slots) (now (order .entry))) (length (now (index .entry))))
+        (built (now (area .entry)) (rec .size) map (take (rec .slots) (now (order .entry))) (length (now (index .entry))))
         ⌝ }
 {
-    let edition = rec.edition;
     let slots = rec.slots as usize;
-    build(
-        edition,
-        area,
-        index,
-        &order[0..slots],
-        rec.size as usize,
-        map,
-    )
+    build(area, index, &order[0..slots], rec.size as usize, map)
 }
 
 // The present bytes once a new head in a slot has taken over what the victims held.
 fn renewed_counts(rec: Record, area: &[u8], slot: u32, victims: u32) -> [u32; 32]
     requires { ⌜ (slot < 32) × (rec .size ≤ 2048) × (slot * rec .size + rec .size ≤ length (now area)) ⌝ }
-    ensures { λ r. ⌜ r ≡ renewedAt (rec .edition) (rec .size) (now (area .entry)) slot victims (rec .counts) ⌝ }
+    ensures { λ r. ⌜ r ≡ renewedAt (rec .size) (now (area .entry)) slot victims (rec .counts) ⌝ }
 {
-    let edition = rec.edition;
     let mut counts = rec.counts;
-    renew(
-        edition,
-        &mut counts,
-        rec.size as usize,
-        area,
-        slot as usize,
-        victims,
-    );
+    renew(&mut counts, rec.size as usize, area, slot as usize, victims);
     counts
 }
 
@@ -355,7 +337,7 @@ fn finish_rebuilt(
     ensures { λ r.
         ⌜
         record { stepped = r; cells = now (index .exit) }
-        ≡ finishRebuilt (rec .edition) rec (now (area .entry)) (now (index .entry)) slot victims done (version .0)
+        ≡ finishRebuilt rec (now (area .entry)) (now (index .entry)) slot victims done (version .0)
         ⌝ }
 {
     let keys = rebuild(rec, area, index, &SLOTS, done.map);
@@ -379,7 +361,7 @@ fn finish_clean(
         × (slot < rec .slots)
         × (rec .digest .0 < 4294967295)
         ⌝ }
-    ensures { λ r. ⌜ record { stepped = r; cells = now (index .exit) } ≡ finishClean (rec .edition) rec (now (area .entry)) (now (index .entry)) slot victims count ⌝ }
+    ensures { λ r. ⌜ record { stepped = r; cells = now (index .exit) } ≡ finishClean rec (now (area .entry)) (now (index .entry)) slot victims count ⌝ }
 {
     let next = rec.next;
     let map = with_slot(without_slots(rec.map, victims), slot);
@@ -404,7 +386,7 @@ fn finish_forget(
         × (rec .next .0 < 18446744073709551615)
         × (rec .digest .0 < 4294967295)
         ⌝ }
-    ensures { λ r. ⌜ record { stepped = r; cells = now (index .exit) } ≡ finishForget (rec .edition) rec (now (area .entry)) (now (index .entry)) slot victims count ⌝ }
+    ensures { λ r. ⌜ record { stepped = r; cells = now (index .exit) } ≡ finishForget rec (now (area .entry)) (now (index .entry)) slot victims count ⌝ }
 {
     let next = rec.next;
     let map = with_slot(without_slots(rec.map, victims), slot);

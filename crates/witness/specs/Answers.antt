@@ -34,7 +34,7 @@ use Rattle.model.specs.Refused.{Terms, reachCauses, readCauses, startCauses}
 use Rattle.model.specs.Conversion.{convertCauses, convertedImage, convertAnswer, ConvertPromise}
 use Rattle.model.specs.Promises.{areaUnless, IndexAfter, RecoverPromise, readAnswer, readLengths, ReadPromise, Part, valueAnswer, ValuePromise, Begun, begun, lentLengths, StartPromise}
 use Rattle.model.specs.Scanned.{imageLog, scanCauses, ScanPromise, scannedPart, ScanValue}
-use Rattle.laws.specs.CauseLaws.{cause-first, first-some}
+use Rattle.laws.specs.CauseLaws.{first-some}
 use Rattle.laws.specs.SaidLaws.{recover-says, read-says, read-settled, start-settled}
 use Rattle.model.specs.Joining.{SlotPair, joinPair, joinEarly, joinCauses, pairAnswer, joinAnswer, pairSaid, pairSaidBy, JoinPromise}
 use Rattle.laws.specs.RecoverLaws.{recovery-order, recovery-recovered, recovered-facts}
@@ -48,13 +48,13 @@ use Rattle.stepping.specs.CleanLaws.{recovered-built}
 abbrev pub readBy : Layout → Record → List ℕ → List ℕ → Tables → Key → Reading
 readBy L r area cells t k =
     record {
-      answer = readAnswer L (firstCause (readCauses L r (logNow area r) (readLengths area cells) t k)) (present (logNow area r) k);
+      answer = readAnswer (firstCause (readCauses L r (logNow area r) (readLengths area cells) t k)) (present (logNow area r) k);
       rec = r;
     }
 
 abbrev pub partBy : Layout → Record → List ℕ → List ℕ → Tables → Key → Part
 partBy L r area cells t k =
-    valueAnswer L (r .size) (firstCause (readCauses L r (logNow area r) (readLengths area cells) t k)) (present (logNow area r) k)
+    valueAnswer (r .size) (firstCause (readCauses L r (logNow area r) (readLengths area cells) t k)) (present (logNow area r) k)
 
 module _ (L : Layout) (r : Record) (area cells : List ℕ) (t : Tables) (k : Key) where
   its-cause : (c : Refusal) → firstCause (reachCauses L r (readLengths area cells) t k) ≡ some c →
@@ -66,18 +66,18 @@ module _ (L : Layout) (r : Record) (area cells : List ℕ) (t : Tables) (k : Key
   read-made =
       record {
         hands-back = refl;
-        early = λ c e. ap (λ (x : Option Refusal). readAnswer L x (present (logNow area r) k)) (its-cause c e);
+        early = λ c e. ap (λ (x : Option Refusal). readAnswer x (present (logNow area r) k)) (its-cause c e);
         exact = λ g. refl;
         says =
             read-settled L r area cells t k _
-            (λ c e. ap (λ (x : Option Refusal). readAnswer L x (present (logNow area r) k)) (its-cause c e)) (λ g. refl);
+            (λ c e. ap (λ (x : Option Refusal). readAnswer x (present (logNow area r) k)) (its-cause c e)) (λ g. refl);
       }
 
   pub value-made : ValuePromise L r area cells t k (partBy L r area cells t k)
   unfolding valueAnswer
   value-made =
       record {
-        early = λ c e. ap (λ (x : Option Refusal). valueAnswer L (r .size) x (present (logNow area r) k)) (its-cause c e);
+        early = λ c e. ap (λ (x : Option Refusal). valueAnswer (r .size) x (present (logNow area r) k)) (its-cause c e);
         exact = λ g. refl;
       }
 
@@ -102,7 +102,7 @@ fewest-made L r =
 -- ---- read by scan
 
 abbrev pub scanBy : Layout → ℕ → ℕ → List ℕ → Tables → Key → ReadAnswer
-scanBy L n s area t k = readAnswer L (firstCause (scanCauses L n s area t k)) (present (imageLog n s area) k)
+scanBy L n s area t k = readAnswer (firstCause (scanCauses L n s area t k)) (present (imageLog n s area) k)
 
 module _ (L : Layout) (n s : ℕ) (area : List ℕ) (t : Tables) (k : Key) where
   pub scan-made : ScanPromise L n s area t k (scanBy L n s area t k)
@@ -187,7 +187,7 @@ module _ (L : Layout) (t : Terms) (o : Operation) (r : Record) (area cells work 
 -- ---- recovery
 
 unfoldable pub cellsBy : Layout → ℕ → List ℕ → List ℕ → List ℕ → Record → RecoverAnswer → List ℕ
-cellsBy L s order area cells r RecoverAnswer.Recovered = built L area s (r .map) order (length cells) .cells
+cellsBy L s order area cells r RecoverAnswer.Recovered = built area s (r .map) order (length cells) .cells
 cellsBy L s order area cells r (RecoverAnswer.Refused c) = pick (eqb (numberOfRefusal c) 20) (replicate (length cells) 0) cells
 
 abbrev pub recoveredCells : Layout → ℕ → List ℕ → List ℕ → List ℕ → Recovery → List ℕ
@@ -207,7 +207,7 @@ module _ (L : Layout) (n s : ℕ) (order area cells : List ℕ) where
   Keeps r = RecoverPromise L n s order area cells (recoveredCells L s order area cells r) r
 
   rebuilt : recovery L n s m order area ≡ record { answer = RecoverAnswer.Recovered; rec = rec } →
-      Holds s m (logNow area rec) (built L area s (rec .map) order m)
+      Holds s m (logNow area rec) (built area s (rec .map) order m)
   rebuilt e =
       let recovers = recovery-recovered L n s m area order rec e in
       recovered-built L n s m area order rec recovers (recovery-order L n s m area order rec e)

@@ -217,6 +217,6 @@ unfolding computing
 computed-counts = refl
 
 -- That is what a scan of the log counts.
-pub scanned-counts : (h : Held) → all .world .held ≡ some h → countsOf edition1 (logNow (all .world .area) (h .rec)) ≡ left-counts
+pub scanned-counts : (h : Held) → all .world .held ≡ some h → countsOf (logNow (all .world .area) (h .rec)) ≡ left-counts
 scanned-counts h e =
     sym (counts-kept edition1 4 256 before area₀ (bytes-of 1024 0xaa (omega arith)) formats events (all .world) run h e) ∙ ap heldCounts (sym e) ∙ computed-counts

@@ -4,7 +4,7 @@ use mathlib.Core.Path.{_≡_, refl}
 use mathlib.Core.List.{List, [], _∷_}
 use mathlib.Core.Option.{none, some}
 use lib.ListN.{getD, replicate, take}
-use Rattle.segment.specs.Layout.{edition2}
+use Rattle.segment.specs.Layout.{edition2, edition1}
 use Rattle.model.specs.Causes.{firstCause}
 use Rattle.model.specs.Conversion.{convertCauses, convertedImage}
 use Rattle.model.specs.Log.{Placed}
@@ -53,7 +53,7 @@ same-map = (refl, refl)
 
 -- Up and down again gives the same log, the object of the second key behind the head's digest.
 abbrev pub log : List Placed
-log = record { slot = 1; offset = 13; entry = record { table = 7; key = 10; version = 2; value = some threes } } ∷ []
+log = record { slot = 1; layout = edition1; offset = 13; entry = record { table = 7; key = 10; version = 2; value = some threes } } ∷ []
 
 pub same-log : (imageLog 4 256 area ≡ log) × (imageLog 4 256 down ≡ log)
 unfolding computing

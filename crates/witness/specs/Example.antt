@@ -10,7 +10,7 @@ use lib.ListN.{replicate}
 use Rattle.word.specs.Fnv.{fnvStep, fnvFrom}
 use Rattle.word.specs.Number.{Bytes}
 use Rattle.segment.specs.Choice.{pick, both}
-use Rattle.segment.specs.Layout.{edition1, otherLayout}
+use Rattle.segment.specs.Layout.{edition1, layoutOfKind, otherLayout}
 use Rattle.segment.specs.declared.Key.{Key}
 use Rattle.slot_map.specs.Bit.{withBit, less}
 use Rattle.record.specs.Answers.{Said, refusal, taken}
@@ -251,7 +251,7 @@ unfolding opened fnvStep fnvFrom withBit less around entriesFrom inLog listed Bu
     keysAfter answeredWith foundBytes lostAt lostBy renewedAt foundIn finishEntry finishAppend finishHead upFrom finishClean finishForget oneLess finishWith advanced
     entryAgrees slotAgrees victimsAgree agreesWith testedStore
     commitStores commitStore fitsSlot fitsLeft slotStore slotNext pendingNext cellsBy storedBy steppedUnless toldStore toldUnless
-    otherLayout slotBytes convertedSlots slotTooLong versionTooWide nextTooWide slotTooWide convertAnswer answerBy lentBy played playOn compared expectedNumber callNumbers eventNumbers eventValue
+    layoutOfKind otherLayout slotBytes convertedSlots slotTooLong versionTooWide nextTooWide slotTooWide convertAnswer answerBy lentBy played playOn compared expectedNumber callNumbers eventNumbers eventValue
 computing = tt
 
 computed : failing (compared (all .events) events) ≡ []

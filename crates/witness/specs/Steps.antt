@@ -49,10 +49,10 @@ steppedBy L r area cells work = steppedUnless L r area cells work (firstCause (s
 
 -- ---- the index stays as long as it was, whatever the record
 
-length-inserted : (L : Layout) (area cells : List ℕ) (place version : ℕ) (f : Found) →
-    length (insertedAt L area cells place version f .cells) ≡ length cells
+length-inserted : (area cells : List ℕ) (place version : ℕ) (f : Found) →
+    length (insertedAt area cells place version f .cells) ≡ length cells
 unfolding insertedAt pick
-length-inserted L area cells place version (Found.At i) = go (ltb (versionAt L area (getD cells i 0 - 1)) version)
+length-inserted area cells place version (Found.At i) = go (ltb (versionAt area (getD cells i 0 - 1)) version)
   where
     go : (t : Bool) →
         length
@@ -60,15 +60,15 @@ length-inserted L area cells place version (Found.At i) = go (ltb (versionAt L a
         ≡ length cells
     go true = length-set cells i (place + 1)
     go false = refl
-length-inserted L area cells place version (Found.Free i) = length-set cells i (place + 1)
-length-inserted L area cells place version Found.Full = refl
+length-inserted area cells place version (Found.Free i) = length-set cells i (place + 1)
+length-inserted area cells place version Found.Full = refl
 
 -- as many cells in a tally that is not over
 abbrev Cells : ℕ → Tally → Type 0
 Cells m (counted cells n) = length cells ≡ m
 Cells m over = Unit {0}
 
-module _ (L : Layout) (area : List ℕ) (S m : ℕ) where
+module _ (area : List ℕ) (S m : ℕ) where
   tallied-cells : (a : Inserted) (cells : List ℕ) (n : ℕ) → length cells ≡ m → Cells m (tallied a cells n)
   unfolding tallied pick
   tallied-cells Inserted.New cells n e = go (ltb (n + 1) (length cells))
@@ -80,27 +80,27 @@ module _ (L : Layout) (area : List ℕ) (S m : ℕ) where
   tallied-cells Inserted.Older cells n e = e
   tallied-cells Inserted.Full cells n e = tt
 
-  next-cells : (x : Placed) (t : Tally) → Cells m t → Cells m (insertNext L area S x t)
+  next-cells : (x : Placed) (t : Tally) → Cells m t → Cells m (insertNext area S x t)
   unfolding insertNext
   next-cells x (counted cells n) e =
-      tallied-cells (inserted L area cells (placeOf S x) (keyOf (x .entry)) (x .entry .version) .answer)
-      (inserted L area cells (placeOf S x) (keyOf (x .entry)) (x .entry .version) .cells) n
-      (length-inserted L area cells (placeOf S x) (x .entry .version) (searchFor L area cells (keyOf (x .entry))) ∙ e)
+      tallied-cells (inserted area cells (placeOf S x) (keyOf (x .entry)) (x .entry .version) .answer)
+      (inserted area cells (placeOf S x) (keyOf (x .entry)) (x .entry .version) .cells) n
+      (length-inserted area cells (placeOf S x) (x .entry .version) (searchFor area cells (keyOf (x .entry))) ∙ e)
   next-cells x over e = tt
 
-  all-cells : (xs : List Placed) (t : Tally) → Cells m t → Cells m (insertAll L area S xs t)
+  all-cells : (xs : List Placed) (t : Tally) → Cells m t → Cells m (insertAll area S xs t)
   unfolding insertAll
   all-cells [] t e = e
-  all-cells (x ∷ xs) t e = all-cells xs (insertNext L area S x t) (next-cells x t e)
+  all-cells (x ∷ xs) t e = all-cells xs (insertNext area S x t) (next-cells x t e)
 
   finished-cells : (t : Tally) → Cells m t → length (finished m t .cells) ≡ m
   unfolding finished
   finished-cells (counted cells n) e = e
   finished-cells over e = length-replicate m 0
 
-length-built : (L : Layout) (area : List ℕ) (S map : ℕ) (order : List ℕ) (m : ℕ) → length (built L area S map order m .cells) ≡ m
+length-built : (L : Layout) (area : List ℕ) (S map : ℕ) (order : List ℕ) (m : ℕ) → length (built area S map order m .cells) ≡ m
 length-built L area S map order m =
-    finished-cells L area S m _ (all-cells L area S m _ (counted (replicate m 0) 0) (length-replicate m 0))
+    finished-cells area S m _ (all-cells area S m _ (counted (replicate m 0) 0) (length-replicate m 0))
 
 module _ (L : Layout) (r : Record) (area cells : List ℕ) where
   abbrev Long : After → Type 0
@@ -114,7 +114,7 @@ module _ (L : Layout) (r : Record) (area cells : List ℕ) where
 
   found-long : (done : Commit) (slot place : ℕ) (f : Entered) → Long (foundIn L r done area cells slot place f)
   unfolding foundIn
-  found-long done slot place (entry e) = length-inserted L area cells place (r .next .0) (searchFor L area cells (keyOf e))
+  found-long done slot place (entry e) = length-inserted area cells place (r .next .0) (searchFor area cells (keyOf e))
   found-long done slot place end = refl
   found-long done slot place damage = refl
 

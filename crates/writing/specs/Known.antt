@@ -8,7 +8,7 @@ use native.Mathlib.Omega.{arith}
 use lib.ListN.{length, getD, drop, length-take}
 use Rattle.segment.specs.Choice.{pick, isNone}
 use Rattle.segment.specs.Layout.{Layout}
-use Rattle.segment.specs.Area.{standsAt, found-place}
+use Rattle.segment.specs.Area.{standsAt, stands-place}
 use Rattle.segment.specs.Entry.{entry, entryAt, sizeOf, keyOf, answer, isTombstone, kindOf}
 use Rattle.segment.specs.EntryLaws.{found-fits}
 use Rattle.segment.specs.declared.Key.{Key}
@@ -18,20 +18,19 @@ use Rattle.record.specs.Answers.{withPending}
 use Rattle.record.specs.RangeLaws.{Lent}
 use Rattle.record.specs.declared.Pending.the-variants.{Idle}
 use Rattle.record.specs.declared.Record.{Record}
-use Rattle.model.specs.Log.{View, Placed, segmentOf, placeOf, viewsOf, scan, latest, objectOnly, present, hasKey, keysOf}
+use Rattle.model.specs.Log.{Placed, segmentOf, placeOf, viewsOf, latest, objectOnly, present, keysOf}
 use Rattle.model.specs.Index.{HasCell, startCell}
 use Rattle.model.specs.Operations.{logNow}
 use Rattle.model.specs.Refused.{versionIn, keyFacts}
 use Rattle.model.specs.Promises.{Genuine}
 use Rattle.laws.specs.Members.{In}
 use Rattle.laws.specs.Latest.{latest-some, latest-has, latest-none, key-none}
-use Rattle.laws.specs.LogLaws.{AllOf, AllScanned, log-in, scan-whole}
-use Rattle.laws.specs.Scans.{scan-scans, scans-found}
+use Rattle.laws.specs.LogLaws.{AllScanned, log-in}
 use Rattle.laws.specs.RecoverLaws.{recovered-case, recovered-keys}
 use Rattle.index.specs.Search.{probe, cellHas, searchFor}
 use Rattle.index.specs.SearchLaws.{search-within}
 use Rattle.index.specs.Area.{area-picks}
-use Rattle.index.specs.BuildLaws.{log-in-area}
+use Rattle.index.specs.BuildLaws.{log-in-area, log-reads}
 use Rattle.index.specs.Finds.{Picks, FreeCell, search-known, search-new}
 use Rattle.index.specs.declared.Found.{Found}
 use Rattle.index.specs.declared.Found.the-variants.{At, Free}
@@ -58,25 +57,15 @@ module _ (L : Layout) (area : List ℕ) (r : Record) (cells : List ℕ) (g : Gen
       recovered-case L (r .slots) (r .size) (r .cells) area (λ (x : Record). AllScanned (viewsOf area (r .size)) (named (x .map)) (r .slots))
       (λ top l f. f .scans) (withPending r Idle) (g .recovers)
 
-  editions : AllOf L (viewsOf area (r .size)) (named (r .map)) (r .slots)
-  editions =
-      recovered-case L (r .slots) (r .size) (r .cells) area (λ (x : Record). AllOf L (viewsOf area (r .size)) (named (x .map)) (r .slots))
-      (λ top l f. f .editions) (withPending r Idle) (g .recovers)
+  stands : (x : Placed) → In x (logNow area r) → entryAt (x .layout) (segmentOf area (r .size) (x .slot)) (x .offset) ≡ entry (x .entry)
+  stands x m = log-reads area (r .size) (named (r .map)) (r .slots) scans x m
 
-  stands : (x : Placed) → In x (logNow area r) → entryAt L (segmentOf area (r .size) (x .slot)) (x .offset) ≡ entry (x .entry)
-  stands x m =
-      let w = log-in (viewsOf area (r .size)) (named (r .map)) (r .slots) x m in
-      let v : View = viewsOf area (r .size) (x .slot) in
-      let s : List ℕ = segmentOf area (r .size) (x .slot) in
-      let own : v .scan ≡ scan L s = ap (λ (K : Layout). scan K s) (editions (x .slot) (w .below) (w .picked)) in
-      scans-found (scan-scans L s (sym own ∙ scan-whole (v .scan) (scans (x .slot) (w .below) (w .picked)))) (w .item)
-
-  stands-at : (x : Placed) → In x (logNow area r) → standsAt L (r .size) area (placeOf (r .size) x) ≡ answer L (entry (x .entry))
+  stands-at : (x : Placed) → In x (logNow area r) → standsAt (r .size) area (placeOf (r .size) x) ≡ answer (x .layout) (entry (x .entry))
   stands-at x m =
       let s : List ℕ = segmentOf area (r .size) (x .slot) in
       let inside : x .offset < r .size =
-      omega (arith, found-fits L s (x .offset) (x .entry) (stands x m), length-take (r .size) (drop (x .slot * r .size) area)) in
-      ap (answer L) (found-place L (r .size) area (x .slot) (x .offset) inside ∙ stands x m)
+      omega (arith, found-fits (x .layout) s (x .offset) (x .entry) (stands x m), length-take (r .size) (drop (x .slot * r .size) area)) in
+      stands-place (r .size) area (x .slot) (x .offset) inside (x .layout) (x .entry) (stands x m)
 
   few : length (keysOf (logNow area r)) < length cells
   few =
@@ -89,30 +78,30 @@ module _ (L : Layout) (area : List ℕ) (r : Record) (cells : List ℕ) (g : Gen
       )
 
   module _ (k : Key) where
-    picks : Picks (cellHas L area k) (r .size) (logNow area r) k
-    picks = area-picks L area (r .size) (logNow area r) k (log-in-area L area (r .size) (named (r .map)) (r .slots) editions scans)
+    picks : Picks (cellHas area k) (r .size) (logNow area r) k
+    picks = area-picks area (r .size) (logNow area r) k (log-in-area area (r .size) (named (r .map)) (r .slots) scans)
 
-    within : searchFor L area cells k ≡ probe (cellHas L area k) cells (length cells) (startCell (length cells) k)
-    within = search-within L area cells k (omega (arith, h .index-own, h .cells-high))
+    within : searchFor area cells k ≡ probe (cellHas area k) cells (length cells) (startCell (length cells) k)
+    within = search-within area cells k (omega (arith, h .index-own, h .cells-high))
 
     -- Nothing of the key in the log, and its latest entry x: what the search finds.
-    no-entry : latest (logNow area r) k ≡ none → (c : FreeCell cells k) × (searchFor L area cells k ≡ Free (c .cell))
-    no-entry e = let f = search-new (r .size) (logNow area r) cells (g .rule) (cellHas L area k) k picks e few in (f .0, within ∙ f .1)
+    no-entry : latest (logNow area r) k ≡ none → (c : FreeCell cells k) × (searchFor area cells k ≡ Free (c .cell))
+    no-entry e = let f = search-new (r .size) (logNow area r) cells (g .rule) (cellHas area k) k picks e few in (f .0, within ∙ f .1)
 
-    an-entry : (x : Placed) → latest (logNow area r) k ≡ some x → (c : HasCell (r .size) cells x) × (searchFor L area cells k ≡ At (c .cell))
-    an-entry x e = let f = search-known (r .size) (logNow area r) cells (g .rule) (cellHas L area k) k picks x e in (f .0, within ∙ f .1)
+    an-entry : (x : Placed) → latest (logNow area r) k ≡ some x → (c : HasCell (r .size) cells x) × (searchFor area cells k ≡ At (c .cell))
+    an-entry x e = let f = search-known (r .size) (logNow area r) cells (g .rule) (cellHas area k) k picks x e in (f .0, within ∙ f .1)
 
     -- so the code's facts of a key are the log's
-    pub genuine-facts : factsFor L r area cells k ≡ keyFacts (logNow area r) k
+    pub genuine-facts : factsFor r area cells k ≡ keyFacts (logNow area r) k
     unfolding factsOf presenceAt present isNone versionIn objectOnly
     genuine-facts = go (latest (logNow area r) k) refl
       where
-        go : (o : Option Placed) → latest (logNow area r) k ≡ o → factsFor L r area cells k ≡ keyFacts (logNow area r) k
+        go : (o : Option Placed) → latest (logNow area r) k ≡ o → factsFor r area cells k ≡ keyFacts (logNow area r) k
         go none e =
             let has = sym (key-none (logNow area r) k (latest-none (logNow area r) k e)) in
             let absent = sym (ap (λ (o : Option Placed). isNone (objectOnly o)) e) in
             let version = sym (ap (λ (o : Option Placed). versionIn (objectOnly o)) e) in
-            ap (λ (f : Found). factsOf (presenceAt L (r .size) area cells f)) (no-entry e .1)
+            ap (λ (f : Found). factsOf (presenceAt (r .size) area cells f)) (no-entry e .1)
             ∙ λ i. record { forbidden = false; in-log = has i; absent = absent i; version = version i }
         go (some x) e =
             let w = an-entry x e in
@@ -120,8 +109,8 @@ module _ (L : Layout) (area : List ℕ) (r : Record) (cells : List ℕ) (g : Gen
             let has = sym (latest-has (logNow area r) k x e) in
             let absent = sym (ap (λ (o : Option Placed). isNone (objectOnly o)) e) in
             let version = sym (ap (λ (o : Option Placed). versionIn (objectOnly o)) e) in
-            ap (λ (f : Found). factsOf (presenceAt L (r .size) area cells f)) (w .1)
-            ∙ ap (λ (p : ℕ). factsOf (presenceOf (standsAt L (r .size) area p))) place
+            ap (λ (f : Found). factsOf (presenceAt (r .size) area cells f)) (w .1)
+            ∙ ap (λ (p : ℕ). factsOf (presenceOf (standsAt (r .size) area p))) place
             ∙ ap (λ (y : Read). factsOf (presenceOf y)) (stands-at x (latest-some (logNow area r) k x e .member))
-            ∙ entry-facts L x
+            ∙ entry-facts (x .layout) x
             ∙ λ i. record { forbidden = false; in-log = has i; absent = absent i; version = version i }

@@ -1,11 +1,11 @@
 -- The tests at each return of the code: premises are what the code's tests and callees told.
-use Prim.Native.Nat.{ℕ, _+_, _-_, _≤_, _<_}
-use mathlib.Core.Path.{_≡_, refl, sym, _∙_, ap}
+use Prim.Native.Nat.{ℕ, _+_, _-_, _≤_}
+use mathlib.Core.Path.{_≡_, sym, _∙_, ap}
 use mathlib.Core.Bool.{Bool, true, false, not}
 use mathlib.Core.List.{List, [], _∷_, _++_}
 use lib.Dec.{eqb, ltb, leb}
 use lib.ListN.{getD}
-use borrow.Author.Tests.{lt-ltb, le-ltb, eq-eqb, ne-eqb, not-false}
+use borrow.Author.Tests.{eq-eqb, ne-eqb, not-false}
 use Rattle.segment.specs.Choice.{both, both-true, both-false-left, both-false-right, isNone, orZero}
 use Rattle.segment.specs.Layout.{Layout, objectKind, entrySize, digestSize, versionLimit, numberLimit}
 use Rattle.segment.specs.LayoutLaws.{object-kind}
@@ -28,13 +28,12 @@ use Rattle.model.specs.Refused.{Lengths, Terms, reaching, KeyFacts, expectsOthe
 use Rattle.laws.specs.Entering.{Roomy}
 use Rattle.laws.specs.CauseLaws.{no-cause}
 use Rattle.index.specs.Search.{searchFor}
-use Rattle.index.specs.declared.Found.{Found}
 use Rattle.index.specs.declared.Found.the-variants.{At, Free, Full}
 use Rattle.starting.specs.declared.Check.{Check}
 use Rattle.starting.specs.Checks.{checked, idleCauses}
 use Rattle.starting.specs.CheckLaws.{refused, skipped, passed, checked-none, part-refused, part-passed, record-bad}
 use Rattle.writing.specs.declared.Presence.{Presence}
-use Rattle.writing.specs.declared.Presence.the-variants.{Object, Tombstone, Nothing, Forbidden}
+use Rattle.writing.specs.declared.Presence.the-variants.{Object, Nothing, Forbidden}
 use Rattle.writing.specs.Tests.{factsOf, presenceOf, presenceAt, presenceFor, firstTests, versionTests, expectedTests, keyTests, numberTests, roomTests, entryTests}
 
 -- ---- 21
@@ -220,21 +219,21 @@ module _ (L : Layout) (r : Record) (l : Lengths) (q : Terms) (j : Key) (p : Pres
 
 -- ---- what the index says of a key
 
-module _ (L : Layout) (S : ℕ) (area cells : List ℕ) (k : Key) where
-  pub presence-full : Full ≡ searchFor L area cells k → Forbidden ≡ presenceFor L S area cells k
+module _ (S : ℕ) (area cells : List ℕ) (k : Key) where
+  pub presence-full : Full ≡ searchFor area cells k → Forbidden ≡ presenceFor S area cells k
   unfolding presenceAt
-  presence-full e = ap (presenceAt L S area cells) e
+  presence-full e = ap (presenceAt S area cells) e
 
   module _ (i : ℕ) where
-    pub presence-free : Free i ≡ searchFor L area cells k → Nothing ≡ presenceFor L S area cells k
+    pub presence-free : Free i ≡ searchFor area cells k → Nothing ≡ presenceFor S area cells k
     unfolding presenceAt
-    presence-free e = ap (presenceAt L S area cells) e
+    presence-free e = ap (presenceAt S area cells) e
 
     pub presence-at :
-        {p : Presence} → At i ≡ searchFor L area cells k → p ≡ presenceOf (standsAt L S area (getD cells i 0 - 1)) →
-        p ≡ presenceFor L S area cells k
+        {p : Presence} → At i ≡ searchFor area cells k → p ≡ presenceOf (standsAt S area (getD cells i 0 - 1)) →
+        p ≡ presenceFor S area cells k
     unfolding presenceAt
-    presence-at e h = h ∙ ap (presenceAt L S area cells) e
+    presence-at e h = h ∙ ap (presenceAt S area cells) e
 
 -- ---- a delete: p is what the code finds for the key
 

@@ -2,7 +2,6 @@
 use crate::Presence;
 use index::Found;
 use index::search::search;
-use segment::Edition;
 use segment::Key;
 use segment::Read;
 use segment::area::entry_at;
@@ -32,16 +31,16 @@ fn presence(read: Read) -> Presence
 }
 
 // What a key's latest entry is. An index in which the search finds no end is none that its rule allows.
-pub fn find(edition: Edition, size: usize, area: &[u8], index: &[u32], key: Key) -> Presence
+pub fn find(size: usize, area: &[u8], index: &[u32], key: Key) -> Presence
     requires { ⌜ (0 < size) × (size < 4294967296) ⌝ }
-    ensures { λ r. ⌜ r ≡ presenceFor edition size (now (area .entry)) (now (index .entry)) key ⌝ }
+    ensures { λ r. ⌜ r ≡ presenceFor size (now (area .entry)) (now (index .entry)) key ⌝ }
 {
-    match search(edition, area, index, key) {
+    match search(area, index, key) {
         Found::Full => Presence::Forbidden,
         Found::Free(_) => Presence::Nothing,
         Found::At(i) => {
             let place = (index[i] - 1) as usize;
-            presence(entry_at(edition, size, area, place))
+            presence(entry_at(size, area, place))
         }
     }
 }

@@ -26,13 +26,13 @@ held c = sym (c .before .holds-table .ensures) ∙ not-false _ (c .if2 .left)
 
 -- what the look says, by the record that the words say
 looked : (c : tie.After-look-at)
-    → let a = c .before .before .before .before .before .before .before .before .before .before .before .before .args in
+    → let a = c .before .before .before .before .before .before .before .before .before .before .args in
     c .look-at .result ≡
     lookedUp (decoded (a .words .now) .rec .edition) (decoded (a .words .now) .rec) (a .area .now) (a .index .now) (record { first = a .first; last = a .last })
     (record { table = a .table; key = a .key })
 looked c =
-    let e = c .before .before .before .before .before in
-    looked-word _ _ _ _ _ (fit (e .before .before)) (held e) (c .before .before .before .edition-of .ensures) (c .before .before .search .ensures) (c .look-at .ensures)
+    let e = c .before .before .before in
+    looked-word _ _ _ _ _ (fit (e .before .before)) (held e) (c .before .before .search .ensures) (c .look-at .ensures)
 
 returns : tie.Need-returns
 unfolding toldBy
@@ -44,20 +44,17 @@ returns-2 c =
     read-crossed (looked-away _ _ _ _ _ refl (fit (c .before .before)) (sym (c .before .holds-table .ensures) ∙ not-true _ (c .if2 .taken))) refl refl
     refl refl refl
 
-shared-slice-read-edition-of : tie.Need-shared-slice-read-edition-of
-shared-slice-read-edition-of c = omega (arith, fits-words _ _ _ (fit (c .before .before .before)))
-
 shared-slice-read-look-at : tie.Need-shared-slice-read-look-at
-shared-slice-read-look-at c = omega (arith, fits-words _ _ _ (fit (c .before .before .before .before .before .before)))
+shared-slice-read-look-at c = omega (arith, fits-words _ _ _ (fit (c .before .before .before .before)))
 
 cast-look-at : tie.Need-cast-look-at
-cast-look-at c = omega (arith, c .shared-slice-known5 .given 1)
+cast-look-at c = omega (arith, c .shared-slice-known4 .given 1)
 
 look-at-requires : tie.Need-look-at-requires
 look-at-requires c κs =
-    let e = c .before .before .before .before in
+    let e = c .before .before in
     let t = e .before .before in
-    λ i f. reached-word _ _ _ _ _ _ (fit t) (held e) (c .before .before .edition-of .ensures) i (sym (c .before .search .ensures) ∙ f)
+    λ i f. reached-word _ _ _ _ _ (fit t) (held e) i (sym (c .before .search .ensures) ∙ f)
 
 returns-3 : tie.Need-returns-3
 returns-3 c =
@@ -75,8 +72,6 @@ kurdavel-read-spec =
     returns
     (λ c κs. search needs)
     returns-2
-    shared-slice-read-edition-of
-    (λ c κs. search needs)
     (λ c κs. search needs)
     shared-slice-read-look-at
     cast-look-at

@@ -4,13 +4,13 @@ use mathlib.Core.Bool.{true}
 use mathlib.Core.Path.{_≡_, refl, sym, _∙_, ap}
 use native.Mathlib.Omega.{arith}
 use lib.ListN.{length}
-use Rattle.segment.specs.Layout.{Layout, entrySize}
+use Rattle.segment.specs.Layout.{Layout, layoutOfKind, entrySize}
 use Rattle.record.specs.Range.{fitsLent}
 use Rattle.record.specs.Reach.{holdsTable}
 use Rattle.recovery.specs.Lookups.{lookedUp, toldBy, partBy}
 use Rattle.recovery.specs.LookupLaws.{ObjectInside, object-inside}
 use Rattle.words.specs.Words.{decoded}
-use Rattle.kurdavel.specs.CrossingLaws.{fits-words, edition-word, looked-lost, looked-away, looked-word, reached-word, found-small, value-crossed}
+use Rattle.kurdavel.specs.CrossingLaws.{fits-words, looked-lost, looked-away, looked-word, reached-word, found-small, value-crossed}
 use borrow.Author.Needs.{needs}
 use borrow.Author.Tests.{not-true, not-false}
 use Rattle.kurdavel.proofs.kurdavel_read_value.Statement.{statement}
@@ -29,29 +29,25 @@ held c = sym (c .before .holds-table .ensures) ∙ not-false _ (c .if2 .left)
 
 -- what the look says, by the record that the words say
 looked : (c : tie.After-look-at)
-    → let a = c .before .before .before .before .before .before .before .before .before .before .before .before .args in
+    → let a = c .before .before .before .before .before .before .before .before .before .before .args in
     c .look-at .result ≡
     lookedUp (decoded (a .words .now) .rec .edition) (decoded (a .words .now) .rec) (a .area .now) (a .index .now) (record { first = a .first; last = a .last })
     (record { table = a .table; key = a .key })
 looked c =
-    let e = c .before .before .before .before .before in
-    looked-word _ _ _ _ _ (fit (e .before .before)) (held e) (c .before .before .before .edition-of .ensures) (c .before .before .search .ensures) (c .look-at .ensures)
+    let e = c .before .before .before in
+    looked-word _ _ _ _ _ (fit (e .before .before)) (held e) (c .before .before .search .ensures) (c .look-at .ensures)
 
 -- the entry of an object that was found lies in the area, whose length is a record's
 inside : (c : tie.After-known-told)
-    → ObjectInside (decoded (c .before .before .before .before .before .before .before .before .before .before .before .before .before .before .before .args .words .now) .rec .edition) (c .before .before .before .before .before .before .before .before .before .before .before .before .before .before .before .args .area .now) (c .before .entry .given .0 .0) (c .before .entry .given .0 .1 .1 .1 .0)
+    → ObjectInside (layoutOfKind (c .before .entry .given .0 .1 .1 .0)) (c .before .before .before .before .before .before .before .before .before .before .before .before .before .args .area .now) (c .before .entry .given .0 .0) (c .before .entry .given .0 .1 .1 .1 .0)
 inside c = object-inside _ _ _ _ _ _ _ _ _ _ (sym (looked (c .before .before .before)) ∙ c .before .entry .given .1)
 
-small : (c : tie.After-known-told) → length (c .before .before .before .before .before .before .before .before .before .before .before .before .before .before .before .args .area .now) ≤ 65536
+small : (c : tie.After-known-told) → length (c .before .before .before .before .before .before .before .before .before .before .before .before .before .args .area .now) ≤ 65536
 small c = found-small _ _ _ _ _ (sym (looked (c .before .before .before)) ∙ c .before .entry .given .1)
 
--- the bytes before a value, by the edition that the words say
-head-is : (c : tie.After-head-size) → c .head-size .result ≡ entrySize (decoded (c .before .before .before .before .before .before .before .before .before .before .before .before .before .before .before .before .args .words .now) .rec .edition) 0
-head-is c =
-    let k = c .before .before .before .before in
-    c .head-size .ensures
-    ∙ ap (λ (L : Layout). entrySize L 0)
-    (edition-word _ _ _ (fit (k .before .before .before .before .before .before .before)) _ (k .before .before .before .edition-of .ensures))
+-- the bytes before a value, by the edition that the kind tells
+head-is : (c : tie.After-head-size) → c .head-size .result ≡ entrySize (layoutOfKind (c .before .before .before .entry .given .0 .1 .1 .0)) 0
+head-is c = c .head-size .ensures ∙ ap (λ (L : Layout). entrySize L 0) (c .before .edition-of-kind .ensures)
 
 returns : tie.Need-returns
 unfolding toldBy partBy
@@ -65,43 +61,43 @@ returns-2 c =
     value-crossed (looked-away _ _ _ _ _ refl (fit (c .before .before)) (sym (c .before .holds-table .ensures) ∙ not-true _ (c .if2 .taken))) refl refl refl
     (omega arith) (λ _. (refl, refl))
 
-shared-slice-read-edition-of : tie.Need-shared-slice-read-edition-of
-shared-slice-read-edition-of c = omega (arith, fits-words _ _ _ (fit (c .before .before .before)))
-
 shared-slice-read-look-at : tie.Need-shared-slice-read-look-at
-shared-slice-read-look-at c = omega (arith, fits-words _ _ _ (fit (c .before .before .before .before .before .before)))
+shared-slice-read-look-at c = omega (arith, fits-words _ _ _ (fit (c .before .before .before .before)))
 
 cast-look-at : tie.Need-cast-look-at
-cast-look-at c = omega (arith, c .shared-slice-known5 .given 1)
+cast-look-at c = omega (arith, c .shared-slice-known4 .given 1)
 
 look-at-requires : tie.Need-look-at-requires
 look-at-requires c κs =
-    let e = c .before .before .before .before in
+    let e = c .before .before in
     let t = e .before .before in
-    λ i f. reached-word _ _ _ _ _ _ (fit t) (held e) (c .before .before .edition-of .ensures) i (sym (c .before .search .ensures) ∙ f)
+    λ i f. reached-word _ _ _ _ _ (fit t) (held e) i (sym (c .before .search .ensures) ∙ f)
+
+edition-of-kind-requires : tie.Need-edition-of-kind-requires
+edition-of-kind-requires c κs = search needs
 
 head-size-requires : tie.Need-head-size-requires
 head-size-requires c κs = search needs
 
 add-place : tie.Need-add-place
-add-place c = let h = inside (c .before) in let l = small (c .before) in omega (arith, head-is c)
+add-place c = let h = inside (c .before .before) in let l = small (c .before .before) in omega (arith, head-is c)
 
 cast-place : tie.Need-cast-place
-cast-place c = let h = inside (c .before) in let l = small (c .before) in omega (arith, head-is c)
+cast-place c = let h = inside (c .before .before) in let l = small (c .before .before) in omega (arith, head-is c)
 
 sub-bytes : tie.Need-sub-bytes
-sub-bytes c = let h = inside (c .before) in omega (arith, head-is c)
+sub-bytes c = let h = inside (c .before .before) in omega (arith, head-is c)
 
 cast-bytes : tie.Need-cast-bytes
-cast-bytes c = let h = inside (c .before) in let l = small (c .before) in omega (arith, head-is c)
+cast-bytes c = let h = inside (c .before .before) in let l = small (c .before .before) in omega (arith, head-is c)
 
 returns-3 : tie.Need-returns-3
 unfolding toldBy partBy
 returns-3 c =
-    let h = inside (c .before) in
-    let p = c .before .before .entry .given .0 .0 in
-    let n = c .before .before .entry .given .0 .1 .1 .1 .0 in
-    value-crossed (looked (c .before .before .before .before)) (c .before .before .entry .given .1) refl
+    let h = inside (c .before .before) in
+    let p = c .before .before .before .entry .given .0 .0 in
+    let n = c .before .before .before .entry .given .0 .1 .1 .1 .0 in
+    value-crossed (looked (c .before .before .before .before .before)) (c .before .before .before .entry .given .1) refl
     (ap (λ (m : ℕ). record { place = p + m; bytes = n - m }) (head-is c)) (omega (arith, head-is c)) (λ refused. absurd (refused refl))
 
 returns-4 : tie.Need-returns-4
@@ -124,13 +120,12 @@ kurdavel-read-value-spec =
     returns
     (λ c κs. search needs)
     returns-2
-    shared-slice-read-edition-of
-    (λ c κs. search needs)
     (λ c κs. search needs)
     shared-slice-read-look-at
     cast-look-at
     look-at-requires
     (λ c. search needs)
+    edition-of-kind-requires
     head-size-requires
     add-place
     cast-place

@@ -51,7 +51,7 @@ clean-marked-requires c κs =
     let k = t .before .before in
     let a = k .before .before .before .before .args in
     front-fits _ (now (a .area)) (now (a .index)) (a .rec) (a .victims) (now (a .work)) (sym (t .enum-told .given .1) ∙ k .check-victims .ensures)
-    _ _ (s .split-of .ensures) (ap length (m .mark-needed .ensures) ∙ length-needed _ _ _ _ 128 _ (length-replicate {A = ℕ} 128 0))
+    _ _ (s .split-of .ensures) (ap length (m .mark-needed .ensures) ∙ length-needed _ _ _ 128 _ (length-replicate {A = ℕ} 128 0))
 
 returns : tie.Need-returns
 returns c =

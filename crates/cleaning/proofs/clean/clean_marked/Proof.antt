@@ -3,11 +3,9 @@ use Prim.Native.Nat.{ℕ}
 use mathlib.Core.Path.{_≡_, sym, _∙_, ap}
 use mathlib.Core.Option.{none}
 use mathlib.Core.List.{List}
-use native.Mathlib.Omega.{arith}
 use lib.ListN.{length, length-replicate}
 use denote.Ref.{now}
 use borrow.Author.Needs.{needs}
-use Rattle.segment.specs.LayoutLaws.{width-low, width-high}
 use Rattle.cleaning.specs.Kept.{keptTest, keptBytes}
 use Rattle.cleaning.specs.Chosen.{chosenBytes}
 use Rattle.cleaning.specs.ChosenLaws.{length-choices, chosen-kept}
@@ -24,10 +22,8 @@ same : (c : tie.After-measure)
 same c =
     let s = c .before .before .before .before .before .before in
     let a = s .args in
-    let low = width-low (a .rec .edition) in
-    let high = width-high (a .rec .edition) in
     ap (λ (l : List ℕ). chosenBytes (a .rec .edition) (now (a .area)) l (a .split)) (c .measure .ensures .2)
-    ∙ chosen-kept (a .rec .edition) (omega (arith, low)) (omega (arith, high)) (now (a .area)) (now (a .index)) (now (a .marks)) (a .split) (s .pre .shape .slots)
+    ∙ chosen-kept (now (a .area)) (now (a .index)) (now (a .marks)) (a .split) (s .pre .shape .slots) (a .rec .edition)
 
 slice-aggregate-measure : tie.Need-slice-aggregate-measure
 slice-aggregate-measure c = search needs
@@ -60,7 +56,7 @@ begin-requires c κs =
       ready (s .pre) (now (a .index)) _ (m .measure .ensures .0) passed,
       room (s .pre) (now (a .index)) _ (m .measure .ensures .0) passed _
           (ap length (m .measure .ensures .2)
-          ∙ length-choices (a .rec .edition) (keptTest (a .rec .edition) (now (a .area)) (now (a .index)) (now (a .marks))) _ _ 256 _ _ (length-replicate {A = ℕ} 256 0))
+          ∙ length-choices (keptTest (now (a .area)) (now (a .index)) (now (a .marks))) _ _ 256 _ _ (length-replicate {A = ℕ} 256 0))
           (same m),
     )
 

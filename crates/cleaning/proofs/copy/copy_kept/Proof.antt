@@ -11,10 +11,10 @@ use Rattle.cleaning.proofs.copy.copy_kept.Statement.{statement}
 use Rattle.cleaning.proofs.copy.copy_kept.Tie as tie
 
 abbrev Inv-loop : tie.InvT-loop
-Inv-loop edition area chosen split work₀ from to₀ i₀ work to i = (i ≤ split .slots) × Copied (chosenBelow edition area chosen split i) work₀ from work to
+Inv-loop into area chosen split work₀ from to₀ i₀ work to i = (i ≤ split .slots) × Copied (chosenBelow into area chosen split i) work₀ from work to
 
 abbrev μ-loop : tie.MeasureT-loop
-μ-loop edition area chosen split work₀ from to₀ i₀ work to i = split .slots - i
+μ-loop into area chosen split work₀ from to₀ i₀ work to i = split .slots - i
 
 loop-holds : tie.Need-loop-holds Inv-loop μ-loop
 loop-holds c = (omega arith, copied-none _ _ _ (chosen-none _ _ _ _))

@@ -8,18 +8,18 @@ use denote.Ref.{now}
 use borrow.Author.Needs.{needs}
 use Rattle.segment.specs.Layout.{entrySize}
 use Rattle.cleaning.specs.Chosen.{chosenSlot, chosenEntry}
-use Rattle.cleaning.specs.EntriesLaws.{Meets, meets, stops-end, stops-damage, tombstone-length, slot-lies, slot-long, entry-lies, place-short}
+use Rattle.cleaning.specs.EntriesLaws.{Meets, meets, meets-long, stops-end, stops-damage, tombstone-length, slot-lies, slot-long, entry-lies, place-short}
 use Rattle.cleaning.specs.ChosenLaws.{chosenFrom, chosen-whole, chosen-stop, chosen-entry}
 use Rattle.segment.specs.Copied.{Copying, copying-start, copying-room, copying-next, copying-end}
 use Rattle.cleaning.proofs.copy.copy_slot.Statement.{statement}
 use Rattle.cleaning.proofs.copy.copy_slot.Tie as tie
 
 abbrev Inv-loop : tie.InvT-loop
-Inv-loop edition area chosen slot work₀ from size s at₀ to₀ work at to =
-    Copying (chosenSlot edition area chosen size slot) work₀ from (chosenFrom edition area chosen size slot s at) work to
+Inv-loop edition into area chosen slot work₀ from size s at₀ to₀ work at to =
+    Copying (chosenSlot edition into area chosen size slot) work₀ from (chosenFrom edition into area chosen size slot s at) work to
 
 abbrev μ-loop : tie.MeasureT-loop
-μ-loop edition area chosen slot work₀ from size s at₀ to₀ work at to = length s - at
+μ-loop edition into area chosen slot work₀ from size s at₀ to₀ work at to = length s - at
 
 -- the slot's part of the area is S bytes long
 long : (c : tie.After-cut Inv-loop μ-loop) → length (now (c .cut .result)) ≡ c .before .before .before .before .args .split .size
@@ -49,7 +49,7 @@ digest-size-requires : tie.Need-digest-size-requires Inv-loop μ-loop
 digest-size-requires c κs = search needs
 
 loop-holds : tie.Need-loop-holds Inv-loop μ-loop
-loop-holds c = rw (c .digest-size .ensures) (copying-start _ _ _ _ (chosen-whole _ _ _ _ _ _ (c .before .cut .ensures)))
+loop-holds c = rw (c .digest-size .ensures) (copying-start _ _ _ _ (chosen-whole _ _ _ _ _ _ _ (c .before .cut .ensures)))
 
 next-requires : tie.Need-next-requires Inv-loop μ-loop
 next-requires c κs = search needs
@@ -72,10 +72,13 @@ copy-chosen-requires c κs =
       s .pre .0 .chosen-long,
       (
         entry-lies (s .pre .0 .slots) _ (s .pre .1 .0) _ (c .before .before .before .before .before .before .before .cut .ensures) _ _ (met (c .before) .fits),
-        copying-room (c .before .before .before .before .before .loop .inv) (s .pre .1 .1)
-            (chosenEntry (now (a .area)) (now (a .chosen)) h (a .slot * a .split .size + at))
-            (chosenFrom _ (now (a .area)) (now (a .chosen)) (a .split .size) (a .slot) (now (c .before .before .before .before .before .before .before .cut .result)) (at + h .length))
-            (chosen-entry _ _ _ _ _ _ _ (met (c .before)) (at + h .length) refl),
+        (
+          meets-long _ _ _ (met (c .before)),
+          copying-room (c .before .before .before .before .before .loop .inv) (s .pre .1 .1)
+              (chosenEntry (a .into) (now (a .area)) (now (a .chosen)) (a .edition) h (a .slot * a .split .size + at))
+              (chosenFrom (a .edition) (a .into) (now (a .area)) (now (a .chosen)) (a .split .size) (a .slot) (now (c .before .before .before .before .before .before .before .cut .result)) (at + h .length))
+              (chosen-entry _ _ _ _ _ _ _ _ (met (c .before)) (at + h .length) refl),
+        ),
       ),
     )
 
@@ -88,7 +91,7 @@ loop-less : tie.Need-loop-less Inv-loop μ-loop
 loop-less c = omega (arith, c .behind .ensures, met (c .before .before .before .before .before))
 
 loop-again : tie.Need-loop-again Inv-loop μ-loop
-loop-again c = copying-next (c .before .before .before .before .before .before .before .before .before .loop .inv) _ _ _ _ (chosen-entry _ _ _ _ _ _ _ (met (c .before .before .before .before .before)) _ (c .behind .ensures)) (c .before .before .before .copy-chosen .ensures)
+loop-again c = copying-next (c .before .before .before .before .before .before .before .before .before .loop .inv) _ _ _ _ (chosen-entry _ _ _ _ _ _ _ _ (met (c .before .before .before .before .before)) _ (c .behind .ensures)) (c .before .before .before .copy-chosen .ensures)
 
 enum-told : tie.Need-enum-told Inv-loop μ-loop
 enum-told c = search needs
@@ -97,7 +100,7 @@ same-length : tie.Need-same-length Inv-loop μ-loop
 same-length c = c .before .before .before .loop .inv .long
 
 returns : tie.Need-returns Inv-loop μ-loop
-returns c = copying-end (c .before .before .before .loop .inv) (chosen-stop _ _ _ _ _ _ _ (stops-end _ _ _ _ (c .before .before .next .ensures) (c .enum-told .given .1)))
+returns c = copying-end (c .before .before .before .loop .inv) (chosen-stop _ _ _ _ _ _ _ _ (stops-end _ _ _ _ (c .before .before .next .ensures) (c .enum-told .given .1)))
 
 enum-told-2 : tie.Need-enum-told-2 Inv-loop μ-loop
 enum-told-2 c = search needs
@@ -106,7 +109,7 @@ same-length-2 : tie.Need-same-length-2 Inv-loop μ-loop
 same-length-2 c = c .before .before .before .loop .inv .long
 
 returns-2 : tie.Need-returns-2 Inv-loop μ-loop
-returns-2 c = copying-end (c .before .before .before .loop .inv) (chosen-stop _ _ _ _ _ _ _ (stops-damage _ _ _ _ (c .before .before .next .ensures) (c .enum-told2 .given .1)))
+returns-2 c = copying-end (c .before .before .before .loop .inv) (chosen-stop _ _ _ _ _ _ _ _ (stops-damage _ _ _ _ (c .before .before .next .ensures) (c .enum-told2 .given .1)))
 
 pub copy-slot-spec : {M : Type 1} → statement M
 copy-slot-spec =

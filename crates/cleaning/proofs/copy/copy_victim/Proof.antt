@@ -1,12 +1,15 @@
 -- `cleaning::copy::copy_victim` meets its contract.
-use mathlib.Core.Path.{sym, _∙_, ap}
+use mathlib.Core.Path.{_≡_, sym, _∙_, ap}
 use native.Mathlib.Omega.{arith}
 use lib.ListN.{length}
 use denote.Ref.{now}
 use borrow.Author.Needs.{needs}
 use borrow.Author.Tests.{not-true, not-false}
-use Rattle.cleaning.specs.ChosenLaws.{chosen-victim, chosen-other}
+use Rattle.segment.specs.Digest.{layoutIn}
 use Rattle.segment.specs.Copied.{copied-none, copied-as}
+use Rattle.cleaning.specs.Chosen.{chosenSlot, chosenPart}
+use Rattle.cleaning.specs.ChosenLaws.{chosen-victim, chosen-other}
+use Rattle.cleaning.specs.EntriesLaws.{slot-lies}
 use Rattle.cleaning.proofs.copy.copy_victim.Statement.{statement}
 use Rattle.cleaning.proofs.copy.copy_victim.Tie as tie
 
@@ -16,23 +19,41 @@ is-named-requires c κs = search needs
 returns : tie.Need-returns
 returns c = copied-none _ _ _ (chosen-other _ _ _ _ _ (sym (c .before .is-named .ensures) ∙ not-true _ (c .if1 .taken)))
 
+cut-requires : tie.Need-cut-requires
+cut-requires c κs = let s = c .before .before .before .before .before in slot-lies (s .pre .0 .slots) (s .args .slot) (s .pre .1 .0)
+
+edition-of-requires : tie.Need-edition-of-requires
+edition-of-requires c κs = search needs
+
+-- what is chosen of the slot in its own edition is the victim's part
+own : (c : tie.After-edition-of)
+    → let a = c .before .before .before .before .before .before .before .args in
+    chosenSlot (c .edition-of .result) (a .into) (now (a .area)) (now (a .chosen)) (a .split .size) (a .slot)
+    ≡ chosenPart (a .into) (now (a .area)) (now (a .chosen)) (a .split) (a .slot)
+own c =
+    let t = c .before .before in
+    chosen-victim _ _ _ _ _ _ (c .edition-of .ensures ∙ ap layoutIn (c .before .cut .ensures)) (sym (t .before .is-named .ensures) ∙ not-false _ (t .if1 .left))
+
 copy-slot-requires : tie.Need-copy-slot-requires
 copy-slot-requires c κs =
-    let s = c .before .before .before .before .before .before in
-    let a = s .args in (
-      s .pre .0,
-      (
-        s .pre .1 .0,
-        omega (arith, s .pre .1 .1, ap length (chosen-victim (a .edition) (now (a .area)) (now (a .chosen)) (a .split) (a .slot) (sym (c .before .before .is-named .ensures) ∙ not-false _ (c .before .if1 .left)))),
-      ),
-    )
+    let k = c .before in
+    let s = k .before .before .before .before .before .before .before in
+    (s .pre .0, (s .pre .1 .0, omega (arith, s .pre .1 .1, ap length (own k))))
 
 same-length : tie.Need-same-length
 same-length c = search needs
 
 returns-2 : tie.Need-returns-2
-returns-2 c = copied-as (chosen-victim _ _ _ _ _ (sym (c .before .before .before .before .before .is-named .ensures) ∙ not-false _ (c .before .before .before .before .if1 .left))) (c .before .before .copy-slot .ensures)
+returns-2 c = copied-as (own (c .before .before .before .before)) (c .before .before .copy-slot .ensures)
 
 pub copy-victim-spec : {M : Type 1} → statement M
 copy-victim-spec =
-    tie.close (tie.spec is-named-requires returns copy-slot-requires same-length returns-2)
+    tie.close
+    (tie.spec
+    is-named-requires
+    returns
+    cut-requires
+    edition-of-requires
+    copy-slot-requires
+    same-length
+    returns-2)

@@ -12,17 +12,17 @@ use Rattle.cleaning.proofs.kept.measure.Statement.{statement}
 use Rattle.cleaning.proofs.kept.measure.Tie as tie
 
 abbrev Inv-loop : tie.InvT-loop
-Inv-loop edition area cells marks chosen₀ split total₀ i₀ chosen total i =
+Inv-loop into area cells marks chosen₀ split total₀ i₀ chosen total i =
     (i ≤ split .slots)
-    × (total ≡ length (keptBelow edition area cells marks split i))
-    × (total ≤ 2048 * i)
-    × (chosen ≡ chooseBelow edition (keptTest edition area cells marks) area split chosen₀ i)
+    × (total ≡ length (keptBelow into area cells marks split i))
+    × (total ≤ 4096 * i)
+    × (chosen ≡ chooseBelow (keptTest area cells marks) area split chosen₀ i)
 
 abbrev μ-loop : tie.MeasureT-loop
-μ-loop edition area cells marks chosen₀ split total₀ i₀ chosen total i = split .slots - i
+μ-loop into area cells marks chosen₀ split total₀ i₀ chosen total i = split .slots - i
 
 loop-holds : tie.Need-loop-holds Inv-loop μ-loop
-loop-holds c = (omega arith, sym (ap length (below-none _ _ _ _ _)), omega arith, choice-none _ (keptTest _ _ _ _) _ _ _)
+loop-holds c = (omega arith, sym (ap length (below-none _ _ _ _ _)), omega arith, choice-none (keptTest _ _ _) _ _ _)
 
 measure-victim-requires : tie.Need-measure-victim-requires Inv-loop μ-loop
 measure-victim-requires c κs =
@@ -32,7 +32,7 @@ measure-victim-requires c κs =
       (
         s .pre .0,
         ap length (l .inv .3)
-            ∙ length-choices _ (keptTest _ (now (a .area)) (now (a .cells)) (now (a .marks))) _ _ 256 _ _ (s .pre .1),
+            ∙ length-choices (keptTest (now (a .area)) (now (a .cells)) (now (a .marks))) _ _ 256 _ _ (s .pre .1),
       ),
       c .before .if1 .taken,
     )
@@ -55,16 +55,16 @@ loop-again c =
     let l = m .before .before .before .before .loop in
     let a = m .before .before .before .before .before .before .before .before .before .args in (
       omega arith,
-      omega (arith, l .inv .1, m .measure-victim .ensures .0, below-length (a .edition) (now (a .area)) (now (a .cells)) (now (a .marks)) (a .split) (l .i)),
+      omega (arith, l .inv .1, m .measure-victim .ensures .0, below-length (a .into) (now (a .area)) (now (a .cells)) (now (a .marks)) (a .split) (l .i)),
       omega (arith, l .inv .2, m .measure-victim .ensures .1),
-      choice-more _ (keptTest _ (now (a .area)) (now (a .cells)) (now (a .marks))) _ _ _ _ (l .inv .3) (m .measure-victim .ensures .2),
+      choice-more (keptTest (now (a .area)) (now (a .cells)) (now (a .marks))) _ _ _ _ (l .inv .3) (m .measure-victim .ensures .2),
     )
 
 same-length : tie.Need-same-length Inv-loop μ-loop
 same-length c =
     let a = c .before .before .before .before .before .before .before .args in
     ap length (c .before .before .loop .inv .3)
-    ∙ length-choices _ (keptTest _ (now (a .area)) (now (a .cells)) (now (a .marks))) _ _ _ _ _ refl
+    ∙ length-choices (keptTest (now (a .area)) (now (a .cells)) (now (a .marks))) _ _ _ _ _ refl
 
 returns : tie.Need-returns Inv-loop μ-loop
 returns c =
@@ -72,10 +72,10 @@ returns c =
     let a = s .args in
     let l = c .before .before .loop in
     let e : l .i ≡ a .split .slots = omega arith in (
-      l .inv .1 ∙ ap (λ (k : ℕ). length (keptBelow (a .edition) (now (a .area)) (now (a .cells)) (now (a .marks)) (a .split) k)) e,
+      l .inv .1 ∙ ap (λ (k : ℕ). length (keptBelow (a .into) (now (a .area)) (now (a .cells)) (now (a .marks)) (a .split) k)) e,
       omega (arith, l .inv .2, s .pre .0 .slots .slots-high),
       l .inv .3
-          ∙ ap (chooseBelow _ (keptTest _ (now (a .area)) (now (a .cells)) (now (a .marks))) (now (a .area)) (a .split) (now (a .chosen))) e,
+          ∙ ap (chooseBelow (keptTest (now (a .area)) (now (a .cells)) (now (a .marks))) (now (a .area)) (a .split) (now (a .chosen))) e,
     )
 
 pub measure-spec : {M : Type 1} → statement M

@@ -11,25 +11,25 @@ use Rattle.segment.specs.Layout.{digestSize, entrySize}
 use Rattle.segment.specs.LayoutLaws.{width-high}
 use Rattle.model.specs.Log.{placedIn}
 use Rattle.index.specs.Build.{entriesAt}
-use Rattle.cleaning.specs.Kept.{keptTest, keptSlot}
+use Rattle.cleaning.specs.Kept.{keptTest, keptEntry, keptSlot}
 use Rattle.cleaning.specs.Chosen.{choosePlaced}
 use Rattle.cleaning.specs.ChosenLaws.{choice-stop, choice-entry, choice-whole, length-choice}
-use Rattle.cleaning.specs.EntriesLaws.{Meets, meets, stops-end, stops-damage, tombstone-length, slot-lies, slot-long, entry-lies, place-short}
+use Rattle.cleaning.specs.EntriesLaws.{Meets, meets, meets-long, stops-end, stops-damage, tombstone-length, area-short, slot-lies, slot-long, entry-lies, place-short}
 use Rattle.cleaning.specs.KeptLaws.{keptFrom, measured-whole, entry-short, measured-stop, measured-entry}
 use Rattle.cleaning.proofs.kept.measure_slot.Statement.{statement}
 use Rattle.cleaning.proofs.kept.measure_slot.Tie as tie
 
 abbrev Inv-loop : tie.InvT-loop
-Inv-loop edition area cells marks chosen₀ slot size s at₀ total₀ chosen at total =
-    (total + length (keptFrom edition area cells marks size slot s at) ≡ length (keptSlot edition area cells marks size slot))
-    × (total ≤ at)
+Inv-loop edition into area cells marks chosen₀ slot size s at₀ total₀ chosen at total =
+    (total + length (keptFrom edition into area cells marks size slot s at) ≡ length (keptSlot edition into area cells marks size slot))
+    × (total ≤ 2 * at)
     × (at ≤ length s)
-    × (choosePlaced edition (keptTest edition area cells marks) size chosen (placedIn slot (entriesAt edition s at))
-    ≡ choosePlaced edition (keptTest edition area cells marks) size chosen₀ (placedIn slot (entriesAt edition s (digestSize edition))))
+    × (choosePlaced (keptTest area cells marks) size chosen (placedIn edition slot (entriesAt edition s at))
+    ≡ choosePlaced (keptTest area cells marks) size chosen₀ (placedIn edition slot (entriesAt edition s (digestSize edition))))
     × (length chosen ≡ length chosen₀)
 
 abbrev μ-loop : tie.MeasureT-loop
-μ-loop edition area cells marks chosen₀ slot size s at₀ total₀ chosen at total = length s - at
+μ-loop edition into area cells marks chosen₀ slot size s at₀ total₀ chosen at total = length s - at
 
 -- the slot's part of the area is S bytes long
 long : (c : tie.After-cut Inv-loop μ-loop) → length (now (c .cut .result)) ≡ c .before .before .before .before .before .args .split .size
@@ -52,15 +52,27 @@ place c =
     let s = c .before .before .before .before .before .before .before .before .before .before .before in
     place-short (s .pre .0 .0 .slots) _ (s .pre .1) _ (c .before .before .before .before .before .before .cut .ensures) _ _ (met c .fits) (met c .some-byte)
 
-short : (c : tie.After-choose-kept Inv-loop μ-loop) → c .choose-kept .result ≤ c .before .before .before .header .given .0 .0 .length
+-- the entry has a head at least, and lies within the area
+low : (c : tie.After-known-told Inv-loop μ-loop)
+    → entrySize (c .before .before .before .before .before .before .before .before .before .before .before .args .edition) 0 ≤ c .before .header .given .0 .0 .length
+low c = meets-long _ _ _ (met c)
+
+lies : (c : tie.After-known-told Inv-loop μ-loop)
+    → let a = c .before .before .before .before .before .before .before .before .before .before .before .args in
+    a .slot * a .split .size + c .before .before .before .before .loop .at + c .before .header .given .0 .0 .length ≤ length (now (a .area))
+lies c =
+    let s = c .before .before .before .before .before .before .before .before .before .before .before in
+    entry-lies (s .pre .0 .0 .slots) _ (s .pre .1) _ (c .before .before .before .before .before .before .cut .ensures) _ _ (met c .fits)
+
+short : (c : tie.After-choose-kept Inv-loop μ-loop) → c .choose-kept .result ≤ 2 * c .before .before .before .header .given .0 .0 .length
 short c =
     let k = c .before .before in
     let a = k .before .before .before .before .before .before .before .before .before .before .before .args in
     omega (
       arith,
       c .choose-kept .ensures .0,
-      entry-short (a .edition) (now (a .area)) (now (a .cells)) (now (a .marks)) (k .before .header .given .0 .0)
-          (a .slot * a .split .size + k .before .before .before .before .loop .at),
+      entry-short (a .into) (now (a .area)) (now (a .cells)) (now (a .marks)) (a .edition) (k .before .header .given .0 .0)
+          (a .slot * a .split .size + k .before .before .before .before .loop .at) (low k) (lies k),
     )
 
 cut-requires : tie.Need-cut-requires Inv-loop μ-loop
@@ -73,7 +85,7 @@ loop-holds : tie.Need-loop-holds Inv-loop μ-loop
 loop-holds c =
     let s = c .before .before .before .before .before .before in
     rw (c .digest-size .ensures)
-    (measured-whole _ _ _ _ _ _ _ (c .before .cut .ensures), omega arith, omega (arith, long (c .before), s .pre .0 .0 .slots .size-low, width-high (s .args .edition)), refl, refl)
+    (measured-whole _ _ _ _ _ _ _ _ (c .before .cut .ensures), omega arith, omega (arith, long (c .before), s .pre .0 .0 .slots .size-low, width-high (s .args .edition)), refl, refl)
 
 next-requires : tie.Need-next-requires Inv-loop μ-loop
 next-requires c κs = search needs
@@ -93,7 +105,7 @@ choose-kept-requires c κs =
     let l = k .before .before .before .before .loop in
     let s = k .before .before .before .before .before .before .before .before .before .before .before in (
       (s .pre .0 .0 .marks-long, l .inv .4 ∙ s .pre .0 .1),
-      (entry-lies (s .pre .0 .0 .slots) _ (s .pre .1) _ (k .before .before .before .before .before .before .cut .ensures) _ _ (met k .fits), place k),
+      ((lies k, area-short (s .pre .0 .0 .slots)), (place k, low k)),
     )
 
 add-total : tie.Need-add-total Inv-loop μ-loop
@@ -117,11 +129,11 @@ loop-again c =
     let k = m .before .before in
     let l = k .before .before .before .before .loop in
     let b = c .behind .ensures in (
-      measured-entry _ _ _ _ _ _ _ _ _ _ (l .inv .0) (met k) _ (m .choose-kept .ensures .0) _ b,
+      measured-entry _ (keptEntry _ _ _ _) _ _ _ _ _ _ (l .inv .0) (met k) _ (m .choose-kept .ensures .0) _ b,
       omega (arith, b, short m, l .inv .1),
       omega (arith, b, met k),
-      choice-entry _ (keptTest _ _ _ _) _ _ _ _ _ _ (l .inv .3) (met k) _ (m .choose-kept .ensures .1) _ b,
-      ap length (m .choose-kept .ensures .1) ∙ length-choice (keptTest _ _ _ _) _ _ _ _ (l .inv .4),
+      choice-entry (keptTest _ _ _) _ _ _ _ _ _ _ (l .inv .3) (met k) _ (m .choose-kept .ensures .1) _ b,
+      ap length (m .choose-kept .ensures .1) ∙ length-choice (keptTest _ _ _) _ _ _ _ (l .inv .4),
     )
 
 enum-told : tie.Need-enum-told Inv-loop μ-loop
@@ -137,10 +149,10 @@ returns c =
     let s = k .before .before .before .before .before in
     let a = s .args in
     let stop = stops-end _ _ _ _ (c .before .before .next .ensures) (c .enum-told .given .1) in (
-      measured-stop _ _ _ _ _ _ _ _ _ _ (l .inv .0) stop,
+      measured-stop _ (keptEntry _ _ _ _) _ _ _ _ _ _ (l .inv .0) stop,
       omega (arith, l .inv .1, l .inv .2, long k, s .pre .0 .0 .slots .size-high),
-      choice-stop _ (keptTest _ _ _ _) _ _ _ _ _ _ (l .inv .3) stop
-          ∙ choice-whole _ (keptTest _ (now (a .area)) (now (a .cells)) (now (a .marks))) (a .split .size) (now (a .area)) (now (a .chosen)) (a .slot) _ (k .cut .ensures),
+      choice-stop (keptTest _ _ _) _ _ _ _ _ _ _ (l .inv .3) stop
+          ∙ choice-whole (keptTest (now (a .area)) (now (a .cells)) (now (a .marks))) (a .split .size) _ (now (a .area)) (now (a .chosen)) (a .slot) _ (k .cut .ensures),
     )
 
 enum-told-2 : tie.Need-enum-told-2 Inv-loop μ-loop
@@ -156,10 +168,10 @@ returns-2 c =
     let s = k .before .before .before .before .before in
     let a = s .args in
     let stop = stops-damage _ _ _ _ (c .before .before .next .ensures) (c .enum-told2 .given .1) in (
-      measured-stop _ _ _ _ _ _ _ _ _ _ (l .inv .0) stop,
+      measured-stop _ (keptEntry _ _ _ _) _ _ _ _ _ _ (l .inv .0) stop,
       omega (arith, l .inv .1, l .inv .2, long k, s .pre .0 .0 .slots .size-high),
-      choice-stop _ (keptTest _ _ _ _) _ _ _ _ _ _ (l .inv .3) stop
-          ∙ choice-whole _ (keptTest _ (now (a .area)) (now (a .cells)) (now (a .marks))) (a .split .size) (now (a .area)) (now (a .chosen)) (a .slot) _ (k .cut .ensures),
+      choice-stop (keptTest _ _ _) _ _ _ _ _ _ _ (l .inv .3) stop
+          ∙ choice-whole (keptTest (now (a .area)) (now (a .cells)) (now (a .marks))) (a .split .size) _ (now (a .area)) (now (a .chosen)) (a .slot) _ (k .cut .ensures),
     )
 
 pub measure-slot-spec : {M : Type 1} → statement M

@@ -1,7 +1,9 @@
 -- `cleaning::noted::note_part` meets its contract.
-use mathlib.Core.Path.{sym, _∙_}
+use mathlib.Core.Path.{sym, _∙_, ap}
 use borrow.Author.Needs.{needs}
 use borrow.Author.Tests.{not-true, not-false}
+use Rattle.segment.specs.Digest.{layoutIn}
+use Rattle.cleaning.specs.EntriesLaws.{slot-lies}
 use Rattle.cleaning.specs.Walks.{walk-named, walk-other}
 use Rattle.cleaning.specs.Filter.{noteEntry}
 use Rattle.cleaning.proofs.noted.note_part.Statement.{statement}
@@ -11,7 +13,13 @@ is-named-requires : tie.Need-is-named-requires
 is-named-requires c κs = search needs
 
 returns : tie.Need-returns
-returns c = walk-other _ noteEntry _ _ _ _ _ (sym (c .before .is-named .ensures) ∙ not-true _ (c .if1 .taken))
+returns c = walk-other noteEntry _ _ _ _ _ (sym (c .before .is-named .ensures) ∙ not-true _ (c .if1 .taken))
+
+cut-requires : tie.Need-cut-requires
+cut-requires c κs = let s = c .before .before .before .before in slot-lies (s .pre .0 .slots) (s .args .slot) (s .pre .1)
+
+edition-of-requires : tie.Need-edition-of-requires
+edition-of-requires c κs = search needs
 
 note-slot-requires : tie.Need-note-slot-requires
 note-slot-requires c κs = search needs
@@ -21,9 +29,19 @@ same-length c = search needs
 
 returns-2 : tie.Need-returns-2
 returns-2 c =
-    walk-named _ noteEntry _ _ _ _ _ (sym (c .before .before .before .before .before .is-named .ensures) ∙ not-false _ (c .before .before .before .before .if1 .left))
-    (c .before .before .note-slot .ensures)
+    let k = c .before .before .before .before .before in
+    let t = k .before in
+    walk-named noteEntry _ _ _ _ _ _ (c .before .before .before .before .edition-of .ensures ∙ ap layoutIn (k .cut .ensures))
+    (sym (t .before .is-named .ensures) ∙ not-false _ (t .if1 .left)) (c .before .before .note-slot .ensures)
 
 pub note-part-spec : {M : Type 1} → statement M
 note-part-spec =
-    tie.close (tie.spec is-named-requires returns note-slot-requires same-length returns-2)
+    tie.close
+    (tie.spec
+    is-named-requires
+    returns
+    cut-requires
+    edition-of-requires
+    note-slot-requires
+    same-length
+    returns-2)

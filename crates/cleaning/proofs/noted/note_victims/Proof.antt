@@ -12,19 +12,19 @@ use Rattle.cleaning.proofs.noted.note_victims.Statement.{statement}
 use Rattle.cleaning.proofs.noted.note_victims.Tie as tie
 
 abbrev Inv-loop : tie.InvT-loop
-Inv-loop edition area filter₀ split i₀ filter i =
-    (i ≤ split .slots) × (filter ≡ walkBelow edition noteEntry area (split .size) (split .victims) filter₀ i)
+Inv-loop area filter₀ split i₀ filter i =
+    (i ≤ split .slots) × (filter ≡ walkBelow noteEntry area (split .size) (split .victims) filter₀ i)
 
 abbrev μ-loop : tie.MeasureT-loop
-μ-loop edition area filter₀ split i₀ filter i = split .slots - i
+μ-loop area filter₀ split i₀ filter i = split .slots - i
 
 loop-holds : tie.Need-loop-holds Inv-loop μ-loop
-loop-holds c = (omega arith, walk-none _ noteEntry _ _ _ _)
+loop-holds c = (omega arith, walk-none noteEntry _ _ _ _)
 
 note-part-requires : tie.Need-note-part-requires Inv-loop μ-loop
 note-part-requires c κs =
     let s = c .before .before .before .before .before .before in
-    (fits-again _ (s .pre) (ap length (c .before .before .before .loop .inv .1) ∙ length-noted _ _ (s .args .split) _ _ _ refl), c .before .if1 .taken)
+    (fits-again _ (s .pre) (ap length (c .before .before .before .loop .inv .1) ∙ length-noted _ (s .args .split) _ _ _ refl), c .before .if1 .taken)
 
 add-i : tie.Need-add-i Inv-loop μ-loop
 add-i c = omega arith
@@ -34,18 +34,18 @@ loop-less c = omega arith
 
 loop-again : tie.Need-loop-again Inv-loop μ-loop
 loop-again c =
-    (omega arith, walk-more _ noteEntry _ _ _ _ _ (c .before .before .before .before .before .before .loop .inv .1) (c .before .before .note-part .ensures))
+    (omega arith, walk-more noteEntry _ _ _ _ _ (c .before .before .before .before .before .before .loop .inv .1) (c .before .before .note-part .ensures))
 
 same-length : tie.Need-same-length Inv-loop μ-loop
 same-length c =
     let s = c .before .before .before .before .before in
-    ap length (c .before .before .loop .inv .1) ∙ length-noted _ _ (s .args .split) _ _ _ refl
+    ap length (c .before .before .loop .inv .1) ∙ length-noted _ (s .args .split) _ _ _ refl
 
 returns : tie.Need-returns Inv-loop μ-loop
 returns c =
     let a = c .before .before .before .before .before .args in
     let e : c .before .before .loop .i ≡ a .split .slots = omega arith in
-    c .before .before .loop .inv .1 ∙ ap (walkBelow _ noteEntry (now (a .area)) (a .split .size) (a .split .victims) (now (a .filter))) e
+    c .before .before .loop .inv .1 ∙ ap (walkBelow noteEntry (now (a .area)) (a .split .size) (a .split .victims) (now (a .filter))) e
 
 pub note-victims-spec : {M : Type 1} → statement M
 note-victims-spec =

@@ -26,13 +26,13 @@ same-length c = search needs
 returns : tie.Need-returns
 returns c =
     let i = c .before .before .before .before .before in
-    found-marks _ _ _ _ _ _ _ (sym (i .before .before .search .ensures) ∙ i .i .given .1) (c .before .before .mark .ensures)
+    found-marks _ _ _ _ _ _ (sym (i .before .before .search .ensures) ∙ i .i .given .1) (c .before .before .mark .ensures)
 
 returns-2 : tie.Need-returns-2
-returns-2 c = free-keeps _ _ _ _ _ _ (sym (c .before .before .search .ensures) ∙ c .enum-told .given .1)
+returns-2 c = free-keeps _ _ _ _ _ (sym (c .before .before .search .ensures) ∙ c .enum-told .given .1)
 
 returns-3 : tie.Need-returns-3
-returns-3 c = full-keeps _ _ _ _ _ (sym (c .before .before .search .ensures) ∙ c .enum-told2 .given .1)
+returns-3 c = full-keeps _ _ _ _ (sym (c .before .before .search .ensures) ∙ c .enum-told2 .given .1)
 
 pub mark-key-spec : {M : Type 1} → statement M
 mark-key-spec =

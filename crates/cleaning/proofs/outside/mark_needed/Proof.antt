@@ -7,13 +7,13 @@ use Rattle.cleaning.proofs.outside.mark_needed.Statement.{statement}
 use Rattle.cleaning.proofs.outside.mark_needed.Tie as tie
 
 returns : tie.Need-returns
-returns c = no-outside _ _ _ _ _ (c .if1 .taken)
+returns c = no-outside _ _ _ _ (c .if1 .taken)
 
 any-tombstone-requires : tie.Need-any-tombstone-requires
 any-tombstone-requires c κs = search needs
 
 returns-2 : tie.Need-returns-2
-returns-2 c = not-needed _ _ _ _ _ (sym (c .before .any-tombstone .ensures) ∙ not-true _ (c .if2 .taken))
+returns-2 c = not-needed _ _ _ _ (sym (c .before .any-tombstone .ensures) ∙ not-true _ (c .if2 .taken))
 
 slice-aggregate-note-victims : tie.Need-slice-aggregate-note-victims
 slice-aggregate-note-victims c = search needs
@@ -34,7 +34,7 @@ returns-3 : tie.Need-returns-3
 returns-3 c =
     let n = c .before .before .before .before .before .before in
     let t = c .before .before .before .before .before .before .before .before in
-    is-needed _ _ _ _ _ _ (sym (t .before .any-tombstone .ensures) ∙ not-false _ (t .if2 .left)) (n .note-victims .ensures)
+    is-needed _ _ _ _ _ (sym (t .before .any-tombstone .ensures) ∙ not-false _ (t .if2 .left)) (n .note-victims .ensures)
     (c .before .before .mark-outside .ensures)
 
 pub mark-needed-spec : {M : Type 1} → statement M

@@ -12,20 +12,20 @@ use Rattle.cleaning.proofs.outside.mark_outside.Statement.{statement}
 use Rattle.cleaning.proofs.outside.mark_outside.Tie as tie
 
 abbrev Inv-loop : tie.InvT-loop
-Inv-loop edition area cells filter marks₀ split i₀ marks i =
+Inv-loop area cells filter marks₀ split i₀ marks i =
     (i ≤ split .slots)
-    × (marks ≡ walkBelow edition (siftEntry edition area cells filter) area (split .size) (split .outside) marks₀ i)
+    × (marks ≡ walkBelow (siftEntry area cells filter) area (split .size) (split .outside) marks₀ i)
 
 abbrev μ-loop : tie.MeasureT-loop
-μ-loop edition area cells filter marks₀ split i₀ marks i = split .slots - i
+μ-loop area cells filter marks₀ split i₀ marks i = split .slots - i
 
 loop-holds : tie.Need-loop-holds Inv-loop μ-loop
-loop-holds c = (omega arith, walk-none _ (siftEntry _ _ _ _) _ _ _ _)
+loop-holds c = (omega arith, walk-none (siftEntry _ _ _) _ _ _ _)
 
 mark-part-requires : tie.Need-mark-part-requires Inv-loop μ-loop
 mark-part-requires c κs =
     let s = c .before .before .before .before .before .before .before .before in
-    let same = ap length (c .before .before .before .loop .inv .1) ∙ length-sifted _ _ _ _ (s .args .split) _ _ _ refl in
+    let same = ap length (c .before .before .before .loop .inv .1) ∙ length-sifted _ _ _ (s .args .split) _ _ _ refl in
     ((fits-again _ (s .pre .0) same, s .pre .1), c .before .if1 .taken)
 
 add-i : tie.Need-add-i Inv-loop μ-loop
@@ -36,18 +36,18 @@ loop-less c = omega arith
 
 loop-again : tie.Need-loop-again Inv-loop μ-loop
 loop-again c =
-    (omega arith, walk-more _ (siftEntry _ _ _ _) _ _ _ _ _ (c .before .before .before .before .before .before .loop .inv .1) (c .before .before .mark-part .ensures))
+    (omega arith, walk-more (siftEntry _ _ _) _ _ _ _ _ (c .before .before .before .before .before .before .loop .inv .1) (c .before .before .mark-part .ensures))
 
 same-length : tie.Need-same-length Inv-loop μ-loop
 same-length c =
     let s = c .before .before .before .before .before .before .before in
-    ap length (c .before .before .loop .inv .1) ∙ length-sifted _ _ _ _ (s .args .split) _ _ _ refl
+    ap length (c .before .before .loop .inv .1) ∙ length-sifted _ _ _ (s .args .split) _ _ _ refl
 
 returns : tie.Need-returns Inv-loop μ-loop
 returns c =
     let a = c .before .before .before .before .before .before .before .args in
     let e : c .before .before .loop .i ≡ a .split .slots = omega arith in
-    c .before .before .loop .inv .1 ∙ ap (walkBelow _ (siftEntry _ (now (a .area)) (now (a .cells)) (now (a .filter))) (now (a .area)) (a .split .size) (a .split .outside) (now (a .marks))) e
+    c .before .before .loop .inv .1 ∙ ap (walkBelow (siftEntry (now (a .area)) (now (a .cells)) (now (a .filter))) (now (a .area)) (a .split .size) (a .split .outside) (now (a .marks))) e
 
 pub mark-outside-spec : {M : Type 1} → statement M
 mark-outside-spec =

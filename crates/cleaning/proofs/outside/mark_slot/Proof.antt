@@ -18,8 +18,8 @@ use Rattle.cleaning.proofs.outside.mark_slot.Tie as tie
 -- The invariant: the marks with those of the entries from here on are those of the slot.
 abbrev Inv-loop : tie.InvT-loop
 Inv-loop edition area cells filter marks₀ slot s at₀ marks at =
-    (walkItems edition (siftEntry edition area cells filter) marks (entriesAt edition s at)
-    ≡ walkItems edition (siftEntry edition area cells filter) marks₀ (entriesAt edition s (digestSize edition)))
+    (walkItems edition (siftEntry area cells filter) marks (entriesAt edition s at)
+    ≡ walkItems edition (siftEntry area cells filter) marks₀ (entriesAt edition s (digestSize edition)))
     × (length marks ≡ length marks₀)
 
 abbrev μ-loop : tie.MeasureT-loop
@@ -71,8 +71,8 @@ loop-again : tie.Need-loop-again Inv-loop μ-loop
 loop-again c =
     let l = c .before .before .before .before .before .before .before .before .before in
     let made = c .before .before .before .sift-entry .ensures in (
-      walk-entry _ (siftEntry _ _ _ _) _ _ _ _ (l .loop .inv .0) (met (c .before .before .before .before .before)) _ made _ (c .behind .ensures),
-      ap length made ∙ length-sift _ _ _ _ _ _ _ (l .loop .inv .1),
+      walk-entry _ (siftEntry _ _ _) _ _ _ _ (l .loop .inv .0) (met (c .before .before .before .before .before)) _ made _ (c .behind .ensures),
+      ap length made ∙ length-sift _ _ _ _ _ _ (l .loop .inv .1),
     )
 
 enum-told : tie.Need-enum-told Inv-loop μ-loop
@@ -85,8 +85,8 @@ returns : tie.Need-returns Inv-loop μ-loop
 returns c =
     let k = c .before .before .before .before .before in
     let a = k .before .before .before .before .before .args in
-    walk-stop _ (siftEntry _ _ _ _) _ _ _ _ (c .before .before .before .loop .inv .0) (stops-end _ _ _ _ (c .before .before .next .ensures) (c .enum-told .given .1))
-    ∙ walk-whole _ (siftEntry _ (now (a .area)) (now (a .cells)) (now (a .filter))) (now (a .area)) (a .split .size) (now (a .marks)) (a .slot) _ (k .cut .ensures)
+    walk-stop _ (siftEntry _ _ _) _ _ _ _ (c .before .before .before .loop .inv .0) (stops-end _ _ _ _ (c .before .before .next .ensures) (c .enum-told .given .1))
+    ∙ walk-whole _ (siftEntry (now (a .area)) (now (a .cells)) (now (a .filter))) (now (a .area)) (a .split .size) (now (a .marks)) (a .slot) _ (k .cut .ensures)
 
 enum-told-2 : tie.Need-enum-told-2 Inv-loop μ-loop
 enum-told-2 c = search needs
@@ -98,8 +98,8 @@ returns-2 : tie.Need-returns-2 Inv-loop μ-loop
 returns-2 c =
     let k = c .before .before .before .before .before in
     let a = k .before .before .before .before .before .args in
-    walk-stop _ (siftEntry _ _ _ _) _ _ _ _ (c .before .before .before .loop .inv .0) (stops-damage _ _ _ _ (c .before .before .next .ensures) (c .enum-told2 .given .1))
-    ∙ walk-whole _ (siftEntry _ (now (a .area)) (now (a .cells)) (now (a .filter))) (now (a .area)) (a .split .size) (now (a .marks)) (a .slot) _ (k .cut .ensures)
+    walk-stop _ (siftEntry _ _ _) _ _ _ _ (c .before .before .before .loop .inv .0) (stops-damage _ _ _ _ (c .before .before .next .ensures) (c .enum-told2 .given .1))
+    ∙ walk-whole _ (siftEntry (now (a .area)) (now (a .cells)) (now (a .filter))) (now (a .area)) (a .split .size) (now (a .marks)) (a .slot) _ (k .cut .ensures)
 
 pub mark-slot-spec : {M : Type 1} → statement M
 mark-slot-spec =

@@ -9,10 +9,10 @@ use Rattle.cleaning.proofs.tombstones.any_tombstone.Statement.{statemen
 use Rattle.cleaning.proofs.tombstones.any_tombstone.Tie as tie
 
 abbrev Inv-loop : tie.InvT-loop
-Inv-loop edition area split i₀ i = (i ≤ split .slots) × (anyBelow (victimHolds edition area split) i ≡ false)
+Inv-loop area split i₀ i = (i ≤ split .slots) × (anyBelow (victimHolds area split) i ≡ false)
 
 abbrev μ-loop : tie.MeasureT-loop
-μ-loop edition area split i₀ i = split .slots - i
+μ-loop area split i₀ i = split .slots - i
 
 loop-holds : tie.Need-loop-holds Inv-loop μ-loop
 unfolding anyBelow

@@ -1,50 +1,67 @@
 -- `forgetting::forget::begin` meets its contract.
+use Prim.Native.Nat.{_+_, _≤_}
 use native.Mathlib.Omega.{arith}
+use lib.ListN.{length}
+use denote.Ref.{now}
 use borrow.Author.Needs.{needs}
+use Rattle.segment.specs.Layout.{digestSize}
 use Rattle.segment.specs.LayoutLaws.{limit-high}
 use Rattle.starting.specs.Stores.{head-most}
 use Rattle.starting.specs.NewHead.{head-ready}
-use Rattle.forgetting.specs.DeleteLaws.{victim-fits, victim-below, victim-size, victim-within, forgot-filled}
+use Rattle.forgetting.specs.Forgot.{forgotSlot}
+use Rattle.forgetting.specs.DeleteLaws.{fits-room, victim-fits, victim-below, victim-size, victim-within, forgot-filled}
 use Rattle.forgetting.proofs.forget.begin.Statement.{statement}
 use Rattle.forgetting.proofs.forget.begin.Tie as tie
+
+-- what comes of the victim fits a segment
+room : (s : tie.Start)
+    → let a = s .args in
+    digestSize (a .rec .edition) + length (forgotSlot (a .edition) (a .rec .edition) (now (a .area)) (now (a .index)) (now (a .marks)) (a .live) (a .split .size) (a .slot)) ≤ a .split .size
+room s = fits-room _ _ _ (s .pre .1)
 
 next-free-requires : tie.Need-next-free-requires
 next-free-requires c κs = search needs
 
-add-t21 : tie.Need-add-t21
-add-t21 c =
+add-t22 : tie.Need-add-t22
+add-t22 c =
     let s = c .before .before .before .before .before .before .before .before in
-    omega (arith, s .pre .version-left, limit-high (s .args .rec .edition))
+    omega (arith, s .pre .0 .version-left, limit-high (s .args .rec .edition))
 
 new-digest-requires : tie.Need-new-digest-requires
 new-digest-requires c κs =
-    let v = c .before .before .before .before .before .before .before .before .pre in
+    let v = c .before .before .before .before .before .before .before .before .pre .0 in
     head-ready _ _ _ _ (v .lent) _ (victim-within v) (v .number-left) _ (c .before .before .next-free .ensures)
 
 write-digest-requires : tie.Need-write-digest-requires
 write-digest-requires c κs = search needs
 
 put-slot-requires : tie.Need-put-slot-requires
-put-slot-requires c κs = let v = c .before .before .before .before .before .before .before .before .before .before .before .before .before .pre in (victim-fits v, (victim-below v, omega (arith, victim-size v, v .long)))
+put-slot-requires c κs =
+    let s = c .before .before .before .before .before .before .before .before .before .before .before .before .before in
+    let v = s .pre .0 in
+    (victim-fits v, (victim-below v, omega (arith, room s, victim-size v, v .long)))
 
 cast-head-stores : tie.Need-cast-head-stores
 cast-head-stores c = search needs
 
 head-stores-requires : tie.Need-head-stores-requires
 head-stores-requires c κs =
-    let v = c .before .before .before .before .before .before .before .before .before .before .before .before .before .before .before .before .before .pre in
-    (omega (arith, c .before .before .before .put-slot .ensures .1, victim-size v), v .lent .size-high)
+    let s = c .before .before .before .before .before .before .before .before .before .before .before .before .before .before .before .before .before in
+    let v = s .pre .0 in
+    (omega (arith, c .before .before .before .put-slot .ensures .behind, room s, victim-size v), v .lent .size-high)
 
 cast-left : tie.Need-cast-left
 cast-left c =
-    let v = c .before .before .before .before .before .before .before .before .before .before .before .before .before .before .before .before .before .before .pre in
+    let s = c .before .before .before .before .before .before .before .before .before .before .before .before .before .before .before .before .before .before in
+    let v = s .pre .0 in
     let most = head-most _ _ (c .head-stores .ensures) in
-    omega (arith, c .before .before .before .before .put-slot .ensures .1, victim-size v, v .lent .size-high)
+    omega (arith, c .before .before .before .before .put-slot .ensures .behind, room s, victim-size v, v .lent .size-high)
 
 cast-length : tie.Need-cast-length
 cast-length c =
-    let v = c .before .before .before .before .before .before .before .before .before .before .before .before .before .before .before .before .before .before .pre in
-    omega (arith, c .before .before .before .before .put-slot .ensures .1, victim-size v, v .lent .size-high)
+    let s = c .before .before .before .before .before .before .before .before .before .before .before .before .before .before .before .before .before .before in
+    let v = s .pre .0 in
+    omega (arith, c .before .before .before .before .put-slot .ensures .behind, room s, victim-size v, v .lent .size-high)
 
 started-requires : tie.Need-started-requires
 started-requires c κs = search needs
@@ -56,7 +73,7 @@ returns : tie.Need-returns
 returns c =
     let k = c .before .before .before .before .before in
     let d = k .before .before .before .before in
-    forgot-filled _ _ _ _ _ _ _ _ _ _ _ _ (d .before .new-digest .ensures) (d .write-digest .ensures) (k .put-slot .ensures .0)
+    forgot-filled _ _ _ _ _ _ _ _ _ _ _ _ (d .before .new-digest .ensures) (d .write-digest .ensures) (k .put-slot .ensures)
     (d .before .before .before .before .next-free .ensures) (c .before .head-stores .ensures) (c .started .ensures)
 
 pub begin-spec : {M : Type 1} → statement M
@@ -64,7 +81,7 @@ begin-spec =
     tie.close
     (tie.spec
     next-free-requires
-    add-t21
+    add-t22
     new-digest-requires
     write-digest-requires
     put-slot-requires

@@ -17,7 +17,7 @@ forget-at-requires c κs =
     let i = c .before .before in (
       c .before .before .before .before .before .before .before .before .pre,
       (
-        search-inside _ _ _ _ _ (sym (i .before .before .search .ensures) ∙ i .cell .given .1),
+        search-inside _ _ _ _ (sym (i .before .before .search .ensures) ∙ i .cell .given .1),
         sym (i .before .before .search .ensures) ∙ i .cell .given .1,
       ),
     )

@@ -1,14 +1,12 @@
 -- `forgetting::forget::forget_at` meets its contract.
 use Prim.Native.Nat.{ℕ}
-use mathlib.Core.Path.{_≡_, sym, _∙_, ap}
-use mathlib.Core.Bool.{true}
+use mathlib.Core.Path.{sym, _∙_, ap}
 use native.Mathlib.Omega.{arith}
 use lib.ListN.{length, length-replicate}
 use denote.Ref.{now}
-use borrow.Author.Needs.{needs, scaled-fits}
+use borrow.Author.Needs.{needs}
 use borrow.Author.Tests.{not-true, not-false}
 use Rattle.forgetting.specs.Sifted.{length-left}
-use Rattle.forgetting.specs.Forgetting.{inLog}
 use Rattle.forgetting.specs.DeleteLaws.{in-log-below, victim-fits, victim-ready, victim-begun, forgot-outside}
 use Rattle.forgetting.proofs.forget.forget_at.Statement.{statement}
 use Rattle.forgetting.proofs.forget.forget_at.Tie as tie
@@ -71,18 +69,18 @@ slice-aggregate-is-marked c = search needs
 is-marked-requires : tie.Need-is-marked-requires
 is-marked-requires c κs = search needs
 
-slice-aggregate-begin : tie.Need-slice-aggregate-begin
-slice-aggregate-begin c = search needs
+slice-aggregate-forget-live : tie.Need-slice-aggregate-forget-live
+slice-aggregate-forget-live c = search needs
 
-begin-requires : tie.Need-begin-requires
-begin-requires c κs =
+forget-live-requires : tie.Need-forget-live-requires
+forget-live-requires c κs =
     let m = c .before .before .before .before .before .before in
     let p = m .before .before in
     let e = p .before .before in
     let s = e .before .before .before .before .before .before .before in
     victim-ready _ (s .args .rec) _ _ (p .before .with-slot .ensures) _ (p .split-of .ensures)
     (sym (e .before .in-log .ensures) ∙ not-false _ (e .if1 .left)) _ _ _ (s .pre .0) _
-    (ap length (m .mark-left .ensures) ∙ length-left _ _ _ _ _ _ 128 (length-replicate {A = ℕ} 128 0))
+    (ap length (m .mark-left .ensures) ∙ length-left _ _ _ _ _ 128 (length-replicate {A = ℕ} 128 0))
 
 same-length : tie.Need-same-length
 same-length c = search needs
@@ -96,7 +94,7 @@ returns-2 c =
     let a = b .args in
     victim-begun _ (a .rec) _ _ (p .before .with-slot .ensures) _ (p .split-of .ensures)
     (sym (e .before .in-log .ensures) ∙ not-false _ (e .if1 .left)) (now (a .area)) (now (a .index)) (a .key) (now (a .work)) (a .cell) _ _ _ (b .pre .1 .1)
-    (m .mark-left .ensures) (c .before .before .before .before .before .before .is-marked .ensures) (c .before .before .begin .ensures)
+    (m .mark-left .ensures) (c .before .before .before .before .before .before .is-marked .ensures) (c .before .before .forget-live .ensures)
 
 pub forget-at-spec : {M : Type 1} → statement M
 forget-at-spec =
@@ -118,7 +116,7 @@ forget-at-spec =
     mark-left-requires
     slice-aggregate-is-marked
     is-marked-requires
-    slice-aggregate-begin
-    begin-requires
+    slice-aggregate-forget-live
+    forget-live-requires
     same-length
     returns-2)

@@ -35,8 +35,8 @@ returns c =
     let p = n .before .before .before in
     let a = p .before .before .before .before .before .args in
     c .before .before .mark-outside .ensures
-    ∙ ap (λ (l : List ℕ). siftOutside (a .edition) (now (a .area)) (now (a .index)) l (a .split) (now (a .marks)))
-    (n .note-victims .ensures ∙ ap (noteVictims (a .edition) (now (a .area)) (a .split)) (p .put .ensures))
+    ∙ ap (λ (l : List ℕ). siftOutside (now (a .area)) (now (a .index)) l (a .split) (now (a .marks)))
+    (n .note-victims .ensures ∙ ap (noteVictims (now (a .area)) (a .split)) (p .put .ensures))
 
 pub mark-left-spec : {M : Type 1} → statement M
 mark-left-spec =

@@ -26,7 +26,7 @@ same-length c = search needs
 returns : tie.Need-returns
 returns c =
     let x = c .before .before .before .before .before in
-    built-keys _ _ _ _ _ _ _ (x .before .before .before .before .clear .ensures) _ _ (x .index-order .ensures) _ (c .before .n .given .1)
+    built-keys _ _ _ _ _ _ (x .before .before .before .before .clear .ensures) _ _ (x .index-order .ensures) _ (c .before .n .given .1)
 
 same-length-2 : tie.Need-same-length-2
 same-length-2 c = search needs
@@ -36,8 +36,8 @@ returns-2 c =
     let g = c .before .before in
     let x = g .before .before .before .before .before .before in
     let f = x .before .before .before .before in
-    built-many _ _ _ _ _ _ _ (f .clear .ensures) _ _ (x .index-order .ensures) (g .before .before .enum-told .given .1) _ _ (g .give-up .ensures)
-    (x .index-order .kept .1 .1 .0 ∙ f .clear .kept .0)
+    built-many _ _ _ _ _ _ (f .clear .ensures) _ _ (x .index-order .ensures) (g .before .before .enum-told .given .1) _ _ (g .give-up .ensures)
+    (x .index-order .kept .1 .0 ∙ f .clear .kept .0)
 
 pub build-spec : {M : Type 1} → statement M
 build-spec =

@@ -12,20 +12,20 @@ use Rattle.index.proofs.build.index_order.Statement.{statement}
 use Rattle.index.proofs.build.index_order.Tie as tie
 
 abbrev Inv-loop : tie.InvT-loop
-Inv-loop edition area cells₀ order size map keys₀ j₀ cells keys j =
+Inv-loop area cells₀ order size map keys₀ j₀ cells keys j =
     (j ≤ length order)
     × (length cells ≡ length cells₀)
     × (keys ≤ length cells)
-    × (insertAll edition area size (listed edition area size map (drop j order)) (counted cells keys)
-    ≡ insertAll edition area size (listed edition area size map order) (counted cells₀ 0))
+    × (insertAll area size (listed area size map (drop j order)) (counted cells keys)
+    ≡ insertAll area size (listed area size map order) (counted cells₀ 0))
 
 abbrev μ-loop : tie.MeasureT-loop
-μ-loop edition area cells₀ order size map keys₀ j₀ cells keys j = length order - j
+μ-loop area cells₀ order size map keys₀ j₀ cells keys j = length order - j
 
 -- the cells stay as many
 long : (c : tie.After-index-listed Inv-loop μ-loop) →
-    length (c .index-listed .last .1 .1 .0) ≡ length (now (c .before .before .before .before .before .before .before .before .before .args .cells))
-long c = c .index-listed .kept .1 .1 .0 ∙ c .before .before .before .before .before .loop .inv .1
+    length (c .index-listed .last .1 .0) ≡ length (now (c .before .before .before .before .before .before .before .before .before .args .cells))
+long c = c .index-listed .kept .1 .0 ∙ c .before .before .before .before .before .loop .inv .1
 
 loop-holds : tie.Need-loop-holds Inv-loop μ-loop
 loop-holds c = (search needs, refl, search needs, refl)
@@ -54,7 +54,7 @@ returns : tie.Need-returns Inv-loop μ-loop
 returns c =
     let x = c .before .before .before .before in
     let l = x .before .before .before .before in
-    order-over _ _ _ _ _ _ _ _ _ (l .before .loop .inv .3) (l .loop-test .taken) _ (x .before .before .slot-of .ensures .0) _ _
+    order-over _ _ _ _ _ _ _ _ (l .before .loop .inv .3) (l .loop-test .taken) _ (x .before .before .slot-of .ensures .0) _ _
     (x .index-listed .ensures) (c .enum-told .given .1)
 
 add-j : tie.Need-add-j Inv-loop μ-loop
@@ -69,9 +69,9 @@ loop-again c =
     let l = x .before .before .before .before in (
       omega arith,
       long x,
-      order-few _ _ _ _ _ _ _ _ _ (l .before .loop .inv .3) (l .loop-test .taken) _ (x .before .before .slot-of .ensures .0) _ _
+      order-few _ _ _ _ _ _ _ _ (l .before .loop .inv .3) (l .loop-test .taken) _ (x .before .before .slot-of .ensures .0) _ _
           (x .index-listed .ensures) _ (c .before .n .given .1) (l .before .loop .inv .2),
-      order-next _ _ _ _ _ _ _ _ _ (l .before .loop .inv .3) (l .loop-test .taken) _ (x .before .before .slot-of .ensures .0) _ _
+      order-next _ _ _ _ _ _ _ _ (l .before .loop .inv .3) (l .loop-test .taken) _ (x .before .before .slot-of .ensures .0) _ _
           (x .index-listed .ensures) _ (c .before .n .given .1),
     )
 
@@ -79,7 +79,7 @@ same-length-2 : tie.Need-same-length-2 Inv-loop μ-loop
 same-length-2 c = c .before .loop .inv .1
 
 returns-2 : tie.Need-returns-2 Inv-loop μ-loop
-returns-2 c = order-end _ _ _ _ _ _ _ _ _ (c .before .loop .inv .3) (c .loop-test .left)
+returns-2 c = order-end _ _ _ _ _ _ _ _ (c .before .loop .inv .3) (c .loop-test .left)
 
 pub index-order-spec : {M : Type 1} → statement M
 index-order-spec =

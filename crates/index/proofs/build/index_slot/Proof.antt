@@ -16,8 +16,8 @@ abbrev Inv-loop : tie.InvT-loop
 Inv-loop edition area cells₀ slot size keys s start at₀ keys₀ cells at keys′ =
     (length cells ≡ length cells₀)
     × (keys′ ≤ length cells)
-    × (insertAll edition area size (placedIn slot (entriesAt edition (segmentOf area size slot) at)) (counted cells keys′)
-    ≡ insertAll edition area size (slotEntries edition area size slot) (counted cells₀ keys))
+    × (insertAll area size (placedIn edition slot (entriesAt edition (segmentOf area size slot) at)) (counted cells keys′)
+    ≡ insertAll area size (slotEntries edition area size slot) (counted cells₀ keys))
 
 abbrev μ-loop : tie.MeasureT-loop
 μ-loop edition area cells₀ slot size keys s start at₀ keys₀ cells at keys′ = size - at
@@ -55,8 +55,8 @@ fits c =
 
 -- the cells stay as many
 long : (c : tie.After-index-entry Inv-loop μ-loop) →
-    length (c .index-entry .last .1 .1 .0) ≡ length (now (c .before .before .before .before .before .before .before .before .before .before .before .before .before .args .cells))
-long c = c .index-entry .kept .1 .1 .0 ∙ c .before .before .before .before .before .before .before .before .loop .inv .0
+    length (c .index-entry .last .1 .0) ≡ length (now (c .before .before .before .before .before .before .before .before .before .before .before .before .before .args .cells))
+long c = c .index-entry .kept .1 .0 ∙ c .before .before .before .before .before .before .before .before .loop .inv .0
 
 add-place : tie.Need-add-place Inv-loop μ-loop
 add-place c = omega (arith, fits (c .before))

@@ -19,7 +19,7 @@ use Rattle.index.proofs.put.insert.Tie as tie
 abbrev found : tie.After-search → Found
 found c =
     let a = c .before .before .before .before .args in
-    searchFor (a .edition) (now (a .area)) (now (a .cells)) (a .key)
+    searchFor (now (a .area)) (now (a .cells)) (a .key)
 
 is-free : (c : tie.After-i) → found (c .before .before) ≡ Found.Free (c .i .given .0 .0)
 is-free c = sym (c .before .before .search .ensures) ∙ c .i .given .1
@@ -27,8 +27,8 @@ is-free c = sym (c .before .before .search .ensures) ∙ c .i .given .1
 is-at : (c : tie.After-i2) → found (c .before .before) ≡ Found.At (c .i2 .given .0 .0)
 is-at c = sym (c .before .before .search .ensures) ∙ c .i2 .given .1
 
-inside : (c : tie.After-i2) → let a = c .before .before .before .before .before .before .args in Inside (a .edition) (now (a .area)) (now (a .cells)) (c .i2 .given .0 .0)
-inside c = search-inside _ _ _ _ (c .i2 .given .0 .0) (is-at c)
+inside : (c : tie.After-i2) → let a = c .before .before .before .before .before .before .args in Inside (now (a .area)) (now (a .cells)) (c .i2 .given .0 .0)
+inside c = search-inside _ _ _ (c .i2 .given .0 .0) (is-at c)
 
 search-requires : tie.Need-search-requires
 search-requires c κs = search needs
@@ -40,13 +40,13 @@ enum-known-i : tie.Need-enum-known-i
 enum-known-i c = search needs
 
 put-requires : tie.Need-put-requires
-put-requires c κs = (search-free _ _ _ _ _ (is-free (c .before .before)), omega arith)
+put-requires c κs = (search-free _ _ _ _ (is-free (c .before .before)), omega arith)
 
 enum-known-i-2 : tie.Need-enum-known-i-2
 enum-known-i-2 c = search needs
 
 mul-old : tie.Need-mul-old
-mul-old c = scaled-fits _ _ 4 (inside (c .before) .below) (c .before .before .before .before .before .before .before .good .1 .1 .0 .1)
+mul-old c = scaled-fits _ _ 4 (inside (c .before) .below) (c .before .before .before .before .before .before .before .good .1 .0 .1)
 
 slice-read-old : tie.Need-slice-read-old
 slice-read-old c = inside (c .before .before) .below
@@ -54,14 +54,11 @@ slice-read-old c = inside (c .before .before) .below
 sub-old : tie.Need-sub-old
 sub-old c = inside (c .before .before) .taken
 
-cast-version-at : tie.Need-cast-version-at
-cast-version-at c = omega (arith, c .slice-known3 .given (c .before .before .i2 .given .0 .0))
+cast-version-there : tie.Need-cast-version-there
+cast-version-there c = omega (arith, c .slice-known3 .given (c .before .before .i2 .given .0 .0))
 
-add-version-at : tie.Need-add-version-at
-add-version-at c = omega (arith, c .slice-known3 .given (c .before .before .i2 .given .0 .0))
-
-version-at-requires : tie.Need-version-at-requires
-version-at-requires c κs = omega (arith, inside (c .before .before) .fits)
+version-there-requires : tie.Need-version-there-requires
+version-there-requires c κs = omega (arith, inside (c .before .before) .fits)
 
 put-requires-2 : tie.Need-put-requires-2
 put-requires-2 c κs = (inside (c .before .before .before .before .before .before .before) .below, omega arith)
@@ -78,13 +75,13 @@ returns c =
     record { answer = Inserted.Newer (getD (now (i .before .before .before .before .before .before .args .cells)) (i .i2 .given .0 .0) 0 - 1); cells = l })
     (c .before .before .put2 .ensures)
     ∙ sym
-    (insert-newer _ _ _ _ _ _ _ (is-at i) (rw (ap (λ (x : Version). x .0) (t .before .before .before .version-at .ensures)) at (t .if1 .taken)))
+    (insert-newer _ _ _ _ _ _ (is-at i) (rw (ap (λ (x : Version). x .0) (t .before .before .before .version-there .ensures)) at (t .if1 .taken)))
 
 same-length-2 : tie.Need-same-length-2
 same-length-2 c = search needs
 
 returns-2 : tie.Need-returns-2
-returns-2 c = sym (insert-full _ _ _ _ _ _ (sym (c .before .before .search .ensures) ∙ c .enum-told .given .1))
+returns-2 c = sym (insert-full _ _ _ _ _ (sym (c .before .before .search .ensures) ∙ c .enum-told .given .1))
 
 same-length-3 : tie.Need-same-length-3
 same-length-3 c = search needs
@@ -92,7 +89,7 @@ same-length-3 c = search needs
 returns-3 : tie.Need-returns-3
 returns-3 c =
     ap (λ (l : List ℕ). record { answer = Inserted.New; cells = l }) (c .before .before .put .ensures)
-    ∙ sym (insert-new _ _ _ _ _ _ _ (is-free (c .before .before .before .before .before)))
+    ∙ sym (insert-new _ _ _ _ _ _ (is-free (c .before .before .before .before .before)))
 
 same-length-4 : tie.Need-same-length-4
 same-length-4 c = search needs
@@ -100,7 +97,7 @@ same-length-4 c = search needs
 returns-4 : tie.Need-returns-4
 returns-4 c =
     sym
-    (insert-older _ _ _ _ _ _ _ (is-at (c .before .before .before .before .before .before)) (rw (ap (λ (x : Version). x .0) (c .before .before .before .version-at .ensures)) at (c .if1 .left)))
+    (insert-older _ _ _ _ _ _ (is-at (c .before .before .before .before .before .before)) (rw (ap (λ (x : Version). x .0) (c .before .before .before .version-there .ensures)) at (c .if1 .left)))
 
 pub insert-spec : {M : Type 1} → statement M
 insert-spec =
@@ -114,9 +111,8 @@ insert-spec =
     mul-old
     slice-read-old
     sub-old
-    cast-version-at
-    add-version-at
-    version-at-requires
+    cast-version-there
+    version-there-requires
     put-requires-2
     same-length
     returns

@@ -1,6 +1,6 @@
 -- `index::search::search` meets its contract. The invariant: this run, and if it meets nothing one from 0 up to its start, give the whole answer.
 use Prim.Native.Nat.{_+_, _-_, _≤_}
-use mathlib.Core.Path.{_≡_, refl, sym, _∙_}
+use mathlib.Core.Path.{_≡_, refl}
 use native.Mathlib.Omega.{arith}
 use lib.ListN.{length}
 use borrow.Author.Needs.{needs}
@@ -11,20 +11,20 @@ use Rattle.index.proofs.search.search.Statement.{statement}
 use Rattle.index.proofs.search.search.Tie as tie
 
 abbrev Inv-loop : tie.InvT-loop
-Inv-loop edition area cells key n m from₀ end₀ from end =
+Inv-loop area cells key n m from₀ end₀ from end =
     (from ≤ end)
     × (end ≤ length cells)
-    × (orElse (probe (cellHas edition area key) cells (end - from) from) (probe (cellHas edition area key) cells from 0)
-    ≡ searchFor edition area cells key)
+    × (orElse (probe (cellHas area key) cells (end - from) from) (probe (cellHas area key) cells from 0)
+    ≡ searchFor area cells key)
 
 abbrev μ-loop : tie.MeasureT-loop
-μ-loop edition area cells key n m from₀ end₀ from end = end + from
+μ-loop area cells key n m from₀ end₀ from end = end + from
 
 returns : tie.Need-returns Inv-loop μ-loop
-returns c = search-empty _ _ _ _ (c .if1 .taken)
+returns c = search-empty _ _ _ (c .if1 .taken)
 
 returns-2 : tie.Need-returns-2 Inv-loop μ-loop
-returns-2 c = search-above _ _ _ _ (c .if2 .taken)
+returns-2 c = search-above _ _ _ (c .if2 .taken)
 
 cast-m : tie.Need-cast-m Inv-loop μ-loop
 cast-m c = search needs
@@ -37,7 +37,7 @@ loop-holds c =
     let l = first-below _ _ _ (omega arith) (c .first-cell .ensures) in (
       omega (arith, l),
       omega arith,
-      search-runs _ _ _ _ refl (omega arith) (omega arith) (c .before .key-hash .ensures) (c .first-cell .ensures),
+      search-runs _ _ _ refl (omega arith) (omega arith) (c .before .key-hash .ensures) (c .first-cell .ensures),
     )
 
 search-up-requires : tie.Need-search-up-requires Inv-loop μ-loop

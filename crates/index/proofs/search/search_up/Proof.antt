@@ -10,11 +10,11 @@ use Rattle.index.proofs.search.search_up.Statement.{statement}
 use Rattle.index.proofs.search.search_up.Tie as tie
 
 abbrev Inv-loop : tie.InvT-loop
-Inv-loop edition area cells key from end at₀ at =
-    (at ≤ end) × (end ≤ length cells) × (probe (cellHas edition area key) cells (end - at) at ≡ probe (cellHas edition area key) cells (end - from) from)
+Inv-loop area cells key from end at₀ at =
+    (at ≤ end) × (end ≤ length cells) × (probe (cellHas area key) cells (end - at) at ≡ probe (cellHas area key) cells (end - from) from)
 
 abbrev μ-loop : tie.MeasureT-loop
-μ-loop edition area cells key from end at₀ at = end - at
+μ-loop area cells key from end at₀ at = end - at
 
 loop-holds : tie.Need-loop-holds Inv-loop μ-loop
 loop-holds c = (omega arith, omega arith, refl)

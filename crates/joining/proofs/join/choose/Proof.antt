@@ -33,7 +33,7 @@ slice-aggregate-weigh-all-4 c = search needs
 weigh-all-requires : tie.Need-weigh-all-requires
 weigh-all-requires c κs =
     let made = c .before .before .before .before .before .before .before .note-all .ensures in
-    (fits-noted _ _ (c .before .before .before .before .before .before .before .before .before .before .before .before .before .pre) (made .0), (made .2, rows-start _ _ _ _ _ _ (made .1)))
+    (fits-noted _ (c .before .before .before .before .before .before .before .before .before .before .before .before .before .pre) (made .0), (made .2, rows-start _ _ _ _ _ _ (made .1)))
 
 slice-aggregate-lowest-pair : tie.Need-slice-aggregate-lowest-pair
 slice-aggregate-lowest-pair c = search needs

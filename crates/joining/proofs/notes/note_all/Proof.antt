@@ -10,23 +10,23 @@ use Rattle.joining.proofs.notes.note_all.Statement.{statement}
 use Rattle.joining.proofs.notes.note_all.Tie as tie
 
 abbrev Inv-loop : tie.InvT-loop
-Inv-loop edition area cells notes₀ totals₀ tombstones₀ split i₀ notes totals tombstones i =
+Inv-loop into area cells notes₀ totals₀ tombstones₀ split i₀ notes totals tombstones i =
     (i ≤ split .slots)
-    × (notes ≡ noteBelow edition area cells split notes₀ i)
-    × ObjectsCounted edition area cells split i totals
-    × TombstonesCounted edition area split i tombstones
+    × (notes ≡ noteBelow area cells split notes₀ i)
+    × ObjectsCounted into area cells split i totals
+    × TombstonesCounted into area split i tombstones
 
 abbrev μ-loop : tie.MeasureT-loop
-μ-loop edition area cells notes₀ totals₀ tombstones₀ split i₀ notes totals tombstones i = split .slots - i
+μ-loop into area cells notes₀ totals₀ tombstones₀ split i₀ notes totals tombstones i = split .slots - i
 
 loop-holds : tie.Need-loop-holds Inv-loop μ-loop
-loop-holds c = (omega arith, notes-none _ _ _ _ _, c .before .before .before .before .before .pre .1 .0, c .before .before .before .before .before .pre .1 .1)
+loop-holds c = (omega arith, notes-none _ _ _ _, c .before .before .before .before .before .pre .1 .0, c .before .before .before .before .before .pre .1 .1)
 
 note-part-requires : tie.Need-note-part-requires Inv-loop μ-loop
 note-part-requires c κs =
     let s = c .before .before .before .before .before .before .before .before .before .before .before in
     let l = c .before .before .before .before .before .loop .inv in
-    (fits-again _ (s .pre .0) (ap length (l .1) ∙ length-below _ _ _ _ _ _), (c .before .before .before .if1 .taken, (l .2, l .3)))
+    (fits-again _ (s .pre .0) (ap length (l .1) ∙ length-below _ _ _ _ _), (c .before .before .before .if1 .taken, (l .2, l .3)))
 
 add-i : tie.Need-add-i Inv-loop μ-loop
 add-i c = omega (arith, c .before .before .before .before .before .before .before .before .before .before .if1 .taken, c .before .before .before .before .before .before .before .before .before .before .before .before .before .before .before .before .before .before .pre .0 .slots .slots-high)
@@ -37,10 +37,10 @@ loop-less c = omega (arith, c .before .before .before .before .before .before .b
 loop-again : tie.Need-loop-again Inv-loop μ-loop
 loop-again c =
     let made = c .before .before .before .before .before .before .note-part .ensures in
-    (omega (arith, c .before .before .before .before .before .before .before .before .before .before .if1 .taken), notes-more _ _ _ _ _ _ (c .before .before .before .before .before .before .before .before .before .before .before .before .loop .inv .1) (made .0), made .1, made .2)
+    (omega (arith, c .before .before .before .before .before .before .before .before .before .before .if1 .taken), notes-more _ _ _ _ _ (c .before .before .before .before .before .before .before .before .before .before .before .before .loop .inv .1) (made .0), made .1, made .2)
 
 same-length : tie.Need-same-length Inv-loop μ-loop
-same-length c = ap length (c .before .before .loop .inv .1) ∙ length-below _ _ _ _ _ _
+same-length c = ap length (c .before .before .loop .inv .1) ∙ length-below _ _ _ _ _
 
 same-length-2 : tie.Need-same-length-2 Inv-loop μ-loop
 same-length-2 c = c .before .before .loop .inv .2 .totals-long ∙ sym (c .before .before .before .before .before .before .before .before .pre .1 .0 .totals-long)
@@ -53,9 +53,9 @@ returns c =
     let a = c .before .before .before .before .before .before .before .before .args in
     let l = c .before .before .loop .inv in
     let e : c .before .before .loop .i ≡ a .split .slots = omega (arith, c .if1 .left, l .0) in (
-      l .1 ∙ ap (noteBelow (a .edition) (now (a .area)) (now (a .cells)) (a .split) (now (a .notes))) e,
-      subst (λ n. ObjectsCounted (a .edition) (now (a .area)) (now (a .cells)) (a .split) n (c .before .before .loop .totals)) e (l .2),
-      subst (λ n. TombstonesCounted (a .edition) (now (a .area)) (a .split) n (c .before .before .loop .tombstones)) e (l .3),
+      l .1 ∙ ap (noteBelow (now (a .area)) (now (a .cells)) (a .split) (now (a .notes))) e,
+      subst (λ n. ObjectsCounted (a .into) (now (a .area)) (now (a .cells)) (a .split) n (c .before .before .loop .totals)) e (l .2),
+      subst (λ n. TombstonesCounted (a .into) (now (a .area)) (a .split) n (c .before .before .loop .tombstones)) e (l .3),
     )
 
 pub note-all-spec : {M : Type 1} → statement M

@@ -1,10 +1,12 @@
 -- `joining::notes::note_part` meets its contract.
 use Prim.Native.Nat.{_<_}
-use mathlib.Core.Path.{sym, _∙_}
+use mathlib.Core.Path.{sym, _∙_, ap}
 use native.Mathlib.Omega.{arith}
 use borrow.Author.Needs.{needs}
 use borrow.Author.Tests.{not-true, not-false}
-use Rattle.joining.specs.NotesLaws.{part-noted, part-keeps, counted-skip, counted-more, tombstones-skip, tombstones-more}
+use Rattle.segment.specs.Digest.{layoutIn}
+use Rattle.cleaning.specs.EntriesLaws.{slot-lies}
+use Rattle.joining.specs.NotesLaws.{part-noted, part-keeps, summed-own, counted-skip, counted-more, tombstones-skip, tombstones-more}
 use Rattle.joining.proofs.notes.note_part.Statement.{statement}
 use Rattle.joining.proofs.notes.note_part.Tie as tie
 
@@ -15,7 +17,13 @@ returns : tie.Need-returns
 returns c =
     let s = c .before .before .before .before .before .before .before in
     let other = sym (c .before .is-named .ensures) ∙ not-true _ (c .if1 .taken) in
-    (part-keeps _ _ _ _ _ _ other, counted-skip _ _ _ _ _ _ (s .pre .1 .1 .0) other, tombstones-skip _ _ _ _ _ (s .pre .1 .1 .1) other)
+    (part-keeps _ _ _ _ _ other, counted-skip _ _ _ _ _ _ (s .pre .1 .1 .0) other, tombstones-skip _ _ _ _ _ (s .pre .1 .1 .1) other)
+
+cut-requires : tie.Need-cut-requires
+cut-requires c κs = let s = c .before .before .before .before .before .before .before in slot-lies (s .pre .0 .slots) (s .args .slot) (s .pre .1 .0)
+
+edition-of-requires : tie.Need-edition-of-requires
+edition-of-requires c κs = search needs
 
 note-slot-requires : tie.Need-note-slot-requires
 note-slot-requires c κs = search needs
@@ -49,12 +57,16 @@ same-length-3 c = search needs
 
 returns-2 : tie.Need-returns-2
 returns-2 c =
-    let s = c .before .before .before .before .before .before .before .before .before .before .before .before .before in
+    let k = c .before .before .before .before .before .before .before in
+    let t = k .before in
+    let s = t .before .before .before .before .before .before .before in
+    let own = c .before .before .before .before .before .before .edition-of .ensures ∙ ap layoutIn (k .cut .ensures) in
     let w = c .before .before .before .before .note-slot .ensures in
+    let sums = summed-own _ _ _ _ _ _ _ own (w .0) in
     let low : s .args .slot < 32 = omega (arith, s .pre .1 .0, s .pre .0 .slots .slots-high) in (
-      part-noted _ _ _ _ _ _ (sym (c .before .before .before .before .before .before .before .is-named .ensures) ∙ not-false _ (c .before .before .before .before .before .before .if1 .left)) (w .1),
-      counted-more _ _ _ _ _ _ (s .pre .1 .1 .0) low _ (w .0 .objects-are) (omega (arith, w .0 .few)),
-      tombstones-more _ _ _ _ _ (s .pre .1 .1 .1) low _ (w .0 .tombstones-are),
+      part-noted _ _ _ _ _ _ own (sym (t .before .is-named .ensures) ∙ not-false _ (t .if1 .left)) (w .1),
+      counted-more _ _ _ _ _ _ (s .pre .1 .1 .0) low _ (sums .objects-are) (omega (arith, sums .few)),
+      tombstones-more _ _ _ _ _ (s .pre .1 .1 .1) low _ (sums .tombstones-are),
     )
 
 pub note-part-spec : {M : Type 1} → statement M
@@ -63,6 +75,8 @@ note-part-spec =
     (tie.spec
     is-named-requires
     returns
+    cut-requires
+    edition-of-requires
     note-slot-requires
     cast-totals
     mul-totals

@@ -8,10 +8,10 @@ use Rattle.joining.proofs.weights.weigh_all.Statement.{statement}
 use Rattle.joining.proofs.weights.weigh_all.Tie as tie
 
 abbrev Inv-loop : tie.InvT-loop
-Inv-loop edition area cells notes tombstones split totals₀ shares₀ i₀ totals shares i = (i ≤ split .slots) × Rows edition area cells notes split i totals shares
+Inv-loop into area cells notes tombstones split totals₀ shares₀ i₀ totals shares i = (i ≤ split .slots) × Rows into area cells notes split i totals shares
 
 abbrev μ-loop : tie.MeasureT-loop
-μ-loop edition area cells notes tombstones split totals₀ shares₀ i₀ totals shares i = split .slots - i
+μ-loop into area cells notes tombstones split totals₀ shares₀ i₀ totals shares i = split .slots - i
 
 loop-holds : tie.Need-loop-holds Inv-loop μ-loop
 loop-holds c = (omega arith, c .before .before .before .before .before .before .pre .1 .1)
@@ -40,7 +40,7 @@ returns : tie.Need-returns Inv-loop μ-loop
 returns c =
     let a = c .before .before .before .before .before .before .before .before .before .args in
     let e : c .before .before .loop .i ≡ a .split .slots = omega (arith, c .if1 .left, c .before .before .loop .inv .0) in
-    subst (λ n. Rows (a .edition) (now (a .area)) (now (a .cells)) (now (a .notes)) (a .split) n (c .before .before .loop .totals) (c .before .before .loop .shares)) e (c .before .before .loop .inv .1)
+    subst (λ n. Rows (a .into) (now (a .area)) (now (a .cells)) (now (a .notes)) (a .split) n (c .before .before .loop .totals) (c .before .before .loop .shares)) e (c .before .before .loop .inv .1)
 
 pub weigh-all-spec : {M : Type 1} → statement M
 weigh-all-spec =

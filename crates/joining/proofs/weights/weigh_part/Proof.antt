@@ -1,7 +1,9 @@
 -- `joining::weights::weigh_part` meets its contract.
-use mathlib.Core.Path.{sym, _∙_}
+use mathlib.Core.Path.{sym, _∙_, ap}
 use native.Mathlib.Omega.{arith}
 use borrow.Author.Tests.{not-true, not-false}
+use Rattle.segment.specs.Digest.{layoutIn}
+use Rattle.cleaning.specs.EntriesLaws.{slot-lies}
 use Rattle.joining.specs.WeightsLaws.{rows-skip, rows-none, rows-more}
 use borrow.Author.Needs.{needs}
 use Rattle.joining.proofs.weights.weigh_part.Statement.{statement}
@@ -25,9 +27,15 @@ returns-2 c =
     let own = sym (c .before .before .before .is-named .ensures) ∙ not-false _ (c .before .before .if1 .left) in
     rows-none _ _ _ _ _ _ _ _ (s .pre .1 .1 .1) (s .pre .1 .0) own (sym (s .pre .1 .1 .0 .tombstones-are _ (s .pre .1 .0) own) ∙ c .if2 .taken)
 
+cut-requires : tie.Need-cut-requires
+cut-requires c κs = let s = c .before .before .before .before .before .before .before .before .before .before in slot-lies (s .pre .0 .slots) (s .args .slot) (s .pre .1 .0)
+
+edition-of-requires : tie.Need-edition-of-requires
+edition-of-requires c κs = search needs
+
 weigh-slot-requires : tie.Need-weigh-slot-requires
 weigh-slot-requires c κs =
-    let s = c .before .before .before .before .before .before .before .before .before .before .before in
+    let s = c .before .before .before .before .before .before .before .before .before .before .before .before .before in
     (s .pre .0 .slots, (s .pre .0 .notes-long, (s .pre .1 .0, (s .pre .1 .1 .1 .shares-long, s .pre .1 .1 .1 .clear))))
 
 mul-totals : tie.Need-mul-totals
@@ -41,7 +49,7 @@ cast-totals c = search needs
 
 add-totals : tie.Need-add-totals
 add-totals c =
-    let s = c .before .before .before .before .before .before .before .before .before .before .before .before .before .before .before in
+    let s = c .before .before .before .before .before .before .before .before .before .before .before .before .before .before .before .before .before in
     omega (arith, s .pre .1 .1 .1 .few (s .args .slot) (omega arith), c .before .before .before .weigh-slot .ensures .small)
 
 mul-totals-2 : tie.Need-mul-totals-2
@@ -58,9 +66,12 @@ same-length-2 c = search needs
 
 returns-3 : tie.Need-returns-3
 returns-3 c =
-    let s = c .before .before .before .before .before .before .before .before .before .before .before .before .before .before .before in
+    let k = c .before .before .before .before .before .before in
+    let named = k .before .before .before in
+    let s = named .before .before .before .before .before .before .before .before in
     rows-more _ _ _ _ _ _ _ _ (s .pre .1 .1 .1) (omega (arith, s .pre .1 .0, s .pre .0 .slots .slots-high)) (s .pre .1 .0)
-    (sym (c .before .before .before .before .before .before .before .before .is-named .ensures) ∙ not-false _ (c .before .before .before .before .before .before .before .if1 .left)) _ _ (c .before .before .before .weigh-slot .ensures)
+    (sym (named .before .is-named .ensures) ∙ not-false _ (named .if1 .left)) _ _ _
+    (c .before .before .before .before .before .edition-of .ensures ∙ ap layoutIn (k .cut .ensures)) (c .before .before .before .weigh-slot .ensures)
 
 pub weigh-part-spec : {M : Type 1} → statement M
 weigh-part-spec =
@@ -71,6 +82,8 @@ weigh-part-spec =
     mul-if2
     shared-slice-read-if2
     returns-2
+    cut-requires
+    edition-of-requires
     weigh-slot-requires
     mul-totals
     slice-read-totals

@@ -3,6 +3,7 @@ use Prim.Native.Nat.{ℕ, _+_, _-_, _≤_}
 use mathlib.Core.Path.{_≡_, refl, sym, _∙_, ap}
 use native.Mathlib.Omega.{arith}
 use lib.ListN.{length}
+use Rattle.segment.specs.Layout.{Layout, layoutOfKind, entrySize}
 use Rattle.recovery.specs.LookupLaws.{ObjectInside}
 use Rattle.scanning.specs.Seeking.{answerOf, partFor}
 use Rattle.scanning.specs.SeekingLaws.{found-short, sought-inside}
@@ -12,15 +13,15 @@ use Rattle.kurdavel.proofs.scan.kurdavel_scan_read_value.Statement.{sta
 use Rattle.kurdavel.proofs.scan.kurdavel_scan_read_value.Tie as tie
 
 -- the entry of an object that was found lies in the area, which is short
-inside : (c : tie.After-edition)
-    → ObjectInside (c .edition .given .0 .0) (c .before .before .before .before .args .area .now) (c .edition .given .0 .1 .0) (c .edition .given .0 .1 .1 .1 .1 .0)
-inside c = sought-inside _ _ _ _ _ _ _ _ _ _ _ (sym (c .edition .given .1) ∙ c .before .before .seek .ensures)
+inside : (c : tie.After-entry)
+    → ObjectInside (layoutOfKind (c .entry .given .0 .1 .1 .0)) (c .before .before .before .before .args .area .now) (c .entry .given .0 .0) (c .entry .given .0 .1 .1 .1 .0)
+inside c = sought-inside _ _ _ _ _ _ _ _ _ _ (sym (c .entry .given .1) ∙ c .before .before .seek .ensures)
 
-short : (c : tie.After-edition) → length (c .before .before .before .before .args .area .now) ≤ 65536
+short : (c : tie.After-entry) → length (c .before .before .before .before .args .area .now) ≤ 65536
 short c =
     let a = c .before .before .before .before .args in
     found-short _ (a .slots) (a .size) (a .area .now) (record { first = a .first; last = a .last }) (record { table = a .table; key = a .key })
-    _ _ _ _ _ (sym (c .edition .given .1) ∙ c .before .before .seek .ensures)
+    _ _ _ _ (sym (c .entry .given .1) ∙ c .before .before .seek .ensures)
 
 seek-requires : tie.Need-seek-requires
 seek-requires c κs = search needs
@@ -31,23 +32,30 @@ enum-known-cause c = search needs
 number-requires : tie.Need-number-requires
 number-requires c κs = search needs
 
-enum-known-edition : tie.Need-enum-known-edition
-enum-known-edition c = search needs
+enum-known-entry : tie.Need-enum-known-entry
+enum-known-entry c = search needs
+
+edition-of-kind-requires : tie.Need-edition-of-kind-requires
+edition-of-kind-requires c κs = search needs
+
+-- the bytes before a value, by the edition that the kind tells
+head-is : (c : tie.After-head-size) → c .head-size .result ≡ entrySize (layoutOfKind (c .before .before .before .entry .given .0 .1 .1 .0)) 0
+head-is c = c .head-size .ensures ∙ ap (λ (L : Layout). entrySize L 0) (c .before .edition-of-kind .ensures)
 
 head-size-requires : tie.Need-head-size-requires
 head-size-requires c κs = search needs
 
 add-place : tie.Need-add-place
-add-place c = let h = inside (c .before .before) in let l = short (c .before .before) in omega (arith, c .head-size .ensures)
+add-place c = let h = inside (c .before .before .before) in let l = short (c .before .before .before) in omega (arith, head-is c)
 
 cast-place : tie.Need-cast-place
-cast-place c = let h = inside (c .before .before) in let l = short (c .before .before) in omega (arith, c .head-size .ensures)
+cast-place c = let h = inside (c .before .before .before) in let l = short (c .before .before .before) in omega (arith, head-is c)
 
 sub-bytes : tie.Need-sub-bytes
-sub-bytes c = let h = inside (c .before .before) in omega (arith, c .head-size .ensures)
+sub-bytes c = let h = inside (c .before .before .before) in omega (arith, head-is c)
 
 cast-bytes : tie.Need-cast-bytes
-cast-bytes c = let h = inside (c .before .before) in let l = short (c .before .before) in omega (arith, c .head-size .ensures)
+cast-bytes c = let h = inside (c .before .before .before) in let l = short (c .before .before .before) in omega (arith, head-is c)
 
 returns : tie.Need-returns
 unfolding answerOf partFor
@@ -58,11 +66,11 @@ returns c =
 returns-2 : tie.Need-returns-2
 unfolding answerOf partFor
 returns-2 c =
-    let h = inside (c .before .before) in
-    let p = c .before .before .edition .given .0 .1 .0 in
-    let n = c .before .before .edition .given .0 .1 .1 .1 .1 .0 in
-    scan-value-crossed (c .before .before .before .before .seek .ensures) (c .before .before .edition .given .1) refl
-    (ap (λ (m : ℕ). record { place = p + m; bytes = n - m }) (c .head-size .ensures)) (omega (arith, c .head-size .ensures)) (λ refused. absurd (refused refl))
+    let h = inside (c .before .before .before) in
+    let p = c .before .before .before .entry .given .0 .0 in
+    let n = c .before .before .before .entry .given .0 .1 .1 .1 .0 in
+    scan-value-crossed (c .before .before .before .before .before .seek .ensures) (c .before .before .before .entry .given .1) refl
+    (ap (λ (m : ℕ). record { place = p + m; bytes = n - m }) (head-is c)) (omega (arith, head-is c)) (λ refused. absurd (refused refl))
 
 pub kurdavel-scan-read-value-spec : {M : Type 1} → statement M
 kurdavel-scan-read-value-spec =
@@ -71,7 +79,8 @@ kurdavel-scan-read-value-spec =
     seek-requires
     enum-known-cause
     number-requires
-    enum-known-edition
+    enum-known-entry
+    edition-of-kind-requires
     head-size-requires
     add-place
     cast-place

@@ -1,12 +1,12 @@
 -- `log::hits::count_first` meets its contract. The invariant: counting on from here gives the whole count.
-use Prim.Native.Nat.{ℕ, _+_, _-_}
-use mathlib.Core.Path.{_∙_, ap}
+use Prim.Native.Nat.{_+_, _-_}
+use mathlib.Core.Path.{ap}
 use native.Mathlib.Omega.{arith}
 use borrow.Author.Needs.{needs}
 use lib.ListN.{length}
 use Rattle.segment.specs.Layout.{edition1}
 use Rattle.segment.specs.Entries.{next-end, next-damage}
-use Rattle.log.specs.Extents.{Meets, meets, restOf, rest-whole}
+use Rattle.log.specs.Extents.{Meets, meets, rest-whole}
 use Rattle.log.specs.Counts.{countFrom, Counting, count-turn, count-end, count-damage}
 use Rattle.log.proofs.hits.count_first.Statement.{statement}
 use Rattle.log.proofs.hits.count_first.Tie as tie

@@ -1,5 +1,5 @@
 -- `log::parts::survey_second` meets its contract. The invariant: this was told of the entries passed, and the scan goes on from here.
-use Prim.Native.Nat.{ℕ, _-_}
+use Prim.Native.Nat.{_-_}
 use mathlib.Core.Path.{sym, _∙_}
 use native.Mathlib.Omega.{arith}
 use borrow.Author.Needs.{needs}

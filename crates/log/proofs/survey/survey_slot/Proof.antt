@@ -1,7 +1,7 @@
 -- `log::survey::survey_slot` meets its contract.
 use mathlib.Core.Path.{sym}
 use borrow.Author.Needs.{needs}
-use Rattle.log.specs.Shape.{own-scan}
+use Rattle.log.specs.Shape.{own-layout, own-scan}
 use Rattle.log.specs.Surveys.{slot-told}
 use Rattle.log.proofs.survey.survey_slot.Statement.{statement}
 use Rattle.log.proofs.survey.survey_slot.Tie as tie
@@ -22,7 +22,9 @@ returns : tie.Need-returns
 returns c =
     let a = c .before .before .before .before .before .before .before .before .args in
     let pre = c .before .before .before .before .before .before .before .before .pre in
-    slot-told _ _ _ _ _ (sym (own-scan (a .area .now) (a .s) (a .slot) _ (c .before .before .before .before .before .cut .ensures) _ (c .before .before .before .before .edition-of .ensures))) (pre .1 .0) _ _ _ (pre .1 .1) _ _ _ _ (c .before .before .survey-part .ensures)
+    let cut = c .before .before .before .before .before .cut .ensures in
+    let told = c .before .before .before .before .edition-of .ensures in
+    slot-told _ _ _ _ _ (sym (own-layout (a .area .now) (a .s) (a .slot) _ cut _ told)) (sym (own-scan (a .area .now) (a .s) (a .slot) _ cut _ told)) (pre .1 .0) _ _ _ (pre .1 .1) _ _ _ _ (c .before .before .survey-part .ensures)
 
 pub survey-slot-spec : {M : Type 1} → statement M
 survey-slot-spec =

@@ -1,6 +1,6 @@
 -- `log::versions::filter_slot` meets its contract. The invariant: the entries passed share no version but a suspect's, and their bits are set.
 use Prim.Native.Nat.{ℕ, _+_, _-_, _≤_}
-use mathlib.Core.Path.{sym, _∙_, ap, subst}
+use mathlib.Core.Path.{sym, _∙_}
 use mathlib.Core.List.{List}
 use native.Mathlib.Omega.{arith}
 use borrow.Author.Needs.{needs}
@@ -9,7 +9,7 @@ use Rattle.segment.specs.Entries.{next-end, next-damage}
 use Rattle.slot_map.specs.Bit.{named}
 use Rattle.model.specs.Log.{viewsOf, logOf, Placed}
 use Rattle.laws.specs.Versions.{count}
-use Rattle.log.specs.Shape.{inside, own-scan}
+use Rattle.log.specs.Shape.{inside, own-layout, own-scan}
 use Rattle.log.specs.Extents.{Meets, meets}
 use Rattle.log.specs.Filter.{Filtering, filter-start, slot-shared, slot-filtered, filter-stands, filter-turn, filter-end, filter-damage, slot-inside-log}
 use Rattle.log.proofs.versions.filter_slot.Statement.{statement}
@@ -34,7 +34,9 @@ loop-holds : tie.Need-loop-holds Inv-loop μ-loop
 loop-holds c =
     let a = c .before .before .before .before .before .before .args in
     rw (c .digest-size .ensures)
-    (filter-start _ (viewsOf (a .area .now) (a .s)) (named (a .map)) (a .slot) _ _ _ _ (c .before .before .before .before .before .before .pre .1) (sym (own-scan (a .area .now) (a .s) (a .slot) _ (c .before .before .cut .ensures) _ (c .before .edition-of .ensures))))
+    (filter-start _ (viewsOf (a .area .now) (a .s)) (named (a .map)) (a .slot) _ _ _ _ (c .before .before .before .before .before .before .pre .1)
+    (sym (own-layout (a .area .now) (a .s) (a .slot) _ (c .before .before .cut .ensures) _ (c .before .edition-of .ensures)))
+    (sym (own-scan (a .area .now) (a .s) (a .slot) _ (c .before .before .cut .ensures) _ (c .before .edition-of .ensures))))
 
 next-requires : tie.Need-next-requires Inv-loop μ-loop
 next-requires c κs = search needs

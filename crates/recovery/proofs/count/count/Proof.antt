@@ -9,13 +9,13 @@ use Rattle.recovery.proofs.count.count.Statement.{statement}
 use Rattle.recovery.proofs.count.count.Tie as tie
 
 abbrev Inv-loop : tie.InvT-loop
-Inv-loop edition s area cells counts₀ i₀ counts i = Counting edition s area cells i counts
+Inv-loop s area cells counts₀ i₀ counts i = Counting s area cells i counts
 
 abbrev μ-loop : tie.MeasureT-loop
-μ-loop edition s area cells counts₀ i₀ counts i = length cells - i
+μ-loop s area cells counts₀ i₀ counts i = length cells - i
 
 loop-holds : tie.Need-loop-holds Inv-loop μ-loop
-loop-holds c = count-starts _ _ _ _
+loop-holds c = count-starts _ _ _
 
 mul-count-cell : tie.Need-mul-count-cell Inv-loop μ-loop
 mul-count-cell c = search needs
@@ -40,11 +40,11 @@ loop-less c = search needs
 
 loop-again : tie.Need-loop-again Inv-loop μ-loop
 loop-again c =
-    count-turn _ _ _ _ _ _ _ (c .before .before .before .before .before .before .before .before .pre .1)
+    count-turn _ _ _ _ _ _ (c .before .before .before .before .before .before .before .before .pre .1)
     (c .before .before .before .before .loop-test .taken) (c .before .before .before .before .before .loop .inv) (c .before .count-cell .ensures)
 
 returns : tie.Need-returns Inv-loop μ-loop
-returns c = count-ends _ _ _ _ _ _ (c .loop-test .left) (c .before .loop .inv)
+returns c = count-ends _ _ _ _ _ (c .loop-test .left) (c .before .loop .inv)
 
 pub count-spec : {M : Type 1} → statement M
 count-spec =

@@ -8,7 +8,7 @@ use Rattle.recovery.proofs.count.count_cell.Statement.{statement}
 use Rattle.recovery.proofs.count.count_cell.Tie as tie
 
 returns : tie.Need-returns
-returns c = count-free _ _ _ _ _ (c .if1 .taken)
+returns c = count-free _ _ _ _ (c .if1 .taken)
 
 sub-place : tie.Need-sub-place
 sub-place c = search needs
@@ -25,12 +25,12 @@ div-add-bytes c = search needs
 cast-add-bytes : tie.Need-cast-add-bytes
 cast-add-bytes c =
     let a = c .before .before .before .before .before .args in
-    omega (arith, c .before .object-length .ensures, object-most (a .edition) (a .s) (a .area .now) (a .cell - 1))
+    omega (arith, c .before .object-length .ensures, object-most (a .s) (a .area .now) (a .cell - 1))
 
 add-bytes-requires : tie.Need-add-bytes-requires
 add-bytes-requires c κs =
     let k = c .before .before .before .before .before in
-    let most = object-most (k .args .edition) (k .args .s) (k .args .area .now) (k .args .cell - 1) in
+    let most = object-most (k .args .s) (k .args .area .now) (k .args .cell - 1) in
     (omega (arith, c .before .object-length .ensures), k .pre .2)
 
 same-length : tie.Need-same-length
@@ -40,7 +40,7 @@ returns-2 : tie.Need-returns-2
 returns-2 c =
     let k = c .before .before .before .before .before .before .before .before in
     let taken : k .args .cell ≡ 0 → ⊥ = search needs in
-    count-held _ _ _ _ _ _ _ taken (c .before .before .before .before .object-length .ensures) (c .before .before .add-bytes .ensures)
+    count-held _ _ _ _ _ _ taken (c .before .before .before .before .object-length .ensures) (c .before .before .add-bytes .ensures)
 
 pub count-cell-spec : {M : Type 1} → statement M
 count-cell-spec =

@@ -45,7 +45,7 @@ returns-3 : tie.Need-returns-3
 returns-3 c =
     let e = c .before .before .before in
     c .look-at .ensures
-    ∙ ap (lookupAt _ _ _ _) (c .before .search .ensures)
+    ∙ ap (lookupAt _ _ _) (c .before .search .ensures)
     ∙ sym (looked-fit _ _ _ _ _ _ (fit (e .before .before)) (held e))
 
 pub find-spec : {M : Type 1} → statement M

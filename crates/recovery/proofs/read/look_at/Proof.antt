@@ -38,15 +38,15 @@ look-requires c κs =
 
 returns : tie.Need-returns
 unfolding lookupAt
-returns c = sym (ap (lookupAt _ _ _ _) (c .enum-told .given .1))
+returns c = sym (ap (lookupAt _ _ _) (c .enum-told .given .1))
 
 returns-2 : tie.Need-returns-2
 unfolding lookupAt
-returns-2 c = sym (ap (lookupAt _ _ _ _) (c .enum-told2 .given .1))
+returns-2 c = sym (ap (lookupAt _ _ _) (c .enum-told2 .given .1))
 
 returns-3 : tie.Need-returns-3
 unfolding lookupAt
-returns-3 c = c .look .ensures ∙ sym (ap (lookupAt _ _ _ _) (c .before .before .before .found .given .1))
+returns-3 c = c .look .ensures ∙ sym (ap (lookupAt _ _ _) (c .before .before .before .found .given .1))
 
 pub look-at-spec : {M : Type 1} → statement M
 look-at-spec =

@@ -3,7 +3,7 @@ use Prim.Native.Nat.{ℕ, _-_, _+_}
 use mathlib.Core.Path.{_≡_, refl, sym, _∙_, ap}
 use native.Mathlib.Omega.{arith}
 use lib.ListN.{take, drop}
-use Rattle.segment.specs.Layout.{entrySize}
+use Rattle.segment.specs.Layout.{Layout, layoutOfKind, entrySize}
 use Rattle.model.specs.Promises.{nowhere}
 use Rattle.recovery.specs.Lookups.{partBy}
 use Rattle.recovery.specs.LookupLaws.{ObjectInside, object-inside, value-promise}
@@ -12,7 +12,7 @@ use Rattle.recovery.proofs.read.read_value.Statement.{statement}
 use Rattle.recovery.proofs.read.read_value.Tie as tie
 
 inside : (c : tie.After-place)
-    → ObjectInside (c .before .before .before .before .before .args .rec .edition) (c .before .before .before .before .before .args .area .now) (c .place .given .0 .0) (c .place .given .0 .1 .1 .1 .0)
+    → ObjectInside (layoutOfKind (c .place .given .0 .1 .1 .0)) (c .before .before .before .before .before .args .area .now) (c .place .given .0 .0) (c .place .given .0 .1 .1 .1 .0)
 inside c = object-inside _ _ _ _ _ _ _ _ _ _ (sym (c .before .before .find .ensures) ∙ c .place .given .1)
 
 find-requires : tie.Need-find-requires
@@ -21,23 +21,30 @@ find-requires c κs = search needs
 enum-known-place : tie.Need-enum-known-place
 enum-known-place c = search needs
 
+edition-of-kind-requires : tie.Need-edition-of-kind-requires
+edition-of-kind-requires c κs = search needs
+
 head-size-requires : tie.Need-head-size-requires
 head-size-requires c κs = search needs
 
+-- the value starts behind the head of the edition that the kind tells
+start : (c : tie.After-head-size) → c .head-size .result ≡ entrySize (layoutOfKind (c .before .before .before .place .given .0 .1 .1 .0)) 0
+start c = c .head-size .ensures ∙ ap (λ (L : Layout). entrySize L 0) (c .before .edition-of-kind .ensures)
+
 add-result : tie.Need-add-result
-add-result c = let h = inside (c .before .before) in omega (arith, c .head-size .ensures)
+add-result c = let h = inside (c .before .before .before) in omega (arith, start c)
 
 add-result-2 : tie.Need-add-result-2
-add-result-2 c = let h = inside (c .before .before) in omega (arith, c .head-size .ensures)
+add-result-2 c = let h = inside (c .before .before .before) in omega (arith, start c)
 
 sub-result : tie.Need-sub-result
-sub-result c = let h = inside (c .before .before) in omega (arith, c .head-size .ensures)
+sub-result c = let h = inside (c .before .before .before) in omega (arith, start c)
 
 part-result-start : tie.Need-part-result-start
-part-result-start c = let h = inside (c .before .before) in omega (arith, c .head-size .ensures)
+part-result-start c = let h = inside (c .before .before .before) in omega (arith, start c)
 
 part-result-end : tie.Need-part-result-end
-part-result-end c = let h = inside (c .before .before) in omega (arith, c .head-size .ensures)
+part-result-end c = let h = inside (c .before .before .before) in omega (arith, start c)
 
 enum-told : tie.Need-enum-told
 enum-told c = search needs
@@ -78,13 +85,13 @@ part-result-end-4 c = search needs
 returns : tie.Need-returns
 unfolding partBy
 returns c =
-    let k = c .before .before .before in
+    let k = c .before .before .before .before in
     let h = inside k in
-    let L = k .before .before .before .before .before .args .rec .edition in
+    let L = layoutOfKind (k .place .given .0 .1 .1 .0) in
     let p = k .place .given .0 .0 in
     let n = k .place .given .0 .1 .1 .1 .0 in
     let long : p + n - (p + entrySize L 0) ≡ n - entrySize L 0 = omega arith in
-    rw (c .before .head-size .ensures)
+    rw (start (c .before))
     (record {
       part = record { place = p + entrySize L 0; bytes = n - entrySize L 0 };
       refers =
@@ -130,6 +137,7 @@ read-value-spec =
     (tie.spec
     find-requires
     enum-known-place
+    edition-of-kind-requires
     head-size-requires
     add-result
     add-result-2

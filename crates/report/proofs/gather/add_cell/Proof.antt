@@ -8,29 +8,20 @@ use Rattle.report.proofs.gather.add_cell.Statement.{statement}
 use Rattle.report.proofs.gather.add_cell.Tie as tie
 
 -- what the reader answered, as what the cell gives
-given : (c : tie.After-read) → cellRank (c .before .before .before .before .before .args .edition) (c .before .before .before .before .before .args .s) (c .before .before .before .before .before .args .area .now) (c .before .before .before .before .before .args .cell) ≡ rankRead (c .read .result)
-given c = cell-read _ _ _ _ _ _ (c .before .before .if1 .left) (c .before .cut .ensures) (c .read .ensures)
+given : (c : tie.After-entry-at) → let a = c .before .before .before .before .args in cellRank (a .s) (a .area .now) (a .cell) ≡ rankRead (c .entry-at .result)
+given c = cell-read _ _ _ _ (c .before .if1 .left) (c .entry-at .ensures)
 
 returns : tie.Need-returns
-returns c = adds-none _ _ (cell-free _ _ _ _ (c .if1 .taken))
+returns c = adds-none _ _ (cell-free _ _ _ (c .if1 .taken))
 
-sub-place : tie.Need-sub-place
-sub-place c = search needs
+sub-entry-at : tie.Need-sub-entry-at
+sub-entry-at c = search needs
 
-cast-place : tie.Need-cast-place
-cast-place c = search needs
+cast-entry-at : tie.Need-cast-entry-at
+cast-entry-at c = search needs
 
-div-cut : tie.Need-div-cut
-div-cut c = search needs
-
-cut-requires : tie.Need-cut-requires
-cut-requires c κs = c .before .before .before .pre .2 (c .if1 .left)
-
-rem-read : tie.Need-rem-read
-rem-read c = search needs
-
-read-requires : tie.Need-read-requires
-read-requires c κs = search needs
+entry-at-requires : tie.Need-entry-at-requires
+entry-at-requires c κs = search needs
 
 enum-known-key : tie.Need-enum-known-key
 enum-known-key c = search needs
@@ -79,12 +70,9 @@ add-cell-spec =
     tie.close
     (tie.spec
     returns
-    sub-place
-    cast-place
-    div-cut
-    cut-requires
-    rem-read
-    read-requires
+    sub-entry-at
+    cast-entry-at
+    entry-at-requires
     enum-known-key
     rank-requires
     insert-requires

@@ -11,7 +11,7 @@ use Rattle.report.proofs.listing.put_line.Tie as tie
 
 -- the line of what was found
 line : (c : tie.After-find)
-    → let a = c .before .before .before .before .args in lineFound (a .key) (c .find .result) ≡ lineOf (a .rec .edition) (a .key) (present (logNow (a .area .now) (a .rec)) (a .key))
+    → let a = c .before .before .before .before .args in lineFound (a .key) (c .find .result) ≡ lineOf (a .key) (present (logNow (a .area .now) (a .rec)) (a .key))
 line c = line-found _ _ _ _ _ _ (c .before .before .before .before .pre .0) (c .find .ensures)
 
 find-requires : tie.Need-find-requires

@@ -12,13 +12,13 @@ use Rattle.report.proofs.listing.put_lines.Tie as tie
 
 abbrev Inv-loop : tie.InvT-loop
 Inv-loop rec area index ranks out₀ at end₀ i₀ out end i =
-    LinesLeft (rec .edition) (logNow area rec) (presentKeys (logNow area rec)) out₀ at out end i
+    LinesLeft (logNow area rec) (presentKeys (logNow area rec)) out₀ at out end i
 
 abbrev μ-loop : tie.MeasureT-loop
 μ-loop rec area index ranks out₀ at end₀ i₀ out end i = length ranks - i
 
 loop-holds : tie.Need-loop-holds Inv-loop μ-loop
-loop-holds c = lines-start _ _ _ _ _
+loop-holds c = lines-start _ _ _ _
 
 mul-key-of : tie.Need-mul-key-of Inv-loop μ-loop
 mul-key-of c = search needs
@@ -47,14 +47,14 @@ loop-again : tie.Need-loop-again Inv-loop μ-loop
 loop-again c =
     let start = c .before .before .before .before .before .before .before .before .before .before .before .before in
     let l = c .before .before .before .before .before .before .before .loop in
-    lines-turn _ _ _ _ (start .pre .1) _ _ _ _ _ (l .inv) (keys-typed _ _ _ _ (start .pre .0)) (c .before .before .before .before .before .before .loop-test .taken) _
+    lines-turn _ _ _ (start .pre .1) _ _ _ _ _ (l .inv) (keys-typed _ _ _ _ (start .pre .0)) (c .before .before .before .before .before .before .loop-test .taken) _
     (c .before .before .before .before .key-of .ensures) _ _ (c .before .before .put-line .kept .1 .1 .1 .1 .0) (c .before .before .put-line .ensures)
 
 same-length : tie.Need-same-length Inv-loop μ-loop
 same-length c = c .before .loop .inv .long
 
 returns : tie.Need-returns Inv-loop μ-loop
-returns c = lines-end _ _ _ _ (c .before .before .before .before .before .before .pre .1) _ _ _ _ _ (c .before .loop .inv) (c .loop-test .left)
+returns c = lines-end _ _ _ (c .before .before .before .before .before .before .pre .1) _ _ _ _ _ (c .before .loop .inv) (c .loop-test .left)
 
 pub put-lines-spec : {M : Type 1} → statement M
 put-lines-spec =

@@ -3,7 +3,7 @@ use mathlib.Core.Path.{sym, ap}
 use native.Mathlib.Omega.{arith}
 use Rattle.text.specs.Put.{put-length}
 use Rattle.report.specs.Report.{headLine}
-use Rattle.report.specs.Gather.{size-some, cells-few, cells-inside}
+use Rattle.report.specs.Gather.{size-some, size-most, cells-few}
 use Rattle.report.specs.PutLaws.{within-same, within-then, within-more}
 use Rattle.report.specs.LineLaws.{Listed, gathered-listed}
 use borrow.Author.Needs.{needs}
@@ -18,13 +18,13 @@ slice-aggregate-gather c = search needs
 
 -- what is gathered are the ranks of the present keys
 listed : (c : tie.After-gather)
-    → let a = c .before .before .before .before .before .before .before .before .args in Listed (a .area .now) (a .rec) (c .gather .last .1 .1 .1 .1 .0) (c .gather .result)
-listed c = gathered-listed _ _ _ _ _ _ (c .before .before .before .before .before .before .before .before .pre .0) (c .gather .kept .1 .1 .1 .1 .0) (c .gather .ensures)
+    → let a = c .before .before .before .before .before .before .before .before .args in Listed (a .area .now) (a .rec) (c .gather .last .1 .1 .1 .0) (c .gather .result)
+listed c = gathered-listed _ _ _ _ _ _ (c .before .before .before .before .before .before .before .before .pre .0) (c .gather .kept .1 .1 .1 .0) (c .gather .ensures)
 
 gather-requires : tie.Need-gather-requires
 gather-requires c κs =
     let ready = c .before .before .before .before .before .before .before .pre .0 in
-    (size-some _ _ _ _ ready, cells-few _ _ _ _ ready, cells-inside _ _ _ _ ready)
+    (size-some _ _ _ _ ready, size-most _ _ _ _ ready, cells-few _ _ _ _ ready)
 
 cast-put-head : tie.Need-cast-put-head
 cast-put-head c = record { fits = omega (arith, listed (c .before .before) .few) }

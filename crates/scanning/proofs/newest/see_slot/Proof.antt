@@ -1,17 +1,17 @@
 -- `scanning::newest::see_slot` meets its contract. The invariant: this was seen of the entries passed, and the scan goes on from here.
-use Prim.Native.Nat.{ℕ, _-_}
+use Prim.Native.Nat.{_-_}
 use mathlib.Core.Bool.{false}
 use mathlib.Core.Path.{_≡_, refl, _∙_, ap}
 use native.Mathlib.Omega.{arith}
 use borrow.Author.Needs.{needs}
 use lib.ListN.{length}
 use Rattle.segment.specs.Entries.{next-end, next-damage}
-use Rattle.model.specs.Log.{Scan, itemsOf, isDamaged, placedIn}
+use Rattle.model.specs.Log.{isDamaged}
 use Rattle.laws.specs.Stores.{length-segment}
 use Rattle.log.specs.Shape.{own-scan}
 use Rattle.log.specs.Extents.{Meets, meets, restOf}
-use Rattle.scanning.specs.Seeing.{seenIn, seenNext}
-use Rattle.scanning.specs.SeeingLaws.{Seeing, see-start, see-turn, see-end, seen-read, sound-start, sound-on, no-damage}
+use Rattle.scanning.specs.Seeing.{seenNext}
+use Rattle.scanning.specs.SeeingLaws.{Seeing, see-start, see-turn, see-end, own-seen, seen-read, sound-start, sound-on, no-damage}
 use Rattle.scanning.proofs.newest.see_slot.Statement.{statement}
 use Rattle.scanning.proofs.newest.see_slot.Tie as tie
 
@@ -92,10 +92,8 @@ enum-told c = search needs
 
 returns : tie.Need-returns Inv-loop μ-loop
 returns c =
-    let a = c .before .before .before .before .before .before .before .before .before .args in
     see-end _ _ _ _ _ _ _ _ (c .before .before .before .skip-others .ensures .seen _ _ _ _ (c .before .before .before .before .loop .inv .0)) (next-end _ _ _ _ (c .before .before .next .ensures) (c .enum-told .given .1)) ∙
-    ap (λ (r : Scan). seenIn (a .s) (a .key) (a .before) (placedIn (a .slot) (itemsOf r)))
-    (own-scan (a .area .now) (a .s) (a .slot) _ (c .before .before .before .before .before .before .before .cut .ensures) _ (c .before .before .before .before .before .before .edition-of .ensures))
+    own-seen _ _ _ _ _ _ (c .before .before .before .before .before .before .before .cut .ensures) _ (c .before .before .before .before .before .before .edition-of .ensures)
 
 enum-told-2 : tie.Need-enum-told-2 Inv-loop μ-loop
 enum-told-2 c = search needs

@@ -22,19 +22,19 @@ enum-told-3 c = search needs
 
 returns : tie.Need-returns
 unfolding soughtRead
-returns c = ap (soughtRead _ _) (sym (c .before .version .given .1) ∙ c .before .before .before .entry-at .ensures)
+returns c = ap (soughtRead _) (sym (c .before .version .given .1) ∙ c .before .before .before .entry-at .ensures)
 
 returns-2 : tie.Need-returns-2
 unfolding soughtRead
-returns-2 c = ap (soughtRead _ _) (sym (c .enum-told .given .1) ∙ c .before .before .entry-at .ensures)
+returns-2 c = ap (soughtRead _) (sym (c .enum-told .given .1) ∙ c .before .before .entry-at .ensures)
 
 returns-3 : tie.Need-returns-3
 unfolding soughtRead
-returns-3 c = ap (soughtRead _ _) (sym (c .enum-told2 .given .1) ∙ c .before .before .entry-at .ensures)
+returns-3 c = ap (soughtRead _) (sym (c .enum-told2 .given .1) ∙ c .before .before .entry-at .ensures)
 
 returns-4 : tie.Need-returns-4
 unfolding soughtRead
-returns-4 c = ap (soughtRead _ _) (sym (c .enum-told3 .given .1) ∙ c .before .before .entry-at .ensures)
+returns-4 c = ap (soughtRead _) (sym (c .enum-told3 .given .1) ∙ c .before .before .entry-at .ensures)
 
 pub found-at-spec : {M : Type 1} → statement M
 found-at-spec =

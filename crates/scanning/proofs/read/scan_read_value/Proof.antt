@@ -3,7 +3,7 @@ use Prim.Native.Nat.{ℕ, _-_, _+_}
 use mathlib.Core.Path.{_≡_, refl, sym, _∙_, ap}
 use native.Mathlib.Omega.{arith}
 use lib.ListN.{take, drop}
-use Rattle.segment.specs.Layout.{entrySize}
+use Rattle.segment.specs.Layout.{Layout, layoutOfKind, entrySize}
 use Rattle.model.specs.Promises.{nowhere}
 use Rattle.recovery.specs.LookupLaws.{ObjectInside}
 use Rattle.scanning.specs.Seeking.{partFor}
@@ -12,9 +12,9 @@ use borrow.Author.Needs.{needs}
 use Rattle.scanning.proofs.read.scan_read_value.Statement.{statement}
 use Rattle.scanning.proofs.read.scan_read_value.Tie as tie
 
-inside : (c : tie.After-edition)
-    → ObjectInside (c .edition .given .0 .0) (c .before .before .before .before .args .area .now) (c .edition .given .0 .1 .0) (c .edition .given .0 .1 .1 .1 .1 .0)
-inside c = sought-inside _ _ _ _ _ _ _ _ _ _ _ (sym (c .edition .given .1) ∙ c .before .before .seek .ensures)
+inside : (c : tie.After-place)
+    → ObjectInside (layoutOfKind (c .place .given .0 .1 .1 .0)) (c .before .before .before .before .args .area .now) (c .place .given .0 .0) (c .place .given .0 .1 .1 .1 .0)
+inside c = sought-inside _ _ _ _ _ _ _ _ _ _ (sym (c .place .given .1) ∙ c .before .before .seek .ensures)
 
 seek-requires : tie.Need-seek-requires
 seek-requires c κs = search needs
@@ -31,26 +31,33 @@ part-result-start c = search needs
 part-result-end : tie.Need-part-result-end
 part-result-end c = search needs
 
-enum-known-edition : tie.Need-enum-known-edition
-enum-known-edition c = search needs
+enum-known-place : tie.Need-enum-known-place
+enum-known-place c = search needs
+
+edition-of-kind-requires : tie.Need-edition-of-kind-requires
+edition-of-kind-requires c κs = search needs
 
 head-size-requires : tie.Need-head-size-requires
 head-size-requires c κs = search needs
 
+-- the value starts behind the head of the edition that the kind tells
+start : (c : tie.After-head-size) → c .head-size .result ≡ entrySize (layoutOfKind (c .before .before .before .place .given .0 .1 .1 .0)) 0
+start c = c .head-size .ensures ∙ ap (λ (L : Layout). entrySize L 0) (c .before .edition-of-kind .ensures)
+
 add-result : tie.Need-add-result
-add-result c = let h = inside (c .before .before) in omega (arith, c .head-size .ensures)
+add-result c = let h = inside (c .before .before .before) in omega (arith, start c)
 
 add-result-2 : tie.Need-add-result-2
-add-result-2 c = let h = inside (c .before .before) in omega (arith, c .head-size .ensures)
+add-result-2 c = let h = inside (c .before .before .before) in omega (arith, start c)
 
 sub-result-2 : tie.Need-sub-result-2
-sub-result-2 c = let h = inside (c .before .before) in omega (arith, c .head-size .ensures)
+sub-result-2 c = let h = inside (c .before .before .before) in omega (arith, start c)
 
 part-result-start-2 : tie.Need-part-result-start-2
-part-result-start-2 c = let h = inside (c .before .before) in omega (arith, c .head-size .ensures)
+part-result-start-2 c = let h = inside (c .before .before .before) in omega (arith, start c)
 
 part-result-end-2 : tie.Need-part-result-end-2
-part-result-end-2 c = let h = inside (c .before .before) in omega (arith, c .head-size .ensures)
+part-result-end-2 c = let h = inside (c .before .before .before) in omega (arith, start c)
 
 returns : tie.Need-returns
 unfolding partFor
@@ -64,13 +71,13 @@ returns c =
 returns-2 : tie.Need-returns-2
 unfolding partFor
 returns-2 c =
-    let k = c .before .before .before in
+    let k = c .before .before .before .before in
     let h = inside k in
-    let L = k .edition .given .0 .0 in
-    let p = k .edition .given .0 .1 .0 in
-    let n = k .edition .given .0 .1 .1 .1 .1 .0 in
+    let L = layoutOfKind (k .place .given .0 .1 .1 .0) in
+    let p = k .place .given .0 .0 in
+    let n = k .place .given .0 .1 .1 .1 .0 in
     let long : p + n - (p + entrySize L 0) ≡ n - entrySize L 0 = omega arith in
-    rw (c .before .head-size .ensures)
+    rw (start (c .before))
     (record {
       part = record { place = p + entrySize L 0; bytes = n - entrySize L 0 };
       refers =
@@ -80,7 +87,7 @@ returns-2 c =
             starts = refl;
             holds = ap (λ (m : ℕ). take m (drop (p + entrySize L 0) (k .before .before .before .before .args .area .now))) long;
           };
-      promised = scan-value _ _ _ _ _ _ _ (sym (k .edition .given .1) ∙ k .before .before .seek .ensures);
+      promised = scan-value _ _ _ _ _ _ _ (sym (k .place .given .1) ∙ k .before .before .seek .ensures);
     })
 
 pub scan-read-value-spec : {M : Type 1} → statement M
@@ -92,7 +99,8 @@ scan-read-value-spec =
     sub-result
     part-result-start
     part-result-end
-    enum-known-edition
+    enum-known-place
+    edition-of-kind-requires
     head-size-requires
     add-result
     add-result-2

@@ -7,7 +7,7 @@ use Rattle.model.specs.Log.{viewsOf}
 use Rattle.model.specs.Recovery.{geometryBad}
 use Rattle.recovery.specs.Recovering.{imageOf}
 use Rattle.recovery.specs.declared.Image.{Image}
-use Rattle.scanning.specs.SeekingLaws.{seek-geometry, seek-shape, seek-refused, seek-editions, seek-scans, seek-sound}
+use Rattle.scanning.specs.SeekingLaws.{seek-geometry, seek-shape, seek-refused, seek-scans, seek-sound}
 use Rattle.scanning.proofs.read.seek.Statement.{statement}
 use Rattle.scanning.proofs.read.seek.Tie as tie
 
@@ -18,8 +18,8 @@ fits c = sym (c .before .geometry-bad .ensures) ∙ c .if1 .left
 found : (c : tie.After-known-told2)
     → let a = c .before .before .before .before .before .before .before .args in
     imageOf (viewsOf (a .area .now) (a .s)) (a .n) ≡
-    Image.Sound (c .before .edition .given .0 .0) (c .before .edition .given .0 .1 .0) (c .before .edition .given .0 .1 .1 .0) (c .before .edition .given .0 .1 .1 .1 .0)
-found c = sym (c .before .before .before .look-at .ensures) ∙ c .before .edition .given .1
+    Image.Sound (c .before .digest .given .0 .0) (c .before .digest .given .0 .1 .0) (c .before .digest .given .0 .1 .1 .0) (c .before .digest .given .0 .1 .1 .1 .0)
+found c = sym (c .before .before .before .look-at .ensures) ∙ c .before .digest .given .1
 
 geometry-bad-requires : tie.Need-geometry-bad-requires
 geometry-bad-requires c κs = search needs
@@ -36,16 +36,14 @@ look-at-requires c κs =
 enum-known-cause : tie.Need-enum-known-cause
 enum-known-cause c = search needs
 
-enum-known-edition : tie.Need-enum-known-edition
-enum-known-edition c = search needs
+enum-known-digest : tie.Need-enum-known-digest
+enum-known-digest c = search needs
 
 seek-in-requires : tie.Need-seek-in-requires
 seek-in-requires c κs =
     let e = c .before .before .before .before in
-    let a = e .before .before .before .args in (
-      (seek-shape (a .n) (a .s) (a .area .now) (fits e), seek-scans (a .n) (a .s) (a .area .now) (a .tables) (a .key) (fits e) _ _ _ _ (found c)),
-      seek-editions (a .n) (a .s) (a .area .now) (a .tables) (a .key) (fits e) _ _ _ _ (found c),
-    )
+    let a = e .before .before .before .args in
+    (seek-shape (a .n) (a .s) (a .area .now) (fits e), seek-scans (a .n) (a .s) (a .area .now) (a .tables) (a .key) (fits e) _ _ _ _ (found c))
 
 returns-2 : tie.Need-returns-2
 returns-2 c =
@@ -68,7 +66,7 @@ seek-spec =
     returns
     look-at-requires
     enum-known-cause
-    enum-known-edition
+    enum-known-digest
     seek-in-requires
     returns-2
     returns-3)

@@ -18,7 +18,7 @@ holds-table-requires c κs = search needs
 returns : tie.Need-returns
 returns c =
     let p = c .before .before .before .pre in
-    seek-outside _ _ _ _ _ (p .1) (p .0 .1) _ _ (sym (c .before .holds-table .ensures) ∙ not-true _ (c .if1 .taken))
+    seek-outside _ _ _ _ (p .1) _ _ (sym (c .before .holds-table .ensures) ∙ not-true _ (c .if1 .taken))
 
 newest-requires : tie.Need-newest-requires
 newest-requires c κs = search needs
@@ -27,15 +27,15 @@ returns-2 : tie.Need-returns-2
 returns-2 c =
     let e = c .before .before .before .before in
     let p = e .before .before .before .pre in
-    seek-none _ _ _ _ _ (p .1) (p .0 .1) _ _ (held e) _ (c .before .before .before .newest .ensures) (c .if2 .taken)
+    seek-none _ _ _ _ (p .1) _ _ (held e) _ (c .before .before .before .newest .ensures) (c .if2 .taken)
 
 found-at-requires : tie.Need-found-at-requires
 found-at-requires c κs =
     let e = c .before .before .before .before in
     let p = e .before .before .before .pre in (
-      omega (arith, p .0 .0 .size-least),
-      p .0 .0 .size-most,
-      place-low _ _ _ _ _ (p .1) (p .0 .1) (e .before .before .before .args .tables) _ (area-short (p .0 .0)) _ (c .before .before .before .newest .ensures),
+      omega (arith, p .0 .size-least),
+      p .0 .size-most,
+      place-low _ _ _ _ (p .1) (e .before .before .before .args .tables) _ (area-short (p .0)) _ (c .before .before .before .newest .ensures),
     )
 
 returns-3 : tie.Need-returns-3
@@ -43,7 +43,7 @@ returns-3 c =
     let k = c .before in
     let e = k .before .before .before .before in
     let p = e .before .before .before .pre in
-    seek-found _ _ _ _ _ (p .1) (p .0 .1) _ _ (held e) _ (k .before .before .before .newest .ensures) (k .if2 .left) _ (c .found-at .ensures)
+    seek-found _ _ _ _ (p .1) _ _ (held e) _ (k .before .before .before .newest .ensures) (k .if2 .left) _ (c .found-at .ensures)
 
 pub seek-in-spec : {M : Type 1} → statement M
 seek-in-spec =

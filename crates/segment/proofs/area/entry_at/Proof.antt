@@ -22,6 +22,9 @@ sub-part c = search (offset-low, needs)
 part-requires : tie.Need-part-requires
 part-requires c κs = search needs
 
+edition-at-requires : tie.Need-edition-at-requires
+edition-at-requires c κs = search needs
+
 read-requires : tie.Need-read-requires
 read-requires c κs = search needs
 
@@ -38,5 +41,6 @@ entry-at-spec =
     cast-offset
     sub-part
     part-requires
+    edition-at-requires
     read-requires
     returns)

@@ -13,7 +13,7 @@ finish-rebuilt-requires c κs =
 returns : tie.Need-returns
 returns c =
     let d = c .before .before .before .before in
-    clean-goes _ _ _ _ _ _ _ (d .before .before .without-slots .ensures) (d .before .with-slot .ensures) (d .head-commit .ensures)
+    clean-goes _ _ _ _ _ _ (d .before .before .without-slots .ensures) (d .before .with-slot .ensures) (d .head-commit .ensures)
     (c .before .before .finish-rebuilt .ensures)
 
 pub finish-clean-spec : {M : Type 1} → statement M

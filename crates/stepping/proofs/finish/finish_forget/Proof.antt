@@ -13,7 +13,7 @@ finish-rebuilt-requires c κs =
 returns : tie.Need-returns
 returns c =
     let d = c .before .before .before .before in
-    forget-goes _ _ _ _ _ _ _ (d .before .before .before .without-slots .ensures) (d .before .before .with-slot .ensures) (d .head-commit .ensures)
+    forget-goes _ _ _ _ _ _ (d .before .before .before .without-slots .ensures) (d .before .before .with-slot .ensures) (d .head-commit .ensures)
     (c .before .before .finish-rebuilt .ensures)
 
 pub finish-forget-spec : {M : Type 1} → statement M

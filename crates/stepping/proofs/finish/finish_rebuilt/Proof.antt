@@ -10,7 +10,7 @@ returns : tie.Need-returns
 unfolding upFrom
 returns c =
     let a = c .before .before .before .before .before .before .before .before .before .args in
-    rebuilt-goes _ (a .rec) (now (a .area)) (now (a .index)) (a .slot) (a .victims) (a .done) (a .version .0)
+    rebuilt-goes (a .rec) (now (a .area)) (now (a .index)) (a .slot) (a .victims) (a .done) (a .version .0)
     (c .before .before .before .before .rebuild .ensures) (c .before .renewed-counts .ensures) (c .answered .ensures)
 
 pub finish-rebuilt-spec : {M : Type 1} → statement M

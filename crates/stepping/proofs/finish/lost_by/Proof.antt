@@ -5,16 +5,16 @@ use Rattle.stepping.proofs.finish.lost_by.Statement.{statement}
 use Rattle.stepping.proofs.finish.lost_by.Tie as tie
 
 returns : tie.Need-returns
-returns c = lost-new _ _ _ _ (c .enum-told .given .1)
+returns c = lost-new _ _ _ (c .enum-told .given .1)
 
 returns-2 : tie.Need-returns-2
-returns-2 c = lost-newer _ _ _ _ (c .before .before .before .before .before .answer .given .1) (c .before .before .lost-at .ensures)
+returns-2 c = lost-newer _ _ _ (c .before .before .before .before .before .answer .given .1) (c .before .before .lost-at .ensures)
 
 returns-3 : tie.Need-returns-3
-returns-3 c = lost-older _ _ _ _ (c .enum-told2 .given .1)
+returns-3 c = lost-older _ _ _ (c .enum-told2 .given .1)
 
 returns-4 : tie.Need-returns-4
-returns-4 c = lost-full _ _ _ _ (c .enum-told3 .given .1)
+returns-4 c = lost-full _ _ _ (c .enum-told3 .given .1)
 
 pub lost-by-spec : {M : Type 1} → statement M
 lost-by-spec =

@@ -1,8 +1,8 @@
--- `converting::rewrite::put_entry` meets its contract.
+-- `segment::rewrite::put_entry` meets its contract.
 use borrow.Author.Needs.{needs}
-use Rattle.converting.specs.RewriteLaws.{cut-value, entry-put}
-use Rattle.converting.proofs.rewrite.put_entry.Statement.{statement}
-use Rattle.converting.proofs.rewrite.put_entry.Tie as tie
+use Rattle.segment.specs.Rewritten.{cut-value, entry-put}
+use Rattle.segment.proofs.rewrite.put_entry.Statement.{statement}
+use Rattle.segment.proofs.rewrite.put_entry.Tie as tie
 
 head-size-requires : tie.Need-head-size-requires
 head-size-requires c κs = search needs

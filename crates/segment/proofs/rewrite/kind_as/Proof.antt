@@ -1,9 +1,9 @@
--- `converting::rewrite::kind_as` meets its contract.
+-- `segment::rewrite::kind_as` meets its contract.
 use mathlib.Core.Path.{_∙_}
 use borrow.Author.Needs.{needs}
-use Rattle.converting.specs.RewriteLaws.{kind-tombstone, kind-object}
-use Rattle.converting.proofs.rewrite.kind_as.Statement.{statement}
-use Rattle.converting.proofs.rewrite.kind_as.Tie as tie
+use Rattle.segment.specs.Rewritten.{kind-tombstone, kind-object}
+use Rattle.segment.proofs.rewrite.kind_as.Statement.{statement}
+use Rattle.segment.proofs.rewrite.kind_as.Tie as tie
 
 tombstone-kind-requires : tie.Need-tombstone-kind-requires
 tombstone-kind-requires c κs = search needs
