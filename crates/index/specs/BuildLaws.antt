@@ -16,7 +16,7 @@ use Rattle.segment.specs.Choice.{pick, pick-true, pick-false, both, both-left, 
 use Rattle.segment.specs.Layout.{Layout, entrySize, digestSize, table, edition1, layoutOfKind, edition2}
 use Rattle.segment.specs.Packed.{field-at}
 use Rattle.segment.specs.Entry.{Entry, bytesIn, entry, entryAt, sizeOf}
-use Rattle.segment.specs.EntryLaws.{decodedAt, decoded-at, found-fits, found-readable}
+use Rattle.segment.specs.EntryLaws.{decodedAt, decoded-at, found-fits, found-kind, found-layout, found-readable}
 use Rattle.slot_map.specs.Bit.{named}
 use Rattle.slot_map.specs.BitLaws.{named-true, set-below}
 use Rattle.model.specs.Log.{Item, Placed, segmentOf, viewsOf, scan, itemsOf, logOf, keysOf, versionShared, placedIn}
@@ -36,7 +36,6 @@ use Rattle.index.specs.declared.Built.{Built}
 use Rattle.segment.specs.Digest.{layoutIn}
 use Rattle.segment.specs.declared.Edition.the-variants.{First, Second}
 use lib.Seq.{getD-take, getD-drop}
-use Rattle.segment.specs.LayoutLaws.{kind-tells}
 
 -- ---- an entry that is found in a slot stands in the area
 
@@ -62,8 +61,8 @@ module _ (L : Layout) (area : List ℕ) (S i at : ℕ) (e : Entry) (found : entr
   -- its kind tells its edition
   kind-there : layoutOfKind (getD area (i * S + at) 0) ≡ L
   kind-there =
-      ap layoutOfKind (sym (getD-take S (drop (i * S) area) at 0 (omega (arith, inside)) ∙ getD-drop (i * S) area at 0))
-      ∙ kind-tells L (getD (segmentOf area S i) at 0) (length (bytesIn (e .value))) (found-readable L (segmentOf area S i) at e found .known)
+      ap layoutOfKind (sym (found-kind L _ at e found ∙ getD-take S (drop (i * S) area) at 0 (omega (arith, inside)) ∙ getD-drop (i * S) area at 0))
+      ∙ found-layout L _ at e found
 
   layout-there : entryLayout area (i * S + at) ≡ L
   layout-there = by-layout L kind-there (omega (arith, inside))

@@ -14,6 +14,9 @@ ghost use Rattle.segment.specs.Layout.{edition1, entrySize};
 ghost use Rattle.index.specs.Search.{versionAt};
 ghost use Rattle.index.specs.Insert.{inserted};
 
+// The length of the shortest entry of the second edition, a tombstone.
+const SECOND_SHORTEST: usize = 15;
+
 // The place of an entry goes into a cell.
 pub fn put(cells: &mut [u32], cell: usize, place: usize)
     requires { ⌜ (cell < length (now cells)) × (place < 4294967295) ⌝ }
@@ -22,20 +25,20 @@ pub fn put(cells: &mut [u32], cell: usize, place: usize)
     cells[cell] = (place + 1) as u32;
 }
 
-// The version of the entry at a place. Its kind tells the edition, which saves a look at the slot's byte 0.
+// The version of the entry at a place, read at its offset and not through the entry reader, for a rebuild does this for every
+// entry of a key that it has met. The entry's kind tells its edition, which saves a look at the slot's byte 0; where no entry
+// of the second fits, it is one of the first.
 pub fn version_there(area: &[u8], place: usize) -> Version
     requires { ⌜ place + entrySize edition1 0 ≤ length (now area) ⌝ }
     ensures { λ r. ⌜ r ≡ record { 0 = versionAt (now (area .entry)) place } ⌝ }
 {
-    if area.len() - place < 15 {
+    if area.len() - place < SECOND_SHORTEST {
         return version_at(Edition::First, area, place + 7);
     }
     version_at(edition_of_kind(area[place]), area, place + 7)
 }
 
-// An entry of a key goes into the index, unless a newer one is there. The version of one that is there is read at its offset
-// and not through the entry reader: through the reader a recovery takes 15 to 30 % longer, for this function is then no
-// longer put in line where the index is rebuilt.
+// An entry of a key goes into the index, unless a newer one is there.
 pub fn insert(area: &[u8], cells: &mut [u32], place: usize, key: Key, version: Version) -> Inserted
     requires { ⌜ place < 4294967295 ⌝ }
     ensures { λ r.

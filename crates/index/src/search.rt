@@ -13,9 +13,9 @@ ghost use Rattle.index.specs.Search.{cellHas, probe, searchFor};
 // The length of the shortest entry of any edition, a tombstone of the first.
 const SHORTEST: usize = 11;
 
-// Whether the entry at a cell's place has that key, which stands at the same offsets in either edition. A place at which no entry fits has none. The key is read at its offsets
-// and not through the entry reader, for this is done in every turn of the search: through the reader a read of a present key
-// takes 12 to 17 % longer, of an absent one up to 28 %.
+// Whether the entry at a cell's place has that key, which stands at the same offsets in either edition. A place at which no
+// entry fits has none. The key is read at its offsets and not through the entry reader, for this is done in every turn of the
+// search: through the reader a read of a present key takes 12 to 17 % longer, of an absent one up to 28 %.
 fn cell_has(area: &[u8], key: Key, cell: u32) -> bool
     requires { ⌜ 0 < cell ⌝ }
     ensures { λ r. ⌜ r ≡ cellHas (now (area .entry)) key cell ⌝ }

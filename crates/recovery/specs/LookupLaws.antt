@@ -9,10 +9,9 @@ use lib.ListN.{length, getD, drop, length-take}
 use Rattle.segment.specs.Area.{layoutAt, standsAt, found-within, stands-place}
 use Rattle.segment.specs.Choice.{pick, pick-true, pick-false, isNone}
 use Rattle.segment.specs.Layout.{Layout, layoutOfKind, entrySize}
-use Rattle.segment.specs.LayoutLaws.{kind-tells}
-use Rattle.segment.specs.Entry.{Entry, bytesIn, entry, entryAt, keyOf, answer, isTombstone, kindOf}
+use Rattle.segment.specs.Entry.{bytesIn, entry, keyOf, answer, isTombstone}
 use Rattle.segment.specs.AnswerLaws.{tells-object}
-use Rattle.segment.specs.EntryLaws.{found-fits, found-known}
+use Rattle.segment.specs.EntryLaws.{found-fits, found-layout}
 use Rattle.segment.specs.declared.Key.{Key}
 use Rattle.segment.specs.declared.Read.{Read}
 use Rattle.segment.specs.declared.Version.{Version}
@@ -36,7 +35,7 @@ use Rattle.laws.specs.SaidLaws.{read-settled}
 use Rattle.laws.specs.Members.{In}
 use Rattle.laws.specs.Latest.{latest-some}
 use Rattle.laws.specs.Forgotten.{present-live}
-use Rattle.laws.specs.LogLaws.{AllScanned, log-in}
+use Rattle.laws.specs.LogLaws.{AllScanned}
 use Rattle.laws.specs.RecoverLaws.{recovered-case, recovered-keys}
 use Rattle.model.specs.Index.{startCell}
 use Rattle.index.specs.Search.{probe, searchFor, cellHas}
@@ -87,10 +86,6 @@ module _ (L : Layout) (r : Record) (area cells : List ℕ) (t : Tables) (k : Key
         record { below = w .below; few = omega arith; taken = w .taken; some-size = omega arith; size-most = l .size-high }
 
 -- ---- where an object is found, its entry lies in the area
-
--- the kind of an entry that is found tells the edition in which it was read
-pub found-layout : (L : Layout) (s : List ℕ) (at : ℕ) (e : Entry) → entryAt L s at ≡ entry e → layoutOfKind (kindOf L e) ≡ L
-found-layout L s at e f = kind-tells L (kindOf L e) (length (bytesIn (e .value))) (found-known L s at e f)
 
 -- what a lookup of an object says of what stands there
 object-read : (p : ℕ) (a : Read) (q : ℕ) (v : Version) (kind n : ℕ) → lookupOf p a ≡ Lookup.Object q v kind n

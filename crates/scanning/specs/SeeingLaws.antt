@@ -7,7 +7,7 @@ use mathlib.Core.Option.{Option, none, some}
 use native.Mathlib.Omega.{arith}
 use lib.Dec.{eqb, ltb}
 use lib.ListN.{length, getD, take, drop}
-use borrow.Author.Tests.{ltb-true, ltb-false, lt-ltb, eq-eqb, ne-eqb, eqb-true, eqb-false}
+use borrow.Author.Tests.{ltb-true, ltb-false, lt-ltb, eq-eqb, ne-eqb}
 use Rattle.word.specs.Number.{numberOf}
 use Rattle.segment.specs.Choice.{pick, pick-true, pick-false, both, both-false-right}
 use Rattle.segment.specs.Layout.{Layout, digestSize}
@@ -15,7 +15,7 @@ use Rattle.segment.specs.LayoutLaws.{entry-not-end}
 use Rattle.segment.specs.Digest.{layoutIn}
 use Rattle.segment.specs.Kinds.{sizeOrZero, kindSize, no-size, has-size}
 use Rattle.segment.specs.Entry.{Entry, Found, entry, end, damage, entryAt, keyOf, sizeOf, bytesIn}
-use Rattle.segment.specs.EntryLaws.{decoded-at, past-end, at-end, kind-unknown, Reading, is-entry, is-end, is-damage, reading}
+use Rattle.segment.specs.EntryLaws.{decoded-at, kind-unknown, Reading, is-entry, is-end, is-damage, reading}
 use Rattle.segment.specs.Entries.{nextOf}
 use Rattle.segment.specs.declared.Key.{Key}
 use Rattle.segment.specs.declared.Next.{Next}
@@ -150,13 +150,6 @@ module _ (L : Layout) (s : List ℕ) (at : ℕ) (sound : isDamaged (restOf L s a
   pub no-damage : entryAt L s at ≡ damage → ⊥
   unfolding isDamaged
   no-damage e = clash (isDamaged (restOf L s at)) (ap isDamaged (rest-damage L s at e)) sound
-
-  pub past-all : length s ≤ at → entryAt L s at ≡ end
-  past-all h = go (eqb at (length s)) refl
-    where
-      go : (t : Bool) → eqb at (length s) ≡ t → entryAt L s at ≡ end
-      go true e = at-end L s at (eqb-true at (length s) e)
-      go false e = let n = eqb-false at (length s) e in absurd (no-damage (past-end L s at (omega arith)))
 
   pub kind-none : at < length s → (getD s at 0 ≡ 0 → ⊥) → (len : ℕ) → len ≡ kindSize L (getD s at 0) → len ≡ 0 → ⊥
   kind-none l k len e z = no-damage (kind-unknown L s at l k (no-size L (getD s at 0) (sym e ∙ z)))

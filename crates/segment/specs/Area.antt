@@ -7,10 +7,9 @@ use native.Mathlib.Omega.{arith}
 use lib.ListN.{length, take, drop, length-take, length-drop, drop-of-length-le, getD, List·getD-eq-default}
 use lib.Seq.{take-all, take-nil}
 use Rattle.segment.specs.Layout.{Layout, edition1, layoutOfKind, table}
-use Rattle.segment.specs.Entry.{Entry, Found, entry, entryAt, sizeOf, answer, bytesIn}
-use Rattle.segment.specs.EntryLaws.{found-fits, found-readable}
+use Rattle.segment.specs.Entry.{Entry, Found, entry, entryAt, sizeOf, answer}
+use Rattle.segment.specs.EntryLaws.{found-fits, found-kind, found-layout}
 use Rattle.segment.specs.declared.Read.{Read}
-use Rattle.segment.specs.LayoutLaws.{kind-tells}
 use Rattle.segment.specs.Choice.{pick}
 
 -- The segment of a slot, as a part of the area (01, "Bytes of a segment").
@@ -89,7 +88,7 @@ module _ (S : ℕ) (area : List ℕ) where
   -- at the place of an offset of a slot where an entry stands
   module _ (i at : ℕ) (inside : at < S) (L : Layout) (e : Entry) (stands : entryAt L (segmentOf area S i) at ≡ entry e) where
     own-kind : layoutOfKind (getD (segmentOf area S i) at 0) ≡ L
-    own-kind = kind-tells L (getD (segmentOf area S i) at 0) (length (bytesIn (e .value))) (found-readable L (segmentOf area S i) at e stands .known)
+    own-kind = ap layoutOfKind (sym (found-kind L _ at e stands)) ∙ found-layout L _ at e stands
 
     pub place-layout : layoutAt S area (i * S + at) ≡ L
     place-layout =

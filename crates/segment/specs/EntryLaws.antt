@@ -12,11 +12,11 @@ use borrow.Author.Tests.{lt-ltb, le-ltb, le-leb, lt-leb, eq-eqb, ne-eqb, ltb-tru
 use Rattle.word.specs.Number.{numberOf, Bytes}
 use Rattle.word.specs.Laws.{bytes-take, bytes-drop, number-at-lt}
 use Rattle.segment.specs.Choice.{pick-true, pick-false}
-use Rattle.segment.specs.Layout.{Layout, valueLength, isTombstoneKind, entrySize, versionLimit, goodVersion, table}
-use Rattle.segment.specs.LayoutLaws.{entry-not-end, entry-kind-byte, version-positive, version-below, version-fits}
+use Rattle.segment.specs.Layout.{Layout, layoutOfKind, valueLength, isTombstoneKind, entrySize, versionLimit, goodVersion, table}
+use Rattle.segment.specs.LayoutLaws.{kind-tells, entry-not-end, entry-kind-byte, version-positive, version-below, version-fits}
 use Rattle.segment.specs.Packed.{packed, length-packed, bytes-packed, packed-rest, first-number, second-number, third-number, packed-read, field-at, first-at, length-part}
 use Rattle.segment.specs.ValueLaws.{value-known, value-back, length-of-kind, no-value, kind-back, bytes-back}
-use Rattle.segment.specs.Entry.{Entry, isTombstone, bytesIn, kindOf, kindFor, valueFor, encoded, sizeOf, decodedEntry, Found, entry, end, damage, ofVersion, ofLength, entryAt, WellFormed, Stands}
+use Rattle.segment.specs.Entry.{Entry, isTombstone, bytesIn, kindOf, valueFor, encoded, sizeOf, decodedEntry, Found, entry, end, damage, ofVersion, ofLength, entryAt, WellFormed, Stands}
 
 -- ---- an entry and its bytes
 
@@ -290,6 +290,10 @@ module _ (L : Layout) (s : List ℕ) (at : ℕ) where
 
     pub found-known : valueLength L (kindOf L e) ≡ some (length (bytesIn (e .value)))
     found-known = ap (valueLength L) found-kind ∙ found-readable e p .known
+
+    -- its kind tells the edition in which it was read
+    pub found-layout : layoutOfKind (kindOf L e) ≡ L
+    found-layout = kind-tells L (kindOf L e) (length (bytesIn (e .value))) found-known
 
     pub found-not-end : kindOf L e ≡ 0 → ⊥
     found-not-end = entry-not-end L (kindOf L e) (length (bytesIn (e .value))) found-known
