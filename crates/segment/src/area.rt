@@ -42,7 +42,7 @@ fn edition_at(s: &[u8], at: usize) -> Edition
     edition_of_kind(s[at])
 }
 
-// What stands at a place of the area, by the edition of its slot.
+// What stands at a place of the area, by the edition that the kind there tells: of an entry of the log it is its slot's.
 pub fn entry_at(size: usize, area: &[u8], place: usize) -> Read
     requires { ⌜ (0 < size) × (size < 4294967296) × (place < 4294967296) ⌝ }
     ensures { λ r. ⌜ r ≡ standsAt size (now (area .entry)) place ⌝ }
