@@ -2,25 +2,18 @@
 use Prim.Native.Nat.{ℕ, _/_}
 use mathlib.Core.List.{List}
 use lib.ListN.{set}
-use Rattle.segment.specs.Area.{segmentOf, layoutAt, foundAt}
+use Rattle.segment.specs.Area.{segmentOf, objectAt}
 use Rattle.segment.specs.Choice.{pick}
 use Rattle.segment.specs.Layout.{Layout, digestSize}
 use Rattle.segment.specs.Digest.{layoutIn}
-use Rattle.segment.specs.Entry.{Found, entry, end, damage}
 use Rattle.segment.specs.declared.Header.{Header}
-use Rattle.model.specs.Counts.{fewerBytes, objectSize, objectBytes, withoutVictims}
+use Rattle.model.specs.Counts.{fewerBytes, objectBytes, withoutVictims}
 use Rattle.laws.specs.Scans.{itemEntries}
 use Rattle.index.specs.Build.{entriesAt}
 
--- the bytes of the object that stands there, 0 where none does
-unfoldable pub foundBytes : Layout → Found → ℕ
-foundBytes L (entry e) = objectSize L e
-foundBytes L end = 0
-foundBytes L damage = 0
-
 -- The object at a place counts no longer.
 unfoldable pub lostAt : ℕ → List ℕ → ℕ → List ℕ → List ℕ
-lostAt S area place c = fewerBytes (place / S) (foundBytes (layoutAt S area place) (foundAt S area place)) c
+lostAt S area place c = fewerBytes (place / S) (objectAt area place) c
 
 abbrev pub headerBytes : Header → ℕ
 headerBytes h = pick (h .tombstone) 0 (h .length)

@@ -9,19 +9,16 @@ use native.Mathlib.Nat.{zero-add, sub-zero}
 use native.Mathlib.Omega.{arith}
 use lib.ListN.{length, getD, set, drop, length-take}
 use lib.Seq.{set-getD, ext-getD, getD-set-same, getD-set-other}
-use Rattle.segment.specs.Choice.{pick, pick-true, pick-false}
-use Rattle.segment.specs.Area.{segmentOf, foundAt, place-slot, found-place, place-layout}
-use Rattle.segment.specs.AnswerLaws.{tells-object, tells-tombstone, tells-end, tells-damage}
+use Rattle.segment.specs.Choice.{pick}
+use Rattle.segment.specs.Area.{segmentOf, place-slot, object-place}
 use Rattle.segment.specs.Layout.{Layout, digestSize}
 use Rattle.segment.specs.Digest.{layoutIn}
-use Rattle.segment.specs.Entry.{Entry, Found, entry, entryAt, isTombstone, sizeOf, answer}
+use Rattle.segment.specs.Entry.{Entry, entry, entryAt, isTombstone, sizeOf}
 use Rattle.segment.specs.Entries.{nextOf, next-entry, next-end, next-damage}
 use Rattle.segment.specs.declared.Header.{Header}
 use Rattle.segment.specs.declared.Key.{Key}
 use Rattle.segment.specs.declared.Next.{Next}
 use Rattle.segment.specs.declared.Next.the-variants as N
-use Rattle.segment.specs.declared.Read.{Read}
-use Rattle.segment.specs.declared.Version.{Version}
 use Rattle.slot_map.specs.Bit.{named}
 use Rattle.model.specs.Log.{Item, Placed, placeOf, scan, scanned, latest, objectOnly, present, placedSize}
 use Rattle.model.specs.Counts.{fewerBytes, objectBytes, withoutLive, withoutVictims}
@@ -29,30 +26,7 @@ use Rattle.laws.specs.Scans.{itemEntries, itemsFrom}
 use Rattle.laws.specs.LogLaws.{scanned-undamaged, items-scanned}
 use Rattle.laws.specs.Recounted.{length-without, without-at}
 use Rattle.index.specs.Entries.{entries-entry, entries-end, entries-damage, entries-scan}
-use Rattle.counting.specs.Counting.{foundBytes, lostAt, headerBytes, bytesFrom, segmentBytes, ownBytes}
-
--- ---- what stands at a place
-
-module _ (L : Layout) (f : Found) {t : Read} (given : t ≡ answer L f) where
-  pub bytes-object : {k : Key} {v : Version} {kind n : ℕ} → t ≡ Read.Object k v kind n → n ≡ foundBytes L f
-  unfolding foundBytes
-  bytes-object {k} {v} {kind} {n} e =
-      let w = tells-object L f k v kind n (sym given ∙ e) in
-      sym (ap (foundBytes L) (w .is) ∙ pick-false (isTombstone (w .told)) 0 (sizeOf L (w .told)) (w .tombstone) ∙ w .its-size)
-
-  pub bytes-tombstone : {k : Key} {v : Version} {n : ℕ} → t ≡ Read.Tombstone k v n → 0 ≡ foundBytes L f
-  unfolding foundBytes
-  bytes-tombstone {k} {v} {n} e =
-      let w = tells-tombstone L f k v n (sym given ∙ e) in
-      sym (ap (foundBytes L) (w .is) ∙ pick-true (isTombstone (w .told)) 0 (sizeOf L (w .told)) (w .tombstone))
-
-  pub bytes-end : t ≡ Read.End → 0 ≡ foundBytes L f
-  unfolding foundBytes
-  bytes-end e = sym (ap (foundBytes L) (tells-end L f (sym given ∙ e)))
-
-  pub bytes-damage : t ≡ Read.Damage → 0 ≡ foundBytes L f
-  unfolding foundBytes
-  bytes-damage e = sym (ap (foundBytes L) (tells-damage L f (sym given ∙ e)))
+use Rattle.counting.specs.Counting.{lostAt, headerBytes, bytesFrom, segmentBytes, ownBytes}
 
 -- ---- the walk over a segment
 
@@ -138,9 +112,9 @@ fewer-none i c = ap (set c i) (sub-zero (getD c i 0)) ∙ set-getD c i 0
 pub lost-latest : (S : ℕ) (area : List ℕ) (log : List Placed) (k : Key) (z : Placed) (c : List ℕ) → latest log k ≡ some z → z .offset < S
     → entryAt (z .layout) (segmentOf area S (z .slot)) (z .offset) ≡ entry (z .entry)
     → lostAt S area (placeOf S z) c ≡ withoutLive (present log k) c
-unfolding lostAt foundBytes present objectOnly
+unfolding lostAt present objectOnly
 lost-latest S area log k z c is inside stands =
-    (λ i. fewerBytes (place-slot S (z .slot) (z .offset) inside i) (foundBytes (place-layout S area (z .slot) (z .offset) inside (z .layout) (z .entry) stands i) (found-place S area (z .slot) (z .offset) inside (z .layout) (z .entry) stands i)) c)
+    ap₂ (λ (j n : ℕ). fewerBytes j n c) (place-slot S (z .slot) (z .offset) inside) (object-place S area (z .slot) (z .offset) (z .layout) (z .entry) stands)
     ∙ go (isTombstone (z .entry))
     ∙ ap (λ (o : Option Placed). withoutLive (objectOnly o) c) (sym is)
   where

@@ -2,9 +2,8 @@
 use segment::Edition;
 use segment::Header;
 use segment::Next;
-use segment::Read;
 use segment::area::cut;
-use segment::area::entry_at;
+use segment::area::object_length;
 use segment::entries::next;
 use segment::layout::digest_size;
 use segment::reader::edition_of;
@@ -12,11 +11,10 @@ use slot_map::has_slot;
 ghost use Prim.Native.Nat.{_+_, _*_, _-_, _≤_, _<_};
 ghost use mathlib.Core.Path.{_≡_};
 ghost use lib.ListN.{length, getD};
-ghost use Rattle.segment.specs.Area.{layoutAt, foundAt};
 ghost use Rattle.segment.specs.Choice.{pick};
 ghost use Rattle.slot_map.specs.Bit.{named};
 ghost use Rattle.model.specs.Counts.{fewerBytes, moreBytes, withoutVictims};
-ghost use Rattle.counting.specs.Counting.{foundBytes, lostAt, headerBytes, segmentBytes, renewedAt};
+ghost use Rattle.counting.specs.Counting.{lostAt, headerBytes, segmentBytes, renewedAt};
 
 // a less b, and 0 where b is more.
 fn less(a: u32, b: usize) -> u32
@@ -47,34 +45,12 @@ pub fn more(counts: &mut [u32], slot: usize, bytes: usize)
     }
 }
 
-// The bytes of the object that stands at a place, 0 where none does.
-fn object_at(size: usize, area: &[u8], place: usize) -> usize
-    requires { ⌜ (0 < size) × (size < 4294967296) × (place < 4294967296) ⌝ }
-    ensures { λ r. ⌜ r ≡ foundBytes (layoutAt size (now (area .entry)) place) (foundAt size (now (area .entry)) place) ⌝ }
-{
-    match entry_at(size, area, place) {
-        Read::Object {
-            key: _,
-            version: _,
-            kind: _,
-            length,
-        } => length,
-        Read::Tombstone {
-            key: _,
-            version: _,
-            length: _,
-        } => 0,
-        Read::End => 0,
-        Read::Damage => 0,
-    }
-}
-
 // The object at a place counts no longer.
 pub fn lost_at(counts: &mut [u32], size: usize, area: &[u8], place: usize)
-    requires { ⌜ (0 < size) × (size < 4294967296) × (place < 4294967296) ⌝ }
+    requires { ⌜ 0 < size ⌝ }
     ensures { λ _. ⌜ now (counts .exit) ≡ lostAt size (now (area .entry)) place (now (counts .entry)) ⌝ }
 {
-    fewer(counts, place / size, object_at(size, area, place));
+    fewer(counts, place / size, object_length(area, place));
 }
 
 // The bytes of an object, 0 for a tombstone.

@@ -330,7 +330,7 @@ some-of none e = let z : _≡_ {A = ℕ} 0 1 = cc in absurd (omega arith)
 some-of (some x) e = (x, refl)
 
 module _ (L : Layout) (t : Tables) (r : Record) (area cells work : List ℕ) (k : Key) (passed : Check.Passed ≡ deletes L t r area cells work k) where
-  tests : DeletePassed L r (lentLengths area cells work) (reaching t) k (factsFor r area cells k)
+  tests : DeletePassed L r (lentLengths area cells work) (reaching t) k (factsFor area cells k)
   tests = deleted L t r area cells work k passed
 
   delete-fits : fitsLent L r (length area) (length cells) ≡ true

@@ -1,22 +1,21 @@
 -- Rebuilding the index of an undamaged log gives the index rule and the number of keys, or finds too many, whatever the order.
-use Prim.Native.Nat.{ℕ, zero, suc, _+_, _*_, _-_, _^_, _≤_, _<_, min}
+use Prim.Native.Nat.{ℕ, zero, suc, _+_, _*_, _-_, _^_, _≤_, _<_}
 use mathlib.Core.Path.{_≡_, refl, sym, _∙_, ap, subst}
 use mathlib.Core.Logic.{_⊎_, inl, inr}
 use mathlib.Core.Bool.{Bool, true, false}
 use mathlib.Core.List.{List, [], _∷_, List·Memᴰ·head, List·Memᴰ·tail, List·Memᴰ·not-nil}
 use mathlib.Core.List.{List·Memᴰ·append-cases, Memᴰ·append-left, Memᴰ·append-right}
 use native.Mathlib.Decide.{ℕ-discrete}
-use native.Mathlib.Nat.{add-assoc, mul-le-mul-right, suc-mul}
+use native.Mathlib.Nat.{mul-le-mul-right, suc-mul}
 use native.Mathlib.Omega.{arith}
 use lib.Dec.{eqb, leb}
-use lib.ListN.{length, take, drop, replicate, length-take, length-drop, getD}
+use lib.ListN.{length, replicate}
 use borrow.Author.Tests.{le-leb, eqb-true, ltb-true, ltb-false, not-false}
-use Rattle.word.specs.Number.{numberOf}
 use Rattle.segment.specs.Choice.{pick, pick-true, pick-false, both, both-left, both-right, both-true, either}
-use Rattle.segment.specs.Layout.{Layout, entrySize, digestSize, table, edition1, layoutOfKind, edition2}
-use Rattle.segment.specs.Packed.{field-at}
+use Rattle.segment.specs.Layout.{Layout, entrySize, digestSize, table, edition1}
+use Rattle.segment.specs.Area.{entry-place, place-layout}
 use Rattle.segment.specs.Entry.{Entry, bytesIn, entry, entryAt, sizeOf}
-use Rattle.segment.specs.EntryLaws.{decodedAt, decoded-at, found-fits, found-kind, found-layout, found-readable}
+use Rattle.segment.specs.EntryLaws.{decodedAt, decoded-at, found-fits, found-readable}
 use Rattle.slot_map.specs.Bit.{named}
 use Rattle.slot_map.specs.BitLaws.{named-true, set-below}
 use Rattle.model.specs.Log.{Item, Placed, segmentOf, viewsOf, scan, itemsOf, logOf, keysOf, versionShared, placedIn}
@@ -27,7 +26,8 @@ use Rattle.laws.specs.Versions.{shared-apart}
 use Rattle.laws.specs.LogLaws.{AllScanned, itemOf, placed-mem, mem-placed, in-log, log-in, scan-whole}
 use Rattle.laws.specs.Scans.{scan-scans, scans-found}
 use Rattle.index.specs.Area.{InArea, AllIn}
-use Rattle.index.specs.Search.{mostCells, entryLayout}
+use Rattle.index.specs.Search.{mostCells}
+use Rattle.index.specs.SearchLaws.{version-whole}
 use Rattle.index.specs.Insert.{Tally, counted, over, insertAll}
 use Rattle.index.specs.InsertLaws.{Tells, tells-log}
 use Rattle.index.specs.Build.{entriesAt, inLog, slotEntries, listed, Rebuilt, finished, built}
@@ -35,7 +35,6 @@ use Rattle.index.specs.Entries.{entries-scan}
 use Rattle.index.specs.declared.Built.{Built}
 use Rattle.segment.specs.Digest.{layoutIn}
 use Rattle.segment.specs.declared.Edition.the-variants.{First, Second}
-use lib.Seq.{getD-take, getD-drop}
 
 -- ---- an entry that is found in a slot stands in the area
 
@@ -46,44 +45,24 @@ shortest First = omega arith
 shortest Second = omega arith
 
 module _ (L : Layout) (area : List ℕ) (S i at : ℕ) (e : Entry) (found : entryAt L (segmentOf area S i) at ≡ entry e) where
-  inside : at + sizeOf L e ≤ min S (length area - i * S)
-  inside = simp (length-take, length-drop) at (found-fits L (segmentOf area S i) at e found)
+  there : entryAt L area (i * S + at) ≡ entry e
+  there = entry-place S area i at L e found
 
-  fields : decodedAt L (segmentOf area S i) at (length (bytesIn (e .value))) ≡ e
-  fields = sym (decoded-at L (segmentOf area S i) at (length (bytesIn (e .value)))) ∙ found-readable L (segmentOf area S i) at e found .same
+  fields : decodedAt L area (i * S + at) (length (bytesIn (e .value))) ≡ e
+  fields = sym (decoded-at L area (i * S + at) (length (bytesIn (e .value)))) ∙ found-readable L area (i * S + at) e there .same
 
-  -- a field, read in the segment and in the area
-  field : (w k : ℕ) → k + w ≤ entrySize L 0 → numberOf (take w (drop (i * S + at + k) area)) ≡ numberOf (take w (drop (at + k) (segmentOf area S i)))
-  field w k h =
-      ap numberOf
-      (ap (λ (p : ℕ). take w (drop p area)) (add-assoc (i * S) at k) ∙ sym (field-at w (at + k) S (i * S) area (omega (arith, inside))))
-
-  -- its kind tells its edition
-  kind-there : layoutOfKind (getD area (i * S + at) 0) ≡ L
-  kind-there =
-      ap layoutOfKind (sym (found-kind L _ at e found ∙ getD-take S (drop (i * S) area) at 0 (omega (arith, inside)) ∙ getD-drop (i * S) area at 0))
-      ∙ found-layout L _ at e found
-
-  layout-there : entryLayout area (i * S + at) ≡ L
-  layout-there = by-layout L kind-there (omega (arith, inside))
-    where
-      by-layout : (K : Layout) → layoutOfKind (getD area (i * S + at) 0) ≡ K → i * S + at + entrySize K 0 ≤ length area → entryLayout area (i * S + at) ≡ K
-      by-layout First k h = ap (λ (K : Layout). pick (leb (i * S + at + entrySize edition2 0) (length area)) K edition1) k ∙ either-way (leb (i * S + at + entrySize edition2 0) (length area))
-        where
-          either-way : (t : Bool) → pick t edition1 edition1 ≡ edition1
-          either-way true = unfold pick in refl
-          either-way false = unfold pick in refl
-      by-layout Second k h = pick-true (leb (i * S + at + entrySize edition2 0) (length area)) _ _ (le-leb (i * S + at + entrySize edition2 0) (length area) h) ∙ k
+  whole : i * S + at + sizeOf L e ≤ length area
+  whole = found-fits L area (i * S + at) e there
 
   pub found-in-area : InArea area S (record { slot = i; layout = L; offset = at; entry = e })
   found-in-area =
       record {
-        fits = omega (arith, inside, shortest L);
-        table-there = field 2 1 (omega arith) ∙ ap (λ (x : Entry). x .table) fields;
-        key-there = field 4 3 (omega arith) ∙ ap (λ (x : Entry). x .key) fields;
+        fits = omega (arith, whole, shortest L);
+        table-there = ap (λ (x : Entry). x .table) fields;
+        key-there = ap (λ (x : Entry). x .key) fields;
         version-there =
-            ap (λ (K : Layout). numberOf (take (table K .width) (drop (i * S + at + 7) area))) layout-there
-            ∙ field (table L .width) 7 (omega arith) ∙ ap (λ (x : Entry). x .version) fields;
+            sym (version-whole area (i * S + at) L (sym (place-layout S area i at L e found)) (entrySize L 0) refl (omega (arith, whole)) (omega (arith, whole)))
+            ∙ ap (λ (x : Entry). x .version) fields;
       }
 
 -- ---- members of an order list

@@ -6,7 +6,8 @@ use lib.Dec.{eqb, leb}
 use lib.ListN.{length, getD, take, drop}
 use Rattle.word.specs.Number.{numberOf}
 use Rattle.segment.specs.Choice.{pick, both}
-use Rattle.segment.specs.Layout.{Layout, edition1, edition2, layoutOfKind, entrySize, table}
+use Rattle.segment.specs.Layout.{edition1, entrySize, table}
+use Rattle.segment.specs.Area.{layoutAt}
 use Rattle.segment.specs.declared.Key.{Key}
 use Rattle.model.specs.Index.{around, startCell}
 use Rattle.index.specs.declared.Found.{Found}
@@ -27,12 +28,10 @@ tableAt area p = numberOf (take 2 (drop (p + 1) area))
 abbrev pub keyAt : List ℕ → ℕ → ℕ
 keyAt area p = numberOf (take 4 (drop (p + 3) area))
 
--- The edition of the entry at a place is told by its kind (02, R-11); where no entry of edition 2 fits it is the first.
-abbrev pub entryLayout : List ℕ → ℕ → Layout
-entryLayout area p = pick (leb (p + entrySize edition2 0) (length area)) (layoutOfKind (getD area p 0)) edition1
-
+-- The version, by the edition that the entry's kind tells (02, R-11); 0 where no entry of that edition fits.
 abbrev pub versionAt : List ℕ → ℕ → ℕ
-versionAt area p = numberOf (take (table (entryLayout area p) .width) (drop (p + 7) area))
+versionAt area p =
+    pick (leb (p + entrySize (layoutAt area p) 0) (length area)) (numberOf (take (table (layoutAt area p) .width) (drop (p + 7) area))) 0
 
 -- whether the entry at a place has that key, which stands at the same offsets in either edition; a place where not even the shortest
 -- entry fits, a tombstone of edition 1, has none

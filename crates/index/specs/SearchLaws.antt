@@ -12,10 +12,10 @@ use lib.ListN.{length, getD, take, drop}
 use borrow.Author.Tests.{le-leb, lt-leb, leb-true, eq-eqb, ne-eqb}
 use Rattle.word.specs.Fnv.{keyHash}
 use Rattle.word.specs.Number.{numberOf}
-use Rattle.segment.specs.Choice.{pick-true, pick-false, both, both-left, both-false-left, both-false-right}
-use Rattle.segment.specs.Layout.{Layout, edition1, edition2, layoutOfKind, entrySize, table}
+use Rattle.segment.specs.Area.{layoutAt}
+use Rattle.segment.specs.Choice.{pick, pick-true, pick-false, both, both-left, both-false-left, both-false-right}
+use Rattle.segment.specs.Layout.{Layout, edition1, entrySize, table}
 use Rattle.segment.specs.declared.Key.{Key}
-use Rattle.segment.specs.declared.Version.{Version}
 use Rattle.model.specs.Index.{around, startCell}
 use Rattle.index.specs.Around.{around-below, start-below}
 use Rattle.index.specs.Search.{tableAt, keyAt, versionAt, hasKeyAt, cellHas, probe, mostCells, searchFor}
@@ -45,21 +45,18 @@ module _ (area : List ℕ) (k : Key) (p : ℕ) where
 
 -- ---- the version at a place
 
-module _ (area : List ℕ) (p : ℕ) (v : Version) where
-  pub version-short : length area - p < 15 → v ≡ record { 0 = numberOf (take (table edition1 .width) (drop (p + 7) area)) } → v ≡ record { 0 = versionAt area p }
-  unfolding table
-  version-short h e =
-      e
-      ∙ ap (λ (L : Layout). record { 0 = numberOf (take (table L .width) (drop (p + 7) area)) })
-      (sym (pick-false (leb (p + entrySize edition2 0) (length area)) (layoutOfKind (getD area p 0)) edition1 (lt-leb (p + entrySize edition2 0) (length area) (omega arith))))
+module _ (area : List ℕ) (p : ℕ) (L : Layout) (own : L ≡ layoutAt area p) (head : ℕ) (long : head ≡ entrySize L 0) where
+  abbrev read : ℕ
+  read = numberOf (take (table L .width) (drop (p + 7) area))
 
-  pub version-by-kind : 15 ≤ length area - p → (L : Layout) → L ≡ layoutOfKind (getD area p 0)
-      → v ≡ record { 0 = numberOf (take (table L .width) (drop (p + 7) area)) } → v ≡ record { 0 = versionAt area p }
-  unfolding table
-  version-by-kind h L k e =
-      e
-      ∙ ap (λ (K : Layout). record { 0 = numberOf (take (table K .width) (drop (p + 7) area)) })
-      (k ∙ sym (pick-true (leb (p + entrySize edition2 0) (length area)) (layoutOfKind (getD area p 0)) edition1 (le-leb (p + entrySize edition2 0) (length area) (omega arith))))
+  by-own : pick (leb (p + entrySize L 0) (length area)) read 0 ≡ versionAt area p
+  by-own = ap (λ (K : Layout). pick (leb (p + entrySize K 0) (length area)) (numberOf (take (table K .width) (drop (p + 7) area))) 0) own
+
+  pub version-none : length area - p < head → 0 ≡ versionAt area p
+  version-none h = sym (pick-false (leb (p + entrySize L 0) (length area)) read 0 (lt-leb (p + entrySize L 0) (length area) (omega arith))) ∙ by-own
+
+  pub version-whole : p < length area → head ≤ length area - p → read ≡ versionAt area p
+  version-whole l h = sym (pick-true (leb (p + entrySize L 0) (length area)) read 0 (le-leb (p + entrySize L 0) (length area) (omega arith))) ∙ by-own
 
 -- ---- a turn of the search up to an end: the whole answer is the answer from here
 

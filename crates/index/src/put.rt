@@ -2,20 +2,16 @@
 use crate::Found;
 use crate::Inserted;
 use crate::search::search;
-use segment::Edition;
 use segment::Key;
 use segment::Version;
 use segment::layout::edition_of_kind;
+use segment::layout::head_size;
 use segment::reader::version_at;
-ghost use Prim.Native.Nat.{_+_, _≤_, _<_};
+ghost use Prim.Native.Nat.{_+_, _<_};
 ghost use mathlib.Core.Path.{_≡_};
 ghost use lib.ListN.{length, set};
-ghost use Rattle.segment.specs.Layout.{edition1, entrySize};
 ghost use Rattle.index.specs.Search.{versionAt};
 ghost use Rattle.index.specs.Insert.{inserted};
-
-// The length of the shortest entry of the second edition, a tombstone.
-const SECOND_SHORTEST: usize = 15;
 
 // The place of an entry goes into a cell.
 pub fn put(cells: &mut [u32], cell: usize, place: usize)
@@ -26,16 +22,17 @@ pub fn put(cells: &mut [u32], cell: usize, place: usize)
 }
 
 // The version of the entry at a place, read at its offset and not through the entry reader, for a rebuild does this for every
-// entry of a key that it has met. The entry's kind tells its edition, which saves a look at the slot's byte 0; where no entry
-// of the second fits, it is one of the first.
+// entry of a key that it has met. The entry's kind tells its edition, which saves a look at the slot's byte 0. 0 where no entry
+// of that edition fits.
 pub fn version_there(area: &[u8], place: usize) -> Version
-    requires { ⌜ place + entrySize edition1 0 ≤ length (now area) ⌝ }
+    requires { ⌜ place < length (now area) ⌝ }
     ensures { λ r. ⌜ r ≡ record { 0 = versionAt (now (area .entry)) place } ⌝ }
 {
-    if area.len() - place < SECOND_SHORTEST {
-        return version_at(Edition::First, area, place + 7);
+    let edition = edition_of_kind(area[place]);
+    if area.len() - place < head_size(edition) {
+        return Version(0);
     }
-    version_at(edition_of_kind(area[place]), area, place + 7)
+    version_at(edition, area, place + 7)
 }
 
 // An entry of a key goes into the index, unless a newer one is there.

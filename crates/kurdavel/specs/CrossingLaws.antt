@@ -40,8 +40,8 @@ use Rattle.telling.specs.Told as Told
 use Rattle.stepping.specs.Tested.{StepTested}
 use Rattle.index.specs.Search.{searchFor}
 use Rattle.index.specs.declared.Found.{Found}
-use Rattle.recovery.specs.Lookups.{Reached, lookupAt, lookedUp, toldBy, partBy}
-use Rattle.recovery.specs.LookupLaws.{reached, looked-unfit, looked-fit, read-promise, value-promise, looked-outside}
+use Rattle.recovery.specs.Lookups.{lookupAt, lookedUp, toldBy, partBy}
+use Rattle.recovery.specs.LookupLaws.{looked-unfit, looked-fit, read-promise, value-promise, looked-outside}
 use Rattle.recovery.specs.declared.Lookup.{Lookup}
 use Rattle.words.specs.Words.{recordWords, wordsOf, word, countsIn, recordIn, isRecord, decoded}
 use Rattle.words.specs.WordLaws.{record-long, counts-long, decoded-record, decoded-none, too-short, none-unfit, encode-decode, fits-record, fits-decoded}
@@ -150,40 +150,22 @@ pub looked-away : (words area cells : List ℕ) (t : Tables) (k : Key) {d : Deco
     → Lookup.Outside ≡ lookedUp (decoded words .rec .edition) (decoded words .rec) area cells t k
 looked-away words area cells t k {d} f fit out = looked-crossed words area cells t k f (sym (looked-outside (d .rec .edition) (d .rec) area cells t k fit out))
 
-pub looked-found : (words area cells : List ℕ) (t : Tables) (k : Key) {d : Decoded} {x : Lookup} {found : Found} → d ≡ decoded words
-    → fitsLent (d .rec .edition) (d .rec) (length area) (length cells) ≡ true → holdsTable t (k .table) ≡ true → found ≡ searchFor area cells k
-    → x ≡ lookupAt (d .rec .size) area cells found → x ≡ lookedUp (decoded words .rec .edition) (decoded words .rec) area cells t k
-looked-found words area cells t k {d} f fit held e l =
-    looked-crossed words area cells t k f
-    (l ∙ ap (lookupAt (d .rec .size) area cells) e ∙ sym (looked-fit (d .rec .edition) (d .rec) area cells t k fit held))
+pub looked-found : (words area cells : List ℕ) (t : Tables) (k : Key) {x : Lookup} {found : Found}
+    → fitsLent (decoded words .rec .edition) (decoded words .rec) (length area) (length cells) ≡ true → holdsTable t (k .table) ≡ true
+    → found ≡ searchFor area cells k → x ≡ lookupAt area cells found
+    → x ≡ lookedUp (decoded words .rec .edition) (decoded words .rec) area cells t k
+looked-found words area cells t k fit held f l =
+    l ∙ ap (lookupAt area cells) f ∙ sym (looked-fit (decoded words .rec .edition) (decoded words .rec) area cells t k fit held)
 
 -- the same of words that were tested as they are
 pub fits-words : (words : List ℕ) (a i : ℕ) → fitsLent (decoded words .rec .edition) (decoded words .rec) a i ≡ true → recordWords ≤ length words
 fits-words words a i fit = record-long words (fits-record _ words a i fit)
-
-pub size-word : (words : List ℕ) (a i : ℕ) → fitsLent (decoded words .rec .edition) (decoded words .rec) a i ≡ true → decoded words .rec .size ≡ word words 1
-size-word words a i fit = ap (λ (d : Decoded). d .rec .size) (fits-decoded _ words a i fit)
 
 -- and the front that they say is the record's
 pub front-says : (words : List ℕ) (a i : ℕ) {t : Bool} → t ≡ fitsLent (decoded words .rec .edition) (decoded words .rec) a i → not t ≡ false → {f : Record}
     → f ≡ bare (recordIn words) → f ≡ bare (decoded words .rec)
 front-says words a i {t} e fit f =
     f ∙ ap (λ (d : Decoded). bare (d .rec)) (sym (fits-decoded _ words a i (sym e ∙ not-false t fit)))
-
-pub looked-word : (words area cells : List ℕ) (t : Tables) (k : Key) {x : Lookup} {found : Found}
-    → fitsLent (decoded words .rec .edition) (decoded words .rec) (length area) (length cells) ≡ true → holdsTable t (k .table) ≡ true
-    → found ≡ searchFor area cells k → x ≡ lookupAt (word words 1) area cells found
-    → x ≡ lookedUp (decoded words .rec .edition) (decoded words .rec) area cells t k
-looked-word words area cells t k {found = found} fit held f l =
-    looked-found words area cells t k refl fit held f
-    (l ∙ ap (λ (s : ℕ). lookupAt s area cells found) (sym (size-word words (length area) (length cells) fit)))
-
-pub reached-word : (words area cells : List ℕ) (t : Tables) (k : Key)
-    → fitsLent (decoded words .rec .edition) (decoded words .rec) (length area) (length cells) ≡ true → holdsTable t (k .table) ≡ true
-    → (i : ℕ) → searchFor area cells k ≡ Found.At i → Reached (word words 1) cells i
-reached-word words area cells t k fit held i f =
-    subst (λ (s : ℕ). Reached s cells i) (size-word words (length area) (length cells) fit)
-    (reached (decoded words .rec .edition) (decoded words .rec) area cells t k fit held i f)
 
 pub read-crossed : {words area cells : List ℕ} {t : Tables} {k : Key} {version kind number : ℕ} {x : Lookup} {a b : ReadAnswer}
     → x ≡ lookedUp (decoded words .rec .edition) (decoded words .rec) area cells t k → a ≡ toldBy x → a ≡ b → number ≡ readSaid b .refused

@@ -63,7 +63,7 @@ module _ (q : Terms) (words area cells work : List ℕ) (k : Key) (value : List 
 
   -- what the tests of a write say of a record
   abbrev pub tests : Record → Check
-  tests r = checked (firstCause (writeCauses (r .edition) r (lentLengths area cells work) q k (factsFor r area cells k) (length value)))
+  tests r = checked (firstCause (writeCauses (r .edition) r (lentLengths area cells work) q k (factsFor area cells k) (length value)))
 
   module _ (half : word words 7 < 4294967296) (stores : ℕ) {t : Bool} (tested : t ≡ fitsLent (says .edition) says (length area) (length cells)) where
     refused-crossed : (c : Refusal) {number : ℕ} → Check.Refused c ≡ tests says → number ≡ startSaid (StartAnswer.Refused c) .refused
@@ -76,7 +76,7 @@ module _ (q : Terms) (words area cells work : List ℕ) (k : Key) (value : List 
     pub write-bad : not t ≡ true → StartCrossed q (write k value) words words area cells work work stores stores 4
     write-bad e =
         refused-crossed BadRecord
-        (write-first (says .edition) says (lentLengths area cells work) q k (presenceFor (says .size) area cells k) (length value) BadRecord
+        (write-first (says .edition) says (lentLengths area cells work) q k (presenceFor area cells k) (length value) BadRecord
         (first-bad (says .edition) says (lentLengths area cells work) (q .tables) k tested e))
         refl
 

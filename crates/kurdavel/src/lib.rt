@@ -31,7 +31,6 @@ use store::delete;
 use store::format;
 use store::join;
 use store::recover;
-use words::SIZE;
 use words::WORDS;
 use words::decode;
 use words::encode;
@@ -126,7 +125,7 @@ pub extern "C" fn kurdavel_read(
         return 22;
     }
     let found = search(area, index, Key { table, key });
-    let answer = told(look_at(words[SIZE] as usize, area, index, found));
+    let answer = told(look_at(area, index, found));
     match answer {
         ReadAnswer::Refused(cause) => number(cause),
         ReadAnswer::Present {
@@ -167,7 +166,7 @@ pub extern "C" fn kurdavel_read_value(
         return 22;
     }
     let found = search(area, index, Key { table, key });
-    match look_at(words[SIZE] as usize, area, index, found) {
+    match look_at(area, index, found) {
         Lookup::Object {
             place: entry,
             version: _,

@@ -15,22 +15,23 @@ use lib.Seq.{drop-cons}
 use borrow.Author.Tests.{eq-eqb, ne-eqb}
 use Rattle.segment.specs.Choice.{pick, pick-true, pick-false, either-false-right}
 use Rattle.segment.specs.Layout.{Layout}
-use Rattle.segment.specs.Area.{layoutAt, foundAt, found-within, stands-place, place-slot, place-offset}
+use Rattle.segment.specs.Area.{layoutAt, foundAt, objectLength, objectAt, object-place, place-slot, place-offset}
 use Rattle.segment.specs.Digest.{layoutIn}
-use Rattle.segment.specs.Entry.{Entry, Found, entry, end, damage, entryAt, isTombstone, sizeOf, keyOf, answer, kindOf}
-use Rattle.segment.specs.EntryLaws.{found-fits}
+use Rattle.segment.specs.Entry.{Entry, Found, entry, end, damage, entryAt, isTombstone, bytesIn, sizeOf, keyOf, answer, kindOf}
+use Rattle.segment.specs.EntryLaws.{found-fits, found-known}
 use Rattle.segment.specs.declared.Read.{Read}
-use Rattle.model.specs.Log.{Placed, placeOf, placedSize, placedKind, segmentOf, latest, objectOnly, present, isVersion, hasVersion, versionShared}
+use Rattle.model.specs.Log.{Placed, placeOf, placedSize, segmentOf, latest, objectOnly, present, isVersion, hasVersion, versionShared}
 use Rattle.model.specs.Counts.{isPresent, presentSize, moreBytes, countsOf, objectSize}
 use Rattle.model.specs.Index.{IsLatest, IndexRule}
 use Rattle.laws.specs.Members.{In, first, Once, empty, more, those, total}
 use Rattle.laws.specs.Latest.{latest-some}
 use Rattle.laws.specs.Versions.{shared-apart, shared-count, counted, count-member}
 use Rattle.laws.specs.Forgotten.{present-live}
+use Rattle.laws.specs.OperationsKept.{edition-roomy}
 use Rattle.laws.specs.Counted.{length-more, more-at, slotTotal, slot-total-cons, counts-are}
 use Rattle.index.specs.Area.{place-back}
 use Rattle.index.specs.Finds.{held}
-use Rattle.recovery.specs.Counting.{objectLength, objectAt, countCell, countCells, countedIn, NoneAbove}
+use Rattle.recovery.specs.Counting.{countCell, countCells, countedIn, NoneAbove}
 
 -- ---- sums over lists without repeats
 
@@ -93,17 +94,21 @@ sum-same f a b p q to from = omega (arith, sum-most f a b p (λ x m d. to x m), 
 
 -- ---- the numbers stay small
 
-pub object-most : (S : ℕ) (area : List ℕ) (p : ℕ) → objectAt S area p ≤ S
+-- no entry is longer than the smallest segment
+pub object-most : (area : List ℕ) (p : ℕ) → objectAt area p ≤ 256
 unfolding objectLength answer
-object-most S area p = go (foundAt S area p) refl
+object-most area p = go (foundAt area p) refl
   where
-    by-kind : (L : Layout) (e : Entry) → sizeOf L e ≤ S → (t : Bool)
-        → objectLength (pick t (Read.Tombstone (keyOf e) (record { 0 = e .version }) (sizeOf L e)) (Read.Object (keyOf e) (record { 0 = e .version }) (kindOf L e) (sizeOf L e))) ≤ S
+    by-kind : (L : Layout) (e : Entry) → sizeOf L e ≤ 256 → (t : Bool)
+        → objectLength (pick t (Read.Tombstone (keyOf e) (record { 0 = e .version }) (sizeOf L e)) (Read.Object (keyOf e) (record { 0 = e .version }) (kindOf L e) (sizeOf L e))) ≤ 256
     by-kind L e h true = unfold pick in omega arith
     by-kind L e h false = unfold pick in h
 
-    go : (f : Found) → foundAt S area p ≡ f → objectLength (answer (layoutAt S area p) f) ≤ S
-    go (entry e) q = by-kind (layoutAt S area p) e (omega (arith, found-within S area p e q .in-segment)) (isTombstone e)
+    go : (f : Found) → foundAt area p ≡ f → objectLength (answer (layoutAt area p) f) ≤ 256
+    go (entry e) q =
+        let L : Layout = layoutAt area p in
+        let room = edition-roomy L .room (kindOf L e) (length (bytesIn (e .value))) (found-known L area p e q) in
+        by-kind L e (omega arith) (isTombstone e)
     go end q = omega arith
     go damage q = omega arith
 
@@ -121,14 +126,14 @@ more-most i n k m c h low j = go (decLt j (length c)) (eqb i j) refl
         past (x ∷ l) zero h = absurd (omega arith)
         past (x ∷ l) (suc j) h = past l j (omega arith)
 
-pub cell-most : (S : ℕ) (area : List ℕ) (c m : ℕ) (counts : List ℕ) → S ≤ 2048 → NoneAbove m counts
-    → NoneAbove (m + 2048) (countCell S area c counts)
+pub cell-most : (S : ℕ) (area : List ℕ) (c m : ℕ) (counts : List ℕ) → NoneAbove m counts
+    → NoneAbove (m + 256) (countCell S area c counts)
 unfolding countCell
-cell-most S area c m counts h low = go (eqb c 0)
+cell-most S area c m counts low = go (eqb c 0)
   where
-    go : (t : Bool) → NoneAbove (m + 2048) (pick t counts (moreBytes ((c - 1) / S) (objectAt S area (c - 1)) counts))
+    go : (t : Bool) → NoneAbove (m + 256) (pick t counts (moreBytes ((c - 1) / S) (objectAt area (c - 1)) counts))
     go true = unfold pick in λ j. omega (arith, low j)
-    go false = unfold pick in more-most ((c - 1) / S) (objectAt S area (c - 1)) 2048 m counts (omega (arith, object-most S area (c - 1))) low
+    go false = unfold pick in more-most ((c - 1) / S) (objectAt area (c - 1)) 256 m counts (object-most area (c - 1)) low
 
 -- ---- the loop over the cells
 
@@ -137,20 +142,20 @@ module _ (S : ℕ) (area : List ℕ) where
   unfolding countCell
   count-free c counts e = sym (pick-true (eqb c 0) counts _ (eq-eqb c 0 e))
 
-  pub count-held : (c bytes : ℕ) (counts after : List ℕ) → (c ≡ 0 → ⊥) → bytes ≡ objectAt S area (c - 1) → after ≡ moreBytes ((c - 1) / S) bytes counts
+  pub count-held : (c bytes : ℕ) (counts after : List ℕ) → (c ≡ 0 → ⊥) → bytes ≡ objectAt area (c - 1) → after ≡ moreBytes ((c - 1) / S) bytes counts
       → after ≡ countCell S area c counts
   unfolding countCell
   count-held c bytes counts after e b a =
       a ∙ ap (λ (n : ℕ). moreBytes ((c - 1) / S) n counts) b
-      ∙ sym (pick-false (eqb c 0) counts (moreBytes ((c - 1) / S) (objectAt S area (c - 1)) counts) (ne-eqb c 0 e))
+      ∙ sym (pick-false (eqb c 0) counts (moreBytes ((c - 1) / S) (objectAt area (c - 1)) counts) (ne-eqb c 0 e))
 
   length-cell : (c : ℕ) (counts : List ℕ) → length (countCell S area c counts) ≡ length counts
   unfolding countCell
   length-cell c counts = go (eqb c 0)
     where
-      go : (t : Bool) → length (pick t counts (moreBytes ((c - 1) / S) (objectAt S area (c - 1)) counts)) ≡ length counts
+      go : (t : Bool) → length (pick t counts (moreBytes ((c - 1) / S) (objectAt area (c - 1)) counts)) ≡ length counts
       go true = unfold pick in refl
-      go false = unfold pick in length-more ((c - 1) / S) (objectAt S area (c - 1)) counts
+      go false = unfold pick in length-more ((c - 1) / S) (objectAt area (c - 1)) counts
 
   length-cells : (cells counts : List ℕ) → length (countCells S area cells counts) ≡ length counts
   unfolding countCells
@@ -161,7 +166,7 @@ module _ (S : ℕ) (area : List ℕ) where
   pub record Counting (cells : List ℕ) (i : ℕ) (counts : List ℕ) : Type 0 where
     pub few : i ≤ length cells
     pub size : length counts ≡ 32
-    pub low : NoneAbove (2048 * i) counts
+    pub low : NoneAbove (256 * i) counts
     pub counted : countCells S area (drop i cells) counts ≡ countedIn S area cells
 
   pub count-starts : (cells : List ℕ) → Counting cells 0 (replicate 32 0)
@@ -173,14 +178,14 @@ module _ (S : ℕ) (area : List ℕ) where
       zeros (suc n) zero = omega arith
       zeros (suc n) (suc i) = zeros n i
 
-  pub count-turn : (cells : List ℕ) (i : ℕ) (counts after : List ℕ) → S ≤ 2048 → i < length cells → Counting cells i counts
+  pub count-turn : (cells : List ℕ) (i : ℕ) (counts after : List ℕ) → i < length cells → Counting cells i counts
       → after ≡ countCell S area (getD cells i 0) counts → Counting cells (i + 1) after
   unfolding countCells
-  count-turn cells i counts after h l c e =
+  count-turn cells i counts after l c e =
       record {
         few = omega arith;
         size = ap length e ∙ length-cell (getD cells i 0) counts ∙ c .size;
-        low = λ j. omega (arith, ap (λ (n : List ℕ). getD n j 0) e, cell-most S area (getD cells i 0) (2048 * i) counts h (c .low) j);
+        low = λ j. omega (arith, ap (λ (n : List ℕ). getD n j 0) e, cell-most S area (getD cells i 0) (256 * i) counts (c .low) j);
         counted = ap (countCells S area (drop (i + 1) cells)) e ∙ turn ∙ c .counted;
       }
     where
@@ -196,16 +201,16 @@ module _ (S : ℕ) (area : List ℕ) where
   module _ (i : ℕ) where
     -- what a cell adds to the number of slot i
     unfoldable cellBytes : ℕ → ℕ
-    cellBytes c = pick (eqb c 0) 0 (pick (eqb ((c - 1) / S) i) (objectAt S area (c - 1)) 0)
+    cellBytes c = pick (eqb c 0) 0 (pick (eqb ((c - 1) / S) i) (objectAt area (c - 1)) 0)
 
     cell-at : (c : ℕ) (counts : List ℕ) → i < length counts → getD (countCell S area c counts) i 0 ≡ getD counts i 0 + cellBytes c
     unfolding countCell cellBytes
     cell-at c counts l = go (eqb c 0)
       where
-        go : (t : Bool) → getD (pick t counts (moreBytes ((c - 1) / S) (objectAt S area (c - 1)) counts)) i 0
-            ≡ getD counts i 0 + pick t 0 (pick (eqb ((c - 1) / S) i) (objectAt S area (c - 1)) 0)
+        go : (t : Bool) → getD (pick t counts (moreBytes ((c - 1) / S) (objectAt area (c - 1)) counts)) i 0
+            ≡ getD counts i 0 + pick t 0 (pick (eqb ((c - 1) / S) i) (objectAt area (c - 1)) 0)
         go true = unfold pick in omega arith
-        go false = unfold pick in more-at ((c - 1) / S) i (objectAt S area (c - 1)) counts l
+        go false = unfold pick in more-at ((c - 1) / S) i (objectAt area (c - 1)) counts l
 
     cells-at : (cells counts : List ℕ) → i < length counts → getD (countCells S area cells counts) i 0 ≡ getD counts i 0 + sum cellBytes cells
     unfolding countCells sum
@@ -295,18 +300,8 @@ module _ (S : ℕ) (area : List ℕ) (log : List Placed) (cells : List ℕ) (rul
   member : (x : Placed) → IsLatest log x → In x log
   member x l = latest-some log (keyOf (x .entry)) x l .member
 
-  object-here : (x : Placed) → In x log → objectAt S area (placeOf S x) ≡ objectSize (x .layout) (x .entry)
-  unfolding objectLength answer
-  object-here x m =
-      ap objectLength (stands-place S area (x .slot) (x .offset) (inside x m) (x .layout) (x .entry) (stands x m)) ∙ go (isTombstone (x .entry))
-    where
-      go : (t : Bool)
-          → objectLength
-          (pick t (Read.Tombstone (keyOf (x .entry)) (record { 0 = x .entry .version }) (placedSize x))
-          (Read.Object (keyOf (x .entry)) (record { 0 = x .entry .version }) (placedKind x) (placedSize x)))
-          ≡ pick t 0 (placedSize x)
-      go true = unfold pick in refl
-      go false = unfold pick in refl
+  object-here : (x : Placed) → In x log → objectAt area (placeOf S x) ≡ objectSize (x .layout) (x .entry)
+  object-here x m = object-place S area (x .slot) (x .offset) (x .layout) (x .entry) (stands x m)
 
   module _ (i : ℕ) where
     abbrev added : ℕ → ℕ
@@ -323,8 +318,8 @@ module _ (S : ℕ) (area : List ℕ) (log : List Placed) (cells : List ℕ) (rul
     held-share : (c : ℕ) (x : Placed) → IsLatest log x → c ≡ placeOf S x + 1 → added c ≡ share x
     unfolding cellBytes
     held-share c x l e =
-        pick-false (eqb c 0) 0 (pick (eqb ((c - 1) / S) i) (objectAt S area (c - 1)) 0) (ne-eqb c 0 (λ z. omega arith))
-        ∙ ap (λ (p : ℕ). pick (eqb (p / S) i) (objectAt S area p) 0) (ap (λ (d : ℕ). d - 1) e ∙ place-back (placeOf S x))
+        pick-false (eqb c 0) 0 (pick (eqb ((c - 1) / S) i) (objectAt area (c - 1)) 0) (ne-eqb c 0 (λ z. omega arith))
+        ∙ ap (λ (p : ℕ). pick (eqb (p / S) i) (objectAt area p) 0) (ap (λ (d : ℕ). d - 1) e ∙ place-back (placeOf S x))
         ∙ ap₂ (λ (j n : ℕ). pick (eqb j i) n 0) (place-slot S (x .slot) (x .offset) (inside x (member x l)))
         (object-here x (member x l) ∙ sym (latest-size log x l))
 

@@ -4,24 +4,13 @@ use mathlib.Core.List.{List, [], _∷_}
 use lib.Dec.{eqb}
 use lib.ListN.{getD, replicate}
 use Rattle.segment.specs.Choice.{pick}
-use Rattle.segment.specs.Area.{standsAt}
-use Rattle.segment.specs.declared.Read.{Read}
+use Rattle.segment.specs.Area.{objectAt}
 use Rattle.model.specs.Counts.{moreBytes}
-
--- an object's whole length; a tombstone counts for nothing, as does a place where no entry stands
-unfoldable pub objectLength : Read → ℕ
-objectLength (Read.Object k v kind n) = n
-objectLength (Read.Tombstone k v n) = 0
-objectLength Read.End = 0
-objectLength Read.Damage = 0
-
-abbrev pub objectAt : ℕ → List ℕ → ℕ → ℕ
-objectAt S area p = objectLength (standsAt S area p)
 
 -- One cell more: it is free (0), or one higher than a place, whose object is counted in the number of the place's slot. A slot
 -- that has no number counts for nothing.
 unfoldable pub countCell : ℕ → List ℕ → ℕ → List ℕ → List ℕ
-countCell S area c counts = pick (eqb c 0) counts (moreBytes ((c - 1) / S) (objectAt S area (c - 1)) counts)
+countCell S area c counts = pick (eqb c 0) counts (moreBytes ((c - 1) / S) (objectAt area (c - 1)) counts)
 
 unfoldable pub countCells : ℕ → List ℕ → List ℕ → List ℕ → List ℕ
 countCells S area [] counts = counts

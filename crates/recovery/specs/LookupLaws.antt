@@ -6,7 +6,7 @@ use mathlib.Core.List.{List, [], _∷_}
 use mathlib.Core.Option.{Option, none, some}
 use native.Mathlib.Omega.{arith}
 use lib.ListN.{length, getD, drop, length-take}
-use Rattle.segment.specs.Area.{layoutAt, standsAt, found-within, stands-place}
+use Rattle.segment.specs.Area.{layoutAt, standsAt, stands-place}
 use Rattle.segment.specs.Choice.{pick, pick-true, pick-false, isNone}
 use Rattle.segment.specs.Layout.{Layout, layoutOfKind, entrySize}
 use Rattle.segment.specs.Entry.{bytesIn, entry, keyOf, answer, isTombstone}
@@ -60,30 +60,30 @@ module _ (L : Layout) (r : Record) (area cells : List ℕ) (t : Tables) (k : Key
   looked-outside fit out = pick-true (fitsLent L r (length area) (length cells)) _ _ fit ∙ pick-false (holdsTable t (k .table)) _ _ out
 
   module _ (fit : fitsLent L r (length area) (length cells) ≡ true) (held : holdsTable t (k .table) ≡ true) where
-    pub looked-fit : lookedUp L r area cells t k ≡ lookupAt (r .size) area cells (searchFor area cells k)
+    pub looked-fit : lookedUp L r area cells t k ≡ lookupAt area cells (searchFor area cells k)
     unfolding lookedUp
     looked-fit = pick-true (fitsLent L r (length area) (length cells)) _ _ fit ∙ pick-true (holdsTable t (k .table)) _ _ held
 
     pub looked-full : searchFor area cells k ≡ Hit.Full → lookedUp L r area cells t k ≡ Lookup.Bad
     unfolding lookupAt
-    looked-full e = looked-fit ∙ ap (lookupAt (r .size) area cells) e
+    looked-full e = looked-fit ∙ ap (lookupAt area cells) e
 
     module _ (i : ℕ) where
       pub looked-free : searchFor area cells k ≡ Hit.Free i → lookedUp L r area cells t k ≡ Lookup.Absent
       unfolding lookupAt
-      looked-free e = looked-fit ∙ ap (lookupAt (r .size) area cells) e
+      looked-free e = looked-fit ∙ ap (lookupAt area cells) e
 
       module _ (e : searchFor area cells k ≡ Hit.At i) where
-        pub looked-at : lookedUp L r area cells t k ≡ lookupOf (getD cells i 0 - 1) (standsAt (r .size) area (getD cells i 0 - 1))
+        pub looked-at : lookedUp L r area cells t k ≡ lookupOf (getD cells i 0 - 1) (standsAt area (getD cells i 0 - 1))
         unfolding lookupAt
-        looked-at = looked-fit ∙ ap (lookupAt (r .size) area cells) e
+        looked-at = looked-fit ∙ ap (lookupAt area cells) e
 
     -- a look at where the search has ended can be made
-    pub reached : (i : ℕ) → searchFor area cells k ≡ Hit.At i → Reached (r .size) cells i
+    pub reached : (i : ℕ) → searchFor area cells k ≡ Hit.At i → Reached cells i
     reached i e =
         let l = lent L r (length area) (length cells) fit in
         let w = search-inside area cells k i e in
-        record { below = w .below; few = omega arith; taken = w .taken; some-size = omega arith; size-most = l .size-high }
+        record { below = w .below; few = omega arith; taken = w .taken }
 
 -- ---- where an object is found, its entry lies in the area
 
@@ -111,9 +111,9 @@ module _ (L : Layout) (r : Record) (area cells : List ℕ) (t : Tables) (k : Key
       ObjectInside (layoutOfKind kind) area p n
   at-inside fit held i f =
       let (place, key, there) = object-read (getD cells i 0 - 1) _ p v kind n (sym (looked-at L r area cells t k fit held i f) ∙ e) in
-      let own : Layout = layoutAt (r .size) area (getD cells i 0 - 1) in
+      let own : Layout = layoutAt area (getD cells i 0 - 1) in
       let x = tells-object own _ key v kind n there in
-      let within = found-within (r .size) area (getD cells i 0 - 1) (x .told) (x .is) in
+      let within = found-fits own area (getD cells i 0 - 1) (x .told) (x .is) in
       let its : layoutOfKind kind ≡ own = ap layoutOfKind (sym (x .its-kind)) ∙ found-layout own _ _ (x .told) (x .is) in
       subst⁻¹ (λ (K : Layout). ObjectInside K area p n) its (record { head = omega arith; whole = omega arith })
 
@@ -139,9 +139,9 @@ module _ (area : List ℕ) (S : ℕ) (p : ℕ → Bool) (n : ℕ) (scans : AllSc
         length-take S (drop (x .slot * S) area),
       )
 
-  pub stands-at : standsAt S area (placeOf S x) ≡ answer (x .layout) (entry (x .entry))
+  pub stands-at : standsAt area (placeOf S x) ≡ answer (x .layout) (entry (x .entry))
   stands-at =
-      stands-place S area (x .slot) (x .offset) placed-inside (x .layout) (x .entry) (log-reads area S p n scans x m)
+      stands-place S area (x .slot) (x .offset) (x .layout) (x .entry) (log-reads area S p n scans x m)
 
   -- and its kind tells its edition
   pub placed-layout : layoutOfKind (placedKind x) ≡ x .layout
@@ -189,7 +189,7 @@ module _ (L : Layout) (r : Record) (area cells : List ℕ) (t : Tables) (k : Key
       let l = lent L r (length area) (length cells) fit in
       omega (arith, recovered-keys L (r .slots) S (r .cells) area (withPending r Idle) (genuine .recovers))
 
-  pub at-place : (x : Placed) → In x log → standsAt S area (placeOf S x) ≡ answer (x .layout) (entry (x .entry))
+  pub at-place : (x : Placed) → In x log → standsAt area (placeOf S x) ≡ answer (x .layout) (entry (x .entry))
   at-place x m = stands-at area S (named (r .map)) (r .slots) scans x m
 
   pub genuine-lookup : holdsTable t (k .table) ≡ true → lookedUp L r area cells t k ≡ lookupFor S (present log k)
@@ -213,7 +213,7 @@ module _ (L : Layout) (r : Record) (area cells : List ℕ) (t : Tables) (k : Key
           let (c, f) = search-known S log cells (genuine .rule) (cellHas area k) k picks x e in
           let place : getD cells (c .cell) 0 - 1 ≡ placeOf S x = omega (arith, c .holds) in
           looked-at L r area cells t k fit held (c .cell) (within ∙ f)
-          ∙ ap (λ (p : ℕ). lookupOf p (standsAt S area p)) place
+          ∙ ap (λ (p : ℕ). lookupOf p (standsAt area p)) place
           ∙ ap (lookupOf (placeOf S x)) (at-place x (latest-some log k x e .member))
           ∙ entry-lookup S x
           ∙ sym (ap (λ (o : Option Placed). lookupFor S (objectOnly o)) e)

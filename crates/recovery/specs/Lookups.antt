@@ -25,23 +25,21 @@ lookupOf p Read.End = Lookup.Bad
 lookupOf p Read.Damage = Lookup.Bad
 
 -- What a look needs of the cell where a search has ended: it is there and not 0.
-pub record Reached (S : ℕ) (cells : List ℕ) (i : ℕ) : Type 0 where
+pub record Reached (cells : List ℕ) (i : ℕ) : Type 0 where
   pub below : i < length cells
   pub few : length cells ≤ 4096
   pub taken : 0 < getD cells i 0
-  pub some-size : 0 < S
-  pub size-most : S ≤ 2048
 
-unfoldable pub lookupAt : ℕ → List ℕ → List ℕ → Found → Lookup
-lookupAt S area cells (Found.At i) = lookupOf (getD cells i 0 - 1) (standsAt S area (getD cells i 0 - 1))
-lookupAt S area cells (Found.Free i) = Lookup.Absent
-lookupAt S area cells Found.Full = Lookup.Bad
+unfoldable pub lookupAt : List ℕ → List ℕ → Found → Lookup
+lookupAt area cells (Found.At i) = lookupOf (getD cells i 0 - 1) (standsAt area (getD cells i 0 - 1))
+lookupAt area cells (Found.Free i) = Lookup.Absent
+lookupAt area cells Found.Full = Lookup.Bad
 
 -- a record that does not fit what is lent is bad; then, a key out of the caller's reach is not looked for
 unfoldable pub lookedUp : Layout → Record → List ℕ → List ℕ → Tables → Key → Lookup
 lookedUp L r area cells t k =
     pick (fitsLent L r (length area) (length cells))
-    (pick (holdsTable t (k .table)) (lookupAt (r .size) area cells (searchFor area cells k)) Lookup.Outside) Lookup.Bad
+    (pick (holdsTable t (k .table)) (lookupAt area cells (searchFor area cells k)) Lookup.Outside) Lookup.Bad
 
 unfoldable pub toldBy : Lookup → ReadAnswer
 toldBy (Lookup.Object p v kind n) = ReadAnswer.Present v kind

@@ -1,37 +1,14 @@
 // Counting (02, R-5): how many bytes of each slot are present objects, from an index that was just built.
-use segment::Read;
-use segment::area::entry_at;
+use segment::area::object_length;
 ghost use Prim.Native.Nat.{_≤_, _<_};
 ghost use mathlib.Core.Path.{_≡_};
 ghost use lib.ListN.{length};
 ghost use Rattle.model.specs.Counts.{moreBytes};
-ghost use Rattle.recovery.specs.Counting.{objectAt, countCell, countedIn, NoneAbove};
-
-// The whole length of the object at a place, and 0 where none stands.
-fn object_length(s: usize, area: &[u8], place: usize) -> usize
-    requires { ⌜ (0 < s) × (s ≤ 2048) × (place < 4294967296) ⌝ }
-    ensures { λ r. ⌜ r ≡ objectAt s (now (area .entry)) place ⌝ }
-{
-    match entry_at(s, area, place) {
-        Read::Object {
-            key: _,
-            version: _,
-            kind: _,
-            length,
-        } => length,
-        Read::Tombstone {
-            key: _,
-            version: _,
-            length: _,
-        } => 0,
-        Read::End => 0,
-        Read::Damage => 0,
-    }
-}
+ghost use Rattle.recovery.specs.Counting.{countCell, countedIn, NoneAbove};
 
 // So many bytes more in the number of a slot, if it has one.
 fn add_bytes(counts: &mut [u32], slot: u32, bytes: u32)
-    requires { ⌜ (bytes ≤ 2048) × NoneAbove 8388608 (now counts) ⌝ }
+    requires { ⌜ (bytes ≤ 256) × NoneAbove 1048576 (now counts) ⌝ }
     ensures { λ _. ⌜ now (counts .exit) ≡ moreBytes slot bytes (now (counts .entry)) ⌝ }
 {
     let i = slot as usize;
@@ -42,20 +19,20 @@ fn add_bytes(counts: &mut [u32], slot: u32, bytes: u32)
 
 // One cell more.
 fn count_cell(s: u32, area: &[u8], cell: u32, counts: &mut [u32])
-    requires { ⌜ (0 < s) × (s ≤ 2048) × NoneAbove 8388608 (now counts) ⌝ }
+    requires { ⌜ (0 < s) × NoneAbove 1048576 (now counts) ⌝ }
     ensures { λ _. ⌜ now (counts .exit) ≡ countCell s (now (area .entry)) cell (now (counts .entry)) ⌝ }
 {
     if cell == 0 {
         return;
     }
     let place = cell - 1;
-    let bytes = object_length(s as usize, area, place as usize);
+    let bytes = object_length(area, place as usize);
     add_bytes(counts, place / s, bytes as u32);
 }
 
 // The present bytes of the 32 slots.
 pub fn count(s: u32, area: &[u8], cells: &[u32]) -> [u32; 32]
-    requires { ⌜ (0 < s) × (s ≤ 2048) × (length (now cells) ≤ 4096) ⌝ }
+    requires { ⌜ (0 < s) × (length (now cells) ≤ 4096) ⌝ }
     ensures { λ r. ⌜ r ≡ countedIn s (now (area .entry)) (now (cells .entry)) ⌝ }
 {
     let mut counts = [0; 32];

@@ -14,7 +14,7 @@ use segment::Read;
 use segment::area::entry_at;
 use segment::layout::edition_of_kind;
 use segment::layout::head_size;
-ghost use Prim.Native.Nat.{ℕ, _≤_, _<_};
+ghost use Prim.Native.Nat.{ℕ};
 ghost use mathlib.Core.Path.{_≡_};
 ghost use Rattle.segment.specs.Area.{standsAt};
 ghost use Rattle.model.specs.Promises.{ReadPromise, ValueReference};
@@ -22,11 +22,10 @@ ghost use Rattle.index.specs.declared.Found.{Found};
 ghost use Rattle.recovery.specs.Lookups.{lookupOf, lookupAt, lookedUp, toldBy, Reached};
 
 // What stands at a place of the area.
-fn look(s: usize, area: &[u8], place: usize) -> Lookup
-    requires { ⌜ (0 < s) × (s ≤ 2048) × (place < 4294967296) ⌝ }
-    ensures { λ r. ⌜ r ≡ lookupOf place (standsAt s (now (area .entry)) place) ⌝ }
+fn look(area: &[u8], place: usize) -> Lookup
+    ensures { λ r. ⌜ r ≡ lookupOf place (standsAt (now (area .entry)) place) ⌝ }
 {
-    match entry_at(s, area, place) {
+    match entry_at(area, place) {
         Read::Object {
             key: _,
             version,
@@ -49,14 +48,14 @@ fn look(s: usize, area: &[u8], place: usize) -> Lookup
 }
 
 // What stands where a search has ended. A place at which no entry stands, and a search without an end, are bad.
-pub fn look_at(s: usize, area: &[u8], index: &[u32], found: Found) -> Lookup
-    requires { ⌜ ((i : ℕ) → found ≡ Found.At i → Reached s (now index) i) ⌝ }
-    ensures { λ r. ⌜ r ≡ lookupAt s (now (area .entry)) (now (index .entry)) found ⌝ }
+pub fn look_at(area: &[u8], index: &[u32], found: Found) -> Lookup
+    requires { ⌜ ((i : ℕ) → found ≡ Found.At i → Reached (now index) i) ⌝ }
+    ensures { λ r. ⌜ r ≡ lookupAt (now (area .entry)) (now (index .entry)) found ⌝ }
 {
     match found {
         Found::Full => Lookup::Bad,
         Found::Free(_) => Lookup::Absent,
-        Found::At(i) => look(s, area, (index[i] - 1) as usize),
+        Found::At(i) => look(area, (index[i] - 1) as usize),
     }
 }
 
@@ -70,7 +69,7 @@ pub fn find(rec: Record, area: &[u8], index: &[u32], tables: Tables, key: Key) -
     if !holds_table(tables, key.table) {
         return Lookup::Outside;
     }
-    look_at(rec.size as usize, area, index, search(area, index, key))
+    look_at(area, index, search(area, index, key))
 }
 
 // The read's answer.

@@ -46,20 +46,20 @@ rankRead Read.End = none
 rankRead Read.Damage = none
 
 -- of the entry at a cell's place
-unfoldable pub cellRank : ℕ → List ℕ → ℕ → Option ℕ
-cellRank S area c = pick (eqb c 0) none (rankRead (standsAt S area (c - 1)))
+unfoldable pub cellRank : List ℕ → ℕ → Option ℕ
+cellRank area c = pick (eqb c 0) none (rankRead (standsAt area (c - 1)))
 
-pub cell-free : (S : ℕ) (area : List ℕ) (c : ℕ) → c ≡ 0 → cellRank S area c ≡ none
+pub cell-free : (area : List ℕ) (c : ℕ) → c ≡ 0 → cellRank area c ≡ none
 unfolding cellRank
-cell-free S area c e = pick-true (eqb c 0) _ _ (eq-eqb c 0 e)
+cell-free area c e = pick-true (eqb c 0) _ _ (eq-eqb c 0 e)
 
-pub cell-taken : (S : ℕ) (area : List ℕ) (c : ℕ) → (c ≡ 0 → ⊥) → cellRank S area c ≡ rankRead (standsAt S area (c - 1))
+pub cell-taken : (area : List ℕ) (c : ℕ) → (c ≡ 0 → ⊥) → cellRank area c ≡ rankRead (standsAt area (c - 1))
 unfolding cellRank
-cell-taken S area c e = pick-false (eqb c 0) _ _ (ne-eqb c 0 e)
+cell-taken area c e = pick-false (eqb c 0) _ _ (ne-eqb c 0 e)
 
 -- what the reader answers at the place
-pub cell-read : (S : ℕ) (area : List ℕ) (c : ℕ) (found : Read) → (c ≡ 0 → ⊥) → found ≡ standsAt S area (c - 1) → cellRank S area c ≡ rankRead found
-cell-read S area c found taken e = cell-taken S area c taken ∙ ap rankRead (sym e)
+pub cell-read : (area : List ℕ) (c : ℕ) (found : Read) → (c ≡ 0 → ⊥) → found ≡ standsAt area (c - 1) → cellRank area c ≡ rankRead found
+cell-read area c found taken e = cell-taken area c taken ∙ ap rankRead (sym e)
 
 -- ---- the index of a recovered area
 
@@ -83,12 +83,6 @@ module _ (L : Layout) (area : List ℕ) (r : Record) (cells : List ℕ) (ready :
   limits : Lent L r (length area) (length cells)
   limits = lent L r (length area) (length cells) (ready .fit)
 
-  pub size-some : 0 < S
-  size-some = omega (arith, limits .size-low)
-
-  pub size-most : S ≤ 2048
-  size-most = limits .size-high
-
   pub cells-few : length cells ≤ 4096
   cells-few = omega (arith, limits .index-own, limits .cells-high)
 
@@ -111,10 +105,10 @@ module _ (L : Layout) (area : List ℕ) (r : Record) (cells : List ℕ) (ready :
     unfolding present objectOnly
     its-present = ap objectOnly l
 
-    its-rank : cellRank S area (placeOf S x + 1) ≡ pick (isTombstone (x .entry)) none (some (rank (keyOf (x .entry))))
+    its-rank : cellRank area (placeOf S x + 1) ≡ pick (isTombstone (x .entry)) none (some (rank (keyOf (x .entry))))
     its-rank =
-        cell-taken S area (placeOf S x + 1) (λ e. omega arith)
-        ∙ ap (λ (p : ℕ). rankRead (standsAt S area p)) (place-back (placeOf S x))
+        cell-taken area (placeOf S x + 1) (λ e. omega arith)
+        ∙ ap (λ (p : ℕ). rankRead (standsAt area p)) (place-back (placeOf S x))
         ∙ ap rankRead (at-place L r area cells allTables (keyOf (x .entry)) (ready .genuine) (ready .fit) x member)
         ∙ of-answer
       where
@@ -135,14 +129,14 @@ module _ (L : Layout) (area : List ℕ) (r : Record) (cells : List ℕ) (ready :
     pub is-present : present log (keyOf (object .entry)) ≡ some object
     pub ranks-so : z ≡ rank (keyOf (object .entry))
 
-  given-behind : (i z : ℕ) → i < length cells → cellRank S area (getD cells i 0) ≡ some z → Behind i z
+  given-behind : (i z : ℕ) → i < length cells → cellRank area (getD cells i 0) ≡ some z → Behind i z
   given-behind i z below e = from (held S log cells (ready .genuine .rule) i below taken)
     where
       taken : getD cells i 0 ≡ 0 → ⊥
-      taken q = let d = cell-free S area (getD cells i 0) q in let w : _≡_ {A = ℕ} 0 1 = cc in absurd (omega arith)
+      taken q = let d = cell-free area (getD cells i 0) q in let w : _≡_ {A = ℕ} 0 1 = cc in absurd (omega arith)
 
       from : (x : Placed) × IsLatest log x × (getD cells i 0 ≡ placeOf S x + 1) → Behind i z
-      from (x, l, c) = go (isTombstone (x .entry)) (sym (its-rank x l) ∙ ap (cellRank S area) (sym c) ∙ e) (its-present x l)
+      from (x, l, c) = go (isTombstone (x .entry)) (sym (its-rank x l) ∙ ap (cellRank area) (sym c) ∙ e) (its-present x l)
         where
           go : (t : Bool) → pick t none (some (rank (keyOf (x .entry)))) ≡ some z → present log (keyOf (x .entry)) ≡ pick t none (some x) → Behind i z
           go true q p = unfold pick in (let w : _≡_ {A = ℕ} 0 1 = cc in absurd (omega arith))
@@ -150,7 +144,7 @@ module _ (L : Layout) (area : List ℕ) (r : Record) (cells : List ℕ) (ready :
               let q′ : some (rank (keyOf (x .entry))) ≡ some z = sym (pick-false false _ _ refl) ∙ q in
               record { object = x; is-latest = l; holds = c; is-present = p ∙ pick-false false _ _ refl; ranks-so = cc }
 
-  gives-once : GivesOnce (cellRank S area) cells
+  gives-once : GivesOnce (cellRank area) cells
   gives-once i j z bi bj p q =
       let a = given-behind i z bi p in
       let b = given-behind j z bj q in
@@ -170,7 +164,7 @@ module _ (L : Layout) (area : List ℕ) (r : Record) (cells : List ℕ) (ready :
   typed-object k (x, e) =
       subst TypedKey (sym (object-key k x e)) (typed-entry x (latest-some log k x (present-latest log k x e) .member))
 
-  object-gives : (k : Key) → HasObject log k → Gives (cellRank S area) cells (rank k)
+  object-gives : (k : Key) → HasObject log k → Gives (cellRank area) cells (rank k)
   object-gives k (x, e) = at (ready .genuine .rule .found x is-latest)
     where
       is-latest : IsLatest log x
@@ -183,31 +177,31 @@ module _ (L : Layout) (area : List ℕ) (r : Record) (cells : List ℕ) (ready :
       go true q = unfold pick in (let w : _≡_ {A = ℕ} 0 1 = cc in absurd (omega arith))
       go false q = pick-false false _ _ refl ∙ ap (λ (j : Key). some (rank j)) (sym (object-key k x e))
 
-      at : HasCell S cells x → Gives (cellRank S area) cells (rank k)
-      at c = (c .cell, c .below, ap (cellRank S area) (c .holds) ∙ its-rank x is-latest ∙ go (isTombstone (x .entry)) its)
+      at : HasCell S cells x → Gives (cellRank area) cells (rank k)
+      at c = (c .cell, c .below, ap (cellRank area) (c .holds) ∙ its-rank x is-latest ∙ go (isTombstone (x .entry)) its)
 
   -- ---- what the walk over the index gathers
 
-  pub index-gathers : gathered (cellRank S area) cells ≡ presentRanks area r
+  pub index-gathers : gathered (cellRank area) cells ≡ presentRanks area r
   index-gathers =
       let o = present-ranked log typed-object in
-      ascending-one (gathered (cellRank S area) cells) (ranks (presentKeys log))
-      (gathered-ascending (cellRank S area) cells gives-once) (o .ascend)
+      ascending-one (gathered (cellRank area) cells) (ranks (presentKeys log))
+      (gathered-ascending (cellRank area) cells gives-once) (o .ascend)
       (record {
-        to = λ z m. to z (gathered-given (cellRank S area) cells z m);
+        to = λ z m. to z (gathered-given (cellRank area) cells z m);
         from = λ z m. from z (o .only z m);
       })
     where
-      to : (z : ℕ) → Gives (cellRank S area) cells z → In z (ranks (presentKeys log))
+      to : (z : ℕ) → Gives (cellRank area) cells z → In z (ranks (presentKeys log))
       to z (i, l, e) =
           let b = given-behind i z l e in
           subst (λ (w : ℕ). In w (ranks (presentKeys log))) (sym (b .ranks-so))
           (present-ranked log typed-object .all (keyOf (b .object .entry)) (b .object, b .is-present))
 
-      from : (z : ℕ) → (k : Key) × HasObject log k × (z ≡ rank k) → In z (gathered (cellRank S area) cells)
+      from : (z : ℕ) → (k : Key) × HasObject log k × (z ≡ rank k) → In z (gathered (cellRank area) cells)
       from z (k, h, e) =
-          subst (λ (w : ℕ). In w (gathered (cellRank S area) cells)) (sym e)
-          (given-gathered (cellRank S area) cells (rank k) (object-gives k h))
+          subst (λ (w : ℕ). In w (gathered (cellRank area) cells)) (sym e)
+          (given-gathered (cellRank area) cells (rank k) (object-gives k h))
 
   pub keys-typed : AllTyped (presentKeys log)
   keys-typed = present-typed log typed-object

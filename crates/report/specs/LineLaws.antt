@@ -131,7 +131,7 @@ pub record Listed (area : List ℕ) (r : Record) (xs : List ℕ) (n : ℕ) : Typ
   pub counts : n ≡ length (presentKeys (logNow area r))
 
 pub gathered-listed : (L : Layout) (area : List ℕ) (r : Record) (cells xs : List ℕ) (n : ℕ) → RecoveredArea L area r cells → length xs ≡ 4096
-    → Gathered (cellRank (r .size) area) cells xs 0 n → Listed area r xs n
+    → Gathered (cellRank area) cells xs 0 n → Listed area r xs n
 gathered-listed L area r cells xs n ready long g =
     let few : n ≤ 4096 = omega (arith, cells-few L area r cells ready, g .few) in
     let cut : length (take n xs) ≡ n = length-take-le n xs (omega arith) in

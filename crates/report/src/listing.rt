@@ -77,7 +77,7 @@ pub fn put_listing(rec: Record, area: &[u8], index: &[u32], out: &mut [u8]) -> u
     let digest = rec.digest;
     let next = rec.next;
     let mut ranks = [0; CELLS];
-    let keys = gather(rec.size as usize, area, index, &mut ranks);
+    let keys = gather(area, index, &mut ranks);
     let at = put_head(out, next, digest, keys as u32);
     put_lines(rec, area, index, &ranks[..keys], out, at)
 }

@@ -90,7 +90,7 @@ fn store_as(rec: Record, area: &[u8], index: &[u32], book: Book, faulty: bool) -
         return false;
     }
     let mut ranks = [0; 4096];
-    if gather(rec.size as usize, area, index, &mut ranks) != book::count(book) {
+    if gather(area, index, &mut ranks) != book::count(book) {
         return false;
     }
     let first = book.first;

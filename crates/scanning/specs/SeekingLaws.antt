@@ -7,13 +7,13 @@ use mathlib.Core.List.{List, [], _∷_, _++_}
 use mathlib.Core.Option.{Option, none, some}
 use native.Mathlib.Omega.{arith}
 use lib.ListN.{length}
-use Rattle.segment.specs.Area.{foundAt, standsAt, found-within, found-place, place-layout}
+use Rattle.segment.specs.Area.{standsAt, entry-place}
 use Rattle.segment.specs.Choice.{pick, isNone}
 use Rattle.segment.specs.Layout.{Layout, layoutOfKind, entrySize}
 use Rattle.segment.specs.LayoutLaws.{version-positive}
 use Rattle.segment.specs.Digest.{layoutIn}
-use Rattle.segment.specs.Entry.{bytesIn, entry, entryAt, sizeOf, keyOf, answer, isTombstone}
-use Rattle.segment.specs.EntryLaws.{found-readable}
+use Rattle.segment.specs.Entry.{bytesIn, entry, entryAt, keyOf, answer, isTombstone}
+use Rattle.segment.specs.EntryLaws.{found-fits, found-readable}
 use Rattle.segment.specs.declared.Digest.{Digest}
 use Rattle.segment.specs.declared.Key.{Key}
 use Rattle.segment.specs.declared.Read.{Read}
@@ -39,7 +39,7 @@ use Rattle.laws.specs.LogLaws.{AllScanned, undamaged-scans, log-in}
 use Rattle.log.specs.Shape.{Shape}
 use Rattle.index.specs.BuildLaws.{log-reads}
 use Rattle.recovery.specs.FormatLaws.{geometry-fits}
-use Rattle.recovery.specs.LookupLaws.{placed-inside, stands-at, placed-layout, ObjectInside}
+use Rattle.recovery.specs.LookupLaws.{stands-at, placed-layout, ObjectInside}
 use Rattle.recovery.specs.Recovering.{imageFor, imageOf}
 use Rattle.recovery.specs.RecoverPromises.{SoundImage, sound-image, image-scans}
 use Rattle.recovery.specs.declared.Image.{Image}
@@ -50,7 +50,7 @@ use Rattle.scanning.specs.declared.Seen.{Seen}
 use Rattle.scanning.specs.declared.Sought.{Sought}
 
 -- an area of the greatest N and S
-pub area-short : {n s : ℕ} {area : List ℕ} → Shape n s area → length area ≤ 65536
+area-short : {n s : ℕ} {area : List ℕ} → Shape n s area → length area ≤ 65536
 area-short {n} {s} shape = let most : n * s ≤ 32 * 2048 = mul-le-mul (shape .slots-most) (shape .size-most) in omega (arith, shape .whole)
 
 -- ---- in the undamaged log of some slots
@@ -116,10 +116,10 @@ module _ (area : List ℕ) (S : ℕ) (p : ℕ → Bool) (n : ℕ) (scans : AllSc
 
       -- one was seen, and the entry stands at its place
       pub seek-found :
-          (now .version .0 ≡ 0 → ⊥) → (r : Sought) → r ≡ soughtRead (now .place) (standsAt S area (now .place)) → r ≡ soughtIn S log t k
+          (now .version .0 ≡ 0 → ⊥) → (r : Sought) → r ≡ soughtRead (now .place) (standsAt area (now .place)) → r ≡ soughtIn S log t k
       seek-found some-seen r given = given ∙ go (latest log k) refl ∙ seek-object
         where
-          go : (o : Option Placed) → latest log k ≡ o → soughtRead (now .place) (standsAt S area (now .place)) ≡ soughtObject S (present log k)
+          go : (o : Option Placed) → latest log k ≡ o → soughtRead (now .place) (standsAt area (now .place)) ≡ soughtObject S (present log k)
           go none q =
               absurd
               (some-seen
@@ -127,7 +127,7 @@ module _ (area : List ℕ) (S : ℕ) (p : ℕ → Bool) (n : ℕ) (scans : AllSc
           go (some x) q =
               let place : now .place ≡ placeOf S x =
               ap (λ (a : Seen). a .place) newest-is ∙ ap (λ (o : Option Placed). seenOf S o .place) q ∙ (unfold seenOf in refl) in
-              ap (λ (j : ℕ). soughtRead j (standsAt S area j)) place ∙
+              ap (λ (j : ℕ). soughtRead j (standsAt area j)) place ∙
               ap (soughtRead (placeOf S x)) (stands-at area S p n scans x (latest-some log k x q .member)) ∙ entry-sought S x ∙
               (unfold present in ap (λ (o : Option Placed). soughtObject S (objectOnly o)) (sym q))
 
@@ -135,31 +135,7 @@ module _ (area : List ℕ) (S : ℕ) (p : ℕ → Bool) (n : ℕ) (scans : AllSc
 
   entry-inside : (x : Placed) → In x log → placeOf S x + placedSize x ≤ length area
   entry-inside x m =
-      let inside = placed-inside area S p n scans x m in
-      let found : foundAt S area (placeOf S x) ≡ entry (x .entry) =
-      found-place S area (x .slot) (x .offset) inside (x .layout) (x .entry) (log-reads area S p n scans x m) in
-      omega (
-        arith,
-        found-within S area (placeOf S x) (x .entry) found .in-area,
-        ap (λ (K : Layout). sizeOf K (x .entry)) (place-layout S area (x .slot) (x .offset) inside (x .layout) (x .entry) (log-reads area S p n scans x m)),
-      )
-
-  pub place-low : length area ≤ 65536 → (now : Seen) → now ≡ seenBelow S k (viewsOf area S) p n → now .place < 4294967296
-  place-low short now is = go (latest log k) refl
-    where
-      same : now .place ≡ seenOf S (latest log k) .place
-      same = ap (λ (a : Seen). a .place) (is ∙ seen-newest S k log versions-above)
-
-      go : (o : Option Placed) → latest log k ≡ o → now .place < 4294967296
-      go none q = omega (arith, same, ap (λ (o : Option Placed). seenOf S o .place) q, no-place)
-        where
-          no-place : seenOf S none .place ≡ 0
-          no-place = unfold seenOf in refl
-      go (some x) q =
-          omega (arith, same, ap (λ (o : Option Placed). seenOf S o .place) q, its, entry-inside x (latest-some log k x q .member), short)
-        where
-          its : seenOf S (some x) .place ≡ placeOf S x
-          its = unfold seenOf in refl
+      found-fits (x .layout) area (placeOf S x) (x .entry) (entry-place S area (x .slot) (x .offset) (x .layout) (x .entry) (log-reads area S p n scans x m))
 
 -- ---- over an area
 

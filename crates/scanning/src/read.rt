@@ -13,7 +13,6 @@ use segment::Read;
 use segment::area::entry_at;
 use segment::layout::edition_of_kind;
 use segment::layout::head_size;
-ghost use Prim.Native.Nat.{_≤_, _<_};
 ghost use mathlib.Core.Path.{_≡_};
 ghost use Rattle.segment.specs.Area.{standsAt};
 ghost use Rattle.slot_map.specs.Bit.{named};
@@ -25,11 +24,10 @@ ghost use Rattle.log.specs.Shape.{Shape};
 ghost use Rattle.scanning.specs.Seeking.{soughtRead, soughtIn, sought};
 
 // The object that stands at a place of the area; a tombstone is none.
-fn found_at(s: usize, area: &[u8], place: usize) -> Sought
-    requires { ⌜ (0 < s) × (s ≤ 2048) × (place < 4294967296) ⌝ }
-    ensures { λ r. ⌜ r ≡ soughtRead place (standsAt s (now (area .entry)) place) ⌝ }
+fn found_at(area: &[u8], place: usize) -> Sought
+    ensures { λ r. ⌜ r ≡ soughtRead place (standsAt (now (area .entry)) place) ⌝ }
 {
-    match entry_at(s, area, place) {
+    match entry_at(area, place) {
         Read::Object {
             key: _,
             version,
@@ -65,7 +63,7 @@ fn seek_in(n: usize, s: usize, area: &[u8], map: u32, tables: Tables, key: Key) 
     if version.0 == 0 {
         return Sought::Refused(Refusal::Absent);
     }
-    found_at(s, area, seen.place)
+    found_at(area, seen.place)
 }
 
 // What the log of the area's head holds of a key, if the image passes.

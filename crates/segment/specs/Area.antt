@@ -1,32 +1,48 @@
 -- 01, "Bytes of a segment": the segments of an area, and what stands at a place of the area.
 use Prim.Native.Nat.{ℕ, _+_, _*_, _-_, _/_, _%_, _≤_, _<_, min}
-use mathlib.Core.Path.{_≡_, sym, _∙_, ap, ap₂}
-use mathlib.Core.List.{List, []}
-use native.Mathlib.Nat.{add-zero, div-add-mod', mul-add-div-right, div-eq-of-lt, mul-add-mod-self-right, mod-eq-of-lt}
+use mathlib.Core.Path.{_≡_, refl, sym, _∙_, ap, ap₂}
+use mathlib.Core.Bool.{Bool, true, false}
+use mathlib.Core.List.{List}
+use native.Mathlib.Nat.{add-zero, mul-add-div-right, div-eq-of-lt, mul-add-mod-self-right, mod-eq-of-lt}
 use native.Mathlib.Omega.{arith}
-use lib.ListN.{length, take, drop, length-take, length-drop, drop-of-length-le, getD, List·getD-eq-default}
-use lib.Seq.{take-all, take-nil}
-use Rattle.segment.specs.Layout.{Layout, edition1, layoutOfKind, table}
-use Rattle.segment.specs.Entry.{Entry, Found, entry, entryAt, sizeOf, answer}
-use Rattle.segment.specs.EntryLaws.{found-fits, found-kind, found-layout}
-use Rattle.segment.specs.declared.Read.{Read}
+use lib.ListN.{length, take, drop, length-take, length-drop, getD, List·getD-eq-default}
 use Rattle.segment.specs.Choice.{pick}
+use Rattle.segment.specs.Layout.{Layout, edition1, layoutOfKind, table}
+use Rattle.segment.specs.Packed.{field-at}
+use Rattle.segment.specs.Entry.{Entry, isTombstone, keyOf, kindOf, sizeOf, Found, entry, entryAt, answer}
+use Rattle.segment.specs.EntryLaws.{found-fits, found-kind, found-layout, own-bytes}
+use Rattle.segment.specs.declared.Read.{Read}
 
 -- The segment of a slot, as a part of the area (01, "Bytes of a segment").
 abbrev pub segmentOf : List ℕ → ℕ → ℕ → List ℕ
 segmentOf area S i = take S (drop (i * S) area)
 
 -- The edition of an entry, which is its slot's, is told by its kind (02, R-11): no kind is one of both.
-abbrev pub layoutAt : ℕ → List ℕ → ℕ → Layout
-layoutAt S area p = layoutOfKind (getD (segmentOf area S (p / S)) (p % S) 0)
+abbrev pub layoutAt : List ℕ → ℕ → Layout
+layoutAt area p = layoutOfKind (getD area p 0)
 
--- What stands at a place of the area: the entry is read in the segment of the place's slot, by that edition.
-abbrev pub foundAt : ℕ → List ℕ → ℕ → Found
-foundAt S area p = entryAt (layoutAt S area p) (segmentOf area S (p / S)) (p % S)
+-- What stands at a place of the area, by that edition. An entry that stands in its segment stands there (`found-place`).
+abbrev pub foundAt : List ℕ → ℕ → Found
+foundAt area p = entryAt (layoutAt area p) area p
 
 -- the reader's enum for it
-abbrev pub standsAt : ℕ → List ℕ → ℕ → Read
-standsAt S area p = answer (layoutAt S area p) (foundAt S area p)
+abbrev pub standsAt : List ℕ → ℕ → Read
+standsAt area p = answer (layoutAt area p) (foundAt area p)
+
+-- an object's whole length; a tombstone counts for nothing, as does a place where no entry stands
+unfoldable pub objectLength : Read → ℕ
+objectLength (Read.Object k v kind n) = n
+objectLength (Read.Tombstone k v n) = 0
+objectLength Read.End = 0
+objectLength Read.Damage = 0
+
+abbrev pub objectAt : List ℕ → ℕ → ℕ
+objectAt area p = objectLength (standsAt area p)
+
+-- past the end no entry stands, of any edition
+pub layout-past : (area : List ℕ) (p : ℕ) → length area ≤ p → edition1 ≡ layoutAt area p
+unfolding layoutOfKind table pick
+layout-past area p h = ap layoutOfKind (sym (List·getD-eq-default area 0 {n = p} h))
 
 -- ---- a place and the slot and offset that it stands for
 
@@ -37,66 +53,32 @@ module _ (S i at : ℕ) (inside : at < S) where
   pub place-offset : (i * S + at) % S ≡ at
   place-offset = mul-add-mod-self-right i S at ∙ mod-eq-of-lt inside
 
-pub offset-low : (p S o : ℕ) → o ≡ p % S → o ≤ p
-offset-low p S o e = omega (arith, div-add-mod' p S, e)
+-- ---- an entry that stands at an offset of a slot stands at its place in the area
 
--- ---- a part of an area that may end sooner
+module _ (S : ℕ) (area : List ℕ) (i at : ℕ) (L : Layout) (e : Entry) (stands : entryAt L (segmentOf area S i) at ≡ entry e) where
+  inside : at + sizeOf L e ≤ min S (length area - i * S)
+  inside = simp (length-take, length-drop) at (found-fits L (segmentOf area S i) at e stands)
 
-module _ (n at : ℕ) (l : List ℕ) where
-  pub part-short : at ≤ length l → length l < at + n → take (length l - at) (drop at l) ≡ take n (drop at l)
-  part-short h k =
-      take-all (length l - at) (drop at l) (omega (arith, length-drop at l)) ∙ sym (take-all n (drop at l) (omega (arith, length-drop at l)))
+  pub entry-place : entryAt L area (i * S + at) ≡ entry e
+  entry-place =
+      own-bytes L (segmentOf area S i) area at (i * S + at) e stands (omega (arith, inside))
+      (sym (field-at (sizeOf L e) at S (i * S) area (omega (arith, inside))))
 
-  pub part-none : length l < at → [] ≡ take n (drop at l)
-  part-none h = sym (ap (take n) (drop-of-length-le l {i = at} (omega arith)) ∙ take-nil n)
+  pub place-layout : layoutAt area (i * S + at) ≡ L
+  place-layout = ap layoutOfKind (sym (found-kind L area (i * S + at) e entry-place)) ∙ found-layout L area (i * S + at) e entry-place
 
--- ---- what the code reads at a place, from the place's offset o
+  pub found-place : foundAt area (i * S + at) ≡ entry e
+  found-place = ap (λ (K : Layout). entryAt K area (i * S + at)) place-layout ∙ entry-place
 
--- what the reader says of an offset, by the edition of the kind that stands there
-abbrev readIn : List ℕ → ℕ → Read
-readIn s at = answer (layoutOfKind (getD s at 0)) (entryAt (layoutOfKind (getD s at 0)) s at)
+  pub stands-place : standsAt area (i * S + at) ≡ answer L (entry e)
+  stands-place = ap₂ answer place-layout found-place
 
--- past the end no entry stands, of any edition
-pub layout-past : (s : List ℕ) (at : ℕ) → length s ≤ at → edition1 ≡ layoutOfKind (getD s at 0)
-unfolding layoutOfKind table pick
-layout-past s at h = ap layoutOfKind (sym (List·getD-eq-default s 0 {n = at} h))
-
-module _ (S : ℕ) (area : List ℕ) (p o : ℕ) (is : o ≡ p % S) where
-  pub reads-place : (part : List ℕ) → part ≡ take S (drop (p - o) area) → (L : Layout) → L ≡ layoutOfKind (getD part o 0) → (r : Read) →
-      r ≡ answer L (entryAt L part o) → r ≡ standsAt S area p
-  reads-place part cut L own r read =
-      let start : p - o ≡ p / S * S = omega (arith, div-add-mod' p S, is) in
-      read
-      ∙ ap (λ (K : Layout). answer K (entryAt K part o)) own
-      ∙ ap (λ (l : List ℕ). readIn l o) cut
-      ∙ ap₂ (λ (q at : ℕ). readIn (take S (drop q area)) at) start is
-
--- ---- an entry that is found
-
--- It lies within its segment and within the area.
-pub record Within (S : ℕ) (area : List ℕ) (p : ℕ) (e : Entry) : Type 0 where
-  pub in-segment : p % S + sizeOf (layoutAt S area p) e ≤ S
-  pub in-area : p + sizeOf (layoutAt S area p) e ≤ length area
-
-module _ (S : ℕ) (area : List ℕ) where
-  pub found-within : (p : ℕ) (e : Entry) → foundAt S area p ≡ entry e → Within S area p e
-  found-within p e f =
-      let own : p % S + sizeOf (layoutAt S area p) e ≤ min S (length area - p / S * S) =
-      simp (length-take, length-drop) at (found-fits (layoutAt S area p) (segmentOf area S (p / S)) (p % S) e f) in
-      record { in-segment = omega arith; in-area = omega (arith, div-add-mod' p S) }
-
-  -- at the place of an offset of a slot where an entry stands
-  module _ (i at : ℕ) (inside : at < S) (L : Layout) (e : Entry) (stands : entryAt L (segmentOf area S i) at ≡ entry e) where
-    own-kind : layoutOfKind (getD (segmentOf area S i) at 0) ≡ L
-    own-kind = ap layoutOfKind (sym (found-kind L _ at e stands)) ∙ found-layout L _ at e stands
-
-    pub place-layout : layoutAt S area (i * S + at) ≡ L
-    place-layout =
-        ap₂ (λ (j o : ℕ). layoutOfKind (getD (segmentOf area S j) o 0)) (place-slot S i at inside) (place-offset S i at inside) ∙ own-kind
-
-    pub found-place : foundAt S area (i * S + at) ≡ entry e
-    found-place =
-        (λ k. entryAt (place-layout k) (segmentOf area S (place-slot S i at inside k)) (place-offset S i at inside k)) ∙ stands
-
-    pub stands-place : standsAt S area (i * S + at) ≡ answer L (entry e)
-    stands-place = ap₂ answer place-layout found-place
+  pub object-place : objectAt area (i * S + at) ≡ pick (isTombstone e) 0 (sizeOf L e)
+  unfolding objectLength answer
+  object-place = ap objectLength stands-place ∙ go (isTombstone e)
+    where
+      go : (t : Bool)
+          → objectLength (pick t (Read.Tombstone (keyOf e) (record { 0 = e .version }) (sizeOf L e)) (Read.Object (keyOf e) (record { 0 = e .version }) (kindOf L e) (sizeOf L e)))
+          ≡ pick t 0 (sizeOf L e)
+      go true = unfold pick in refl
+      go false = unfold pick in refl

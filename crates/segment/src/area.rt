@@ -1,53 +1,57 @@
-// The segments of an area: each is handed on as its own part, and an entry is read in the segment in which its place lies.
+// The segments of an area: each is handed on as its own part. An entry is read where it stands in the area.
 use crate::Edition;
 use crate::Read;
 use crate::layout::edition_of_kind;
 use crate::reader::read;
-use word::remainder::remainder32;
-ghost use Prim.Native.Nat.{_+_, _*_, _≤_, _<_};
+ghost use Prim.Native.Nat.{_+_, _*_, _≤_};
 ghost use mathlib.Core.Path.{_≡_};
-ghost use lib.ListN.{length, take, drop, getD};
-ghost use Rattle.segment.specs.Layout.{layoutOfKind};
-ghost use Rattle.segment.specs.Area.{segmentOf, standsAt};
-
-// At most `size` bytes from a place on: those that the area has.
-fn part(size: usize, area: &[u8], start: usize) -> &[u8]
-    requires { ⌜ start + size < 18446744073709551616 ⌝ }
-    ensures { λ r. ⌜ now r ≡ take size (drop start (now (area .entry))) ⌝ }
-{
-    if start + size <= area.len() {
-        return &area[start..start + size];
-    }
-    if start <= area.len() {
-        return &area[start..area.len()];
-    }
-    &area[0..0]
-}
+ghost use lib.ListN.{length};
+ghost use Rattle.segment.specs.Area.{segmentOf, layoutAt, standsAt, objectAt};
 
 // A slot's segment.
 pub fn cut(size: usize, area: &[u8], slot: usize) -> &[u8]
     requires { ⌜ slot * size + size ≤ length (now area) ⌝ }
     ensures { λ r. ⌜ now r ≡ segmentOf (now (area .entry)) size slot ⌝ }
 {
-    part(size, area, slot * size)
+    let start = slot * size;
+    &area[start..start + size]
 }
 
-// The edition of the entry at an offset, by its kind. Its slot's byte 0, which would tell it too, lies elsewhere in memory.
-fn edition_at(s: &[u8], at: usize) -> Edition
-    ensures { λ r. ⌜ r ≡ layoutOfKind (getD (now (s .entry)) at 0) ⌝ }
+// The edition of the entry at a place, by its kind. Its slot's byte 0, which would tell it too, lies elsewhere in memory.
+fn edition_at(area: &[u8], place: usize) -> Edition
+    ensures { λ r. ⌜ r ≡ layoutAt (now (area .entry)) place ⌝ }
 {
-    if s.len() <= at {
+    if area.len() <= place {
         return Edition::First;
     }
-    edition_of_kind(s[at])
+    edition_of_kind(area[place])
 }
 
-// What stands at a place of the area, by the edition that the kind there tells: of an entry of the log it is its slot's.
-pub fn entry_at(size: usize, area: &[u8], place: usize) -> Read
-    requires { ⌜ (0 < size) × (size < 4294967296) × (place < 4294967296) ⌝ }
-    ensures { λ r. ⌜ r ≡ standsAt size (now (area .entry)) place ⌝ }
+// What stands at a place of the area, by the edition that the kind there tells. An entry of the log is the same in its segment and
+// in the area, so that a place needs no division to be read.
+pub fn entry_at(area: &[u8], place: usize) -> Read
+    ensures { λ r. ⌜ r ≡ standsAt (now (area .entry)) place ⌝ }
 {
-    let offset = remainder32(place as u32, size as u32) as usize;
-    let s = part(size, area, place - offset);
-    read(edition_at(s, offset), s, offset)
+    read(edition_at(area, place), area, place)
+}
+
+// The whole length of the object at a place, and 0 where none stands.
+pub fn object_length(area: &[u8], place: usize) -> usize
+    ensures { λ r. ⌜ r ≡ objectAt (now (area .entry)) place ⌝ }
+{
+    match entry_at(area, place) {
+        Read::Object {
+            key: _,
+            version: _,
+            kind: _,
+            length,
+        } => length,
+        Read::Tombstone {
+            key: _,
+            version: _,
+            length: _,
+        } => 0,
+        Read::End => 0,
+        Read::Damage => 0,
+    }
 }

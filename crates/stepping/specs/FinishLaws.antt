@@ -28,8 +28,8 @@ use Rattle.record.specs.declared.Record.{Record}
 use Rattle.model.specs.Log.{segmentOf}
 use Rattle.model.specs.Operations.{nextAfter, appendCommit, headCommit}
 use Rattle.model.specs.Counts.{objectSize}
-use Rattle.segment.specs.Area.{foundAt, layoutAt}
-use Rattle.counting.specs.Counting.{foundBytes, lostAt, renewedAt}
+use Rattle.segment.specs.Area.{objectAt}
+use Rattle.counting.specs.Counting.{lostAt, renewedAt}
 use Rattle.laws.specs.Counted.{fewer-most}
 use Rattle.index.specs.Insert.{Insertion, inserted}
 use Rattle.index.specs.Build.{Rebuilt}
@@ -101,7 +101,7 @@ module _ (S : ℕ) (area c : List ℕ) {a : Inserted} where
 pub lost-few : (S : ℕ) (area c : List ℕ) (a : Inserted) (j : ℕ) → getD (lostBy S area a c) j 0 ≤ getD c j 0
 unfolding lostBy lostAt
 lost-few S area c Inserted.New j = omega arith
-lost-few S area c (Inserted.Newer old) j = fewer-most (old / S) j (foundBytes (layoutAt S area old) (foundAt S area old)) c
+lost-few S area c (Inserted.Newer old) j = fewer-most (old / S) j (objectAt area old) c
 lost-few S area c Inserted.Older j = omega arith
 lost-few S area c Inserted.Full j = omega arith
 

@@ -9,7 +9,9 @@ use native.Mathlib.Omega.{arith}
 use lib.ListN.{replicate}
 use Rattle.word.specs.Fnv.{fnvStep, fnvFrom}
 use Rattle.word.specs.Number.{Bytes}
+use Rattle.segment.specs.Area.{objectLength}
 use Rattle.segment.specs.Choice.{pick, both}
+use Rattle.segment.specs.Entry.{answer}
 use Rattle.segment.specs.Layout.{edition1, layoutOfKind, otherLayout}
 use Rattle.segment.specs.declared.Key.{Key}
 use Rattle.slot_map.specs.Bit.{withBit, less}
@@ -30,7 +32,7 @@ use Rattle.index.specs.Build.{entriesFrom, inLog, listed}
 use Rattle.index.specs.Insert.{insertedAt, tallied, insertNext, insertAll}
 use Rattle.index.specs.Search.{probe, hasKeyAt, searchFor}
 use Rattle.starting.specs.Stores.{commitStores}
-use Rattle.counting.specs.Counting.{foundBytes, lostAt, renewedAt}
+use Rattle.counting.specs.Counting.{lostAt, renewedAt}
 use Rattle.stepping.specs.Finish.{keysAfter, answeredWith, lostBy, foundIn, finishEntry, finishAppend, finishHead, upFrom, finishClean, finishForget, oneLess, finishWith, advanced}
 use Rattle.telling.specs.Agree.{entryAgrees, slotAgrees, victimsAgree, agreesWith, testedStore}
 use Rattle.record.specs.declared.TellAnswer.{TellAnswer}
@@ -248,7 +250,7 @@ all = playAll 4 256 (freshWorld area₀) commands
 -- What the run computes with, opened by one name.
 unfoldable pub computing : Unit {0}
 unfolding opened fnvStep fnvFrom withBit less around entriesFrom inLog listed Build.finished insertedAt tallied insertNext insertAll probe searchFor hasKeyAt
-    keysAfter answeredWith foundBytes lostAt lostBy renewedAt foundIn finishEntry finishAppend finishHead upFrom finishClean finishForget oneLess finishWith advanced
+    keysAfter answeredWith answer objectLength lostAt lostBy renewedAt foundIn finishEntry finishAppend finishHead upFrom finishClean finishForget oneLess finishWith advanced
     entryAgrees slotAgrees victimsAgree agreesWith testedStore
     commitStores commitStore fitsSlot fitsLeft slotStore slotNext pendingNext cellsBy storedBy steppedUnless toldStore toldUnless
     layoutOfKind otherLayout slotBytes convertedSlots slotTooLong versionTooWide nextTooWide slotTooWide convertAnswer answerBy lentBy played playOn compared expectedNumber callNumbers eventNumbers eventValue

@@ -11,13 +11,3 @@ pub fn remainder(x: usize, m: usize) -> usize
     }
     x % m
 }
-
-pub fn remainder32(x: u32, m: u32) -> u32
-    requires { ⌜ 0 < m ⌝ }
-    ensures { λ r. ⌜ r ≡ x % m ⌝ }
-{
-    if m & (m - 1) == 0 {
-        return x & (m - 1);
-    }
-    x % m
-}

@@ -1,16 +1,15 @@
 -- On a genuine store the index says of a key what the log does.
-use Prim.Native.Nat.{ℕ, _*_, _-_, _<_}
+use Prim.Native.Nat.{ℕ, _-_, _<_}
 use mathlib.Core.Path.{_≡_, refl, sym, _∙_, ap}
 use mathlib.Core.Bool.{Bool, true, false}
 use mathlib.Core.List.{List}
 use mathlib.Core.Option.{Option, none, some}
 use native.Mathlib.Omega.{arith}
-use lib.ListN.{length, getD, drop, length-take}
+use lib.ListN.{length, getD}
 use Rattle.segment.specs.Choice.{pick, isNone}
 use Rattle.segment.specs.Layout.{Layout}
 use Rattle.segment.specs.Area.{standsAt, stands-place}
 use Rattle.segment.specs.Entry.{entry, entryAt, sizeOf, keyOf, answer, isTombstone, kindOf}
-use Rattle.segment.specs.EntryLaws.{found-fits}
 use Rattle.segment.specs.declared.Key.{Key}
 use Rattle.segment.specs.declared.Read.{Read}
 use Rattle.slot_map.specs.Bit.{named}
@@ -60,12 +59,8 @@ module _ (L : Layout) (area : List ℕ) (r : Record) (cells : List ℕ) (g : Gen
   stands : (x : Placed) → In x (logNow area r) → entryAt (x .layout) (segmentOf area (r .size) (x .slot)) (x .offset) ≡ entry (x .entry)
   stands x m = log-reads area (r .size) (named (r .map)) (r .slots) scans x m
 
-  stands-at : (x : Placed) → In x (logNow area r) → standsAt (r .size) area (placeOf (r .size) x) ≡ answer (x .layout) (entry (x .entry))
-  stands-at x m =
-      let s : List ℕ = segmentOf area (r .size) (x .slot) in
-      let inside : x .offset < r .size =
-      omega (arith, found-fits (x .layout) s (x .offset) (x .entry) (stands x m), length-take (r .size) (drop (x .slot * r .size) area)) in
-      stands-place (r .size) area (x .slot) (x .offset) inside (x .layout) (x .entry) (stands x m)
+  stands-at : (x : Placed) → In x (logNow area r) → standsAt area (placeOf (r .size) x) ≡ answer (x .layout) (entry (x .entry))
+  stands-at x m = stands-place (r .size) area (x .slot) (x .offset) (x .layout) (x .entry) (stands x m)
 
   few : length (keysOf (logNow area r)) < length cells
   few =
@@ -92,16 +87,16 @@ module _ (L : Layout) (area : List ℕ) (r : Record) (cells : List ℕ) (g : Gen
     an-entry x e = let f = search-known (r .size) (logNow area r) cells (g .rule) (cellHas area k) k picks x e in (f .0, within ∙ f .1)
 
     -- so the code's facts of a key are the log's
-    pub genuine-facts : factsFor r area cells k ≡ keyFacts (logNow area r) k
+    pub genuine-facts : factsFor area cells k ≡ keyFacts (logNow area r) k
     unfolding factsOf presenceAt present isNone versionIn objectOnly
     genuine-facts = go (latest (logNow area r) k) refl
       where
-        go : (o : Option Placed) → latest (logNow area r) k ≡ o → factsFor r area cells k ≡ keyFacts (logNow area r) k
+        go : (o : Option Placed) → latest (logNow area r) k ≡ o → factsFor area cells k ≡ keyFacts (logNow area r) k
         go none e =
             let has = sym (key-none (logNow area r) k (latest-none (logNow area r) k e)) in
             let absent = sym (ap (λ (o : Option Placed). isNone (objectOnly o)) e) in
             let version = sym (ap (λ (o : Option Placed). versionIn (objectOnly o)) e) in
-            ap (λ (f : Found). factsOf (presenceAt (r .size) area cells f)) (no-entry e .1)
+            ap (λ (f : Found). factsOf (presenceAt area cells f)) (no-entry e .1)
             ∙ λ i. record { forbidden = false; in-log = has i; absent = absent i; version = version i }
         go (some x) e =
             let w = an-entry x e in
@@ -109,8 +104,8 @@ module _ (L : Layout) (area : List ℕ) (r : Record) (cells : List ℕ) (g : Gen
             let has = sym (latest-has (logNow area r) k x e) in
             let absent = sym (ap (λ (o : Option Placed). isNone (objectOnly o)) e) in
             let version = sym (ap (λ (o : Option Placed). versionIn (objectOnly o)) e) in
-            ap (λ (f : Found). factsOf (presenceAt (r .size) area cells f)) (w .1)
-            ∙ ap (λ (p : ℕ). factsOf (presenceOf (standsAt (r .size) area p))) place
+            ap (λ (f : Found). factsOf (presenceAt area cells f)) (w .1)
+            ∙ ap (λ (p : ℕ). factsOf (presenceOf (standsAt area p))) place
             ∙ ap (λ (y : Read). factsOf (presenceOf y)) (stands-at x (latest-some (logNow area r) k x e .member))
             ∙ entry-facts (x .layout) x
             ∙ λ i. record { forbidden = false; in-log = has i; absent = absent i; version = version i }

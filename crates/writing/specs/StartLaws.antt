@@ -144,7 +144,7 @@ module _ (L : Layout) (r : Record) (area cells work : List ℕ) (n : ℕ) where
 
 module _ (L : Layout) (q : Terms) (r : Record) (area cells work : List ℕ) (k : Key) (value : List ℕ) where
   abbrev writeTests : List Cause
-  writeTests = writeCauses L r (lentLengths area cells work) q k (factsFor r area cells k) (length value)
+  writeTests = writeCauses L r (lentLengths area cells work) q k (factsFor area cells k) (length value)
 
   abbrev writes : Check
   writes = checked (firstCause writeTests)
@@ -163,8 +163,8 @@ module _ (L : Layout) (q : Terms) (r : Record) (area cells work : List ℕ) (k :
   write-refused c e a is = start-refused L q (write k value) r area cells work writeTests write-causes c e a is
 
   module _ (passed : Check.Passed ≡ writes) where
-    written : WritePassed L r (lentLengths area cells work) q k (factsFor r area cells k) (length value)
-    written = write-passed L r (lentLengths area cells work) q k (factsFor r area cells k) (length value) (checked-none _ passed)
+    written : WritePassed L r (lentLengths area cells work) q k (factsFor area cells k) (length value)
+    written = write-passed L r (lentLengths area cells work) q k (factsFor area cells k) (length value) (checked-none _ passed)
 
     -- the kind that the code finds is that of objects with so long a value
     module _ (kind : ℕ) (is : kind ≡ orZero (objectKind L (length value))) where
@@ -202,7 +202,7 @@ module _ (L : Layout) (q : Terms) (r : Record) (area cells work : List ℕ) (k :
 
 module _ (L : Layout) (t : Tables) (r : Record) (area cells work : List ℕ) (k : Key) where
   abbrev pub deleteTests : List Cause
-  deleteTests = deleteCauses L r (lentLengths area cells work) (reaching t) k (factsFor r area cells k)
+  deleteTests = deleteCauses L r (lentLengths area cells work) (reaching t) k (factsFor area cells k)
 
   abbrev pub deletes : Check
   deletes = checked (firstCause deleteTests)
@@ -221,8 +221,8 @@ module _ (L : Layout) (t : Tables) (r : Record) (area cells work : List ℕ) (k 
   delete-refused c e a is = start-refused L (reaching t) (delete k) r area cells work deleteTests delete-causes c e a is
 
   module _ (passed : Check.Passed ≡ deletes) where
-    pub deleted : DeletePassed L r (lentLengths area cells work) (reaching t) k (factsFor r area cells k)
-    deleted = delete-passed L r (lentLengths area cells work) (reaching t) k (factsFor r area cells k) (checked-none _ passed)
+    pub deleted : DeletePassed L r (lentLengths area cells work) (reaching t) k (factsFor area cells k)
+    deleted = delete-passed L r (lentLengths area cells work) (reaching t) k (factsFor area cells k) (checked-none _ passed)
 
     pub delete-ready : Roomy L → EntryReady L r 0 (length work)
     delete-ready roomy =

@@ -219,21 +219,21 @@ module _ (L : Layout) (r : Record) (l : Lengths) (q : Terms) (j : Key) (p : Pres
 
 -- ---- what the index says of a key
 
-module _ (S : ℕ) (area cells : List ℕ) (k : Key) where
-  pub presence-full : Full ≡ searchFor area cells k → Forbidden ≡ presenceFor S area cells k
+module _ (area cells : List ℕ) (k : Key) where
+  pub presence-full : Full ≡ searchFor area cells k → Forbidden ≡ presenceFor area cells k
   unfolding presenceAt
-  presence-full e = ap (presenceAt S area cells) e
+  presence-full e = ap (presenceAt area cells) e
 
   module _ (i : ℕ) where
-    pub presence-free : Free i ≡ searchFor area cells k → Nothing ≡ presenceFor S area cells k
+    pub presence-free : Free i ≡ searchFor area cells k → Nothing ≡ presenceFor area cells k
     unfolding presenceAt
-    presence-free e = ap (presenceAt S area cells) e
+    presence-free e = ap (presenceAt area cells) e
 
     pub presence-at :
-        {p : Presence} → At i ≡ searchFor area cells k → p ≡ presenceOf (standsAt S area (getD cells i 0 - 1)) →
-        p ≡ presenceFor S area cells k
+        {p : Presence} → At i ≡ searchFor area cells k → p ≡ presenceOf (standsAt area (getD cells i 0 - 1)) →
+        p ≡ presenceFor area cells k
     unfolding presenceAt
-    presence-at e h = h ∙ ap (presenceAt S area cells) e
+    presence-at e h = h ∙ ap (presenceAt area cells) e
 
 -- ---- a delete: p is what the code finds for the key
 

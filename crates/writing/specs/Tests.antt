@@ -38,16 +38,16 @@ presenceOf Read.End = Forbidden
 presenceOf Read.Damage = Forbidden
 
 -- what the search found: the cell of the key's entry, no cell, or no end to the search
-unfoldable pub presenceAt : ℕ → List ℕ → List ℕ → Found → Presence
-presenceAt S area cells (At i) = presenceOf (standsAt S area (getD cells i 0 - 1))
-presenceAt S area cells (Free i) = Nothing
-presenceAt S area cells Full = Forbidden
+unfoldable pub presenceAt : List ℕ → List ℕ → Found → Presence
+presenceAt area cells (At i) = presenceOf (standsAt area (getD cells i 0 - 1))
+presenceAt area cells (Free i) = Nothing
+presenceAt area cells Full = Forbidden
 
-abbrev pub presenceFor : ℕ → List ℕ → List ℕ → Key → Presence
-presenceFor S area cells k = presenceAt S area cells (searchFor area cells k)
+abbrev pub presenceFor : List ℕ → List ℕ → Key → Presence
+presenceFor area cells k = presenceAt area cells (searchFor area cells k)
 
-abbrev pub factsFor : Record → List ℕ → List ℕ → Key → KeyFacts
-factsFor r area cells k = factsOf (presenceFor (r .size) area cells k)
+abbrev pub factsFor : List ℕ → List ℕ → Key → KeyFacts
+factsFor area cells k = factsOf (presenceFor area cells k)
 
 -- ---- parts of the lists of causes
 

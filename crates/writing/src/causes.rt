@@ -179,7 +179,7 @@ pub fn check_fitting(
         (writeCauses (rec .edition) rec
         (record { area = length (now (area .entry)); index = length (now (index .entry)); work = work })
         (record { tables = tables; expected = expected }) key
-        (factsFor rec (now (area .entry)) (now (index .entry)) key) value))
+        (factsFor (now (area .entry)) (now (index .entry)) key) value))
         ⌝ }
 {
     let edition = rec.edition;
@@ -189,7 +189,7 @@ pub fn check_fitting(
             if object_kind(edition, value) == 0 {
                 return Check::Refused(Refusal::ValueLength);
             }
-            let presence = find(rec.size as usize, area, index, key);
+            let presence = find(area, index, key);
             match check_expected(expected, presence) {
                 Check::Refused(c) => Check::Refused(c),
                 Check::Passed => check_entry(rec, presence, head_size(edition) + value),
@@ -216,7 +216,7 @@ pub fn check_write(
         (writeCauses (rec .edition) rec
         (record { area = length (now (area .entry)); index = length (now (index .entry)); work = work })
         (record { tables = tables; expected = expected }) key
-        (factsFor rec (now (area .entry)) (now (index .entry)) key) value))
+        (factsFor (now (area .entry)) (now (index .entry)) key) value))
         ⌝ }
 {
     if !fits_lent(rec, area.len(), index.len()) {
@@ -240,7 +240,7 @@ pub fn check_delete(
         (firstCause
         (deleteCauses (rec .edition) rec
         (record { area = length (now (area .entry)); index = length (now (index .entry)); work = work })
-        (reaching tables) key (factsFor rec (now (area .entry)) (now (index .entry)) key)))
+        (reaching tables) key (factsFor (now (area .entry)) (now (index .entry)) key)))
         ⌝ }
 {
     let edition = rec.edition;
@@ -249,7 +249,7 @@ pub fn check_delete(
     }
     match check_first(rec, area.len(), index.len(), work, tables, key) {
         Check::Refused(c) => Check::Refused(c),
-        Check::Passed => match find(rec.size as usize, area, index, key) {
+        Check::Passed => match find(area, index, key) {
             Presence::Forbidden => Check::Refused(Refusal::BadRecord),
             Presence::Nothing => Check::Refused(Refusal::Absent),
             Presence::Tombstone => Check::Refused(Refusal::Absent),

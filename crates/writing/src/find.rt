@@ -5,7 +5,6 @@ use index::search::search;
 use segment::Key;
 use segment::Read;
 use segment::area::entry_at;
-ghost use Prim.Native.Nat.{_<_};
 ghost use mathlib.Core.Path.{_≡_};
 ghost use Rattle.writing.specs.Tests.{presenceOf, presenceFor};
 
@@ -31,16 +30,15 @@ fn presence(read: Read) -> Presence
 }
 
 // What a key's latest entry is. An index in which the search finds no end is none that its rule allows.
-pub fn find(size: usize, area: &[u8], index: &[u32], key: Key) -> Presence
-    requires { ⌜ (0 < size) × (size < 4294967296) ⌝ }
-    ensures { λ r. ⌜ r ≡ presenceFor size (now (area .entry)) (now (index .entry)) key ⌝ }
+pub fn find(area: &[u8], index: &[u32], key: Key) -> Presence
+    ensures { λ r. ⌜ r ≡ presenceFor (now (area .entry)) (now (index .entry)) key ⌝ }
 {
     match search(area, index, key) {
         Found::Full => Presence::Forbidden,
         Found::Free(_) => Presence::Nothing,
         Found::At(i) => {
             let place = (index[i] - 1) as usize;
-            presence(entry_at(size, area, place))
+            presence(entry_at(area, place))
         }
     }
 }

@@ -12,7 +12,7 @@ unfolding lostAt
 returns c =
     c .before .before .fewer .ensures
     ∙ ap (λ (n : ℕ). fewerBytes (c .before .before .before .before .before .before .before .args .place / c .before .before .before .before .before .before .before .args .size) n (c .before .before .before .before .before .before .before .args .counts .now))
-    (c .before .before .before .object-at .ensures)
+    (c .before .before .before .object-length .ensures)
 
 pub lost-at-spec : {M : Type 1} → statement M
 lost-at-spec =

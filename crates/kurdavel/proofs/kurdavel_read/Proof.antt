@@ -1,13 +1,13 @@
 -- `kurdavel::kurdavel_read` meets its contract.
 use mathlib.Core.Bool.{true}
 use mathlib.Core.Path.{_≡_, refl, sym, _∙_}
-use native.Mathlib.Omega.{arith}
 use lib.ListN.{length}
 use Rattle.record.specs.Range.{fitsLent}
 use Rattle.record.specs.Reach.{holdsTable}
 use Rattle.recovery.specs.Lookups.{lookedUp, toldBy}
+use Rattle.recovery.specs.LookupLaws.{reached}
 use Rattle.words.specs.Words.{decoded}
-use Rattle.kurdavel.specs.CrossingLaws.{fits-words, looked-lost, looked-away, looked-word, reached-word, read-crossed}
+use Rattle.kurdavel.specs.CrossingLaws.{looked-lost, looked-away, looked-found, read-crossed}
 use borrow.Author.Needs.{needs}
 use borrow.Author.Tests.{not-true, not-false}
 use Rattle.kurdavel.proofs.kurdavel_read.Statement.{statement}
@@ -26,13 +26,13 @@ held c = sym (c .before .holds-table .ensures) ∙ not-false _ (c .if2 .left)
 
 -- what the look says, by the record that the words say
 looked : (c : tie.After-look-at)
-    → let a = c .before .before .before .before .before .before .before .before .before .before .args in
+    → let a = c .before .before .before .before .before .before .before .before .before .args in
     c .look-at .result ≡
     lookedUp (decoded (a .words .now) .rec .edition) (decoded (a .words .now) .rec) (a .area .now) (a .index .now) (record { first = a .first; last = a .last })
     (record { table = a .table; key = a .key })
 looked c =
-    let e = c .before .before .before in
-    looked-word _ _ _ _ _ (fit (e .before .before)) (held e) (c .before .before .search .ensures) (c .look-at .ensures)
+    let e = c .before .before in
+    looked-found _ _ _ _ _ (fit (e .before .before)) (held e) (c .before .search .ensures) (c .look-at .ensures)
 
 returns : tie.Need-returns
 unfolding toldBy
@@ -44,17 +44,11 @@ returns-2 c =
     read-crossed (looked-away _ _ _ _ _ refl (fit (c .before .before)) (sym (c .before .holds-table .ensures) ∙ not-true _ (c .if2 .taken))) refl refl
     refl refl refl
 
-shared-slice-read-look-at : tie.Need-shared-slice-read-look-at
-shared-slice-read-look-at c = omega (arith, fits-words _ _ _ (fit (c .before .before .before .before)))
-
-cast-look-at : tie.Need-cast-look-at
-cast-look-at c = omega (arith, c .shared-slice-known4 .given 1)
-
 look-at-requires : tie.Need-look-at-requires
 look-at-requires c κs =
-    let e = c .before .before in
+    let e = c .before in
     let t = e .before .before in
-    λ i f. reached-word _ _ _ _ _ (fit t) (held e) i (sym (c .before .search .ensures) ∙ f)
+    λ i f. reached _ _ _ _ _ _ (fit t) (held e) i (sym (c .search .ensures) ∙ f)
 
 returns-3 : tie.Need-returns-3
 returns-3 c =
@@ -73,8 +67,6 @@ kurdavel-read-spec =
     (λ c κs. search needs)
     returns-2
     (λ c κs. search needs)
-    shared-slice-read-look-at
-    cast-look-at
     look-at-requires
     (λ c κs. search needs)
     (λ c. search needs)

@@ -8,9 +8,9 @@ use Rattle.segment.specs.Layout.{Layout, layoutOfKind, entrySize}
 use Rattle.record.specs.Range.{fitsLent}
 use Rattle.record.specs.Reach.{holdsTable}
 use Rattle.recovery.specs.Lookups.{lookedUp, toldBy, partBy}
-use Rattle.recovery.specs.LookupLaws.{ObjectInside, object-inside}
+use Rattle.recovery.specs.LookupLaws.{ObjectInside, object-inside, reached}
 use Rattle.words.specs.Words.{decoded}
-use Rattle.kurdavel.specs.CrossingLaws.{fits-words, looked-lost, looked-away, looked-word, reached-word, found-small, value-crossed}
+use Rattle.kurdavel.specs.CrossingLaws.{looked-lost, looked-away, looked-found, found-small, value-crossed}
 use borrow.Author.Needs.{needs}
 use borrow.Author.Tests.{not-true, not-false}
 use Rattle.kurdavel.proofs.kurdavel_read_value.Statement.{statement}
@@ -29,20 +29,20 @@ held c = sym (c .before .holds-table .ensures) ∙ not-false _ (c .if2 .left)
 
 -- what the look says, by the record that the words say
 looked : (c : tie.After-look-at)
-    → let a = c .before .before .before .before .before .before .before .before .before .before .args in
+    → let a = c .before .before .before .before .before .before .before .before .before .args in
     c .look-at .result ≡
     lookedUp (decoded (a .words .now) .rec .edition) (decoded (a .words .now) .rec) (a .area .now) (a .index .now) (record { first = a .first; last = a .last })
     (record { table = a .table; key = a .key })
 looked c =
-    let e = c .before .before .before in
-    looked-word _ _ _ _ _ (fit (e .before .before)) (held e) (c .before .before .search .ensures) (c .look-at .ensures)
+    let e = c .before .before in
+    looked-found _ _ _ _ _ (fit (e .before .before)) (held e) (c .before .search .ensures) (c .look-at .ensures)
 
 -- the entry of an object that was found lies in the area, whose length is a record's
 inside : (c : tie.After-known-told)
-    → ObjectInside (layoutOfKind (c .before .entry .given .0 .1 .1 .0)) (c .before .before .before .before .before .before .before .before .before .before .before .before .before .args .area .now) (c .before .entry .given .0 .0) (c .before .entry .given .0 .1 .1 .1 .0)
+    → ObjectInside (layoutOfKind (c .before .entry .given .0 .1 .1 .0)) (c .before .before .before .before .before .before .before .before .before .before .before .before .args .area .now) (c .before .entry .given .0 .0) (c .before .entry .given .0 .1 .1 .1 .0)
 inside c = object-inside _ _ _ _ _ _ _ _ _ _ (sym (looked (c .before .before .before)) ∙ c .before .entry .given .1)
 
-small : (c : tie.After-known-told) → length (c .before .before .before .before .before .before .before .before .before .before .before .before .before .args .area .now) ≤ 65536
+small : (c : tie.After-known-told) → length (c .before .before .before .before .before .before .before .before .before .before .before .before .args .area .now) ≤ 65536
 small c = found-small _ _ _ _ _ (sym (looked (c .before .before .before)) ∙ c .before .entry .given .1)
 
 -- the bytes before a value, by the edition that the kind tells
@@ -61,17 +61,11 @@ returns-2 c =
     value-crossed (looked-away _ _ _ _ _ refl (fit (c .before .before)) (sym (c .before .holds-table .ensures) ∙ not-true _ (c .if2 .taken))) refl refl refl
     (omega arith) (λ _. (refl, refl))
 
-shared-slice-read-look-at : tie.Need-shared-slice-read-look-at
-shared-slice-read-look-at c = omega (arith, fits-words _ _ _ (fit (c .before .before .before .before)))
-
-cast-look-at : tie.Need-cast-look-at
-cast-look-at c = omega (arith, c .shared-slice-known4 .given 1)
-
 look-at-requires : tie.Need-look-at-requires
 look-at-requires c κs =
-    let e = c .before .before in
+    let e = c .before in
     let t = e .before .before in
-    λ i f. reached-word _ _ _ _ _ (fit t) (held e) i (sym (c .before .search .ensures) ∙ f)
+    λ i f. reached _ _ _ _ _ _ (fit t) (held e) i (sym (c .search .ensures) ∙ f)
 
 edition-of-kind-requires : tie.Need-edition-of-kind-requires
 edition-of-kind-requires c κs = search needs
@@ -121,8 +115,6 @@ kurdavel-read-value-spec =
     (λ c κs. search needs)
     returns-2
     (λ c κs. search needs)
-    shared-slice-read-look-at
-    cast-look-at
     look-at-requires
     (λ c. search needs)
     edition-of-kind-requires

@@ -30,7 +30,7 @@ count-cell-requires : tie.Need-count-cell-requires Inv-loop μ-loop
 count-cell-requires c κs =
     let k = c .before .before .before .before .before .before in
     let l = c .before .before .before .loop in
-    (k .pre .0, k .pre .1, λ j. omega (arith, l .inv .low j, k .pre .2))
+    (k .pre .0, λ j. omega (arith, l .inv .low j, k .pre .1))
 
 add-i : tie.Need-add-i Inv-loop μ-loop
 add-i c = search needs
@@ -40,8 +40,7 @@ loop-less c = search needs
 
 loop-again : tie.Need-loop-again Inv-loop μ-loop
 loop-again c =
-    count-turn _ _ _ _ _ _ (c .before .before .before .before .before .before .before .before .pre .1)
-    (c .before .before .before .before .loop-test .taken) (c .before .before .before .before .before .loop .inv) (c .before .count-cell .ensures)
+    count-turn _ _ _ _ _ _ (c .before .before .before .before .loop-test .taken) (c .before .before .before .before .before .loop .inv) (c .before .count-cell .ensures)
 
 returns : tie.Need-returns Inv-loop μ-loop
 returns c = count-ends _ _ _ _ _ (c .loop-test .left) (c .before .loop .inv)

@@ -25,13 +25,13 @@ div-add-bytes c = search needs
 cast-add-bytes : tie.Need-cast-add-bytes
 cast-add-bytes c =
     let a = c .before .before .before .before .before .args in
-    omega (arith, c .before .object-length .ensures, object-most (a .s) (a .area .now) (a .cell - 1))
+    omega (arith, c .before .object-length .ensures, object-most (a .area .now) (a .cell - 1))
 
 add-bytes-requires : tie.Need-add-bytes-requires
 add-bytes-requires c κs =
     let k = c .before .before .before .before .before in
-    let most = object-most (k .args .s) (k .args .area .now) (k .args .cell - 1) in
-    (omega (arith, c .before .object-length .ensures), k .pre .2)
+    let most = object-most (k .args .area .now) (k .args .cell - 1) in
+    (omega (arith, c .before .object-length .ensures), k .pre .1)
 
 same-length : tie.Need-same-length
 same-length c = search needs

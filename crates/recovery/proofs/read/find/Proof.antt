@@ -30,22 +30,19 @@ holds-table-requires c κs = search needs
 returns-2 : tie.Need-returns-2
 returns-2 c = sym (looked-outside _ _ _ _ _ _ (fit (c .before .before)) (sym (c .before .holds-table .ensures) ∙ not-true _ (c .if2 .taken)))
 
-cast-look-at : tie.Need-cast-look-at
-cast-look-at c = search needs
-
 search-requires : tie.Need-search-requires
 search-requires c κs = search needs
 
 look-at-requires : tie.Need-look-at-requires
 look-at-requires c κs =
-    let e = c .before .before in
+    let e = c .before in
     λ i f. reached _ _ _ _ _ _ (fit (e .before .before)) (held e) i (sym (c .search .ensures) ∙ f)
 
 returns-3 : tie.Need-returns-3
 returns-3 c =
-    let e = c .before .before .before in
+    let e = c .before .before in
     c .look-at .ensures
-    ∙ ap (lookupAt _ _ _) (c .before .search .ensures)
+    ∙ ap (lookupAt _ _) (c .before .search .ensures)
     ∙ sym (looked-fit _ _ _ _ _ _ (fit (e .before .before)) (held e))
 
 pub find-spec : {M : Type 1} → statement M
@@ -56,7 +53,6 @@ find-spec =
     returns
     holds-table-requires
     returns-2
-    cast-look-at
     search-requires
     look-at-requires
     returns-3)

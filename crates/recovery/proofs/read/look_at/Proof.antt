@@ -7,7 +7,7 @@ use Rattle.recovery.proofs.read.look_at.Statement.{statement}
 use Rattle.recovery.proofs.read.look_at.Tie as tie
 
 reach : (c : tie.After-found)
-    → let a = c .before .before .before .before .args in Reached (a .s) (a .index .now) (c .found .given .0 .0)
+    → let a = c .before .before .before .before .args in Reached (a .index .now) (c .found .given .0 .0)
 reach c = c .before .before .before .before .pre (c .found .given .0 .0) (c .found .given .1)
 
 enum-told : tie.Need-enum-told
@@ -32,21 +32,19 @@ cast-look : tie.Need-cast-look
 cast-look c = omega (arith, c .shared-slice-known3 .given (c .before .before .found .given .0 .0))
 
 look-requires : tie.Need-look-requires
-look-requires c κs =
-    let r = reach (c .before .before) in
-    (r .some-size, r .size-most, omega (arith, c .shared-slice-known3 .given (c .before .before .found .given .0 .0)))
+look-requires c κs = search needs
 
 returns : tie.Need-returns
 unfolding lookupAt
-returns c = sym (ap (lookupAt _ _ _) (c .enum-told .given .1))
+returns c = sym (ap (lookupAt _ _) (c .enum-told .given .1))
 
 returns-2 : tie.Need-returns-2
 unfolding lookupAt
-returns-2 c = sym (ap (lookupAt _ _ _) (c .enum-told2 .given .1))
+returns-2 c = sym (ap (lookupAt _ _) (c .enum-told2 .given .1))
 
 returns-3 : tie.Need-returns-3
 unfolding lookupAt
-returns-3 c = c .look .ensures ∙ sym (ap (lookupAt _ _ _) (c .before .before .before .found .given .1))
+returns-3 c = c .look .ensures ∙ sym (ap (lookupAt _ _) (c .before .before .before .found .given .1))
 
 pub look-at-spec : {M : Type 1} → statement M
 look-at-spec =

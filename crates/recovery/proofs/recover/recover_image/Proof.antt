@@ -68,7 +68,7 @@ count-requires c κs =
     let a = t .args in
     let f = lent-fits (a .n) (a .s) (a .order .now) (a .area .now) (a .index .now) (t .pre) in
     let long = cells-kept (k .edition .given .0 .0) (a .n) (a .s) (a .order .now) (a .area .now) (a .index .now) (t .pre) _ _ _ (sound k) _ _ _ (b .build .ensures) (c .before .before .keys .given .1) in
-    (omega arith, omega arith, omega (arith, long))
+    (omega arith, omega (arith, long))
 
 record-of-requires : tie.Need-record-of-requires
 record-of-requires c κs =

@@ -8,11 +8,11 @@ use Rattle.report.proofs.gather.add_cell.Statement.{statement}
 use Rattle.report.proofs.gather.add_cell.Tie as tie
 
 -- what the reader answered, as what the cell gives
-given : (c : tie.After-entry-at) → let a = c .before .before .before .before .args in cellRank (a .s) (a .area .now) (a .cell) ≡ rankRead (c .entry-at .result)
-given c = cell-read _ _ _ _ (c .before .if1 .left) (c .entry-at .ensures)
+given : (c : tie.After-entry-at) → let a = c .before .before .before .before .args in cellRank (a .area .now) (a .cell) ≡ rankRead (c .entry-at .result)
+given c = cell-read _ _ _ (c .before .if1 .left) (c .entry-at .ensures)
 
 returns : tie.Need-returns
-returns c = adds-none _ _ (cell-free _ _ _ (c .if1 .taken))
+returns c = adds-none _ _ (cell-free _ _ (c .if1 .taken))
 
 sub-entry-at : tie.Need-sub-entry-at
 sub-entry-at c = search needs

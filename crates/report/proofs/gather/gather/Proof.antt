@@ -10,10 +10,10 @@ use Rattle.report.proofs.gather.gather.Statement.{statement}
 use Rattle.report.proofs.gather.gather.Tie as tie
 
 abbrev Inv-loop : tie.InvT-loop
-Inv-loop s area index ranks₀ n₀ i₀ ranks n i = Gathered (cellRank s area) index ranks i n × (length ranks ≡ length ranks₀)
+Inv-loop area index ranks₀ n₀ i₀ ranks n i = Gathered (cellRank area) index ranks i n × (length ranks ≡ length ranks₀)
 
 abbrev μ-loop : tie.MeasureT-loop
-μ-loop s area index ranks₀ n₀ i₀ ranks n i = i
+μ-loop area index ranks₀ n₀ i₀ ranks n i = i
 
 loop-holds : tie.Need-loop-holds Inv-loop μ-loop
 loop-holds c = (gather-starts _ _ _, refl)
@@ -34,8 +34,8 @@ add-cell-requires c κs =
     let l = c .before .before .before .loop in
     let start = c .before .before .before .before .before .before .before in
     let g = l .inv .0 in
-    let more : l .n < length (l .ranks) = omega (arith, g .few, l .inv .1, start .pre .2) in
-    (start .pre .0, start .pre .1, more)
+    let more : l .n < length (l .ranks) = omega (arith, g .few, l .inv .1, start .pre) in
+    more
 
 loop-less : tie.Need-loop-less Inv-loop μ-loop
 loop-less c = omega arith
@@ -44,7 +44,7 @@ loop-again : tie.Need-loop-again Inv-loop μ-loop
 loop-again c =
     let l = c .before .before .before .before .before .before .loop in (
       gather-turn _ _ _ _ _ _ _ (c .before .before .before .before .before .loop-test .taken) (l .inv .0) (c .before .before .add-cell .ensures),
-      c .before .before .add-cell .kept .1 .1 .1 .0 ∙ l .inv .1,
+      c .before .before .add-cell .kept .1 .1 .0 ∙ l .inv .1,
     )
 
 same-length : tie.Need-same-length Inv-loop μ-loop

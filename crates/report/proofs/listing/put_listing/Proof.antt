@@ -3,28 +3,25 @@ use mathlib.Core.Path.{sym, ap}
 use native.Mathlib.Omega.{arith}
 use Rattle.text.specs.Put.{put-length}
 use Rattle.report.specs.Report.{headLine}
-use Rattle.report.specs.Gather.{size-some, size-most, cells-few}
+use Rattle.report.specs.Gather.{cells-few}
 use Rattle.report.specs.PutLaws.{within-same, within-then, within-more}
 use Rattle.report.specs.LineLaws.{Listed, gathered-listed}
 use borrow.Author.Needs.{needs}
 use Rattle.report.proofs.listing.put_listing.Statement.{statement}
 use Rattle.report.proofs.listing.put_listing.Tie as tie
 
-cast-gather : tie.Need-cast-gather
-cast-gather c = search needs
-
 slice-aggregate-gather : tie.Need-slice-aggregate-gather
 slice-aggregate-gather c = search needs
 
 -- what is gathered are the ranks of the present keys
 listed : (c : tie.After-gather)
-    → let a = c .before .before .before .before .before .before .before .before .args in Listed (a .area .now) (a .rec) (c .gather .last .1 .1 .1 .0) (c .gather .result)
-listed c = gathered-listed _ _ _ _ _ _ (c .before .before .before .before .before .before .before .before .pre .0) (c .gather .kept .1 .1 .1 .0) (c .gather .ensures)
+    → let a = c .before .before .before .before .before .before .before .args in Listed (a .area .now) (a .rec) (c .gather .last .1 .1 .0) (c .gather .result)
+listed c = gathered-listed _ _ _ _ _ _ (c .before .before .before .before .before .before .before .pre .0) (c .gather .kept .1 .1 .0) (c .gather .ensures)
 
 gather-requires : tie.Need-gather-requires
 gather-requires c κs =
-    let ready = c .before .before .before .before .before .before .before .pre .0 in
-    (size-some _ _ _ _ ready, size-most _ _ _ _ ready, cells-few _ _ _ _ ready)
+    let ready = c .before .before .before .before .before .before .pre .0 in
+    cells-few _ _ _ _ ready
 
 cast-put-head : tie.Need-cast-put-head
 cast-put-head c = record { fits = omega (arith, listed (c .before .before) .few) }
@@ -40,7 +37,7 @@ slice-aggregate-put-lines c = sym (listed (c .before .before .before .before .be
 
 put-lines-requires : tie.Need-put-lines-requires
 put-lines-requires c κs =
-    let start = c .before .before .before .before .before .before .before .before .before .before .before .before .before .before .before in
+    let start = c .before .before .before .before .before .before .before .before .before .before .before .before .before .before in
     let g = listed (c .before .before .before .before .before .before .before) in
     let head = c .before .before .before .before .put-head .ensures in
     (start .pre .0, g .stands, omega (arith, g .few, g .long, head .within, put-length (head .put), start .pre .1))
@@ -58,7 +55,6 @@ pub put-listing-spec : {M : Type 1} → statement M
 put-listing-spec =
     tie.close
     (tie.spec
-    cast-gather
     slice-aggregate-gather
     gather-requires
     cast-put-head

@@ -1,11 +1,10 @@
 -- `scanning::read::seek_in` meets its contract: a law for each return.
 use mathlib.Core.Bool.{true}
 use mathlib.Core.Path.{_≡_, sym, _∙_}
-use native.Mathlib.Omega.{arith}
 use borrow.Author.Needs.{needs}
 use borrow.Author.Tests.{not-true, not-false}
 use Rattle.record.specs.Reach.{holdsTable}
-use Rattle.scanning.specs.SeekingLaws.{area-short, place-low, seek-outside, seek-none, seek-found}
+use Rattle.scanning.specs.SeekingLaws.{seek-outside, seek-none, seek-found}
 use Rattle.scanning.proofs.read.seek_in.Statement.{statement}
 use Rattle.scanning.proofs.read.seek_in.Tie as tie
 
@@ -30,13 +29,7 @@ returns-2 c =
     seek-none _ _ _ _ (p .1) _ _ (held e) _ (c .before .before .before .newest .ensures) (c .if2 .taken)
 
 found-at-requires : tie.Need-found-at-requires
-found-at-requires c κs =
-    let e = c .before .before .before .before in
-    let p = e .before .before .before .pre in (
-      omega (arith, p .0 .size-least),
-      p .0 .size-most,
-      place-low _ _ _ _ (p .1) (e .before .before .before .args .tables) _ (area-short (p .0)) _ (c .before .before .before .newest .ensures),
-    )
+found-at-requires c κs = search needs
 
 returns-3 : tie.Need-returns-3
 returns-3 c =

@@ -5,7 +5,7 @@ use Rattle.segment.proofs.area.edition_at.Statement.{statement}
 use Rattle.segment.proofs.area.edition_at.Tie as tie
 
 returns : tie.Need-returns
-returns c = layout-past (c .before .before .args .s .now) (c .before .before .args .at) (c .if1 .taken)
+returns c = layout-past (c .before .before .args .area .now) (c .before .before .args .place) (c .if1 .taken)
 
 shared-slice-read-edition-of-kind : tie.Need-shared-slice-read-edition-of-kind
 shared-slice-read-edition-of-kind c = search needs

@@ -1,26 +1,10 @@
--- `segment::area::entry_at` meets its contract: a place less its offset is where its segment starts.
-use Rattle.segment.specs.Area.{offset-low, reads-place}
+-- `segment::area::entry_at` meets its contract.
+use mathlib.Core.Path.{_∙_, ap}
 use borrow.Author.Needs.{needs}
+use Rattle.segment.specs.Layout.{Layout}
+use Rattle.segment.specs.Entry.{entryAt, answer}
 use Rattle.segment.proofs.area.entry_at.Statement.{statement}
 use Rattle.segment.proofs.area.entry_at.Tie as tie
-
-cast-remainder32 : tie.Need-cast-remainder32
-cast-remainder32 c = search needs
-
-cast-remainder32-2 : tie.Need-cast-remainder32-2
-cast-remainder32-2 c = search needs
-
-remainder32-requires : tie.Need-remainder32-requires
-remainder32-requires c κs = search needs
-
-cast-offset : tie.Need-cast-offset
-cast-offset c = search needs
-
-sub-part : tie.Need-sub-part
-sub-part c = search (offset-low, needs)
-
-part-requires : tie.Need-part-requires
-part-requires c κs = search needs
 
 edition-at-requires : tie.Need-edition-at-requires
 edition-at-requires c κs = search needs
@@ -29,18 +13,9 @@ read-requires : tie.Need-read-requires
 read-requires c κs = search needs
 
 returns : tie.Need-returns
-returns c = search (reads-place, needs)
+returns c =
+    let a = c .before .before .before .args in
+    c .read .ensures ∙ ap (λ (K : Layout). answer K (entryAt K (a .area .now) (a .place))) (c .before .edition-at .ensures)
 
 pub entry-at-spec : {M : Type 1} → statement M
-entry-at-spec =
-    tie.close
-    (tie.spec
-    cast-remainder32
-    cast-remainder32-2
-    remainder32-requires
-    cast-offset
-    sub-part
-    part-requires
-    edition-at-requires
-    read-requires
-    returns)
+entry-at-spec = tie.close (tie.spec edition-at-requires read-requires returns)

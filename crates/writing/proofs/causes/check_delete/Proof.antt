@@ -4,13 +4,12 @@ use denote.Ref.{now}
 use lib.ListN.{length}
 use native.Mathlib.Omega.{arith}
 use Rattle.segment.specs.LayoutLaws.{width-high}
-use Rattle.record.specs.RangeLaws.{Lent}
 use Rattle.model.specs.Causes.{firstCause}
 use Rattle.starting.specs.declared.Check.{Check}
 use Rattle.starting.specs.Checks.{checked}
 use Rattle.writing.specs.declared.Presence.the-variants.{Tombstone, Nothing}
 use Rattle.writing.specs.Tests.{factsOf, firstTests}
-use Rattle.writing.specs.TestLaws.{first-bad, first-lent, delete-first, delete-forbidden, delete-absent, delete-spent, delete-number}
+use Rattle.writing.specs.TestLaws.{first-bad, delete-first, delete-forbidden, delete-absent, delete-spent, delete-number}
 use borrow.Author.Needs.{needs}
 use borrow.Author.Tests.{not-false}
 use Rattle.writing.proofs.causes.check_delete.Statement.{statement}
@@ -21,10 +20,6 @@ first : (c : tie.After-enum-told) →
     let a = c .before .before .before .before .before .before .before .args in
     Check.Passed ≡ checked (firstCause (firstTests (a .rec .edition) (a .rec) (record { area = length (now (a .area)); index = length (now (a .index)); work = a .work }) (a .tables) (a .key)))
 first c = sym (c .enum-told .given .1) ∙ c .before .before .check-first .ensures
-
-lent : (c : tie.After-enum-told) →
-    let a = c .before .before .before .before .before .before .before .args in Lent (a .rec .edition) (a .rec) (length (now (a .area))) (length (now (a .index)))
-lent c = first-lent _ _ _ _ _ (first c)
 
 returns : tie.Need-returns
 returns c =
@@ -40,11 +35,8 @@ enum-known-c c = search needs
 enum-told : tie.Need-enum-told
 enum-told c = search needs
 
-cast-find : tie.Need-cast-find
-cast-find c = search needs
-
 find-requires : tie.Need-find-requires
-find-requires c κs = let l = lent (c .before) in (omega (arith, l .size-low), omega (arith, l .size-high))
+find-requires c κs = search needs
 
 enum-told-2 : tie.Need-enum-told-2
 enum-told-2 c = search needs
@@ -61,32 +53,32 @@ enum-told-5 c = search needs
 returns-2 : tie.Need-returns-2
 returns-2 c =
     let f = c .before .before .before .before .before .before in
-    delete-spent _ _ _ _ _ _ (first (f .before .before)) _ (sym (c .before .before .before .before .enum-told5 .given .1) ∙ f .find .ensures) (c .if2 .taken ∙ c .before .before .version-limit .ensures)
+    delete-spent _ _ _ _ _ _ (first (f .before)) _ (sym (c .before .before .before .before .enum-told5 .given .1) ∙ f .find .ensures) (c .if2 .taken ∙ c .before .before .version-limit .ensures)
 
 check-number-requires : tie.Need-check-number-requires
-check-number-requires c κs = omega (arith, width-high (c .before .before .before .before .before .before .before .before .before .before .before .before .before .before .before .before .args .rec .edition), c .head-size .ensures)
+check-number-requires c κs = omega (arith, width-high (c .before .before .before .before .before .before .before .before .before .before .before .before .before .before .before .args .rec .edition), c .head-size .ensures)
 
 returns-3 : tie.Need-returns-3
 returns-3 c = delete-first _ _ _ _ _ _ _ (sym (c .before .c .given .1) ∙ c .before .before .before .check-first .ensures)
 
 returns-4 : tie.Need-returns-4
 returns-4 c =
-    delete-forbidden _ _ _ _ _ _ (first (c .before .before .before .before)) (sym (c .enum-told2 .given .1) ∙ c .before .before .find .ensures)
+    delete-forbidden _ _ _ _ _ _ (first (c .before .before .before)) (sym (c .enum-told2 .given .1) ∙ c .before .before .find .ensures)
 
 returns-5 : tie.Need-returns-5
 unfolding factsOf
 returns-5 c =
-    delete-absent _ _ _ _ _ _ (first (c .before .before .before .before)) Nothing (sym (c .enum-told3 .given .1) ∙ c .before .before .find .ensures) refl refl
+    delete-absent _ _ _ _ _ _ (first (c .before .before .before)) Nothing (sym (c .enum-told3 .given .1) ∙ c .before .before .find .ensures) refl refl
 
 returns-6 : tie.Need-returns-6
 unfolding factsOf
 returns-6 c =
-    delete-absent _ _ _ _ _ _ (first (c .before .before .before .before)) Tombstone (sym (c .enum-told4 .given .1) ∙ c .before .before .find .ensures) refl refl
+    delete-absent _ _ _ _ _ _ (first (c .before .before .before)) Tombstone (sym (c .enum-told4 .given .1) ∙ c .before .before .find .ensures) refl refl
 
 returns-7 : tie.Need-returns-7
 returns-7 c =
     let f = c .before .before .before .before .before .before .before .before in
-    delete-number _ _ _ _ _ _ (first (f .before .before)) _ (sym (c .before .before .before .before .before .before .enum-told5 .given .1) ∙ f .find .ensures)
+    delete-number _ _ _ _ _ _ (first (f .before)) _ (sym (c .before .before .before .before .before .before .enum-told5 .given .1) ∙ f .find .ensures)
     _ (c .before .head-size .ensures) (λ e. c .before .before .if2 .left (e ∙ sym (c .before .before .before .before .version-limit .ensures))) (c .check-number .ensures)
 
 pub check-delete-spec : {M : Type 1} → statement M
@@ -98,7 +90,6 @@ check-delete-spec =
     check-first-requires
     enum-known-c
     enum-told
-    cast-find
     find-requires
     enum-told-2
     enum-told-3

@@ -33,7 +33,7 @@ room c = kind-room _ _ _ (edition-roomy _) (c .before .object-kind .ensures) (c 
 
 -- the length of the entry
 sized : (c : tie.After-head-size) →
-    let a = c .before .before .before .before .before .before .before .before .before .before .before .before .before .args in c .head-size .result + a .value ≡ entrySize (a .rec .edition) (a .value)
+    let a = c .before .before .before .before .before .before .before .before .before .before .before .before .args in c .head-size .result + a .value ≡ entrySize (a .rec .edition) (a .value)
 sized c = omega (arith, c .head-size .ensures)
 
 check-first-requires : tie.Need-check-first-requires
@@ -51,11 +51,8 @@ object-kind-requires c κs = search needs
 returns : tie.Need-returns
 returns c = write-value _ _ _ _ _ _ _ (first (c .before .before)) _ (c .before .object-kind .ensures) (c .if1 .taken)
 
-cast-find : tie.Need-cast-find
-cast-find c = search needs
-
 find-requires : tie.Need-find-requires
-find-requires c κs = let l = lent (c .before .before .before) in (omega (arith, l .size-low), omega (arith, l .size-high))
+find-requires c κs = search needs
 
 check-expected-requires : tie.Need-check-expected-requires
 check-expected-requires c κs = search needs
@@ -70,11 +67,11 @@ head-size-requires : tie.Need-head-size-requires
 head-size-requires c κs = search needs
 
 add-check-entry : tie.Need-add-check-entry
-add-check-entry c = omega (arith, room (c .before .before .before .before .before .before), c .head-size .ensures)
+add-check-entry c = omega (arith, room (c .before .before .before .before .before), c .head-size .ensures)
 
 check-entry-requires : tie.Need-check-entry-requires
 check-entry-requires c κs =
-    let e = c .before .before .before .before .before .before in
+    let e = c .before .before .before .before .before in
     let l = lent (e .before .before) in
     (omega (arith, room e, c .head-size .ensures), l .map-below, omega (arith, l .cells-low))
 
@@ -84,7 +81,7 @@ returns-2 c = write-first _ _ _ _ _ _ _ _ (sym (c .before .c .given .1) ∙ c .b
 returns-3 : tie.Need-returns-3
 returns-3 c =
     let s = c .before .before .before in
-    let e = s .before .before .before in
+    let e = s .before .before in
     let t = e .before .before in
     write-expected _ _ _ _ _ _ (t .before .before .before .before .before .args .value) (first t) _ (e .before .object-kind .ensures) (e .if1 .left) _
     (rw (s .before .find .ensures) at (sym (c .before .c2 .given .1) ∙ s .check-expected .ensures))
@@ -92,7 +89,7 @@ returns-3 c =
 returns-4 : tie.Need-returns-4
 returns-4 c =
     let s = c .before .before .before .before in
-    let e = s .before .before .before in
+    let e = s .before .before in
     let t = e .before .before in
     write-entry _ _ _ _ _ _ _ (first t) _ (e .before .object-kind .ensures) (e .if1 .left) _ (sized (c .before))
     (rw (s .before .find .ensures) at (sym (c .before .before .enum-told2 .given .1) ∙ s .check-expected .ensures))
@@ -107,7 +104,6 @@ check-fitting-spec =
     enum-told
     object-kind-requires
     returns
-    cast-find
     find-requires
     check-expected-requires
     enum-known-c-2

@@ -28,7 +28,7 @@ enum-known-i : tie.Need-enum-known-i
 enum-known-i c = search needs
 
 mul-place : tie.Need-mul-place
-mul-place c = scaled-fits _ _ 4 (inside (c .before) .below) (c .before .before .before .before .before .before .good .1 .1 .0 .1)
+mul-place c = scaled-fits _ _ 4 (inside (c .before) .below) (c .before .before .before .before .before .before .good .1 .0 .1)
 
 shared-slice-read-place : tie.Need-shared-slice-read-place
 shared-slice-read-place c = inside (c .before .before) .below
@@ -40,23 +40,21 @@ cast-place : tie.Need-cast-place
 cast-place c = omega (arith, c .shared-slice-known3 .given (c .before .before .i .given .0 .0))
 
 entry-at-requires : tie.Need-entry-at-requires
-entry-at-requires c κs =
-    let p = c .before .before .before .before .before .before .before .pre in
-    (p .0, p .1, omega (arith, c .shared-slice-known3 .given (c .before .before .i .given .0 .0)))
+entry-at-requires c κs = search needs
 
 presence-requires : tie.Need-presence-requires
 presence-requires c κs = search needs
 
 returns : tie.Need-returns
-returns c = presence-full _ _ _ _ (sym (c .enum-told .given .1) ∙ c .before .before .search .ensures)
+returns c = presence-full _ _ _ (sym (c .enum-told .given .1) ∙ c .before .before .search .ensures)
 
 returns-2 : tie.Need-returns-2
-returns-2 c = presence-free _ _ _ _ _ (sym (c .enum-told2 .given .1) ∙ c .before .before .search .ensures)
+returns-2 c = presence-free _ _ _ _ (sym (c .enum-told2 .given .1) ∙ c .before .before .search .ensures)
 
 returns-3 : tie.Need-returns-3
 returns-3 c =
     let t = c .before .before .before .before in
-    presence-at _ _ _ _ _ (sym (t .i .given .1) ∙ t .before .before .search .ensures) (c .presence .ensures ∙ ap presenceOf (c .before .entry-at .ensures))
+    presence-at _ _ _ _ (sym (t .i .given .1) ∙ t .before .before .search .ensures) (c .presence .ensures ∙ ap presenceOf (c .before .entry-at .ensures))
 
 pub find-spec : {M : Type 1} → statement M
 find-spec =

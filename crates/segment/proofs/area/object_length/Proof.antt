@@ -1,9 +1,9 @@
--- `recovery::count::object_length` meets its contract: an arm for each answer of the reader.
+-- `segment::area::object_length` meets its contract: an arm for each answer of the reader.
 use mathlib.Core.Path.{sym, _∙_, ap}
 use borrow.Author.Needs.{needs}
-use Rattle.recovery.specs.Counting.{objectLength}
-use Rattle.recovery.proofs.count.object_length.Statement.{statement}
-use Rattle.recovery.proofs.count.object_length.Tie as tie
+use Rattle.segment.specs.Area.{objectLength}
+use Rattle.segment.proofs.area.object_length.Statement.{statement}
+use Rattle.segment.proofs.area.object_length.Tie as tie
 
 entry-at-requires : tie.Need-entry-at-requires
 entry-at-requires c κs = search needs
